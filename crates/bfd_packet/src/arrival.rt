@@ -1,0 +1,50 @@
+//! Where a packet came from or goes to.
+
+use crate::{Payload, Wire};
+
+/// The kind of port that a packet arrived on.
+#[derive(Clone, Copy, Debug, PartialEq, Eq)]
+pub enum Port {
+    /// UDP 3784: control packets over a single hop (RFC 5881 section 4).
+    Single,
+    /// UDP 4784: control packets over several hops (RFC 5883 section 5).
+    Multi,
+    /// UDP 3785: returned echo packets (RFC 5881 section 4).
+    Echo,
+    /// UDP 7784: packets for a reflector (RFC 7881 section 3).
+    Sbfd,
+    /// The source port of an initiator: answers of a reflector (RFC 7881 section 3).
+    Answer,
+}
+
+/// An IP address: its family, and its number in network order.
+#[derive(Clone, Copy, Debug, PartialEq, Eq, PartialOrd, Ord)]
+pub enum Addr {
+    V4(u32),
+    V6(u128),
+}
+
+/// A packet as it came in. `iface` is the interface's number, 0 to 65,535; `sport` the sender's UDP port;
+/// `ttl` the IP TTL or Hop Limit with which it came.
+#[derive(Drop)]
+pub struct Arrival {
+    pub port: Port,
+    pub iface: u32,
+    pub src: Addr,
+    pub sport: u16,
+    pub dst: Addr,
+    pub ttl: u8,
+    pub payload: Payload,
+}
+
+/// A packet as it goes out.
+#[derive(Drop)]
+pub struct Datagram {
+    pub iface: u32,
+    pub src: Addr,
+    pub sport: u16,
+    pub dst: Addr,
+    pub dport: u16,
+    pub ttl: u8,
+    pub bytes: Wire,
+}
