@@ -1,0 +1,68 @@
+-- The frame of an event: what a rule does to variables, mark and outputs.
+use Rattle.std.specs.Prelude.{ℕ, ◌+◌, ◌*◌, ◌==◌, nat_lt, Bool, true, false, not, ◌&&◌, ◌||◌, if◌then◌else◌, Option, None, Some, is_none, List, [], ◌∷◌, ◌++◌}
+use Rattle.bfd_packet.specs.declared.control.State.{State}
+use Rattle.bfd_packet.specs.declared.arrival.Datagram.{Datagram}
+use Rattle.bfd_num.specs.Numbers.{next_j}
+use Rattle.bfd_rules.specs.declared.variables.Vars.{Vars}
+use Rattle.bfd_rules.specs.declared.variables.Mark.{Mark}
+use Rattle.bfd_rules.specs.declared.outputs.Out.{Out}
+use Rattle.bfd_rules.specs.declared.outputs.Out.TheVariants.{Changed, Sent}
+use Rattle.bfd_rules.specs.Quantities.{tx_interval, may_send, same_state}
+use Rattle.bfd_rules.specs.Jitter.{pick}
+
+-- outputs in order, the room that is left for more, and the room that there was at first
+pub record Outputs : Type 0 where
+  pub items : List Out
+  pub spare : ℕ
+  pub room : ℕ
+
+-- an event on its way: the variables, what is kept from its start, and the outputs so far
+pub record Course : Type 0 where
+  pub vars : Vars
+  pub mark : Mark
+  pub outs : List Out
+
+abbrev pub course : Vars → Mark → List Out → Course
+course v m os = record { vars = v; mark = m; outs = os }
+
+-- an own event keeps its effective moment; a tick keeps none
+abbrev pub stamped : Option ℕ → Vars → Vars
+stamped None v = v
+stamped (Some eff) v = record v { at = eff }
+
+-- what an event keeps from its start
+abbrev pub begins : Vars → Mark
+begins v =
+    record { state = v.state; diag = v.diag; interval = tx_interval v; one = v.mult == 1; moved = false; answered = false }
+
+-- a change of the session's state is told
+abbrev pub told : ℕ → Vars → Vars → List Out
+told discr before after =
+    if same_state before.state after.state then [] else Changed discr before.state after.state after.diag ∷ []
+
+-- the variables become v, and a change of the state is told
+unfoldable pub changes : ℕ → Vars → Course → Course
+changes discr v s = record s { vars = v; outs = s.outs ++ told discr s.vars v }
+
+-- a datagram is sent
+unfoldable pub sends : ℕ → Datagram → Course → Course
+sends discr datagram s = record s { outs = s.outs ++ Sent discr datagram ∷ [] }
+
+-- the peer hasn't been told the present state and diagnostic
+abbrev pub is_news : Mark → Vars → Bool
+is_news m v = not (same_state v.state m.state && (v.diag == m.diag))
+
+-- Detect Mult became 1 in this event, or stopped being 1
+abbrev pub one_changed : Mark → Vars → Bool
+one_changed m v = if m.one then not (v.mult == 1) else v.mult == 1
+
+-- the due tick is drawn anew: a packet moved the base, there is none, or what it was drawn by has changed
+abbrev pub draws : Mark → Vars → Bool
+draws m v = m.moved || is_none v.tx_due || not (tx_interval v == m.interval) || one_changed m v
+
+-- at an event's end a due tick is there exactly while periodic packets may be sent (section 6.8.7)
+unfoldable pub drawn : Bool → Mark → Vars → Vars
+drawn active m v =
+    if may_send active v
+    then (if draws m v then record v { tx_due = Some (pick v.base (tx_interval v) v.mult v.j); j = next_j v.j } else v)
+    else record v { tx_due = None }

@@ -1,0 +1,114 @@
+//! The frame of an event: what a rule does to variables, mark and outputs.
+ghost use Rattle.std.specs.Prelude.{◌≡◌, ◌≢◌, ◌<◌, ◌≤◌, ◌+◌, IsSome, IsTrue, ◌↔◌, IfSome};
+ghost use Rattle.bfd_num.specs.Numbers.{moment_bound};
+ghost use Rattle.bfd_rules.specs.declared.variables.Mark.{Mark};
+ghost use Rattle.bfd_rules.specs.Course.{course};
+ghost use Rattle.bfd_rules.specs.Course as frame;
+ghost use Rattle.bfd_rules.specs.Quantities.{same_state, may_send as may_send_of};
+
+use crate::{Mark, Out, Outs, Vars, may_send, pick, tx_interval};
+use bfd_num::next_j;
+use bfd_packet::{Datagram, State};
+
+/// The states are the same.
+fn is_same(a: State, b: State) -> bool
+    ensures { result ≡ same_state a b }
+{
+    a == b
+}
+
+/// The variables as an event begins: an own event keeps its effective moment `own`, in microseconds, and a tick none.
+pub fn stamped(own: Option<u64>, v: Vars) -> Vars
+    ensures { result ≡ frame.stamped own v }
+{
+    match own {
+        Some(eff) => Vars { at: eff, ..v },
+        None => v,
+    }
+}
+
+/// What an event keeps from its start.
+pub fn begins(v: &Vars) -> Mark
+    ensures { result ≡ frame.begins v.now }
+{
+    Mark {
+        state: v.state,
+        diag: v.diag,
+        interval: tx_interval(v),
+        one: v.mult == 1,
+        moved: false,
+        answered: false,
+    }
+}
+
+/// The variables become `after`; where the state differs, that is told with the new diagnostic.
+#[tactic(auto, unfolding(crate::specs::Course::changes))]
+pub fn changes(discr: u32, after: Vars, vars: &mut Vars, outs: &mut Outs)
+    requires { 0 < outs.old.spare }
+    ensures vars { vars.new ≡ after }
+    ensures course { (m : Mark) → course vars.new m outs.new.items ≡ frame.changes discr after (course vars.old m outs.old.items) }
+    ensures spare { outs.old.spare ≤ outs.new.spare + 1 }
+    ensures room { outs.new.room ≡ outs.old.room }
+{
+    if !is_same(vars.state, after.state) {
+        outs.push(Out::Changed {
+            discr,
+            old: vars.state,
+            new: after.state,
+            diag: after.diag,
+        });
+    }
+    *vars = after;
+}
+
+/// A datagram is sent by the session of this discriminator.
+#[tactic(auto, unfolding(crate::specs::Course::sends))]
+pub fn sends(discr: u32, datagram: Datagram, outs: &mut Outs)
+    requires { 0 < outs.old.spare }
+    ensures course { (v : Vars) (m : Mark) → course v m outs.new.items ≡ frame.sends discr datagram (course v m outs.old.items) }
+    ensures spare { outs.old.spare ≤ outs.new.spare + 1 }
+    ensures room { outs.new.room ≡ outs.old.room }
+{
+    outs.push(Out::Sent { discr, datagram });
+}
+
+/// The peer hasn't been told the present state and diagnostic.
+pub fn is_news(mark: &Mark, v: &Vars) -> bool
+    ensures { result ≡ frame.is_news mark.now v.now }
+{
+    !(is_same(v.state, mark.state) && v.diag == mark.diag)
+}
+
+/// The due tick is to be drawn anew.
+fn is_to_draw(mark: &Mark, v: &Vars) -> bool
+    ensures { result ≡ frame.draws mark.now v.now }
+{
+    let one_changed = if mark.one { v.mult != 1 } else { v.mult == 1 };
+    mark.moved || v.tx_due.is_none() || tx_interval(v) != mark.interval || one_changed
+}
+
+/// The variables with the due tick as an event leaves it: none where periodic packets may not be sent, else as it
+/// stands, or drawn anew where a packet moved the base or what it is drawn by has changed (section 6.8.7).
+#[tactic(auto, unfolding(crate::specs::Course::drawn))]
+pub fn drawn(active: bool, mark: &Mark, v: Vars) -> Vars
+    requires base { v.base < moment_bound }
+    requires interval { 10000 ≤ v.used_tx }
+    requires mult { 0 < v.mult }
+    requires due { IfSome v.tx_due (λ t. t < moment_bound) }
+    ensures value { result ≡ frame.drawn active mark.now v }
+    ensures due { IsSome result.tx_due ↔ IsTrue (may_send_of active result) }
+    ensures below { IfSome result.tx_due (λ t. t < moment_bound) }
+{
+    if !may_send(active, &v) {
+        return Vars { tx_due: None, ..v };
+    }
+    if !is_to_draw(mark, &v) {
+        return v;
+    }
+    let due = pick(v.base, tx_interval(&v), v.mult, v.j);
+    Vars {
+        tx_due: Some(due),
+        j: next_j(v.j),
+        ..v
+    }
+}
