@@ -1,8 +1,8 @@
 -- The keys of a session (RFC 5880 section 6.7).
-use Rattle.std.specs.Prelude.{◌≤◌, ◌<◌, ◌&&◌, ◌==◌, ℕ, Bool, true, not, nat_le, List, [], ◌∷◌, length, IsTrue}
+use Rattle.std.specs.Prelude.{◌≤◌, ◌<◌, ◌&&◌, ◌==◌, ℕ, Bool, true, not, nat_le, List, [], ◌∷◌, length, position, slice_index_or, Option, IsTrue}
 use Rattle.std.specs.List.{list_all, list_any}
 use Rattle.bfd_packet.specs.declared.keys.AuthType.{AuthType}
-use Rattle.bfd_packet.specs.declared.keys.AuthType.TheVariants.{Password, KeyedMd5, MeticulousMd5, KeyedSha1, MeticulousSha1}
+use Rattle.bfd_packet.specs.declared.keys.AuthType.TheVariants.{KeyedSha1, MeticulousSha1}
 use Rattle.bfd_packet.specs.declared.keys.Key.{Key}
 
 -- the Auth Type of a session and its keys, in the order in which they were given
@@ -35,3 +35,15 @@ pub record IsKeyChain (keys : KeyChain) : Type 0 where
   pub few : length keys.list ≤ 4
   pub ids : IsTrue (distinct_ids keys.list)
   pub lengths : IsTrue (list_all (λ key. fits_kind keys.kind key.secret) keys.list)
+
+-- the place of the first key with this id
+abbrev pub place_of : ℕ → List Key → Option ℕ
+place_of id keys = position (λ key. id == key.id) keys
+
+-- what stands where there is no key
+abbrev pub no_key : Key
+no_key = record { id = 0; secret = [] }
+
+-- the key at a place of the list
+abbrev pub key_at : ℕ → List Key → Key
+key_at place keys = slice_index_or keys place no_key

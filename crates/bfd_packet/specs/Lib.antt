@@ -1,1 +1,4 @@
 pub mod KeyChain
+pub mod Layout
+pub mod HeaderTests
+pub mod TestNames

@@ -1,5 +1,7 @@
 //! What a session authenticates with (RFC 5880 section 6.7).
 
+ghost use Rattle.std.specs.Prelude.{◌≡◌, ◌≤◌, ◌<◌, ◌↔◌, ◌++◌, [], ◌∷◌, length, IsTrue, IfSome, false};
+
 use arrayvec::ArrayVec;
 use std::marker::Model;
 
@@ -11,6 +13,20 @@ pub enum AuthType {
     MeticulousMd5 = 3,
     KeyedSha1 = 4,
     MeticulousSha1 = 5,
+}
+
+impl AuthType {
+    ghost use Rattle.bfd_packet.specs.KeyChain.{digest_size};
+
+    /// The length of the type's digest in bytes: 20 of SHA1, else 16. It's also the most bytes of a secret.
+    pub fn digest_size(self) -> usize
+        ensures { result ≡ digest_size self }
+    {
+        match self {
+            AuthType::KeyedSha1 | AuthType::MeticulousSha1 => 20,
+            AuthType::Password | AuthType::KeyedMd5 | AuthType::MeticulousMd5 => 16,
+        }
+    }
 }
 
 /// A password or a key: at most 20 bytes.
@@ -25,6 +41,36 @@ impl Model for Secret {
     ghost Value = { List ℕ };
 
     ghost view = { λ secret. secret.bytes.items };
+}
+
+impl Secret {
+    ghost use Rattle.bfd_packet.specs.KeyChain.{fits_kind};
+
+    /// These bytes, of which there are at most 20.
+    pub fn of(bytes: &[u8]) -> Self
+        requires { length bytes.now ≤ 20 }
+        ensures { result ≡ bytes.now }
+    {
+        let mut kept = ArrayVec::new();
+        kept.try_extend_from_slice(bytes).unwrap();
+        Secret { bytes: kept }
+    }
+
+    /// The bytes, at most 20.
+    pub fn as_slice(&self) -> &[u8]
+        ensures value { result.now ≡ self.now }
+        ensures few { length self.now ≤ 20 }
+    {
+        self.bytes.as_slice()
+    }
+
+    /// Whether it has a length that the type allows: 1 to 16 bytes, or 1 to 20 with SHA1.
+    pub fn fits(&self, kind: AuthType) -> bool
+        ensures { result ≡ fits_kind kind self.now }
+    {
+        let size = self.bytes.len();
+        1 <= size && size <= kind.digest_size()
+    }
 }
 
 /// A key and the Key ID by which packets name it.
@@ -49,6 +95,33 @@ impl Model for KeyList {
     ghost view = { λ list. list.keys.items };
 }
 
+impl KeyList {
+    /// No keys.
+    pub fn new() -> Self
+        ensures { result ≡ [] }
+    {
+        KeyList {
+            keys: ArrayVec::new(),
+        }
+    }
+
+    /// Adds a key at the end of a list that has fewer than 4.
+    pub fn push(&mut self, key: Key)
+        requires { length self.old < 4 }
+        ensures { self.new ≡ self.old ++ key ∷ [] }
+    {
+        self.keys.push(key);
+    }
+
+    /// The keys, at most 4.
+    pub fn as_slice(&self) -> &[Key]
+        ensures value { result.now ≡ self.now }
+        ensures few { length self.now ≤ 4 }
+    {
+        self.keys.as_slice()
+    }
+}
+
 /// The Auth Type of a session and its keys: one to four, with distinct ids, each secret of 1 to 16 bytes,
 /// or 1 to 20 with SHA1.
 #[derive(Drop)]
@@ -65,6 +138,72 @@ impl Model for Keys {
     ghost view = { λ keys. record { kind = keys.kind; list = keys.list } };
 
     ghost invariant = { λ keys. IsKeyChain (record { kind = keys.kind; list = keys.list }) };
+}
+
+impl Keys {
+    ghost use Rattle.bfd_packet.specs.KeyChain.{fits_kind, has_id, place_of, key_at};
+
+    /// A first key, whose secret has a length that the type allows.
+    pub fn one(kind: AuthType, key: Key) -> Self
+        requires { IsTrue (fits_kind kind key.secret) }
+        ensures { result ≡ record { kind = kind; list = key ∷ [] } }
+    {
+        let mut list = KeyList::new();
+        list.push(key);
+        Keys { kind, list }
+    }
+
+    /// Adds a key at the end, to fewer than four keys, none of which has its id.
+    pub fn add(&mut self, key: Key)
+        requires room { length self.old.list < 4 }
+        requires fresh { has_id key.id self.old.list ≡ false }
+        requires fits { IsTrue (fits_kind self.old.kind key.secret) }
+        ensures { self.new ≡ record self.old { list = self.old.list ++ key ∷ [] } }
+    {
+        self.list.push(key);
+    }
+
+    /// Whether there are four keys, so that no other can be added.
+    pub fn is_full(&self) -> bool
+        ensures { IsTrue result ↔ (length self.now.list ≡ 4) }
+    {
+        self.list.as_slice().len() == 4
+    }
+
+    /// Whether a key has this id.
+    pub fn has_id(&self, id: u8) -> bool
+        ensures { result ≡ has_id id self.now.list }
+    {
+        self.list.as_slice().iter().any(|key| id == key.id)
+    }
+
+    /// The place of the key with this id, 0 to 3, or None exactly where no key has it.
+    pub fn place_of(&self, id: u8) -> Option<u8>
+        ensures value { result ≡ place_of id self.now.list }
+        ensures within { IfSome result (λ place. place < length self.now.list) }
+    {
+        match self.position_of(id) {
+            Some(place) => Some(place as u8),
+            None => None,
+        }
+    }
+
+    // The same place, as an index.
+    fn position_of(&self, id: u8) -> Option<usize>
+        ensures value { result ≡ place_of id self.now.list }
+        ensures within { IfSome result (λ place. place < length self.now.list) }
+        ensures few { length self.now.list ≤ 4 }
+    {
+        self.list.as_slice().iter().position(|key| id == key.id)
+    }
+
+    /// The key at this place of the list.
+    pub fn key_at(&self, place: u8) -> &Key
+        requires { place < length self.now.list }
+        ensures { result.now ≡ key_at place self.now.list }
+    {
+        &self.list.as_slice()[usize::from(place)]
+    }
 }
 
 /// The sequence state of a session: bfd.XmitAuthSeq, bfd.RcvAuthSeq and bfd.AuthSeqKnown (RFC 5880

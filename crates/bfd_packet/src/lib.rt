@@ -14,9 +14,14 @@ mod buffers;
 mod control;
 mod discard;
 mod keys;
+mod names;
+mod reading;
+mod writing;
 
 pub use arrival::{Addr, Arrival, Datagram, Port};
 pub use buffers::{AuthBytes, Payload, Wire};
 pub use control::{Control, State};
 pub use discard::Test;
 pub use keys::{AuthType, Key, KeyList, Keys, Secret, SeqState};
+pub use reading::{header_test, read};
+pub use writing::write;
