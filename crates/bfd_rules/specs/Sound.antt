@@ -36,8 +36,8 @@ pub record IsConfig (c : Config) : Type 0 where
   pub some_mult : 0 < c.mult
   pub echo_range : IsTrue (is_echo_interval c.role c.echo)
 
--- what the raw variables of a rule meet: configured values in their ranges, moments below 2^60, and a packet was
--- heard where that is known
+-- what the raw variables of a rule meet: configured values in their ranges, moments below 2^60, and in Up a packet
+-- was heard
 pub record IsPlain (c : Config) (v : Vars) : Type 0 where
   pub tx_least : 10000 ≤ v.tx
   pub tx_most : v.tx ≤ 60000000
@@ -54,8 +54,6 @@ pub record IsPlain (c : Config) (v : Vars) : Type 0 where
   pub base_below : v.base < moment_bound
   pub at_below : v.at < moment_bound
   pub up_heard : v.state ≡ Up → IsSome v.heard
-  pub heard_mult : IsSome v.heard → 0 < v.remote_mult
-  pub seq_mult : IsSome v.seq_heard → 0 < v.remote_mult
   pub place : IsPlace c.keys v.sending
   pub none_left : v.left ≡ 0
 
@@ -66,10 +64,16 @@ pub record IsRenewed (v : Vars) : Type 0 where
   pub settled_rx : is_idle v.poll ≡ true → v.used_rx ≡ v.rx
   pub rx_at_least : v.rx ≤ v.used_rx
 
+-- where a packet was heard, the peer's Detect Mult is known
+pub record HasPeerMult (v : Vars) : Type 0 where
+  pub heard_mult : IsSome v.heard → 0 < v.remote_mult
+  pub seq_mult : IsSome v.seq_heard → 0 < v.remote_mult
+
 -- what holds after each rule
 pub record IsSteady (c : Config) (v : Vars) : Type 0 where
   pub plain : IsPlain c v
   pub renewed : IsRenewed v
+  pub peer : HasPeerMult v
 
 -- what holds between events: a due tick is there exactly while periodic packets may be sent
 pub record IsSound (c : Config) (v : Vars) : Type 0 where

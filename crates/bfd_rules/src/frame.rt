@@ -1,7 +1,10 @@
 //! The frame of an event: what a rule does to variables, mark and outputs.
-ghost use Rattle.std.specs.Prelude.{◌≡◌, ◌≢◌, ◌<◌, ◌≤◌, ◌+◌, IsSome, IsTrue, ◌↔◌, IfSome};
-ghost use Rattle.bfd_num.specs.Numbers.{moment_bound};
+ghost use Rattle.std.specs.Prelude.{◌≡◌, ◌≢◌, ◌<◌, ◌≤◌, ◌+◌, ℕ, true, false, None, IsSome, IsTrue, ◌↔◌, IfSome};
+ghost use Rattle.bfd_num.specs.Due.{has_come};
+ghost use Rattle.bfd_num.specs.Numbers.{moment_bound, floor_tick};
 ghost use Rattle.bfd_rules.specs.declared.variables.Mark.{Mark};
+ghost use Rattle.bfd_rules.specs.declared.config.Config.{Config};
+ghost use Rattle.bfd_rules.specs.Sound.{IsSteady};
 ghost use Rattle.bfd_rules.specs.Course.{course};
 ghost use Rattle.bfd_rules.specs.Course as frame;
 ghost use Rattle.bfd_rules.specs.Quantities.{same_state, may_send as may_send_of};
@@ -97,7 +100,11 @@ pub fn drawn(active: bool, mark: &Mark, v: Vars) -> Vars
     requires due { IfSome v.tx_due (λ t. t < moment_bound) }
     ensures value { result ≡ frame.drawn active mark.now v }
     ensures due { IsSome result.tx_due ↔ IsTrue (may_send_of active result) }
-    ensures below { IfSome result.tx_due (λ t. t < moment_bound) }
+    ensures steady { (c : Config) → IsSteady c v → IsSteady c result }
+    ensures rest { result ≡ record v { tx_due = result.tx_due; j = result.j } }
+    ensures silent { may_send_of active v ≡ false → result.tx_due ≡ None }
+    ensures kept { frame.draws mark.now v ≡ false → may_send_of active v ≡ true → result.tx_due ≡ v.tx_due }
+    ensures later { (m : ℕ) → m ≤ v.base → frame.draws mark.now v ≡ true → has_come (floor_tick m) result.tx_due ≡ false }
 {
     if !may_send(active, &v) {
         return Vars { tx_due: None, ..v };

@@ -1,11 +1,11 @@
 //! What follows every rule of a point-to-point session (RFC 5880 sections 6.5, 6.6, 6.8.2 and 6.8.3).
-ghost use Rattle.std.specs.Prelude.{◌≡◌, ◌<◌};
+ghost use Rattle.std.specs.Prelude.{◌≡◌, ◌<◌, is_some};
 ghost use Rattle.bfd_num.specs.Numbers.{moment_bound};
 ghost use Rattle.bfd_rules.specs.declared.config.Config.{Config};
 ghost use Rattle.bfd_rules.specs.Quantities.{adv_tx as adv_of, demand_here as demand_of};
 ghost use Rattle.bfd_rules.specs.Renewal.{poll_again as again_of};
 ghost use Rattle.bfd_rules.specs.Renewal as renewal;
-ghost use Rattle.bfd_rules.specs.Sound.{IsPlain, IsRenewed, IsSteady};
+ghost use Rattle.bfd_rules.specs.Sound.{IsPlain, IsRenewed, HasPeerMult};
 
 use crate::quantities::is_idle;
 use crate::{Poll, Vars, adv_tx, demand_here};
@@ -15,7 +15,10 @@ use bfd_packet::State;
 #[tactic(auto, unfolding(crate::specs::Renewal::poll_renewed))]
 fn poll_renewed(before: &Vars, v: Vars) -> Vars
     ensures value { result ≡ renewal.poll_renewed before.now v }
+    ensures state { result.state ≡ v.state }
+    ensures heard { is_some result.heard ≡ is_some v.heard }
     ensures plain { (c : Config) → IsPlain c v → IsPlain c result }
+    ensures peer { HasPeerMult v → HasPeerMult result }
     ensures idle { adv_of v ≡ adv_of before.now → v.rx ≡ before.now.rx → result ≡ v }
 {
     if adv_tx(&v) == adv_tx(before) && v.rx == before.rx {
@@ -32,7 +35,10 @@ fn poll_renewed(before: &Vars, v: Vars) -> Vars
 #[tactic(auto, unfolding(crate::specs::Renewal::used_renewed))]
 fn used_renewed(v: Vars) -> Vars
     ensures value { result ≡ renewal.used_renewed v }
+    ensures state { result.state ≡ v.state }
+    ensures heard { is_some result.heard ≡ is_some v.heard }
     ensures plain { (c : Config) → IsPlain c v → IsPlain c result }
+    ensures peer { HasPeerMult v → HasPeerMult result }
     ensures renewed { IsRenewed result }
     ensures idle { IsRenewed v → result ≡ v }
 {
@@ -61,7 +67,10 @@ fn poll_again(poll: Poll) -> Poll
 fn demand_renewed(eff: u64, before: &Vars, v: Vars) -> Vars
     requires { eff < moment_bound }
     ensures value { result ≡ renewal.demand_renewed eff before.now v }
+    ensures state { result.state ≡ v.state }
+    ensures heard { is_some result.heard ≡ is_some v.heard }
     ensures plain { (c : Config) → IsPlain c v → IsPlain c result }
+    ensures peer { HasPeerMult v → HasPeerMult result }
     ensures renewed { IsRenewed v → IsRenewed result }
     ensures idle { demand_of v ≡ demand_of before.now → result ≡ v }
 {
@@ -85,7 +94,11 @@ fn demand_renewed(eff: u64, before: &Vars, v: Vars) -> Vars
 pub fn renewed(eff: u64, before: &Vars, v: Vars) -> Vars
     requires { eff < moment_bound }
     ensures value { result ≡ renewal.renewed eff before.now v }
-    ensures steady { (c : Config) → IsPlain c v → IsSteady c result }
+    ensures state { result.state ≡ v.state }
+    ensures heard { is_some result.heard ≡ is_some v.heard }
+    ensures plain { (c : Config) → IsPlain c v → IsPlain c result }
+    ensures renewed { IsRenewed result }
+    ensures peer { HasPeerMult v → HasPeerMult result }
     ensures idle { IsRenewed v → adv_of v ≡ adv_of before.now → v.rx ≡ before.now.rx → demand_of v ≡ demand_of before.now → result ≡ v }
 {
     demand_renewed(eff, before, used_renewed(poll_renewed(before, v)))
