@@ -7,3 +7,4 @@
 pub use bfd_packet::{AuthType, Key, KeyList, Keys, Secret, SeqState};
 
 mod checking;
+mod digests;
