@@ -35,7 +35,7 @@ pub fn digest(kind: AuthType, key: &Key, packet: &[u8]) -> AuthBytes
 }
 
 // So many zeros, at most 20.
-fn zeros(count: usize) -> &'static [u8]
+pub fn zeros(count: usize) -> &'static [u8]
     requires { count ≤ 20 }
     ensures { result.now ≡ replicate count 0 }
 {

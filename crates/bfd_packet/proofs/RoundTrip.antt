@@ -80,6 +80,7 @@ state-of n state e = rw e (state_of-state_number state)
 
 -- the fields of what is written
 fields_of-text_of : (c : Control) (section : List ℕ) → c.diag < 32 → HasWords c → fields_of (text_of c section) ≡ as_sent c section
+unfolding text_of
 fields_of-text_of c section diag words =
     let b = digits-flag_byte c section in
     let n : ℕ = flag_byte c section in
@@ -106,6 +107,7 @@ length_min-false size apart = grind (arith, nat_tests)
 passes : (takes : Bool) (c : Control) (section : List ℕ) → c.diag < 32 → HasWords c → length section ≢ 1
     → c.mult ≢ 0 → (takes ≡ false → c.multi ≡ false) → c.my ≢ 0
     → find (λ test. header_fails test (text_of c section)) (Short ∷ Version ∷ LengthMin ∷ LengthOver ∷ DetectMult ∷ (if takes then MyDiscr ∷ [] else Multipoint ∷ MyDiscr ∷ [])) ≡ None
+unfolding text_of
 passes takes c section diag words apart mult multi my =
     let same = fields_of-text_of c section diag words in
     let short : nat_lt (length (text_of c section)) 4 ≡ false = grind (arith, nat_tests) in

@@ -74,7 +74,7 @@ header_of c section =
     ++ (big_bytes 4 c.min_tx ++ (big_bytes 4 c.min_rx ++ big_bytes 4 c.min_echo))))
 
 -- the packet's bytes: the mandatory section, then the authentication section
-abbrev pub text_of : Control → List ℕ → List ℕ
+unfoldable pub text_of : Control → List ℕ → List ℕ
 text_of c section = header_of c section ++ section
 
 -- the fields as they are sent: A says whether a section follows, and Length counts it

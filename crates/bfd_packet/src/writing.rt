@@ -25,6 +25,7 @@ pub fn write(c: &Control, section: &AuthBytes) -> Wire
 }
 
 // The same bytes, and that the words are of 32 bits.
+#[tactic(auto, unfolding(crate::specs::Layout::text_of))]
 fn packed(c: &Control, section: &AuthBytes) -> Wire
     requires { c.now.diag < 32 }
     ensures text { result ≡ text_of c.now section.now }
