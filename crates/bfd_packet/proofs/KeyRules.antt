@@ -1,8 +1,8 @@
 -- A list of keys that gains one.
-use Rattle.std.proofs.Common.{◌≡◌, ◌∙◌, ◌<◌, ◌++◌, ◌&&◌, ◌||◌, List, [], ◌∷◌, ℕ, Bool, true, false, not, IsTrue, length, refl, sym, subst, arith, length-append, nat_eq}
+use Rattle.std.proofs.Common.{◌≡◌, ◌∙◌, ◌<◌, ◌++◌, ◌&&◌, ◌||◌, List, [], ◌∷◌, ℕ, Bool, true, false, not, IsTrue, zero, suc, Some, length, refl, sym, subst, arith, length-append, nat_eq}
 use Rattle.std.proofs.lemmas.List.Folds.{list_any-append, list_all-append}
 use Rattle.bfd_packet.specs.declared.keys.Key.{Key}
-use Rattle.bfd_packet.specs.KeyChain.{KeyChain, IsKeyChain, fits_kind, has_id, distinct_ids}
+use Rattle.bfd_packet.specs.KeyChain.{KeyChain, IsKeyChain, fits_kind, has_id, distinct_ids, key_at, key_named}
 
 -- two ids are compared in either order
 eq_id-comm : (a b : ℕ) → nat_eq a b ≡ nat_eq b a
@@ -48,3 +48,25 @@ gains_key keys now key same chain room fresh fits =
     (subst (λ (k : KeyChain). length k.list < 4) e room)
     (subst (λ (k : KeyChain). has_id key.id k.list ≡ false) e fresh)
     (subst (λ (k : KeyChain). IsTrue (fits_kind k.kind key.secret)) e fits)
+
+-- no key of the list has an id that no key has
+other_id : (id : ℕ) (keys : List Key) (place : ℕ) → has_id id keys ≡ false → place < length keys → nat_eq id (key_at place keys).id ≡ false
+other_id id [] place h lt = absurd (omega arith)
+other_id id (first ∷ keys) zero h lt = (or-false (nat_eq id first.id) (has_id id keys) h).0
+other_id id (first ∷ keys) (suc place) h lt = other_id id keys place (or-false (nat_eq id first.id) (has_id id keys) h).1 (omega arith)
+
+-- a key's id names it
+key_named-key_at : (keys : List Key) (place : ℕ) → distinct_ids keys ≡ true → place < length keys → key_named (key_at place keys).id keys ≡ Some (key_at place keys)
+key_named-key_at [] place d lt = absurd (omega arith)
+key_named-key_at (first ∷ keys) zero d lt = let e : nat_eq first.id first.id ≡ true = grind arith in rw e refl
+key_named-key_at (first ∷ keys) (suc place) d lt =
+    let both = and-true (not (has_id first.id keys)) (distinct_ids keys) d in
+    let lower : place < length keys = omega arith in
+    let fresh : has_id first.id keys ≡ false = grind (arith, both.0) in
+    let apart : nat_eq (key_at place keys).id first.id ≡ false = eq_id-comm (key_at place keys).id first.id ∙ other_id first.id keys place fresh lower in
+    rw apart (key_named-key_at keys place both.1 lower)
+
+-- the same of the key that stands there
+pub names_itself : (keys : List Key) (place : ℕ) (key : Key) → distinct_ids keys ≡ true → place < length keys → key ≡ key_at place keys → key_named key.id keys ≡ Some key
+names_itself keys place key ids lt e =
+    subst (λ (k : Key). key_named k.id keys ≡ Some k) (sym e) (key_named-key_at keys place ids lt)

@@ -1,5 +1,5 @@
 -- The keys of a session (RFC 5880 section 6.7).
-use Rattle.std.specs.Prelude.{◌≤◌, ◌<◌, ◌&&◌, ◌==◌, ℕ, Bool, true, not, nat_le, List, [], ◌∷◌, length, position, slice_index_or, Option, IsTrue}
+use Rattle.std.specs.Prelude.{◌≤◌, ◌<◌, ◌&&◌, ◌==◌, ℕ, Bool, true, not, nat_le, List, [], ◌∷◌, length, position, find, slice_index_or, Option, IsTrue}
 use Rattle.std.specs.List.{list_all, list_any}
 use Rattle.bfd_packet.specs.declared.keys.AuthType.{AuthType}
 use Rattle.bfd_packet.specs.declared.keys.AuthType.TheVariants.{KeyedSha1, MeticulousSha1}
@@ -39,6 +39,10 @@ pub record IsKeyChain (keys : KeyChain) : Type 0 where
 -- the place of the first key with this id
 abbrev pub place_of : ℕ → List Key → Option ℕ
 place_of id keys = position (λ key. id == key.id) keys
+
+-- the first key with this id
+abbrev pub key_named : ℕ → List Key → Option Key
+key_named id keys = find (λ key. id == key.id) keys
 
 -- what stands where there is no key
 abbrev pub no_key : Key

@@ -1,5 +1,5 @@
 -- The control packet by the position of each field (RFC 5880 section 4.1).
-use Rattle.std.specs.Prelude.{◌+◌, ◌*◌, ◌/◌, ◌%◌, ◌^◌, ◌==◌, ◌++◌, if◌then◌else◌, ℕ, Bool, not, List, [], ◌∷◌, length, drop, slice_index}
+use Rattle.std.specs.Prelude.{◌<◌, ◌+◌, ◌*◌, ◌/◌, ◌%◌, ◌^◌, ◌==◌, ◌++◌, if◌then◌else◌, ℕ, Bool, not, List, [], ◌∷◌, length, drop, slice_index}
 use Rattle.byteorder.specs.Endian.{big_number, big_bytes}
 use Rattle.bfd_packet.specs.declared.control.Control.{Control}
 use Rattle.bfd_packet.specs.declared.control.State.{State}
@@ -74,9 +74,17 @@ header_of c section =
     ++ (big_bytes 4 c.min_tx ++ (big_bytes 4 c.min_rx ++ big_bytes 4 c.min_echo))))
 
 -- the packet's bytes: the mandatory section, then the authentication section
-abbrev pub text_of : Control → List ℕ → List ℕ
+unfoldable pub text_of : Control → List ℕ → List ℕ
 text_of c section = header_of c section ++ section
 
 -- the fields as they are sent: A says whether a section follows, and Length counts it
 abbrev pub as_sent : Control → List ℕ → Control
 as_sent c section = record c { auth = has_section section; length = 24 + length section }
+
+-- each of the five words is below 2 ^ 32, as a field of 32 bits is
+pub record HasWords (c : Control) : Type 0 where
+  pub my : c.my < 2 ^ 32
+  pub your : c.your < 2 ^ 32
+  pub min_tx : c.min_tx < 2 ^ 32
+  pub min_rx : c.min_rx < 2 ^ 32
+  pub min_echo : c.min_echo < 2 ^ 32

@@ -1,6 +1,7 @@
 //! What a session authenticates with (RFC 5880 section 6.7).
 
-ghost use Rattle.std.specs.Prelude.{◌≡◌, ◌≤◌, ◌<◌, ◌↔◌, ◌++◌, [], ◌∷◌, length, IsTrue, IfSome, false};
+ghost use Rattle.std.specs.Prelude.{◌≡◌, ◌≤◌, ◌<◌, ◌↔◌, ◌++◌, [], ◌∷◌, length, IsTrue, IfSome, Some, false};
+ghost use Rattle.std.specs.Option.{option_copied};
 
 use arrayvec::ArrayVec;
 use std::marker::Model;
@@ -141,7 +142,7 @@ impl Model for Keys {
 }
 
 impl Keys {
-    ghost use Rattle.bfd_packet.specs.KeyChain.{fits_kind, has_id, place_of, key_at};
+    ghost use Rattle.bfd_packet.specs.KeyChain.{distinct_ids, fits_kind, has_id, place_of, key_at, key_named};
 
     /// A first key, whose secret has a length that the type allows.
     pub fn one(kind: AuthType, key: Key) -> Self
@@ -161,6 +162,15 @@ impl Keys {
         ensures { self.new ≡ record self.old { list = self.old.list ++ key ∷ [] } }
     {
         self.list.push(key);
+    }
+
+    /// How many keys there are: 1 to 4.
+    pub fn len(&self) -> usize
+        ensures value { result ≡ length self.now.list }
+        ensures some { 0 < result }
+        ensures few { result ≤ 4 }
+    {
+        self.list.as_slice().len()
     }
 
     /// Whether there are four keys, so that no other can be added.
@@ -197,12 +207,34 @@ impl Keys {
         self.list.as_slice().iter().position(|key| id == key.id)
     }
 
-    /// The key at this place of the list.
+    /// The key at this place of the list. Its secret has a length that the type allows, and its id names
+    /// it.
     pub fn key_at(&self, place: u8) -> &Key
         requires { place < length self.now.list }
-        ensures { result.now ≡ key_at place self.now.list }
+        ensures value { result.now ≡ key_at place self.now.list }
+        ensures fits { IsTrue (fits_kind self.now.kind result.now.secret) }
+        ensures named { key_named result.now.id self.now.list ≡ Some result.now }
+    {
+        self.nth(place)
+    }
+
+    // The same key, and that the ids are distinct.
+    fn nth(&self, place: u8) -> &Key
+        requires { place < length self.now.list }
+        ensures value { result.now ≡ key_at place self.now.list }
+        ensures fits { IsTrue (fits_kind self.now.kind result.now.secret) }
+        ensures ids { IsTrue (distinct_ids self.now.list) }
     {
         &self.list.as_slice()[usize::from(place)]
+    }
+
+    /// The key with this id, or None exactly where no key has it. Its secret has a length that the type
+    /// allows.
+    pub fn key_named(&self, id: u8) -> Option<&Key>
+        ensures value { option_copied result ≡ key_named id self.now.list }
+        ensures fits { IfSome result (λ key. IsTrue (fits_kind self.now.kind key.now.secret)) }
+    {
+        self.list.as_slice().iter().find(|key| id == key.id)
     }
 }
 

@@ -2,7 +2,7 @@
 
 ghost use Rattle.std.specs.Prelude.{◌≡◌, ◌≢◌, ◌<◌, ◌≤◌, length, ◌^◌, Ok};
 ghost use Rattle.bfd_packet.specs.declared.arrival.Port.{Port};
-ghost use Rattle.bfd_packet.specs.Layout.{as_sent, bit_of, flag_byte, header_of, state_number, text_of};
+ghost use Rattle.bfd_packet.specs.Layout.{HasWords, as_sent, bit_of, flag_byte, header_of, state_number, text_of};
 ghost use Rattle.bfd_packet.specs.HeaderTests.{PassesHeader, read_of};
 
 use crate::{AuthBytes, Control, State, Wire};
@@ -15,6 +15,21 @@ use byteorder::{BigEndian, ByteOrder};
 pub fn write(c: &Control, section: &AuthBytes) -> Wire
     requires { c.now.diag < 32 }
     ensures text { result ≡ text_of c.now section.now }
+
+    // What is written reads back on every port whose tests the fields pass. A section of one byte would
+    // make A and Length disagree.
+    ensures again { (port : Port) → PassesHeader port c.now → length section.now ≢ 1
+        → read_of port result ≡ Ok (as_sent c.now section.now) }
+{
+    packed(c, section)
+}
+
+// The same bytes, and that the words are of 32 bits.
+#[tactic(auto, unfolding(crate::specs::Layout::text_of))]
+fn packed(c: &Control, section: &AuthBytes) -> Wire
+    requires { c.now.diag < 32 }
+    ensures text { result ≡ text_of c.now section.now }
+    ensures words { HasWords c.now }
 {
     let section = section.as_slice();
     let header = header(c, section);
@@ -28,7 +43,8 @@ pub fn write(c: &Control, section: &AuthBytes) -> Wire
 fn header(c: &Control, section: &[u8]) -> [u8; 24]
     requires diag { c.now.diag < 32 }
     requires few { length section.now ≤ 28 }
-    ensures { result ≡ header_of c.now section.now }
+    ensures text { result ≡ header_of c.now section.now }
+    ensures words { HasWords c.now }
 {
     let mut bytes = [0; 24];
     bytes[0] = 32 + c.diag;

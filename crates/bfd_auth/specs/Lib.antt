@@ -1,0 +1,3 @@
+pub mod Digests
+pub mod Sealed
+pub mod Verdict
