@@ -1,6 +1,5 @@
 -- The frame of an event: what a rule does to variables, mark and outputs.
-use Rattle.std.specs.Prelude.{ℕ, ◌+◌, ◌*◌, ◌==◌, nat_lt, Bool, true, false, not, ◌&&◌, ◌||◌, if◌then◌else◌, Option, None, Some, is_none, List, [], ◌∷◌, ◌++◌}
-use Rattle.bfd_packet.specs.declared.control.State.{State}
+use Rattle.std.specs.Prelude.{ℕ, ◌==◌, Bool, false, not, ◌&&◌, ◌||◌, if◌then◌else◌, Option, None, Some, is_none, List, [], ◌∷◌, ◌++◌}
 use Rattle.bfd_packet.specs.declared.arrival.Datagram.{Datagram}
 use Rattle.bfd_num.specs.Numbers.{next_j}
 use Rattle.bfd_rules.specs.declared.variables.Vars.{Vars}

@@ -1,6 +1,6 @@
 -- What holds after every single rule of a point-to-point session: a change of an interval is negotiated by a Poll
 -- Sequence and used only when it may be (RFC 5880 sections 6.5, 6.6, 6.8.2 and 6.8.3).
-use Rattle.std.specs.Prelude.{ℕ, min, max, ◌==◌, Bool, true, not, ◌&&◌, ◌||◌, if◌then◌else◌, Option, None, Some, is_some, option_map}
+use Rattle.std.specs.Prelude.{ℕ, min, max, ◌==◌, Bool, not, ◌&&◌, ◌||◌, if◌then◌else◌, option_map}
 use Rattle.bfd_rules.specs.declared.variables.Vars.{Vars}
 use Rattle.bfd_rules.specs.declared.variables.Poll.{Poll}
 use Rattle.bfd_rules.specs.declared.variables.Poll.TheVariants.{Idle, Wanted, Running}

@@ -1,0 +1,9 @@
+pub mod Frame
+pub mod Transmit
+pub mod Settle
+pub mod Port
+pub mod Receive
+pub mod Command
+pub mod Finish
+pub mod Machine
+pub mod Over

@@ -1,0 +1,321 @@
+//! The reception of a control packet after settling (RFC 5880 section 6.8.6).
+ghost use Rattle.std.specs.Prelude.{◌≡◌, ◌≢◌, ◌<◌, ◌≤◌, ◌+◌, None, IsSome, List, length, find};
+ghost use Rattle.bfd_num.specs.Numbers.{moment_bound};
+ghost use Rattle.bfd_packet.specs.declared.control.Control.{Control as ControlOf};
+ghost use Rattle.bfd_packet.specs.Layout.{fields_of};
+ghost use Rattle.bfd_packet.specs.HeaderTests.{first_failing};
+ghost use Rattle.bfd_rules.specs.declared.config.Config.{Config as ConfigOf};
+ghost use Rattle.bfd_rules.specs.declared.variables.Mark.{Mark as MarkOf};
+ghost use Rattle.bfd_rules.specs.declared.outputs.Out.{Out};
+ghost use Rattle.bfd_rules.specs.Course.{course};
+ghost use Rattle.bfd_rules.specs.Sound.{IsPlain, HasPeerMult, IsSteady};
+ghost use Rattle.bfd_p2p.specs.Receive as receive;
+ghost use Rattle.bfd_p2p.specs.Port.{port_of};
+
+use crate::frame::{enters, moves, renews};
+use crate::transmitting::transmits;
+use bfd_auth::verify;
+use bfd_packet::{AuthType, Control, Keys, Port, SeqState, State, Test, read};
+use bfd_rules::{Config, Mark, Outs, Poll, Role, Vars};
+
+/// What became of a packet.
+#[derive(Clone, Copy, Debug, PartialEq, Eq)]
+pub enum Verdict {
+    /// Every test let it pass.
+    Accepted,
+    /// This test refused it.
+    Dropped(Test),
+}
+
+/// The first of the session's tests on TTL and the A bit that the packet fails.
+fn session_test(config: &Config, ttl: u8, packet: &Control) -> Option<Test>
+    ensures { result ≡ find (receive.session_fails config.now ttl packet.now) receive.session_tests }
+{
+    let plain = config.keys.is_none();
+    if matches!(config.role, Role::Single) && plain && ttl != 255 {
+        Some(Test::Ttl)
+    } else if packet.auth && plain {
+        Some(Test::AuthUnexpected)
+    } else if !packet.auth && !plain {
+        Some(Test::AuthMissing)
+    } else {
+        None
+    }
+}
+
+/// The verdict of authentication over the packet's Length bytes.
+fn authenticated(
+    keys: &Option<Keys>,
+    seq: &SeqState,
+    packet: &Control,
+    raw: &[u8],
+) -> Result<SeqState, Test>
+    requires { packet.now.length ≤ length raw.now }
+    ensures { result ≡ receive.authenticated keys.now seq.now packet.now raw.now }
+{
+    match keys {
+        Some(keys) => verify(keys, seq, &raw[..usize::from(packet.length)]),
+        None => Ok(*seq),
+    }
+}
+
+/// The new sequence state, or the first of the tests Ttl to AuthDigest that the packet fails.
+fn judged(
+    config: &Config,
+    v: &Vars,
+    ttl: u8,
+    packet: &Control,
+    raw: &[u8],
+) -> Result<SeqState, Test>
+    requires length { packet.now.length ≤ length raw.now }
+    requires fields { packet.now ≡ fields_of raw.now }
+    ensures { result ≡ receive.judged config.now v.now ttl raw.now }
+{
+    if let Some(test) = session_test(config, ttl, packet) {
+        return Err(test);
+    }
+    authenticated(&config.keys, &v.seq, packet, raw)
+}
+
+/// The session's packets carry a sequence number.
+fn has_sequence(keys: &Option<Keys>) -> bool
+    ensures { result ≡ receive.has_sequence keys.now }
+{
+    match keys {
+        Some(keys) => !matches!(keys.kind, AuthType::Password),
+        None => false,
+    }
+}
+
+/// The sequence state is kept (section 6.7).
+#[tactic(auto, unfolding(crate::specs::Receive::keeps_sequence))]
+fn keeps_sequence(config: &Config, eff: u64, seq: SeqState, vars: &mut Vars)
+    requires plain { IsPlain config.now vars.old }
+    requires eff { eff < moment_bound }
+    ensures plain { IsPlain config.now vars.new }
+    ensures state { vars.new.state ≡ vars.old.state }
+    ensures course { (m : MarkOf) (os : List Out) → course vars.new m os ≡ receive.keeps_sequence config.now eff seq (course vars.old m os) }
+{
+    let seq_heard = if has_sequence(&config.keys) {
+        Some(eff)
+    } else {
+        vars.seq_heard
+    };
+    let after = Vars {
+        seq,
+        seq_heard,
+        ..*vars
+    };
+    renews(config, eff, after, vars);
+}
+
+/// The peer's fields are kept (section 6.8.6).
+#[tactic(auto, unfolding(crate::specs::Receive::keeps_fields))]
+fn keeps_fields(config: &Config, eff: u64, packet: &Control, vars: &mut Vars)
+    requires plain { IsPlain config.now vars.old }
+    requires eff { eff < moment_bound }
+    requires mult { packet.now.mult ≢ 0 }
+    ensures steady { IsSteady config.now vars.new }
+    ensures state { vars.new.state ≡ vars.old.state }
+    ensures heard { IsSome vars.new.heard }
+    ensures course { (m : MarkOf) (os : List Out) → course vars.new m os ≡ receive.keeps_fields eff packet.now (course vars.old m os) }
+{
+    let after = Vars {
+        remote_discr: packet.my,
+        remote_state: packet.state,
+        remote_demand: packet.demand,
+        remote_min_rx: packet.min_rx,
+        remote_min_echo: packet.min_echo,
+        remote_mult: packet.mult,
+        remote_tx: packet.min_tx,
+        heard: Some(eff),
+        ..*vars
+    };
+    renews(config, eff, after, vars);
+}
+
+/// A running Poll Sequence has ended.
+fn poll_ended(poll: Poll) -> Poll
+    ensures { result ≡ receive.poll_ended poll }
+{
+    match poll {
+        Poll::Running(_) => Poll::Idle,
+        Poll::Idle | Poll::Wanted => poll,
+    }
+}
+
+/// F ends a running Poll Sequence (section 6.5).
+#[tactic(auto, unfolding(crate::specs::Receive::ends_poll))]
+fn ends_poll(config: &Config, eff: u64, packet: &Control, vars: &mut Vars)
+    requires steady { IsSteady config.now vars.old }
+    requires eff { eff < moment_bound }
+    ensures steady { IsSteady config.now vars.new }
+    ensures state { vars.new.state ≡ vars.old.state }
+    ensures heard { IsSome vars.old.heard → IsSome vars.new.heard }
+    ensures course { (m : MarkOf) (os : List Out) → course vars.new m os ≡ receive.ends_poll eff packet.now (course vars.old m os) }
+{
+    if packet.fin {
+        let after = Vars {
+            poll: poll_ended(vars.poll),
+            ..*vars
+        };
+        renews(config, eff, after, vars);
+    }
+}
+
+/// What a packet that passes the tests leaves, up to the test on AdminDown.
+#[tactic(auto, unfolding(crate::specs::Receive::kept))]
+fn keeps(config: &Config, eff: u64, packet: &Control, seq: SeqState, vars: &mut Vars)
+    requires plain { IsPlain config.now vars.old }
+    requires eff { eff < moment_bound }
+    requires mult { packet.now.mult ≢ 0 }
+    ensures steady { IsSteady config.now vars.new }
+    ensures state { vars.new.state ≡ vars.old.state }
+    ensures heard { IsSome vars.new.heard }
+    ensures course { (m : MarkOf) (os : List Out) → course vars.new m os ≡ receive.kept config.now eff packet.now seq (course vars.old m os) }
+{
+    keeps_sequence(config, eff, seq, vars);
+    keeps_fields(config, eff, packet, vars);
+    ends_poll(config, eff, packet, vars);
+}
+
+/// The state machine (sections 6.2 and 6.8.6).
+fn machine(received: State, v: &Vars) -> Vars
+    requires { IsSome v.now.heard }
+    ensures value { result ≡ receive.machine v.now.state received v.now }
+    ensures plain { (c : ConfigOf) → IsPlain c v.now → IsPlain c result }
+    ensures peer { HasPeerMult v.now → HasPeerMult result }
+{
+    match (v.state, received) {
+        (State::Down, State::Down) => enters(State::Init, v.diag, *v),
+        (State::Down, State::Init) => enters(State::Up, v.diag, *v),
+        (State::Init, State::Init | State::Up) => enters(State::Up, v.diag, *v),
+        (State::Init, State::AdminDown) => enters(State::Down, 3, *v),
+        (State::Up, State::AdminDown | State::Down) => enters(State::Down, 3, *v),
+        _ => *v,
+    }
+}
+
+/// The state machine takes the received state.
+#[tactic(auto, unfolding(crate::specs::Receive::moves_state))]
+fn moves_state(config: &Config, eff: u64, packet: &Control, vars: &mut Vars, outs: &mut Outs)
+    requires steady { IsSteady config.now vars.old }
+    requires eff { eff < moment_bound }
+    requires heard { IsSome vars.old.heard }
+    requires room { 0 < outs.old.spare }
+    ensures steady { IsSteady config.now vars.new }
+    ensures course { (m : MarkOf) → course vars.new m outs.new.items
+        ≡ receive.moves_state config.now eff packet.now (course vars.old m outs.old.items) }
+    ensures spare { outs.old.spare ≤ outs.new.spare + 1 }
+    ensures room { outs.new.room ≡ outs.old.room }
+{
+    let after = machine(packet.state, vars);
+    moves(config, eff, after, vars, outs);
+}
+
+/// P is answered at once by a packet with F, whatever else may be sent (section 6.5).
+#[tactic(auto, unfolding(crate::specs::Receive::answers))]
+fn answers(config: &Config, packet: &Control, vars: &mut Vars, mark: &mut Mark, outs: &mut Outs)
+    requires steady { IsSteady config.now vars.old }
+    requires room { 0 < outs.old.spare }
+    ensures steady { IsSteady config.now vars.new }
+    ensures course { course vars.new mark.new outs.new.items ≡ receive.answers config.now packet.now (course vars.old mark.old outs.old.items) }
+    ensures spare { outs.old.spare ≤ outs.new.spare + 1 }
+    ensures room { outs.new.room ≡ outs.old.room }
+{
+    if packet.poll {
+        vars.seq = transmits(config, false, true, vars, outs);
+        mark.answered = true;
+    }
+}
+
+/// The session is in AdminDown.
+pub fn is_admin_down(state: State) -> bool
+    ensures { result ≡ receive.is_admin_down state }
+{
+    matches!(state, State::AdminDown)
+}
+
+/// What a packet that passes the tests does; the test on AdminDown comes after its fields were kept.
+#[tactic(auto, unfolding(crate::specs::Receive::accepted))]
+fn accepts(
+    config: &Config,
+    eff: u64,
+    packet: &Control,
+    seq: SeqState,
+    vars: &mut Vars,
+    mark: &mut Mark,
+    outs: &mut Outs,
+) -> Verdict
+    requires steady { IsSteady config.now vars.old }
+    requires eff { eff < moment_bound }
+    requires mult { packet.now.mult ≢ 0 }
+    requires room { 1 < outs.old.spare }
+    ensures steady { IsSteady config.now vars.new }
+    ensures course { course vars.new mark.new outs.new.items
+        ≡ receive.accepted config.now eff packet.now seq (course vars.old mark.old outs.old.items) }
+    ensures verdict { result ≡ receive.verdict_by vars.old.state (Ok seq) }
+    ensures spare { outs.old.spare ≤ outs.new.spare + 2 }
+    ensures room { outs.new.room ≡ outs.old.room }
+{
+    keeps(config, eff, packet, seq, vars);
+    if is_admin_down(vars.state) {
+        return Verdict::Dropped(Test::AdminDown);
+    }
+    moves_state(config, eff, packet, vars, outs);
+    answers(config, packet, vars, mark, outs);
+    Verdict::Accepted
+}
+
+/// The port on which control packets of the role arrive.
+fn control_port(role: Role) -> Port
+    ensures { result ≡ port_of role }
+{
+    match role {
+        Role::Single => Port::Single,
+        Role::Multi => Port::Multi,
+    }
+}
+
+/// The fields of a packet that passes its port's header tests.
+fn fields(role: Role, raw: &[u8]) -> Control
+    requires { first_failing (port_of role) raw.now ≡ None }
+    ensures fields { result ≡ fields_of raw.now }
+    ensures mult { result.mult ≢ 0 }
+    ensures length { result.length ≤ length raw.now }
+{
+    match read(control_port(role), raw) {
+        Ok(packet) => packet,
+        Err(_) => unreachable!(),
+    }
+}
+
+/// Receives a packet that came with this TTL at the effective moment `eff`, in microseconds. `raw` passes the header
+/// tests of the session's port.
+#[tactic(auto, unfolding(crate::specs::Receive::received, crate::specs::Receive::received_on))]
+pub fn receives(
+    config: &Config,
+    eff: u64,
+    ttl: u8,
+    raw: &[u8],
+    vars: &mut Vars,
+    mark: &mut Mark,
+    outs: &mut Outs,
+) -> Verdict
+    requires steady { IsSteady config.now vars.old }
+    requires eff { eff < moment_bound }
+    requires header { first_failing (port_of config.now.role) raw.now ≡ None }
+    requires room { 1 < outs.old.spare }
+    ensures steady { IsSteady config.now vars.new }
+    ensures course { course vars.new mark.new outs.new.items
+        ≡ receive.received config.now eff ttl raw.now (course vars.old mark.old outs.old.items) }
+    ensures verdict { result ≡ receive.verdict_on config.now ttl raw.now vars.old }
+    ensures spare { outs.old.spare ≤ outs.new.spare + 2 }
+    ensures room { outs.new.room ≡ outs.old.room }
+{
+    let packet = fields(config.role, raw);
+    match judged(config, vars, ttl, &packet, raw) {
+        Ok(seq) => accepts(config, eff, &packet, seq, vars, mark, outs),
+        Err(test) => Verdict::Dropped(test),
+    }
+}

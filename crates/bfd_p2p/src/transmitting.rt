@@ -1,0 +1,85 @@
+//! The control packet that a session transmits (RFC 5880 section 6.8.7, RFC 5881 section 4, RFC 5883 section 5).
+ghost use Rattle.std.specs.Prelude.{◌≡◌, ◌<◌, ◌≤◌, ◌+◌, List};
+ghost use Rattle.bfd_rules.specs.declared.variables.Mark.{Mark};
+ghost use Rattle.bfd_rules.specs.Course.{course};
+ghost use Rattle.bfd_rules.specs.Sound.{IsPlace};
+ghost use Rattle.bfd_p2p.specs.Transmit as transmit;
+
+use bfd_auth::seal;
+use bfd_packet::{AuthBytes, Control, Datagram, Keys, SeqState, Wire, write};
+use bfd_rules::{Config, Outs, Role, Vars, adv_tx, demand_here, sends};
+
+/// The source port of every session, within the range of RFC 5881 section 4.
+const SOURCE_PORT: u16 = 49152;
+
+/// The fields of a transmitted packet, with P and F as the rule that sends it says.
+fn packet_of(config: &Config, v: &Vars, poll: bool, fin: bool) -> Control
+    ensures { result ≡ transmit.packet_of config.now v.now poll fin }
+{
+    Control {
+        diag: v.diag,
+        state: v.state,
+        poll,
+        fin,
+        cpi: false,
+        auth: config.keys.is_some(),
+        demand: demand_here(v),
+        multi: false,
+        mult: v.mult,
+        length: 0,
+        my: config.discr,
+        your: v.remote_discr,
+        min_tx: adv_tx(v),
+        min_rx: v.rx,
+        min_echo: 0,
+    }
+}
+
+/// The packet's bytes and the sequence state after it: plain, or sealed with the key that is sent with.
+fn sealed(keys: &Option<Keys>, sending: u8, seq: &SeqState, packet: &Control) -> (Wire, SeqState)
+    requires diag { packet.now.diag < 32 }
+    requires place { IsPlace keys.now sending }
+    ensures bytes { result.0 ≡ transmit.bytes_of keys.now sending seq.now packet.now }
+    ensures seq { result.1 ≡ transmit.seq_after keys.now seq.now }
+{
+    match keys {
+        Some(keys) => seal(keys, sending, seq, packet),
+        None => (write(packet, &AuthBytes::default()), *seq),
+    }
+}
+
+/// The destination port of control packets.
+fn port_number(role: Role) -> u16
+    ensures { result ≡ transmit.port_number role }
+{
+    match role {
+        Role::Single => 3784,
+        Role::Multi => 4784,
+    }
+}
+
+/// Transmits a packet, and says what the sequence state is after it.
+#[tactic(auto, unfolding(crate::specs::Transmit::transmits))]
+pub fn transmits(config: &Config, poll: bool, fin: bool, vars: &Vars, outs: &mut Outs) -> SeqState
+    requires diag { vars.now.diag < 32 }
+    requires place { IsPlace config.now.keys vars.now.sending }
+    requires room { 0 < outs.old.spare }
+    ensures course { (m : Mark) → course (record vars.now { seq = result }) m outs.new.items
+        ≡ transmit.transmits config.now poll fin (course vars.now m outs.old.items) }
+    ensures spare { outs.old.spare ≤ outs.new.spare + 1 }
+    ensures room { outs.new.room ≡ outs.old.room }
+{
+    let packet = packet_of(config, vars, poll, fin);
+    let (bytes, seq) = sealed(&config.keys, vars.sending, &vars.seq, &packet);
+    let datagram = Datagram {
+        iface: config.iface,
+        src: config.local,
+        sport: SOURCE_PORT,
+        dst: config.remote,
+        dport: port_number(config.role),
+        ttl: 255,
+        bytes,
+    };
+    sends(config.discr, datagram, outs);
+    seq
+}
