@@ -1,0 +1,74 @@
+//! What a session is made of, what can happen to it, and what it answers.
+
+use bfd_packet::{Arrival, State, Test};
+use bfd_rules::{Cmd, Config, Refusal};
+
+/// The configuration of a session, by its kind.
+#[derive(Drop)]
+pub enum SessionConfig {
+    /// A point-to-point session (RFC 5881, RFC 5883).
+    Pair(Config),
+}
+
+/// An own event of a session.
+#[derive(Drop)]
+pub enum Event {
+    /// A control packet came in, and selection named this session.
+    Packet(Arrival),
+    /// An echo packet with this sequence number came back.
+    Returned(u32),
+    /// A command of the operator.
+    Command(Cmd),
+    /// A question: nothing but what has come due is done.
+    Show,
+}
+
+/// What a session shows of itself. Intervals are in microseconds.
+#[derive(Clone, Copy, Debug, PartialEq, Eq)]
+pub struct Shown {
+    /// The local discriminator.
+    pub discr: u32,
+    pub state: State,
+    pub diag: u8,
+    pub remote_state: State,
+    pub remote_discr: u32,
+    /// The Desired Min TX Interval that is advertised.
+    pub adv_tx: u32,
+    /// The Desired Min TX Interval in use.
+    pub used_tx: u32,
+    /// The Required Min RX Interval in use.
+    pub used_rx: u32,
+    /// The Detection Time.
+    pub detect: u64,
+    /// The Poll Sequence: 0 none, 1 wanted, 2 running.
+    pub poll: u8,
+}
+
+/// What an event of a session answers.
+#[derive(Clone, Copy, Debug, PartialEq, Eq)]
+pub enum Answer {
+    /// The packet or the command was taken.
+    Handled,
+    /// A tick has passed.
+    Ticked,
+    /// The packet was discarded by this test, the first that it fails.
+    Dropped(Test),
+    /// The command was refused.
+    Refused(Refusal),
+    /// What the session shows.
+    Shown(Shown),
+}
+
+impl SessionConfig {
+    ghost use Rattle.std.specs.Prelude.{◌≡◌};
+    ghost use Rattle.bfd_session.specs.Kinds.{discr_of};
+
+    /// The local discriminator.
+    pub fn discr(&self) -> u32
+        ensures { result ≡ discr_of self.now }
+    {
+        match self {
+            SessionConfig::Pair(config) => config.discr,
+        }
+    }
+}
