@@ -1,1 +1,4 @@
 pub mod Kinds
+pub mod Due
+pub mod Step
+pub mod Inside

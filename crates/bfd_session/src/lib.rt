@@ -11,5 +11,10 @@
 #![tactic(auto)]
 
 mod event;
+mod law;
+mod pair;
+mod session;
 
 pub use event::{Answer, Event, SessionConfig, Shown};
+pub use law::undue_ticks_rest;
+pub use session::Session;

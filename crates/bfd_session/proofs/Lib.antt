@@ -1,0 +1,3 @@
+pub mod Front
+pub mod DueTick
+pub mod Rest

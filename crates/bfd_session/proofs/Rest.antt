@@ -1,0 +1,113 @@
+-- A tick by which nothing is due leaves sound variables as they are, and puts nothing out.
+use Rattle.std.proofs.Common.{◌≡◌, ◌||◌, ◌&&◌, ◌*◌, ◌==◌, ◌++◌, append-nil, ℕ, Bool, true, false, not, refl, sym, ap, ◌∙◌, subst, Option, None, Some, is_some, is_none, IsSome, IsTrue, ◌↔◌, List, [], if◌then◌else◌, arith}
+use Rattle.std.proofs.lemmas.Bool.{or_parts}
+use Rattle.std.proofs.lemmas.Bool.Decides.{nat_tests}
+use Rattle.bfd_packet.specs.declared.control.State.{State}
+use Rattle.bfd_packet.specs.declared.control.State.TheVariants.{AdminDown, Down, Init, Up}
+use Rattle.bfd_num.specs.Numbers.{floor_tick}
+use Rattle.bfd_num.specs.Due.{has_come, sooner}
+use Rattle.bfd_rules.specs.declared.config.Config.{Config}
+use Rattle.bfd_rules.specs.declared.outputs.Out.{Out}
+use Rattle.bfd_rules.specs.declared.variables.Mark.{Mark}
+use Rattle.bfd_rules.specs.declared.variables.Vars.{Vars}
+use Rattle.bfd_rules.specs.Quantities.{deadline, seq_deadline, may_send, same_state, tx_interval}
+use Rattle.bfd_rules.specs.Course.{Course, course, begins, is_news, draws, one_changed, drawn}
+use Rattle.bfd_rules.specs.Sound as pair
+use Rattle.bfd_p2p.specs.Settle as settling
+use Rattle.bfd_p2p.specs.Finish as finishing
+use Rattle.bfd_session.specs.declared.event.SessionConfig.{SessionConfig}
+use Rattle.bfd_session.specs.declared.event.SessionConfig.TheVariants.{Pair}
+use Rattle.bfd_session.specs.Due.{due, tick_of}
+use Rattle.bfd_session.specs.Step.{IsSound, tick, tick_next, tick_emits, begun}
+use Rattle.bfd_session.proofs.DueTick.{has_come-sooner, has_come-ceil, floor-tick}
+
+-- settling with nothing due
+
+settle_rests : (c : Config) (limit eff : ℕ) (s : Course)
+    → has_come limit (deadline s.vars) ≡ false → has_come limit (seq_deadline s.vars) ≡ false
+    → has_come (floor_tick limit) s.vars.tx_due ≡ false → settling.settle c limit eff s ≡ s
+unfolding settling.settle settling.detection settling.sequence settling.periodic
+settle_rests c limit eff s late seq_late due_later = rw (late, seq_late, due_later) refl
+
+-- the end of an event with no news and a due tick that stands
+
+same_itself : (a : State) → same_state a a ≡ true
+same_itself AdminDown = refl
+same_itself Down = refl
+same_itself Init = refl
+same_itself Up = refl
+
+equal_itself : (n : ℕ) → (n == n) ≡ true
+equal_itself n = grind (arith, nat_tests)
+
+no_news : (v : Vars) → is_news (begins v) v ≡ false
+no_news v = rw (same_itself v.state, equal_itself v.diag) refl
+
+one_stands : (b : Bool) → (if b then not b else b) ≡ false
+one_stands true = refl
+one_stands false = refl
+
+draw_stands : (v : Vars) → is_none v.tx_due ≡ false → draws (begins v) v ≡ false
+draw_stands v there = rw (there, equal_itself (tx_interval v), one_stands (v.mult == 1)) refl
+
+some_is_not_none : (o : Option ℕ) → IsSome o → is_none o ≡ false
+some_is_not_none None h = cc
+some_is_not_none (Some x) h = refl
+
+none_if_not_some : (o : Option ℕ) → is_some o ≡ false → o ≡ None
+none_if_not_some None h = refl
+none_if_not_some (Some x) h = cc
+
+not_some : (o : Option ℕ) (b : Bool) → (IsSome o ↔ IsTrue b) → b ≡ false → is_some o ≡ false
+not_some None b both h = refl
+not_some (Some x) b both h = let true_too : b ≡ true = both.0 refl in cc
+
+drawn_by : (c : Config) (v : Vars) (may : Bool) → may_send c.active v ≡ may → pair.IsSound c v → drawn c.active (begins v) v ≡ v
+unfolding drawn
+drawn_by c v true is sound = rw (is, draw_stands v (some_is_not_none v.tx_due (sound.due.1 is))) refl
+drawn_by c v false is sound =
+    rw is (ap (λ (o : Option ℕ). record v { tx_due = o }) (sym (none_if_not_some v.tx_due (not_some v.tx_due (may_send c.active v) sound.due is))))
+
+finish_rests : (c : Config) (eff : ℕ) (v : Vars) (os : List Out) → pair.IsSound c v
+    → finishing.finish c eff (course v (begins v) os) ≡ course v (begins v) os
+unfolding finishing.finish finishing.extra finishing.redrawn
+finish_rests c eff v os sound = rw (no_news v, drawn_by c v (may_send c.active v) refl sound) refl
+
+-- the whole tick
+
+tick_rests : (c : SessionConfig) (v : Vars) (t eff : ℕ) → IsSound c v → has_come t (due c v) ≡ false
+    → tick c (1000 * t) eff (begun None v []) ≡ begun None v []
+unfolding tick
+tick_rests (Pair c) v t eff sound nothing =
+    let outer = or_parts (has_come t (tick_of (deadline v))) (has_come t (sooner (tick_of (seq_deadline v)) v.tx_due))
+    (sym (has_come-sooner t (tick_of (deadline v)) (sooner (tick_of (seq_deadline v)) v.tx_due)) ∙ nothing) in
+    let inner = or_parts (has_come t (tick_of (seq_deadline v))) (has_come t v.tx_due)
+    (sym (has_come-sooner t (tick_of (seq_deadline v)) v.tx_due) ∙ outer.1) in
+    let late : has_come (1000 * t) (deadline v) ≡ false = sym (has_come-ceil t (deadline v)) ∙ outer.0 in
+    let seq_late : has_come (1000 * t) (seq_deadline v) ≡ false = sym (has_come-ceil t (seq_deadline v)) ∙ inner.0 in
+    let due_later : has_come (floor_tick (1000 * t)) v.tx_due ≡ false =
+    ap (λ (k : ℕ). has_come k v.tx_due) (floor-tick t) ∙ inner.1 in
+    ap (finishing.finish c eff) (settle_rests c (1000 * t) eff (begun None v []) late seq_late due_later)
+    ∙ finish_rests c eff v [] sound
+
+pub rest_vars : (c : SessionConfig) (v : Vars) (t eff : ℕ) → IsSound c v → has_come t (due c v) ≡ false
+    → tick_next c (1000 * t) eff v ≡ v
+unfolding tick_next
+rest_vars c v t eff sound nothing = ap (λ (s : Course). s.vars) (tick_rests c v t eff sound nothing)
+
+pub rest_outs : (c : SessionConfig) (v : Vars) (t eff : ℕ) → IsSound c v → has_come t (due c v) ≡ false
+    → tick_emits c (1000 * t) eff v ≡ []
+unfolding tick_emits
+rest_outs c v t eff sound nothing = ap (λ (s : Course). s.outs) (tick_rests c v t eff sound nothing)
+
+-- the same with the limit as a number
+
+pub limit_vars : (c : SessionConfig) (v : Vars) (limit t eff : ℕ) → limit ≡ 1000 * t → IsSound c v → has_come t (due c v) ≡ false
+    → tick_next c limit eff v ≡ v
+limit_vars c v limit t eff at sound nothing =
+    ap (λ (l : ℕ). tick_next c l eff v) at ∙ rest_vars c v t eff sound nothing
+
+pub limit_outs : (c : SessionConfig) (v : Vars) (limit t eff : ℕ) (os : List Out) → limit ≡ 1000 * t → IsSound c v → has_come t (due c v) ≡ false
+    → os ++ tick_emits c limit eff v ≡ os
+limit_outs c v limit t eff os at sound nothing =
+    ap (λ (l : ℕ). os ++ tick_emits c l eff v) at ∙ (ap (λ (xs : List Out). os ++ xs) (rest_outs c v t eff sound nothing) ∙ append-nil os)
