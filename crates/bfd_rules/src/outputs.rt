@@ -65,6 +65,13 @@ impl Outs {
         self.list.as_slice()
     }
 
+    /// The room that is left, in outputs.
+    pub fn spare(&self) -> usize
+        ensures { result ≡ self.now.spare }
+    {
+        self.room - self.list.len()
+    }
+
     /// Appends one output. Takes no memory.
     pub fn push(&mut self, out: Out)
         requires { 0 < self.old.spare }

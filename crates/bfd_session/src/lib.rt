@@ -18,3 +18,6 @@ mod session;
 pub use event::{Answer, Event, SessionConfig, Shown};
 pub use law::undue_ticks_rest;
 pub use session::Session;
+
+#[cfg(test)]
+mod tests;

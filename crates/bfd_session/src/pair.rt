@@ -1,5 +1,5 @@
 //! The events of a point-to-point session.
-ghost use Rattle.std.specs.Prelude.{◌≡◌, ◌<◌, ◌≤◌, ◌+◌, ◌*◌, ◌++◌, ℕ, None, Some, false, IfSome};
+ghost use Rattle.std.specs.Prelude.{◌≡◌, ◌<◌, ◌≤◌, ◌+◌, ◌*◌, ◌++◌, ℕ, None, Some, false, IfSome, IsTrue, ◌↔◌};
 ghost use Rattle.bfd_num.specs.Numbers.{moment_bound};
 ghost use Rattle.bfd_num.specs.Due.{has_come, sooner as sooner_of};
 ghost use Rattle.bfd_rules.specs.Course.{course};
@@ -8,13 +8,16 @@ ghost use Rattle.bfd_p2p.specs.Over.{IsOver};
 ghost use Rattle.bfd_session.specs.declared.event.SessionConfig.TheVariants.{Pair};
 ghost use Rattle.bfd_session.specs.Due as due;
 ghost use Rattle.bfd_session.specs.Step as session;
-ghost use Rattle.bfd_session.specs.Step.{CanTake, begun};
+ghost use Rattle.bfd_session.specs.Step.{CanTake, IsFor, begun};
+ghost use Rattle.bfd_p2p.specs.Port.{port_of as role_port};
 
 use crate::{Answer, Event, Shown};
 use bfd_num::ceil_tick;
 use bfd_p2p::{P2p, Verdict};
-use bfd_packet::Test;
-use bfd_rules::{Config, Mark, Outs, Poll, Vars, adv_tx, deadline, detection_time, seq_deadline};
+use bfd_packet::{Arrival, Port, Test, header_test};
+use bfd_rules::{
+    Config, Mark, Outs, Poll, Role, Vars, adv_tx, deadline, detection_time, seq_deadline,
+};
 
 /// The number that shows a Poll Sequence.
 fn poll_number(poll: Poll) -> u8
@@ -43,6 +46,24 @@ fn shown(c: &Config, v: &Vars) -> Shown
         detect: detection_time(v),
         poll: poll_number(v.poll),
     }
+}
+
+/// The port on which the session's packets arrive.
+fn port_of(role: Role) -> Port
+    ensures { result ≡ role_port role }
+{
+    match role {
+        Role::Single => Port::Single,
+        Role::Multi => Port::Multi,
+    }
+}
+
+/// The packet is for a session of this configuration: it came on the session's port and passes the port's header tests.
+pub fn is_for(c: &Config, arrival: &Arrival) -> bool
+    ensures { IsTrue result ↔ IsFor c.now arrival.now }
+{
+    arrival.port == port_of(c.role)
+        && header_test(arrival.port, arrival.payload.as_slice()).is_none()
 }
 
 /// The event's own rules, after settling.
@@ -130,9 +151,9 @@ pub fn ticks(p: &mut P2p, limit: u64, eff: u64, outs: &mut Outs)
     ensures spare { outs.old.spare ≤ outs.new.spare + 5 }
     ensures room { outs.new.room ≡ outs.old.room }
 {
-    let mut mark = p.begin(None);
-    p.settle(limit, eff, &mut mark, outs);
-    p.finish(eff, mark, outs);
+    let mut kept = p.begin(None);
+    p.settle(limit, eff, &mut kept, outs);
+    p.finish(eff, kept, outs);
 }
 
 /// The sooner of two due ticks.

@@ -1,5 +1,5 @@
 //! A session and its events.
-ghost use Rattle.std.specs.Prelude.{◌≡◌, ◌<◌, ◌≤◌, ◌+◌, ◌*◌, ◌++◌, ℕ, List, false, IfSome};
+ghost use Rattle.std.specs.Prelude.{◌≡◌, ◌<◌, ◌≤◌, ◌+◌, ◌*◌, ◌++◌, ℕ, List, false, IfSome, IsTrue, ◌↔◌};
 ghost use Rattle.bfd_num.specs.Numbers.{moment_bound};
 ghost use Rattle.bfd_num.specs.Due.{has_come};
 ghost use Rattle.bfd_rules.specs.declared.outputs.Out.{Out};
@@ -8,7 +8,7 @@ ghost use Rattle.bfd_session.specs.Due as due;
 ghost use Rattle.bfd_session.specs.Inside.{running_of, IsRunning};
 ghost use Rattle.bfd_session.specs.Step.{IsFit, IsSound, CanTake, made, next, emits, reply, tick_next, tick_emits};
 
-use crate::pair::{due_tick, steps, ticks};
+use crate::pair::{due_tick, is_for, steps, ticks};
 use crate::{Answer, Event, SessionConfig};
 use bfd_p2p::P2p;
 use bfd_rules::{Outs, Vars};
@@ -104,6 +104,18 @@ impl Session {
     {
         let Machine::Pair(machine) = &self.machine;
         machine.vars()
+    }
+
+    /// Whether the event may be handed to the session: a packet came on the session's port and passes the port's header
+    /// tests, and every other event may.
+    pub fn takes(&self, event: &Event) -> bool
+        ensures { IsTrue result ↔ CanTake self.now.config event.now }
+    {
+        let Machine::Pair(machine) = &self.machine;
+        match event {
+            Event::Packet(arrival) => is_for(machine.config(), arrival),
+            Event::Returned(_) | Event::Command(_) | Event::Show => true,
+        }
     }
 
     /// An own event at its effective moment `eff`, in microseconds: what has come due by it is done, then the event's
