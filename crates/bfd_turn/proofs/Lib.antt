@@ -4,3 +4,4 @@ pub mod Kept
 pub mod Loads
 pub mod Taking
 pub mod Sharing
+pub mod Joined

@@ -1,7 +1,8 @@
 -- Numbers in a list, a function changed at one number, and the views of a table.
 use Rattle.std.proofs.Common.{◌≡◌, ◌≢◌, ◌⊎◌, ℕ, zero, suc, ◌+◌, ◌<◌, Bool, true, false, cond, eqb, List, [], ◌∷◌, ◌++◌, length, set, get_or, sym, refl, ap, ◌∙◌, subst, inl, inr, ⊎_elim, arith, eq-eqb, ne_eqb, eqb-true}
-use Rattle.std.specs.Prelude.{◌||◌, Option, None}
+use Rattle.std.specs.Prelude.{◌||◌, Option, None, All}
 use Rattle.std.proofs.lemmas.Bool.{false≢true}
+use Rattle.std.proofs.lemmas.List.Elements.{All-tail}
 use mathlib.Core.Option.{some, some-injective, some-ne-none}
 use mathlib.Core.Logic.{dite}
 use native.Mathlib.Decide.{ℕ_discrete}
@@ -34,6 +35,12 @@ pub has_number : {N : Type 0} (js : List (ℕ × List N)) (k : ℕ) (d : ℕ × 
 has_number [] k d h = absurd (omega arith)
 has_number (j ∷ js) zero d h = ap (λ b. b || has j.0 (numbers_of js)) (eq-eqb j.0 j.0 refl)
 has_number (j ∷ js) (suc k) d h = elim (eqb j.0 (get_or js k d).0) as (λ b. (b || has (get_or js k d).0 (numbers_of js)) ≡ true) [ true ↦ refl | false ↦ has_number js k d (omega arith) ]
+
+-- a number above each of a list is not in it
+pub has_above : (ms : List ℕ) (n : ℕ) → All (λ m. m < n) ms → has n ms ≡ false
+has_above [] n all = refl
+has_above (m ∷ ms) n all = let first : m < n = all 0 0 (omega arith) in
+    ap (λ b. b || has n ms) (ne_eqb m n (λ e. omega arith)) ∙ has_above ms n (All-tail (λ k. k < n) m ms all)
 
 -- a function with another answer at one number
 pub put : (ℕ → Option ℕ) → ℕ → Option ℕ → ℕ → Option ℕ

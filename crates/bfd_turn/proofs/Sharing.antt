@@ -20,7 +20,7 @@ use Rattle.bfd_turn.specs.Plays.{AllKept}
 use Rattle.bfd_turn.specs.Passes.{IsNew, AllJoined}
 use Rattle.bfd_turn.specs.Rule.{total, Fits, AtHome}
 use Rattle.bfd_turn.proofs.Beginnings.{begins_itself, begins_begins, begins_whole, longer_begins, shorter_begins, longer_length, calls_front, calls_between}
-use Rattle.bfd_turn.proofs.Seats.{has_older, has_either, has_not, put, put_here, put_else, put_none, at_below, at_same, at_newest, total_set, total_newest, total_one}
+use Rattle.bfd_turn.proofs.Seats.{has_above, has_older, has_either, has_not, put, put_here, put_else, put_none, at_below, at_same, at_newest, total_set, total_newest, total_one}
 use Rattle.bfd_turn.proofs.Kept.{idle_holds_not, idle_lives, holding_lives, no_place, one_place, fits_moved, kept_of, quiet_to, quiet_from, place_moves}
 use Rattle.bfd_turn.proofs.Loads.{Rule, fits_of}
 
@@ -30,7 +30,7 @@ module _ {V N B : Type 0} (notes : V → List N) (by : N → ℕ) (base : V → 
       let f = fits_of notes by base s k id v at idle in
       let made_is : v.made ≡ k.made = (f.first first).0 in
       let ne : n ≢ 0 = (λ e. omega arith) in
-      let none_yet : has n k.made ≡ false = false_from_ne_true (has n k.made) (λ h. let below : n < n = new n (ap (has n) made_is ∙ h) in omega arith) in
+      let none_yet : has n k.made ≡ false = sym (ap (has n) made_is) ∙ has_above v.made n new in
       let unmade = k.unmade n ne none_yet in
       let l : View N B = parent n v in let r : View N B = offspring n v in
       let ls : List (View N B) = set s.views id l in

@@ -1,5 +1,5 @@
 -- What the lock's calls promise, over what its callers see of a pass.
-use Rattle.std.specs.Prelude.{◌≡◌, ◌≢◌, ◌⊎◌, ℕ, ◌+◌, ◌%◌, ◌^◌, ◌<◌, ◌≤◌, true, List, [], ◌∷◌, ◌++◌, Some}
+use Rattle.std.specs.Prelude.{◌≡◌, ◌≢◌, ◌⊎◌, ℕ, ◌+◌, ◌%◌, ◌^◌, ◌<◌, ◌≤◌, true, List, [], ◌∷◌, ◌++◌, Some, All}
 use Rattle.atomic_table.specs.Seated.{TableId}
 use Rattle.bfd_turn.specs.declared.view.Known.{Known}
 use Rattle.bfd_turn.specs.Lists.{longer, calls, has, numbers_of}
@@ -36,10 +36,10 @@ module _ {N B : Type 0} where
 
   -- the number is above each that was made
   abbrev pub IsNew : ℕ → Known N B → Type 0
-  IsNew n v = (m : ℕ) → has m v.made ≡ true → m < n
+  IsNew n v = All (λ m. m < n) v.made
 
 module _ {V N B : Type 0} where
-  -- The pass v holds the turn as w, and the value x is lent. The word was even, at most two turns below the last, and not below what v had met.
+  -- The pass v holds the turn as w, and the value x is lent. The word read, one below the new word, was even, not the last, and not below what v had met.
   -- The notes of x begin with what v had seen, and go on with notes of others. Of each joined pass they have the calls that are kept
   pub record IsLent (notes : V → List N) (by : N → ℕ) (base : V → B) (v w : Known N B) (x : V) : Type 0 where
     pub same : w ≡ record v { seen = notes x; word = w.word }
@@ -62,6 +62,10 @@ module _ {N B : Type 0} where
   -- the pass of this lock with the word n, and all else as it was
   abbrev pub IsBack : TableId → Known N B → ℕ → TableId × Known N B → Type 0
   IsBack id v n p = (p.0 ≡ id) × (p.1 ≡ having_met n v)
+
+  -- a pass of this lock, with the number, the passes made and those joined as they were
+  abbrev pub IsOf : TableId → Known N B → TableId × Known N B → Type 0
+  IsOf id v p = (p.0 ≡ id) × (p.1.number ≡ v.number) × (p.1.made ≡ v.made) × (p.1.joined ≡ v.joined)
 
   -- the word read was odd, or the exchange found another word
   abbrev pub WasBusy : Known N B → ℕ → ℕ → Type 0

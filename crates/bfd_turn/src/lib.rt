@@ -14,6 +14,8 @@ mod lock;
 mod pass;
 mod plays;
 mod recorded;
+#[cfg(test)]
+mod tests;
 mod turn;
 mod view;
 
