@@ -1,6 +1,6 @@
 //! The lock and its calls.
 ghost use Rattle.std.specs.Prelude.{◌≡◌, ◌≢◌, ℕ, ◌*◌, ◌^◌, ◌<◌, ◌≤◌, false, [], ◌∷◌, IfOk, MatchResult};
-ghost use Rattle.bfd_turn.specs.Lists.{Begins, longer, calls, has};
+ghost use Rattle.bfd_turn.specs.Lists.{Begins, calls, has};
 ghost use Rattle.bfd_turn.specs.Views.{known};
 ghost use Rattle.bfd_turn.specs.declared.view.Role.TheVariants.{Holding};
 ghost use Rattle.bfd_turn.specs.Plays.{AllKept};
@@ -102,8 +102,8 @@ impl<V: Recorded> TurnLock<V> {
         requires other { (other.0 ≡ self.now) × (other.1.number ≢ 0) }
         ensures first { first.new ≡ (self.now, having_joined V.caller first.new.1.word first.old.1 other.1) }
         ensures word { (first.old.1.word ≤ first.new.1.word) × (other.1.word ≤ first.new.1.word) }
-        ensures prefix { Begins first.old.1.seen (longer first.old.1.seen other.1.seen) × Begins other.1.seen (longer first.old.1.seen other.1.seen) }
-        ensures mine { calls V.caller 0 (longer first.old.1.seen other.1.seen) ≡ calls V.caller 0 first.old.1.seen }
+        ensures prefix { Begins first.old.1.seen first.new.1.seen × Begins other.1.seen first.new.1.seen }
+        ensures mine { calls V.caller 0 first.new.1.seen ≡ calls V.caller 0 first.old.1.seen }
     {
         let mut seat = mem::replace(&mut first.badge, Badge::blank()).into_seat();
         let (other, _) = other.into_seat();
