@@ -1,6 +1,6 @@
 -- What the lock's calls promise, over what its callers see of a pass.
-use Rattle.std.specs.Prelude.{◌≡◌, ◌≢◌, ◌⊎◌, ℕ, ◌+◌, ◌%◌, ◌^◌, ◌<◌, ◌≤◌, true, List, [], ◌∷◌, ◌++◌, Some, All}
-use Rattle.atomic_table.specs.Seated.{TableId}
+use Rattle.std.specs.Prelude.{◌≡◌, ◌≢◌, ◌⊎◌, ℕ, ◌+◌, ◌*◌, ◌%◌, ◌^◌, ◌<◌, ◌≤◌, true, List, [], ◌∷◌, ◌++◌, Some, All}
+pub use Rattle.atomic_table.specs.Seated.{TableId}
 use Rattle.bfd_turn.specs.declared.view.Known.{Known}
 use Rattle.bfd_turn.specs.Lists.{longer, calls, has, numbers_of}
 use Rattle.bfd_turn.specs.Plays.{Adds, AllKept}
@@ -8,7 +8,7 @@ use Rattle.bfd_turn.specs.Plays.{Adds, AllKept}
 module _ {N B : Type 0} where
   -- caller 0 of a new lock
   abbrev pub opened : B → ℕ → Known N B
-  opened base turns = record { number = 0; base = Some base; seen = []; word = turns + turns; taken = turns; made = []; joined = [] }
+  opened base turns = record { number = 0; base = Some base; seen = []; word = 2 * turns; taken = turns; made = []; joined = [] }
 
   -- caller 0, once it has made the pass n
   abbrev pub having_made : ℕ → Known N B → Known N B

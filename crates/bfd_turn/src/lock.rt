@@ -41,7 +41,7 @@ impl<V: Recorded> Model for TurnLock<V> {
 }
 
 impl<V: Recorded> TurnLock<V> {
-    /// A lock round a value with no notes, as after `turns` turns, and the pass of caller 0.
+    /// A lock round a value with no notes, and the pass of caller 0. The word begins as after `turns` turns, mostly 0; a lock has 2^63 - 1 in all.
     pub fn new(
         alloc: Global,
         value: V,
@@ -65,7 +65,7 @@ impl<V: Recorded> TurnLock<V> {
         }
     }
 
-    /// A pass of the given number, made by caller 0. It has seen what caller 0 has seen, where no note names that number.
+    /// A pass with a new number, made by caller 0. It has seen what caller 0 has seen, where no note names the number. A pass takes no memory.
     pub fn split(&self, first: &mut Pass<V::Note, V::Base>, number: u32) -> Pass<V::Note, V::Base>
         requires first { (first.old.0 ≡ self.now) × (first.old.1.number ≡ 0) }
         requires number { (0 < number) × IsNew number first.old.1 }
@@ -96,7 +96,8 @@ impl<V: Recorded> TurnLock<V> {
         Pass::of(other, number)
     }
 
-    /// Caller 0 takes in another pass. It has then seen the longer of the two lists, of which the other is a beginning, and it keeps the number and its calls.
+    /// Caller 0 takes in another pass. It has then seen the longer of the two lists, of which the other is a beginning, and keeps the number and its calls.
+    /// Its own calls stay the same, and no later note names the number.
     pub fn join(&self, first: &mut Pass<V::Note, V::Base>, other: Pass<V::Note, V::Base>)
         requires first { (first.old.0 ≡ self.now) × (first.old.1.number ≡ 0) }
         requires other { (other.0 ≡ self.now) × (other.1.number ≢ 0) }
@@ -114,6 +115,9 @@ impl<V: Recorded> TurnLock<V> {
     }
 
     /// One try at a turn, by one load and at most one exchange. It doesn't wait.
+    ///
+    /// Busy comes exactly where the word read is odd or the exchange finds another word, and Spent exactly where the word read is 2^64 - 2.
+    /// Either way the pass comes back with the last word met, and all else as it was.
     pub fn try_turn(
         &self,
         pass: Pass<V::Note, V::Base>,
@@ -164,7 +168,7 @@ impl<V: Recorded> TurnLock<V> {
         }
     }
 
-    /// A turn, tried again until its exchange wins. It may wait.
+    /// A turn, tried again until its exchange wins. It may wait. Spent comes exactly where the word read is 2^64 - 2.
     pub fn turn<R: Wait>(
         &self,
         rt: &R,
@@ -184,7 +188,7 @@ impl<V: Recorded> TurnLock<V> {
         unreachable!()
     }
 
-    /// Gives the turn back, with a value that has got at most one note since, which names this caller.
+    /// Gives the turn back, with a value that has got at most one note since, which names this caller. The pass has then seen all notes of the value.
     pub fn done(&self, turn: Turn<V>) -> Pass<V::Note, V::Base>
         requires turn { turn.0 ≡ self.now }
         requires grows { Grows V.noted V.caller turn.1 turn.2 }
@@ -203,7 +207,8 @@ impl<V: Recorded> TurnLock<V> {
         Pass::of(seat, number)
     }
 
-    /// The value, whose notes are the lock's one history.
+    /// The value, whose notes are the lock's one history, once every other pass was joined (`AllJoined`).
+    /// Each joined pass has the calls there that are kept of it, and a number that was never made has none.
     pub fn close(self, pass: Pass<V::Note, V::Base>) -> V
         requires pass { (pass.0 ≡ self) × (pass.1.number ≡ 0) }
         requires joined { AllJoined pass.1 }

@@ -16,7 +16,7 @@ pub struct View<N, B> {
     pub seen: LinkedList<N>,
     /// The shorter list of the last join, which a load then shows to be a beginning of `seen`.
     pub told: LinkedList<N>,
-    /// A list with this caller's own calls and, of it, no others: what it had seen before its last join.
+    /// What it had seen at its own last turn, or before its last join: no call of its own has come since.
     pub own: LinkedList<N>,
     pub word: u64,
     pub taken: u64,
