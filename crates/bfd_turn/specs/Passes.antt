@@ -1,5 +1,5 @@
 -- What the lock's calls promise, over what its callers see of a pass.
-use Rattle.std.specs.Prelude.{◌≡◌, ◌≢◌, ◌⊎◌, ℕ, ◌+◌, ◌*◌, ◌%◌, ◌^◌, ◌<◌, ◌≤◌, true, List, [], ◌∷◌, ◌++◌, Some, All}
+use Rattle.std.specs.Prelude.{◌≡◌, ◌≢◌, ◌⊎◌, ℕ, ◌+◌, ◌*◌, ◌%◌, ◌^◌, ◌<◌, ◌≤◌, true, not, List, [], ◌∷◌, ◌++◌, Some, filter, All}
 pub use Rattle.atomic_table.specs.Seated.{TableId}
 use Rattle.bfd_turn.specs.declared.view.Known.{Known}
 use Rattle.bfd_turn.specs.Lists.{longer, calls, has, numbers_of}
@@ -33,6 +33,10 @@ module _ {N B : Type 0} where
   -- every other pass was joined
   abbrev pub AllJoined : Known N B → Type 0
   AllJoined v = (n : ℕ) → has n v.made ≡ true → has n (numbers_of v.joined) ≡ true
+
+  -- the numbers that were made and not joined yet
+  abbrev pub open_of : Known N B → List ℕ
+  open_of v = filter (λ n. not (has n (numbers_of v.joined))) v.made
 
   -- the number is above each that was made
   abbrev pub IsNew : ℕ → Known N B → Type 0
