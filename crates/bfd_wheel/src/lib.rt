@@ -19,3 +19,6 @@ pub use form::Timers;
 pub use hashed::HashedWheel;
 pub use links::{Node, link, unlink};
 pub use plain::PlainTimers;
+
+#[cfg(test)]
+mod tests;

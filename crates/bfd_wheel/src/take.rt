@@ -33,6 +33,7 @@ pub(crate) fn take(nodes: &mut [Node], dues: &mut [u64], now: u64, t: u64, out: 
 fn gather(nodes: &mut [Node], dues: &mut [u64], now: u64, t: u64, out: &mut Ids) -> u64
     requires wheel { IsWheel (length dues.old) now dues.old nodes.old }
     requires t { t < 2 ^ 60 }
+    requires turn { t < now + 4096 }
     requires room { length dues.old ≤ out.old.spare }
     ensures wheel { IsWheel (length dues.old) result dues.new nodes.new }
     ensures items { out.new.items ≡ out.old.items ++ come t (map due_of dues.old) }
@@ -49,10 +50,12 @@ fn gather(nodes: &mut [Node], dues: &mut [u64], now: u64, t: u64, out: &mut Ids)
 fn sweep(nodes: &mut [Node], dues: &mut [u64], now: u64, t: u64, out: &mut Ids)
     requires wheel { IsWheel (length dues.old) now dues.old nodes.old }
     requires t { t < 2 ^ 60 }
+    requires turn { t < now + 4096 }
     requires room { waiting t dues.old ≤ out.old.spare }
     ensures wheel { IsWheel (length dues.old) now dues.new nodes.new }
     ensures took { Took t dues.old dues.new out.old.items out.new.items }
-    ensures left { (j : ℕ) → j < length dues.old → slice_index dues.new j ≢ never → t < slice_index dues.new j }
+    ensures left { (j : ℕ) → j < length dues.old → slice_index dues.new j ≢ never
+        → t < slice_index dues.new j }
     ensures room { room_of out.new ≡ room_of out.old }
 {
     for tick in now..now.max(t) + 1 {
@@ -68,7 +71,8 @@ fn collect(nodes: &mut [Node], dues: &mut [u64], now: u64, tick: u64, t: u64, ou
     ensures wheel { IsWheel (length dues.old) now dues.new nodes.new }
     ensures took { Took t dues.old dues.new out.old.items out.new.items }
     ensures left { (j : ℕ) → j < length dues.old → slice_index dues.new j ≢ never
-        → place (length dues.old) now (slice_index dues.new j) ≡ place (length dues.old) now tick → t < slice_index dues.new j }
+        → place (length dues.old) now (slice_index dues.new j) ≡ place (length dues.old) now tick
+        → t < slice_index dues.new j }
     ensures room { room_of out.new ≡ room_of out.old }
     ensures spare { waiting t dues.new ≤ out.new.spare }
 {
@@ -93,7 +97,8 @@ fn visit(nodes: &mut [Node], dues: &mut [u64], id: u32, t: u64, out: &mut Ids)
     ensures dues_kept { t < slice_index dues.old id → dues.new ≡ dues.old }
     ensures nodes_kept { t < slice_index dues.old id → nodes.new ≡ nodes.old }
     ensures gone { slice_index dues.old id ≤ t → dues.new ≡ slice_set dues.old id never }
-    ensures links { slice_index dues.old id ≤ t → Unlinks id (next_in nodes.old) (prev_in nodes.old) (next_in nodes.new) (prev_in nodes.new) }
+    ensures links { slice_index dues.old id ≤ t
+        → Unlinks id (next_in nodes.old) (prev_in nodes.old) (next_in nodes.new) (prev_in nodes.new) }
     ensures took { Took t dues.old dues.new out.old.items out.new.items }
     ensures room { room_of out.new ≡ room_of out.old }
     ensures spare { waiting t dues.new ≤ out.new.spare }
