@@ -1,0 +1,16 @@
+-- What contracts see of `Ids`.
+use Rattle.std.specs.Prelude.{ℕ, ◌+◌, ◌≤◌, List, length}
+
+-- the ids in their order, and how many more find room
+pub record Held : Type 0 where
+  pub items : List ℕ
+  pub spare : ℕ
+
+-- how many ids find room in all
+abbrev pub room_of : Held → ℕ
+room_of h = length h.items + h.spare
+
+-- what is held fits the room, and the room is memory that was taken
+pub record IsReserved (count room capacity : ℕ) : Type 0 where
+  pub fits : count ≤ room
+  pub taken : room ≤ capacity

@@ -1,0 +1,7 @@
+pub mod Rings
+pub mod Wheels
+pub mod Taking
+pub mod Order
+pub mod Walk
+pub mod Swept
+pub mod Views

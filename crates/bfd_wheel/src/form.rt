@@ -1,0 +1,50 @@
+//! What every form of timers promises.
+ghost use Rattle.std.specs.Prelude.{◌≡◌, ℕ, ◌+◌, ◌^◌, ◌<◌, ◌≤◌, List, ◌++◌, map, length, replicate, Option, None, Some, slice_index_or, slice_set, IfOk};
+ghost use Rattle.bfd_lanes.specs.Held.{room_of};
+ghost use Rattle.bfd_lanes.specs.Places.{come, least, without};
+
+use bfd_lanes::Ids;
+use bfd_num::Steps;
+use std::alloc::{AllocError, Global};
+use std::sync::ledger::Ledger;
+
+/// Timers of ids 0, 1, 2 .., seen as the list of their optional due ticks. Only `make` takes memory.
+pub trait Timers: Drop + Sized {
+    ghost dues: { Self → List (Option ℕ) };
+
+    /// Timers for `count` ids, at most 65,536, with no due tick. The only refusal is want of memory.
+    fn make(alloc: Global, count: u32) -> Result<Self, AllocError>
+        requires { count ≤ 65536 }
+        ensures { IfOk result (λ timers. dues timers ≡ replicate count None) };
+
+    /// Sets the id's due tick, below 2^60, in place of the one that it had: at most 2 steps.
+    fn set<L: Ledger>(&mut self, id: u32, due: u64, steps: &mut Steps<L>)
+        requires id { id < length (dues self.old) }
+        requires due { due < 2 ^ 60 }
+        ensures dues { dues self.new ≡ slice_set (dues self.old) id (Some due) }
+        ensures cost { steps.new ≤ steps.old + 2 };
+
+    /// Takes the id's due tick away, if it has one: at most 1 step.
+    fn clear<L: Ledger>(&mut self, id: u32, steps: &mut Steps<L>)
+        requires id { id < length (dues self.old) }
+        ensures dues { dues self.new ≡ slice_set (dues self.old) id None }
+        ensures cost { steps.new ≤ steps.old + 1 };
+
+    /// The id's due tick.
+    fn due(&self, id: u32) -> Option<u64>
+        requires { id < length (dues self.now) }
+        ensures { result ≡ slice_index_or (dues self.now) id None };
+
+    /// The least due tick.
+    fn least(&self) -> Option<u64>
+        ensures { result ≡ least (dues self.now) };
+
+    /// Appends the ids whose due tick is at most `t`, ascending, and takes these due ticks away. `t`, below 2^60, may
+    /// be below an earlier one.
+    fn advance(&mut self, t: u64, out: &mut Ids)
+        requires t { t < 2 ^ 60 }
+        requires room { length (dues self.old) ≤ out.old.spare }
+        ensures items { out.new.items ≡ out.old.items ++ come t (dues self.old) }
+        ensures room { room_of out.new ≡ room_of out.old }
+        ensures dues { dues self.new ≡ map (without t) (dues self.old) };
+}

@@ -1,0 +1,84 @@
+//! Timers as a hashed wheel.
+ghost use Rattle.std.specs.Prelude.{◌≡◌, ℕ, ◌+◌, ◌≤◌, ◌<◌, length, IfOk};
+ghost use Rattle.bfd_wheel.specs.Wheel.{next_in, prev_in};
+
+use crate::change::{change, free};
+use crate::form::Timers;
+use crate::links::Node;
+use crate::list::{none, read};
+use crate::place::HEADS;
+use crate::take::take;
+use bfd_lanes::{Ids, least_due};
+use bfd_num::Steps;
+use std::alloc::{AllocError, Global};
+use std::marker::Model;
+use std::sync::ledger::Ledger;
+
+/// A wheel of 4,096 slots and an overdue list: each is a ring of nodes through a head, and each id with a due tick
+/// stands in one of them. `now` is the greatest tick that the wheel was advanced to.
+#[derive(Drop)]
+pub struct HashedWheel {
+    now: u64,
+    dues: Vec<u64>,
+    nodes: Vec<Node>,
+}
+
+impl Model for HashedWheel {
+    ghost use Rattle.std.specs.Prelude.{ℕ, List, Option, map, length};
+    ghost use Rattle.bfd_lanes.specs.Places.{due_of};
+    ghost use Rattle.bfd_wheel.specs.Wheel.{IsWheel};
+
+    ghost Value = { List (Option ℕ) };
+
+    ghost view = { λ w. map due_of w.dues.items };
+
+    ghost invariant = { λ w. IsWheel (length w.dues.items) w.now w.dues.items w.nodes.items };
+}
+
+impl Timers for HashedWheel {
+    ghost dues = { λ w. w };
+
+    fn make(alloc: Global, count: u32) -> Result<Self, AllocError> {
+        let dues = none(alloc, count)?;
+        let nodes = loops(alloc, count + HEADS)?;
+        Ok(HashedWheel {
+            now: 0,
+            dues,
+            nodes,
+        })
+    }
+
+    fn set<L: Ledger>(&mut self, id: u32, due: u64, steps: &mut Steps<L>) {
+        change(&mut self.nodes, &mut self.dues, self.now, id, due, steps);
+    }
+
+    fn clear<L: Ledger>(&mut self, id: u32, steps: &mut Steps<L>) {
+        free(&mut self.nodes, &mut self.dues, id, steps);
+    }
+
+    fn due(&self, id: u32) -> Option<u64> {
+        read(&self.dues, id)
+    }
+
+    fn least(&self) -> Option<u64> {
+        least_due(&self.dues)
+    }
+
+    fn advance(&mut self, t: u64, out: &mut Ids) {
+        self.now = take(&mut self.nodes, &mut self.dues, self.now, t, out);
+    }
+}
+
+/// As many nodes, each linked to itself.
+#[tactic(auto, unfolding(crate::specs::Wheel::next_in, crate::specs::Wheel::prev_in))]
+fn loops(alloc: Global, count: u32) -> Result<Vec<Node>, AllocError>
+    ensures size { IfOk result (λ nodes. length nodes.items ≡ count) }
+    ensures next { IfOk result (λ nodes. (j : ℕ) → j < count → next_in nodes.items j ≡ j) }
+    ensures prev { IfOk result (λ nodes. (j : ℕ) → j < count → prev_in nodes.items j ≡ j) }
+{
+    let mut nodes = Vec::with_capacity(alloc, count as usize)?;
+    for at in 0..count {
+        nodes.push(Node { next: at, prev: at })?;
+    }
+    Ok(nodes)
+}

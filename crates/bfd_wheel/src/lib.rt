@@ -1,0 +1,24 @@
+//! Timers: for each of a fixed number of ids an optional due tick, and the ids that have come, in order.
+//!
+//! `PlainTimers` keeps the due ticks in one list. `HashedWheel` keeps them in 4,096 slots as well, so that an advance
+//! by a tick looks at two short lists. It stands on bfd_lanes and bfd_num. Both forms promise the same: they are the
+//! list of their optional due ticks, an advance takes exactly those at most its tick, and no call but `make` takes
+//! memory.
+#![tactic(auto)]
+
+mod change;
+mod form;
+mod hashed;
+mod links;
+mod list;
+mod place;
+mod plain;
+mod take;
+
+pub use form::Timers;
+pub use hashed::HashedWheel;
+pub use links::{Node, link, unlink};
+pub use plain::PlainTimers;
+
+#[cfg(test)]
+mod tests;

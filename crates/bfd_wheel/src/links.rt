@@ -1,0 +1,45 @@
+//! Nodes that are linked to both neighbours by indices.
+ghost use Rattle.std.specs.Prelude.{◌≡◌, ◌≢◌, ◌<◌, length};
+ghost use Rattle.bfd_wheel.specs.Rings.{Links, Unlinks};
+ghost use Rattle.bfd_wheel.specs.Wheel.{next_in, prev_in};
+
+/// The indices of a node's neighbours.
+#[derive(Clone, Copy)]
+pub struct Node {
+    /// The node behind this one.
+    pub next: u32,
+    /// The node before this one.
+    pub prev: u32,
+}
+
+/// Links the neighbours of the node `id` to each other.
+#[tactic(auto, unfolding(crate::specs::Wheel::next_in, crate::specs::Wheel::prev_in))]
+pub fn unlink(nodes: &mut [Node], id: u32)
+    requires node { id < length nodes.old }
+    requires next { next_in nodes.old id < length nodes.old }
+    requires prev { prev_in nodes.old id < length nodes.old }
+    ensures { Unlinks id (next_in nodes.old) (prev_in nodes.old) (next_in nodes.new) (prev_in nodes.new) }
+{
+    let Node { next, prev } = nodes[id as usize];
+    nodes[prev as usize].next = next;
+    nodes[next as usize].prev = prev;
+}
+
+/// Puts the node `id` between `head` and the node that was first behind it.
+#[tactic(auto, unfolding(crate::specs::Wheel::next_in, crate::specs::Wheel::prev_in))]
+pub fn link(nodes: &mut [Node], id: u32, head: u32)
+    requires node { id < length nodes.old }
+    requires head { head < length nodes.old }
+    requires next { next_in nodes.old head < length nodes.old }
+    requires other { head ≢ id }
+    requires apart { next_in nodes.old head ≢ id }
+    ensures { Links id head (next_in nodes.old) (prev_in nodes.old) (next_in nodes.new) (prev_in nodes.new) }
+{
+    let first = nodes[head as usize].next;
+    nodes[id as usize] = Node {
+        next: first,
+        prev: head,
+    };
+    nodes[first as usize].prev = id;
+    nodes[head as usize].next = id;
+}
