@@ -1,4 +1,4 @@
-use Rattle.std.proofs.Common.{ℕ, ◌≤◌, length}
+use Rattle.std.proofs.Common.{◌≤◌, length}
 use Rattle.bfdd.specs.Outside.{TookUpTo}
 use Rattle.bfdd.proofs.output.write_all.Given as goal
 
