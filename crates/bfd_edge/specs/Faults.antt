@@ -1,0 +1,17 @@
+-- Counts of faults, and what a failure says of them.
+use Rattle.std.specs.Prelude.{ℕ, ◌+◌, ◌-◌, ◌^◌, ◌≤◌, min, Result, IsErrOf}
+use Rattle.bfd_edge.specs.declared.fault.Fault.{Fault}
+use Rattle.bfd_edge.specs.declared.fault.Fault.TheVariants.{Failed}
+
+-- one more, but never above 2^64 - 1
+abbrev pub raised : ℕ → ℕ
+raised count = min (count + 1) (2 ^ 64 - 1)
+
+-- the count rose by one or more; at 2^64 - 1 it is taken to have risen by any number
+abbrev pub Rose : ℕ → ℕ → Type 0
+Rose before now = raised before ≤ now
+
+-- the count didn't fall, and the call failed only where it rose
+pub record HasCause {T : Type 0} (before now : ℕ) (result : Result T Fault) : Type 0 where
+  pub later : before ≤ now
+  pub failed : IsErrOf result Failed → Rose before now

@@ -1,0 +1,51 @@
+-- What one line says, and its first fault.
+use Rattle.std.specs.Prelude.{ℕ, Bool, List, [], ◌∷◌, Option, Some, None, Result, Ok, Err, if◌then◌else◌}
+use Rattle.bfd_num.specs.Numbers.{greatest_tick}
+use Rattle.bfd_script.specs.declared.fault.LineFault.{LineFault}
+use Rattle.bfd_script.specs.declared.fault.LineFault.TheVariants.{UnknownWord, FieldCount, Order, NotBuilt}
+use Rattle.bfd_script.specs.declared.words.Word.{Word}
+use Rattle.bfd_script.specs.declared.words.Word.TheVariants as words
+use Rattle.bfd_script.specs.declared.words.Place.{Place}
+use Rattle.bfd_script.specs.declared.entries.Entry.{Entry}
+use Rattle.bfd_script.specs.declared.entries.Entry.TheVariants as entries
+use Rattle.bfd_script.specs.declared.entries.Line.TheVariants as events
+use Rattle.bfd_script.specs.Fields.{text_of, fields_of, number_in}
+use Rattle.bfd_script.specs.Gives.{◌>>=◌}
+use Rattle.bfd_script.specs.Words.{word_of, stands}
+
+-- a line that is its word alone
+abbrev pub alone : Entry → List (List ℕ) → Result Entry LineFault
+alone entry [] = Ok entry
+alone entry (value ∷ values) = Err FieldCount
+
+-- `bfd VERSION`
+abbrev pub version : List (List ℕ) → Result Entry LineFault
+version (number ∷ []) = number_in 1 1 number >>= λ _. Ok entries.Version
+version values = Err FieldCount
+
+-- `tick T`
+abbrev pub ticked : List (List ℕ) → Result Entry LineFault
+ticked (number ∷ []) = number_in 0 greatest_tick number >>= λ tick. Ok (entries.Event (events.Tick tick))
+ticked values = Err FieldCount
+
+-- what the values of a word say
+abbrev pub valued : Word → List (List ℕ) → Result Entry LineFault
+valued words.Bfd values = version values
+valued words.Run values = alone entries.Run values
+valued words.Tick values = ticked values
+valued words.End values = alone entries.End values
+valued word values = Err NotBuilt
+
+-- a line of this word, with these values
+abbrev pub placed : Place → Bool → Option Word → List (List ℕ) → Result Entry LineFault
+placed place live None values = Err UnknownWord
+placed place live (Some word) values = if stands place live word then valued word values else Err Order
+
+-- a line of these fields
+abbrev pub worded : Place → Bool → List (List ℕ) → Result Entry LineFault
+worded place live [] = Err UnknownWord
+worded place live (name ∷ values) = placed place live (word_of name) values
+
+-- what a line says by itself; the order of its tests is the order of the cases
+abbrev pub entry_of : Place → Bool → List ℕ → Result Entry LineFault
+entry_of place live line = text_of line >>= λ text. worded place live (fields_of text)

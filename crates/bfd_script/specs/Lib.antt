@@ -1,0 +1,7 @@
+pub mod Complaints
+pub mod Words
+pub mod Fields
+pub mod Entries
+pub mod Reading
+pub mod Gives
+pub mod Report

@@ -1,0 +1,48 @@
+// The whole text.
+ghost use Rattle.bfd_script.specs.Gives.{Gives, GivesScript};
+ghost use Rattle.bfd_script.specs.Reading.{script_of, step};
+
+use crate::entries::read_line;
+use crate::fault::{BadLine, ReadFault, ScriptFault};
+use crate::fields::first_line;
+use crate::script::Script;
+use crate::state::Reading;
+use std::alloc::Global;
+
+/// The state after one more line.
+fn read_step(alloc: Global, live: bool, reading: Reading, line: &[u8]) -> Result<Reading, ReadFault>
+    ensures { Gives (λ s. s) result (step live reading line.now) }
+{
+    let entry = read_line(alloc, reading.place(), live, line)?;
+    reading.accept(entry)
+}
+
+/// Reads a packet file: the script that it spells, or its first faulty line with that line's first fault.
+///
+/// In a `live` script the lines `rx` and `tick` may not stand, since packets and ticks come from outside.
+pub fn read(alloc: Global, bytes: &[u8], live: bool) -> Result<Script, ScriptFault>
+    ensures { GivesScript result (script_of live bytes.now) }
+{
+    let mut reading = Reading::new(alloc);
+    let mut rest = bytes;
+    let mut number = 1;
+    while !rest.is_empty() {
+        let (line, after) = first_line(rest);
+        match read_step(alloc, live, reading, line) {
+            Ok(next) => reading = next,
+            Err(ReadFault::Fault(fault)) => {
+                return Err(ScriptFault::Bad(BadLine {
+                    line: number,
+                    fault,
+                }));
+            }
+            Err(ReadFault::Memory) => return Err(ScriptFault::Memory),
+        }
+        rest = after;
+        number += 1;
+    }
+    match reading.finish(number) {
+        Ok(script) => Ok(script),
+        Err(bad) => Err(ScriptFault::Bad(bad)),
+    }
+}

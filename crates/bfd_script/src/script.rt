@@ -1,0 +1,18 @@
+// A script.
+use crate::entries::Line;
+use std::marker::Model;
+
+/// A script: what a packet file says. Contracts see it as the record `Lists`.
+#[derive(Drop)]
+pub struct Script {
+    /// The event lines, in the order of the file. There are at most 200,000.
+    pub events: Vec<Line>,
+}
+
+impl Model for Script {
+    ghost use Rattle.bfd_script.specs.Reading.{Lists};
+
+    ghost Value = { Lists };
+
+    ghost view = { λ s. record { events = s.events.items } };
+}

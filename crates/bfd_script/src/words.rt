@@ -1,0 +1,80 @@
+// The words that begin a line, and where they may stand.
+ghost use Rattle.std.specs.Prelude.{◌≡◌};
+ghost use Rattle.bfd_script.specs.Words.{word_of, stands};
+
+/// The word that begins a line.
+#[derive(Clone, Copy, Debug, PartialEq, Eq)]
+pub(crate) enum Word {
+    Bfd,
+    P2p,
+    Auth,
+    Sbfd,
+    Reflector,
+    Head,
+    Tail,
+    Run,
+    Rx,
+    Tick,
+    Cmd,
+    Show,
+    End,
+}
+
+/// How far the text is read: what may come next.
+#[derive(Clone, Copy, Debug, PartialEq, Eq)]
+pub(crate) enum Place {
+    /// The line with the version.
+    Version,
+
+    /// Table lines, and `run`.
+    Table,
+
+    /// Event lines, and `end`.
+    Events,
+
+    /// Nothing.
+    Over,
+}
+
+/// The word that a field spells.
+pub(crate) fn word_named(field: &str) -> Option<Word>
+    ensures { result ≡ word_of field.now }
+{
+    match field {
+        "bfd" => Some(Word::Bfd),
+        "p2p" => Some(Word::P2p),
+        "auth" => Some(Word::Auth),
+        "sbfd" => Some(Word::Sbfd),
+        "reflector" => Some(Word::Reflector),
+        "head" => Some(Word::Head),
+        "tail" => Some(Word::Tail),
+        "run" => Some(Word::Run),
+        "rx" => Some(Word::Rx),
+        "tick" => Some(Word::Tick),
+        "cmd" => Some(Word::Cmd),
+        "show" => Some(Word::Show),
+        "end" => Some(Word::End),
+        _ => None,
+    }
+}
+
+impl Place {
+    /// Whether a line of this word may come next. In a live script packets and ticks may not stand at all: they come from
+    /// outside.
+    pub(crate) fn takes(self, live: bool, word: Word) -> bool
+        ensures { result ≡ stands self live word }
+    {
+        match word {
+            Word::Bfd => self == Place::Version,
+            Word::P2p
+            | Word::Auth
+            | Word::Sbfd
+            | Word::Reflector
+            | Word::Head
+            | Word::Tail
+            | Word::Run => { self == Place::Table }
+            Word::Rx | Word::Tick => self == Place::Events && !live,
+            Word::Cmd | Word::Show | Word::End => self == Place::Events,
+        }
+    }
+}

@@ -1,0 +1,5 @@
+pub mod Outside
+pub mod Status
+pub mod Text
+pub mod Words
+pub mod World

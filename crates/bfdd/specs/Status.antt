@@ -1,0 +1,26 @@
+-- How a run ends.
+use Rattle.std.specs.Prelude.{◌≡◌, ℕ, ⊤}
+use Rattle.bfd_script.specs.declared.fault.BadLine.{BadLine as FaultyLine}
+use Rattle.bfdd.specs.declared.status.Status.{Status}
+use Rattle.bfdd.specs.declared.status.Status.TheVariants.{Done, Usage, BadLine, ReadFault, WriteFault, TooLarge, Memory}
+
+-- the code that the program ends with
+abbrev pub code_of : Status → ℕ
+code_of Done = 0
+code_of Usage = 1
+code_of (BadLine line fault) = 2
+code_of ReadFault = 3
+code_of WriteFault = 4
+code_of TooLarge = 7
+code_of Memory = 11
+
+-- a fact about the faulty line, where the status names one
+abbrev pub OnBadLine : Status → (FaultyLine → Type 0) → Type 0
+OnBadLine (BadLine line fault) P = P (record { line = line; fault = fault })
+OnBadLine status P = ⊤
+
+-- a status, where the text asks for another: it is that one, but for want of memory, and for a sink that failed under a report
+abbrev pub IsDecided : Status → Status → Type 0
+IsDecided Memory wanted = ⊤
+IsDecided WriteFault wanted = wanted ≡ Done
+IsDecided status wanted = status ≡ wanted
