@@ -14,8 +14,8 @@ use sha1::Sha1;
 // Zeros to pad a key with.
 const ZEROS: [u8; 20] = [0; 20];
 
-// The digest of the packet with the padded key in the digest's place. Nothing is copied: the pieces are
-// taken in one after the other.
+/// The digest of the packet with the padded key in the digest's place. Nothing is copied: the pieces are
+/// taken in one after the other.
 pub fn digest(kind: AuthType, key: &Key, packet: &[u8]) -> AuthBytes
     requires fits { IsTrue (fits_kind kind key.now.secret) }
     requires room { digest_size kind + 32 ≤ length packet.now }
@@ -34,7 +34,7 @@ pub fn digest(kind: AuthType, key: &Key, packet: &[u8]) -> AuthBytes
     }
 }
 
-// So many zeros, at most 20.
+/// So many zeros, at most 20.
 pub fn zeros(count: usize) -> &'static [u8]
     requires { count ≤ 20 }
     ensures { result.now ≡ replicate count 0 }

@@ -16,6 +16,8 @@ mod discard;
 mod keys;
 mod names;
 mod reading;
+#[cfg(test)]
+mod tests;
 mod writing;
 
 pub use arrival::{Addr, Arrival, Datagram, Port};
