@@ -1,0 +1,15 @@
+//! The numbers that every other crate counts in: moments in microseconds, ticks in milliseconds, the draws that
+//! jitter is made of, and a counter of steps that contracts alone can read.
+//!
+//! It stands on std alone, takes no memory and reads no clock. It promises that a `Moment` or a `Tick` is never too
+//! large for the sums that are made of it, that rounding between the two is exact, and that `Steps` costs nothing at
+//! run time.
+#![tactic(auto)]
+
+mod clock;
+mod counter;
+mod draw;
+
+pub use clock::{GREATEST_TICK, MOMENT_BOUND, Moment, Tick, ceil_tick, floor_tick};
+pub use counter::Steps;
+pub use draw::next_j;
