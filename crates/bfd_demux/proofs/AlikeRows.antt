@@ -51,7 +51,7 @@ repeated_here same rows i d earlier lt found = repeat_after-drop same rows i d l
 pub repeated_later : (same : Row → Row → Bool) (rows : List Row) (i : ℕ) (d : Row) → i < length rows → None ≡ position_from (same (get_or rows i d)) 0 (take i rows) → repeat_after same (take (i + 1) rows) (drop (i + 1) rows) ≡ repeat_after same (take i rows) (drop i rows)
 repeated_later same rows i d lt none = sym (repeat_after-drop same rows i d lt ∙ rw (← none) refl)
 
-nat_level : (a b : ℕ) → is_eq (nat_cmp a b) ≡ (a == b)
+pub nat_level : (a b : ℕ) → is_eq (nat_cmp a b) ≡ (a == b)
 nat_level a b = grind (arith, nat_tests)
 
 -- the numbers compare Equal either way where one is the other
@@ -113,11 +113,11 @@ same_addr_is (V4 a) (V4 b) e = ap V4 (grind (arith, nat_tests))
 same_addr_is (V6 a) (V6 b) e = ap V6 (grind (arith, nat_tests))
 same_addr_is a b e = cc
 
-both_true : (p q : Bool) → (p && q) ≡ true → (p ≡ true) × (q ≡ true)
+pub both_true : (p q : Bool) → (p && q) ≡ true → (p ≡ true) × (q ≡ true)
 both_true true q e = (refl, e)
 both_true false q e = cc
 
-number_is : (a b : ℕ) → (a == b) ≡ true → a ≡ b
+pub number_is : (a b : ℕ) → (a == b) ≡ true → a ≡ b
 number_is a b e = grind (arith, nat_tests)
 
 -- kinds that a packet can't tell apart are equal

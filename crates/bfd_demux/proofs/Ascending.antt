@@ -15,7 +15,7 @@ use Rattle.std.specs.declared.cmp.Ordering.{Ordering}
 use Rattle.std.specs.declared.cmp.Ordering.TheVariants.{Less, Equal, Greater}
 use Rattle.bfd_demux.specs.Table.{how_many, HasKeysOnce, IsAscending, IsPlaceOf}
 
-le_or_lt : (a b : ℕ) → (a ≤ b) ⊎ (b < a)
+pub le_or_lt : (a b : ℕ) → (a ≤ b) ⊎ (b < a)
 le_or_lt a b = elim (leb_tells a b) [ inl le ↦ inl le.1 | inr lt ↦ inr lt.1 ]
 
 -- a permutation has as many that pass
@@ -23,7 +23,7 @@ pub how_many-IsPermutation : {X : Type 0} (test : X → Bool) (xs ys : List X) �
 how_many-IsPermutation test xs ys moved = length-filter test ys ∙ sum_by-IsPermutation (λ x. cond (test x) 1 0) xs ys moved ∙ sym (length-filter test xs)
 
 -- one more in front
-how_many-cons : {X : Type 0} (test : X → Bool) (x : X) (xs : List X) → how_many test (x ∷ xs) ≡ cond (test x) 1 0 + how_many test xs
+pub how_many-cons : {X : Type 0} (test : X → Bool) (x : X) (xs : List X) → how_many test (x ∷ xs) ≡ cond (test x) 1 0 + how_many test xs
 how_many-cons test x xs =
     elim (test x) as (λ b. length (cond b (x ∷ filter test xs) (filter test xs)) ≡ cond b 1 0 + how_many test xs) [ true ↦ omega arith | false ↦ omega arith ]
 
@@ -57,7 +57,7 @@ front_passes test (x ∷ xs) (suc i) within below above =
     rw (how_many-cons, below zero x (omega arith)) (omega arith)
 
 -- no element passes
-none_passes : {X : Type 0} (test : X → Bool) (xs : List X) → ((k : ℕ) (d : X) → k < length xs → test (get_or xs k d) ≡ false) → list_any test xs ≡ false
+pub none_passes : {X : Type 0} (test : X → Bool) (xs : List X) → ((k : ℕ) (d : X) → k < length xs → test (get_or xs k d) ≡ false) → list_any test xs ≡ false
 none_passes test [] none = refl
 none_passes test (x ∷ xs) none = rw (none zero x (omega arith)) (none_passes test xs (λ k d lt. none (suc k) d (omega arith)))
 

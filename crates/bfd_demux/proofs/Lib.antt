@@ -1,2 +1,3 @@
 pub mod AlikeRows
 pub mod Ascending
+pub mod Once

@@ -1,5 +1,5 @@
 -- The rows of a table, and the faults of rows that make none.
-use Rattle.std.specs.Prelude.{ℕ, Bool, true, false, ◌==◌, ◌&&◌, nat_lt, Option, Some, None, List, [], ◌∷◌, ◌++◌, length, if◌then◌else◌}
+use Rattle.std.specs.Prelude.{ℕ, Bool, true, false, ◌==◌, ◌&&◌, nat_lt, Option, Some, None, List, [], ◌∷◌, ◌++◌, length, position, if◌then◌else◌}
 use Rattle.std.specs.List.{position_from}
 use Rattle.std.specs.Option.{option_map, option_or}
 use Rattle.bfd_packet.specs.declared.arrival.Addr.{Addr}
@@ -56,6 +56,6 @@ pair_fault fault pair = option_map (λ places. fault places.0 places.1) pair
 abbrev pub build_fault : List Row → Option BuildFault
 build_fault rows =
     if nat_lt 65536 (length rows) then Some (TooMany (length rows)) else
-    option_or (option_map ZeroDiscr (position_from (λ row. row.discr == 0) 0 rows))
+    option_or (option_map ZeroDiscr (position (λ row. row.discr == 0) rows))
     (option_or (pair_fault SameDiscr (first_repeat same_discr rows))
     (pair_fault SameAddresses (first_repeat same_addresses rows)))
