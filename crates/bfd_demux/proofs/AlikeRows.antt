@@ -81,7 +81,7 @@ then_level Less b p q e f = rw (← e) refl
 then_level Equal b p q e f = rw (← e) f
 then_level Greater b p q e f = rw (← e) refl
 
-and_assoc : (p q r : Bool) → (p && (q && r)) ≡ ((p && q) && r)
+pub and_assoc : (p q r : Bool) → (p && (q && r)) ≡ ((p && q) && r)
 and_assoc true q r = refl
 and_assoc false q r = refl
 
@@ -104,7 +104,7 @@ selector_level (Tail d i g s) (Tail d' i' g' s') h =
 selector_level a b h = cc
 
 -- the order's own symmetry: a key found the one way round is found the other
-selector_level_back : (a b : RowKind) → has_addresses b ≡ true → is_eq (kinds.ghosts.cmp a b) ≡ same_selector b a
+pub selector_level_back : (a b : RowKind) → has_addresses b ≡ true → is_eq (kinds.ghosts.cmp a b) ≡ same_selector b a
 selector_level_back a b h = (eq_by_cmp_equiv total-law).symm a b ∙ selector_level b a h
 
 -- an address that is the other is equal to it

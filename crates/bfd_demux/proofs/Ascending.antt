@@ -81,7 +81,7 @@ few_steps t size n all some few =
 
 module _ {K : Type 0} {cmp : K → K → Ordering} (order : IsTotalOrder cmp) where
   -- what is lower one way is higher the other
-  turned : (a b : K) → cmp a b ≡ Less → cmp b a ≡ Greater
+  pub turned : (a b : K) → cmp a b ≡ Less → cmp b a ≡ Greater
   turned a b less = order.antisymm b a ∙ ap ordering_reverse less
 
   turned_back : (a b : K) → cmp a b ≡ Greater → cmp b a ≡ Less

@@ -1,3 +1,4 @@
 pub mod AlikeRows
 pub mod Ascending
 pub mod Once
+pub mod Lookups

@@ -1,9 +1,9 @@
 -- The sorted tables of rows.
-use Rattle.std.specs.Prelude.{◌≡◌, ℕ, Option, Some, None, List, map}
+use Rattle.std.specs.Prelude.{◌≡◌, ℕ, Bool, true, false, Option, Some, None, List, map}
 use Rattle.std.specs.List.{filter}
 use Rattle.std.specs.List.Sorted.{IsPermutation}
 use Rattle.bfd_packet.specs.declared.arrival.Port.{Port}
-use Rattle.bfd_packet.specs.declared.arrival.Port.TheVariants.{Single as SinglePort, Multi as MultiPort, Sbfd as SbfdPort, Answer as AnswerPort}
+use Rattle.bfd_packet.specs.declared.arrival.Port.TheVariants.{Single as SinglePort, Multi as MultiPort, Echo as EchoPort, Sbfd as SbfdPort, Answer as AnswerPort}
 use Rattle.bfd_demux.specs.declared.row.Row.{Row}
 use Rattle.bfd_demux.specs.declared.row.RowKind.{RowKind}
 use Rattle.bfd_demux.specs.declared.row.RowKind.TheVariants.{Single, Multi, Seek, Reflect}
@@ -31,6 +31,20 @@ heard_on (Multi _ _) = Some MultiPort
 heard_on Seek = Some AnswerPort
 heard_on Reflect = Some SbfdPort
 heard_on _ = None
+
+-- what an arrival on the port looks its discriminator up as
+abbrev pub name_on : Port → ℕ → Name
+name_on SbfdPort discr = Reflector discr
+name_on _ discr = Session discr
+
+-- a row that is heard on a port is of this port's kind; echo packets are for the sessions of single
+abbrev pub is_heard : Port → Option Port → Bool
+is_heard SinglePort (Some SinglePort) = true
+is_heard EchoPort (Some SinglePort) = true
+is_heard MultiPort (Some MultiPort) = true
+is_heard AnswerPort (Some AnswerPort) = true
+is_heard SbfdPort (Some SbfdPort) = true
+is_heard _ _ = false
 
 -- the names of all rows, with their ports
 abbrev pub names_of : List Row → List (Name × Option Port)

@@ -139,6 +139,11 @@ session_index rows discr = how_many (λ row. is_session row.kind && nat_lt row.d
 abbrev pub reflector_index : List Row → ℕ → ℕ
 reflector_index rows discr = how_many (λ row. not (is_session row.kind) && nat_lt row.discr discr) rows
 
+-- the place of a row that the port selects among
+abbrev pub index_on : Port → List Row → ℕ → ℕ
+index_on SbfdPort rows discr = reflector_index rows discr
+index_on _ rows discr = session_index rows discr
+
 -- what an arrival on this port that names the row is for; an echo packet's third word is its sequence number
 abbrev pub target_on : Port → List Row → Arrival → Row → Target
 target_on EchoPort rows arrival row = Echo (session_index rows row.discr) (word_at 8 arrival.payload)
