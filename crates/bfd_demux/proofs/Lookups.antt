@@ -2,7 +2,8 @@
 use Rattle.std.proofs.Common.{◌≡◌, ◌<◌, ◌≤◌, ℕ, ◌+◌, Bool, true, false, cond, not, ◌==◌, ◌&&◌, ◌||◌, nat_lt, List, [], ◌∷◌, length, map, get_or, refl, sym, ◌∙◌, ap, arith, inl, inr, ◌⊎◌, Option, Some, None, is_some, suc, zero}
 use Rattle.std.proofs.Math.Nat.{eq-or-lt_of_le}
 use Rattle.std.proofs.lemmas.Bool.Decides.{nat_tests}
-use Rattle.std.proofs.lemmas.List.Sorted.{list_any-IsPermutation}
+use Rattle.std.proofs.lemmas.List.Sorted.{list_any-IsPermutation, length_permutation}
+use Rattle.std.proofs.lemmas.List.{length-map}
 use Rattle.std.proofs.lemmas.List.Folds.{list_any_at}
 use Rattle.std.proofs.lemmas.List.Elements.{filter_agree}
 use Rattle.std.specs.List.{filter, list_any}
@@ -24,12 +25,12 @@ use Rattle.bfd_demux.specs.contracts.name.NameOrd.TheImpl.Laws as name_laws
 use Rattle.bfd_demux.specs.contracts.row.RowKindOrd.TheImpl as kind_order
 use Rattle.bfd_demux.specs.contracts.row.RowKindOrd.TheImpl.Laws as kind_laws
 use Rattle.bfd_demux.specs.Rows.{same_selector, has_addresses, build_fault}
-use Rattle.bfd_demux.specs.Index.{IsIndex, names_of, addresses_of, name_of, name_in, name_on, is_heard, heard_on}
+use Rattle.bfd_demux.specs.Index.{IsIndex, names_of, addresses_of, name_of, name_in, name_on, names_before, is_heard, heard_on}
 use Rattle.bfd_demux.specs.Table.{how_many, IsAscending, IsPlaceOf}
 use Rattle.bfd_demux.specs.Selection.{is_of_kind, has_discr, knows, is_session, session_index, reflector_index, index_on, only, the_one}
 use Rattle.bfd_demux.proofs.AlikeRows.{and_assoc, nat_level, selector_level_back, unaddressed_back, both_true, number_is}
 use Rattle.bfd_demux.proofs.Ascending.{how_many-cons, how_many-IsPermutation, none_passes, le_or_lt, turned}
-use Rattle.bfd_demux.proofs.Once.{how_many-map, how_many_weaker, discr_once, kind_once}
+use Rattle.bfd_demux.proofs.Once.{how_many-map, how_many_weaker, discr_once, kind_once, sound_rows}
 
 -- ---- numbers and tests
 
@@ -186,6 +187,22 @@ module _ {K V : Type 0} {cmp : K → K → Ordering} (order : IsTotalOrder cmp) 
             | inr other ↦ rw (unique_at entries key place up at k e lt other) refl
           ])
 
+length-filter-le : {X : Type 0} (test : X → Bool) (xs : List X) → length (filter test xs) ≤ length xs
+length-filter-le test [] = omega arith
+length-filter-le test (x ∷ xs) =
+    let rest = length-filter-le test xs in
+    let first = how_many-cons test x xs in
+    elim (test x) as (λ b. length (cond b (x ∷ filter test xs) (filter test xs)) ≤ length (x ∷ xs)) [ true ↦ omega arith | false ↦ omega arith ]
+
+-- what a lookup says of the same entries and the same key
+pub missing_by : {K V : Type 0} (cmp : K → K → Ordering) {entries table : List (K × V)} {key name : K} → entries ≡ table → key ≡ name →
+    list_any (λ (entry : K × V). is_eq (cmp entry.0 key)) entries ≡ false → list_any (λ (entry : K × V). is_eq (cmp entry.0 name)) table ≡ false
+missing_by {K} {V} cmp {entries} {table} {key} {name} same same_key none = rw (← same, ← same_key) none
+
+pub found_by : {K V : Type 0} {cmp : K → K → Ordering} {entries table : List (K × V)} {key name : K} {place : ℕ} → entries ≡ table → key ≡ name →
+    IsPlaceOf cmp entries key place → IsPlaceOf cmp table name place
+found_by {K} {V} {cmp} {entries} {table} {key} {name} {place} same same_key at = rw (← same, ← same_key) at
+
 -- ---- the names of rows
 
 nat_lower : (a b : ℕ) → is_lt (nat_cmp a b) ≡ nat_lt a b
@@ -232,7 +249,7 @@ session_level : (kind other : RowKind) (discr key : ℕ) → same_selector kind 
 session_level kind Reflect discr key e = let never = unaddressed_back kind Reflect refl in cc
 session_level kind other discr key e = nat_level discr key
 
-module _ (rows : List Row) (names : List (Name × Option Port)) (addresses : List (RowKind × ℕ)) (sessions : ℕ) (index : IsIndex rows names addresses sessions) where
+module _ {rows : List Row} {names : List (Name × Option Port)} {addresses : List (RowKind × ℕ)} {sessions : ℕ} (index : IsIndex rows names addresses sessions) where
   -- the names of the table have an entry that passes where a row has
   any_name : (test : Name × Option Port → Bool) → list_any test names ≡ list_any (λ row. test (name_of row, heard_on row.kind)) rows
   any_name test = sym (list_any-IsPermutation test (names_of rows) names index.named) ∙ list_any-map test (λ row. (name_of row, heard_on row.kind)) rows
@@ -275,6 +292,26 @@ module _ (rows : List Row) (names : List (Name × Option Port)) (addresses : Lis
       ∙ how_many_agree _ _ (λ row. lower_reflector row.kind row.discr discr) rows
       ∙ how_many_either (λ (row : Row). is_session row.kind) (λ row. nat_lt row.discr discr) rows
       ∙ ap (λ n. n + reflector_index rows discr) (sym index.counted)
+
+  -- so the place is the index, after the names before those of the port
+  pub place_of_name : (port : Port) (discr place : ℕ) → IsPlaceOf name_order.ghosts.cmp names (name_on port discr) place → place ≡ names_before port sessions + index_on port rows discr
+  place_of_name SbfdPort discr place at = place_of_reflector discr place at
+  place_of_name port discr place at = let same = place_of_session discr place at in omega arith
+
+  pub few_names : length names ≤ 65536
+  few_names =
+      let few = (sound_rows rows index.sound).few in
+      let same = length_permutation (names_of rows) names index.named in
+      let mapped : length (names_of rows) ≡ length rows = length-map rows (λ (row : Row). (name_of row, heard_on row.kind)) in
+      omega arith
+
+  pub few_addresses : length addresses ≤ 65536
+  few_addresses =
+      let few = (sound_rows rows index.sound).few in
+      let same = length_permutation (addresses_of rows) addresses index.addressed in
+      let mapped : length (addresses_of rows) ≡ length (filter (λ row. has_addresses row.kind) rows) = length-map (filter (λ row. has_addresses row.kind) rows) (λ (row : Row). (row.kind, row.discr)) in
+      let fewer = length-filter-le (λ (row : Row). has_addresses row.kind) rows in
+      omega arith
 
   -- no row is of the port's kind and has the discriminator
   pub none_named : (port : Port) (discr : ℕ) → false ≡ knows rows port discr → the_one (has_discr port discr) rows ≡ None

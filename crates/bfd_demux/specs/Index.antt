@@ -37,6 +37,11 @@ abbrev pub name_on : Port → ℕ → Name
 name_on SbfdPort discr = Reflector discr
 name_on _ discr = Session discr
 
+-- how many names stand before those that the port looks up: all sessions before the reflectors
+abbrev pub names_before : Port → ℕ → ℕ
+names_before SbfdPort sessions = sessions
+names_before _ sessions = 0
+
 -- a row that is heard on a port is of this port's kind; echo packets are for the sessions of single
 abbrev pub is_heard : Port → Option Port → Bool
 is_heard SinglePort (Some SinglePort) = true

@@ -1,19 +1,23 @@
 //! The table: rows behind two sorted indices.
 
-ghost use Rattle.std.specs.Prelude.{◌≡◌, ◌==◌, position, None, Some, IfOk, MatchResult, ◌⊎◌};
-ghost use Rattle.bfd_demux.specs.Rows.{build_fault};
-ghost use Rattle.bfd_demux.specs.Selection.{is_session};
+ghost use Rattle.std.specs.Prelude.{◌≡◌, ◌+◌, ◌==◌, ◌≤◌, position, true, None, Some, is_some, IfOk, MatchResult, ◌⊎◌};
+ghost use Rattle.std.specs.List.{list_any};
+ghost use Rattle.std.specs.Option.{option_map};
+ghost use Rattle.bfd_demux.specs.Rows.{build_fault, has_addresses, same_selector};
+ghost use Rattle.bfd_demux.specs.Selection.{has_discr, index_on, is_session, knows, session_index, the_one};
 ghost use Rattle.bfd_demux.specs.Index.{names_of, addresses_of};
 ghost use Rattle.bfd_demux.specs.Table.{how_many};
 
 use crate::fault::BuildFault;
-use crate::name::{Name, heard_on, row_name};
+use crate::name::{Name, heard_on, is_heard, name_on, names_before, row_name};
 use crate::repeats::{repeated_addresses, repeated_discr};
 use crate::row::{Row, RowKind};
-use crate::table::sort_by_key;
+use crate::table::{place_of, sort_by_key};
+use bfd_num::Steps;
 use bfd_packet::Port;
 use std::alloc::{AllocError, Global};
 use std::marker::Model;
+use std::sync::ledger::Ledger;
 
 // The most rows that a table has.
 const MOST_ROWS: usize = 65_536;
@@ -76,6 +80,34 @@ impl Demux {
             addresses,
             sessions,
         })
+    }
+}
+
+impl Demux {
+    // The index of the row of the port's kind that has this discriminator.
+    fn by_discr<L: Ledger>(&self, port: Port, discr: u32, steps: &mut Steps<L>) -> Option<u32>
+        ensures known { is_some result ≡ knows self.now port discr }
+        ensures found { result ≡ option_map (λ row. index_on port self.now row.discr) (the_one (has_discr port discr) self.now) }
+        ensures cost { steps.new ≤ steps.old + 17 }
+    {
+        let place = place_of(self.names.as_slice(), &name_on(port, discr), steps)?;
+        if !is_heard(port, self.names[place].1) {
+            return None;
+        }
+        Some((place - names_before(port, self.sessions)) as u32)
+    }
+
+    // The index of the session of this kind with these addresses.
+    fn by_addresses<L: Ledger>(&self, kind: RowKind, steps: &mut Steps<L>) -> Option<u32>
+        requires { has_addresses kind ≡ true }
+        ensures known { is_some result ≡ list_any (λ row. same_selector kind row.kind) self.now }
+        ensures found { result ≡ option_map (λ row. session_index self.now row.discr) (the_one (λ row. same_selector kind row.kind) self.now) }
+        ensures cost { steps.new ≤ steps.old + 34 }
+    {
+        let place = place_of(self.addresses.as_slice(), &kind, steps)?;
+        let discr = self.addresses[place].1;
+        let index = place_of(self.names.as_slice(), &Name::Session(discr), steps)?;
+        Some(index as u32)
     }
 }
 
