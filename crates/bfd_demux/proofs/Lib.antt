@@ -2,3 +2,4 @@ pub mod AlikeRows
 pub mod Ascending
 pub mod Once
 pub mod Lookups
+pub mod Selecting

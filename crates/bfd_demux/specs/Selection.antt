@@ -1,6 +1,7 @@
 -- The row that an arrival names, and the tests up to there (RFC 5880 sections 6.3 and 6.8.6, RFC 5881, RFC 5883, RFC 7880, RFC 8562).
 use Rattle.std.specs.Prelude.{ℕ, Bool, true, false, not, ◌==◌, ◌&&◌, ◌||◌, nat_lt, Option, Some, None, List, [], ◌∷◌, ◌++◌, length, find, if◌then◌else◌}
 use Rattle.std.specs.List.{filter, list_any}
+use Rattle.std.specs.Option.{option_map}
 use Rattle.bfd_packet.specs.declared.arrival.Arrival.{Arrival}
 use Rattle.bfd_packet.specs.declared.arrival.Port.{Port}
 use Rattle.bfd_packet.specs.declared.arrival.Port.TheVariants.{Single as SinglePort, Multi as MultiPort, Echo as EchoPort, Sbfd as SbfdPort, Answer as AnswerPort}
@@ -103,6 +104,26 @@ table_fails port NoTail rows arrival = is_multipoint port arrival && not (list_a
 table_fails port EchoForm rows arrival = not (is_echo_form arrival.payload)
 table_fails port test rows arrival = header_fails test arrival.payload
 
+-- the first of an echo packet's tests that fails
+abbrev pub first_echo_failing : List Row → List ℕ → Option Test
+first_echo_failing rows payload =
+    if not (is_echo_form payload) then Some EchoForm
+    else if not (knows rows EchoPort (word_at 4 payload)) then Some YourUnknown
+    else None
+
+-- the same on a port that selects sessions, of a packet that is no multipoint packet: by its fields, and by the kind and addresses that name a row where Your Discriminator is 0
+abbrev pub session_fails : Port → Test → Control → Option RowKind → List Row → Bool
+session_fails port YourUnknown packet selector rows = not (packet.your == 0) && not (knows rows port packet.your)
+session_fails port YourZeroState packet selector rows = (packet.your == 0) && is_init_or_up packet.state
+session_fails port NoSession packet selector rows = (packet.your == 0) && not (list_any (has_selector selector) rows)
+session_fails port _ packet selector rows = false
+
+abbrev pub first_session_failing : Port → Control → Option RowKind → List Row → Option Test
+first_session_failing port packet selector rows = find (λ test. session_fails port test packet selector rows) (YourUnknown ∷ YourZeroState ∷ NoSession ∷ [])
+
+abbrev pub names_session : Port → Control → Option RowKind → Row → Bool
+names_session port packet selector row = if packet.your == 0 then has_selector selector row else has_discr port packet.your row
+
 -- the port's tests on the header: an echo packet has none
 abbrev pub tests_on_header : Port → List Test
 tests_on_header EchoPort = []
@@ -121,6 +142,10 @@ first_header_failing arrival = find (λ test. header_fails test arrival.payload)
 -- the first of the tests up to selection that an arrival on this port fails
 abbrev pub first_failing_on : Port → List Row → Arrival → Option Test
 first_failing_on port rows arrival = find (λ test. table_fails port test rows arrival) (tests_on_header port ++ tests_on_table port (is_multipoint port arrival))
+
+-- the same, of the tests that look at the table
+abbrev pub first_past_header : Port → List Row → Arrival → Option Test
+first_past_header port rows arrival = find (λ test. table_fails port test rows arrival) (tests_on_table port (is_multipoint port arrival))
 
 -- the first of the tests up to selection that the arrival fails, in the order of its port
 abbrev pub first_table_failing : List Row → Arrival → Option Test
@@ -144,12 +169,20 @@ abbrev pub index_on : Port → List Row → ℕ → ℕ
 index_on SbfdPort rows discr = reflector_index rows discr
 index_on _ rows discr = session_index rows discr
 
+-- what an echo packet of the row is for: its third word is its sequence number
+abbrev pub echo_target : List Row → List ℕ → Row → Target
+echo_target rows payload row = Echo (session_index rows row.discr) (word_at 8 payload)
+
 -- what an arrival on this port that names the row is for; an echo packet's third word is its sequence number
 abbrev pub target_on : Port → List Row → Arrival → Row → Target
 target_on EchoPort rows arrival row = Echo (session_index rows row.discr) (word_at 8 arrival.payload)
 target_on SbfdPort rows arrival row = Reflector (reflector_index rows row.discr)
 target_on port rows arrival row = Session (session_index rows row.discr)
 
--- what an arrival that names the row is for
-abbrev pub target_of : List Row → Arrival → Row → Target
-target_of rows arrival row = target_on arrival.port rows arrival row
+-- what an arrival on this port that fails no test is for
+abbrev pub target_named : Port → List Row → Arrival → Option Target
+target_named port rows arrival = option_map (target_on port rows arrival) (the_one (names_on port arrival) rows)
+
+-- what an arrival that fails no test is for
+abbrev pub target_of : List Row → Arrival → Option Target
+target_of rows arrival = option_map (target_on arrival.port rows arrival) (selected rows arrival)
