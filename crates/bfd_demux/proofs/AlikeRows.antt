@@ -1,0 +1,191 @@
+-- Walking rows from the front: what the next row adds.
+use Rattle.std.proofs.Common.{◌≡◌, ℕ, ◌+◌, ◌<◌, Bool, true, false, cond, ◌==◌, ◌&&◌, List, [], ◌∷◌, ◌++◌, length, get_or, take, drop, refl, sym, ◌∙◌, ap, arith, Option, Some, None, add-one, drop-cons, add-zero, suc}
+use Rattle.std.proofs.Math.Seq.{take-suc}
+use Rattle.std.proofs.lemmas.Grind.{common_steps}
+use Rattle.std.proofs.lemmas.Bool.Decides.{nat_tests}
+use Rattle.std.specs.List.{position_from}
+use Rattle.std.specs.Option.{option_map, option_or}
+use Rattle.std.specs.Ordering.{nat_cmp, is_eq, ordering_then}
+use Rattle.std.specs.declared.cmp.Ordering.{Ordering}
+use Rattle.std.specs.declared.cmp.Ordering.TheVariants.{Less, Equal, Greater}
+use Rattle.bfd_packet.specs.declared.arrival.Addr.{Addr}
+use Rattle.bfd_packet.specs.declared.arrival.Addr.TheVariants.{V4, V6}
+use Rattle.bfd_packet.specs.contracts.arrival.AddrOrd.TheImpl as addrs
+use Rattle.bfd_demux.specs.declared.row.Row.{Row}
+use Rattle.bfd_demux.specs.declared.row.RowKind.{RowKind}
+use Rattle.bfd_demux.specs.declared.row.RowKind.TheVariants.{Single, Multi, Seek, Reflect, Head, Tail}
+use Rattle.bfd_demux.specs.contracts.row.RowKindOrd.TheImpl as kinds
+use Rattle.bfd_demux.specs.contracts.row.RowKindOrd.TheImpl.Laws.{total-law}
+use Rattle.std.specs.Cmp.{eq_by_cmp_equiv}
+use Rattle.bfd_demux.specs.Rows.{repeat_after, same_addr, same_selector, has_addresses}
+
+-- one more element at the end is found where none before it is
+pub position_from-push : {X : Type 0} (p : X → Bool) (n : ℕ) (xs : List X) (x : X) → position_from p n (xs ++ x ∷ []) ≡ option_or (position_from p n xs) (cond (p x) (Some (n + length xs)) None)
+position_from-push p n [] x = rw add-zero refl
+position_from-push p n (y ∷ ys) x =
+    elim (p y) as (λ b. cond b (Some n) (position_from p (n + 1) (ys ++ x ∷ [])) ≡ option_or (cond b (Some n) (position_from p (n + 1) ys)) (cond (p x) (Some (n + suc (length ys))) None)) [
+      | true ↦ refl
+      | false ↦ position_from-push p (n + 1) ys x ∙ ap (λ k. option_or (position_from p (n + 1) ys) (cond (p x) (Some k) None)) (omega arith)
+    ]
+
+-- the place of the row at i, or of an earlier one
+pub position_from-take : {X : Type 0} (p : X → Bool) (xs : List X) (i : ℕ) (d : X) → i < length xs → position_from p 0 (take (i + 1) xs) ≡ option_or (position_from p 0 (take i xs)) (cond (p (get_or xs i d)) (Some i) None)
+position_from-take p xs i d lt =
+    let seen : take (i + 1) xs ≡ take i xs ++ get_or xs i d ∷ [] = rw (add-one, take-suc xs i d lt) refl in
+    let long : 0 + length (take i xs) ≡ i = grind (arith, common_steps) in
+    rw (seen, position_from-push, long) refl
+
+-- the rows from place i on, seen after those before it
+repeat_after-drop : (same : Row → Row → Bool) (rows : List Row) (i : ℕ) (d : Row) → i < length rows → repeat_after same (take i rows) (drop i rows) ≡ option_or (option_map (λ place. (place, i)) (position_from (same (get_or rows i d)) 0 (take i rows))) (repeat_after same (take (i + 1) rows) (drop (i + 1) rows))
+repeat_after-drop same rows i d lt =
+    let next : drop i rows ≡ get_or rows i d ∷ drop (i + 1) rows = rw (add-one, drop-cons rows i d lt) refl in
+    let seen : take (i + 1) rows ≡ take i rows ++ get_or rows i d ∷ [] = rw (add-one, take-suc rows i d lt) refl in
+    let long : length (take i rows) ≡ i = grind (arith, common_steps) in
+    rw (next, long, seen) refl
+
+-- the row at i is like an earlier one
+pub repeated_here : (same : Row → Row → Bool) (rows : List Row) (i : ℕ) (d : Row) (earlier : ℕ) → i < length rows → Some earlier ≡ position_from (same (get_or rows i d)) 0 (take i rows) → repeat_after same (take i rows) (drop i rows) ≡ Some (earlier, i)
+repeated_here same rows i d earlier lt found = repeat_after-drop same rows i d lt ∙ rw (← found) refl
+
+-- the row at i is like no earlier one
+pub repeated_later : (same : Row → Row → Bool) (rows : List Row) (i : ℕ) (d : Row) → i < length rows → None ≡ position_from (same (get_or rows i d)) 0 (take i rows) → repeat_after same (take (i + 1) rows) (drop (i + 1) rows) ≡ repeat_after same (take i rows) (drop i rows)
+repeated_later same rows i d lt none = sym (repeat_after-drop same rows i d lt ∙ rw (← none) refl)
+
+pub nat_level : (a b : ℕ) → is_eq (nat_cmp a b) ≡ (a == b)
+nat_level a b = grind (arith, nat_tests)
+
+-- the numbers compare Equal either way where one is the other
+nat_level_back : (a b : ℕ) → is_eq (nat_cmp a b) ≡ (b == a)
+nat_level_back a b = grind (arith, nat_tests)
+
+-- a key's entry after an insert, where the key had none
+entry_more : (at here : Bool) (i : ℕ) (old : Option ℕ) → at ≡ here → (here ≡ true → old ≡ None) → cond at (Some i) old ≡ option_or old (cond here (Some i) None)
+entry_more at true i old e none = rw (e, none refl) refl
+entry_more at false i None e none = rw e refl
+entry_more at false i (Some earlier) e none = rw e refl
+
+-- the first places of the discriminators, after the row at i
+pub discrs_more : (rows : List Row) (i : ℕ) (d : Row) (old new : ℕ → Option ℕ) → i < length rows →
+    ((q : ℕ) → old q ≡ position_from (λ row. q == row.discr) 0 (take i rows)) →
+    ((q : ℕ) → new q ≡ cond (is_eq (nat_cmp (get_or rows i d).discr q)) (Some i) (old q)) →
+    None ≡ old (get_or rows i d).discr →
+    (q : ℕ) → new q ≡ position_from (λ row. q == row.discr) 0 (take (i + 1) rows)
+discrs_more rows i d old new lt were are none q =
+    are q
+    ∙ entry_more _ (q == (get_or rows i d).discr) i (old q) (nat_level_back _ _) (λ e. let same : q ≡ (get_or rows i d).discr = grind (arith, nat_tests) in ap old same ∙ sym none)
+    ∙ ap (λ o. option_or o (cond (q == (get_or rows i d).discr) (Some i) None)) (were q)
+    ∙ sym (position_from-take (λ row. q == row.discr) rows i d lt)
+
+then_level : (a b : Ordering) (p q : Bool) → is_eq a ≡ p → is_eq b ≡ q → is_eq (ordering_then a b) ≡ (p && q)
+then_level Less b p q e f = rw (← e) refl
+then_level Equal b p q e f = rw (← e) f
+then_level Greater b p q e f = rw (← e) refl
+
+pub and_assoc : (p q r : Bool) → (p && (q && r)) ≡ ((p && q) && r)
+and_assoc true q r = refl
+and_assoc false q r = refl
+
+-- two addresses compare Equal where one is the other
+pub addr_level : (a b : Addr) → is_eq (addrs.ghosts.cmp a b) ≡ same_addr a b
+addr_level (V4 a) (V4 b) = nat_level a b
+addr_level (V4 a) (V6 b) = refl
+addr_level (V6 a) (V4 b) = refl
+addr_level (V6 a) (V6 b) = nat_level a b
+
+-- two kinds of which one has addresses compare Equal where a packet can't tell them apart
+pub selector_level : (a b : RowKind) → has_addresses a ≡ true → is_eq (kinds.ghosts.cmp a b) ≡ same_selector a b
+selector_level (Single i l r) (Single i' l' r') h =
+    then_level _ _ _ _ (nat_level i i') (then_level _ _ _ _ (addr_level l l') (addr_level r r')) ∙ and_assoc (i == i') (same_addr l l') (same_addr r r')
+selector_level (Multi l r) (Multi l' r') h = then_level _ _ _ _ (addr_level l l') (addr_level r r')
+selector_level (Tail d i g s) (Tail d' i' g' s') h =
+    then_level _ _ _ _ (nat_level d d') (then_level _ _ _ _ (nat_level i i') (then_level _ _ _ _ (addr_level g g') (addr_level s s')))
+    ∙ and_assoc (d == d') (i == i') (same_addr g g' && same_addr s s')
+    ∙ and_assoc ((d == d') && (i == i')) (same_addr g g') (same_addr s s')
+selector_level a b h = cc
+
+-- the order's own symmetry: a key found the one way round is found the other
+pub selector_level_back : (a b : RowKind) → has_addresses b ≡ true → is_eq (kinds.ghosts.cmp a b) ≡ same_selector b a
+selector_level_back a b h = (eq_by_cmp_equiv total-law).symm a b ∙ selector_level b a h
+
+-- an address that is the other is equal to it
+same_addr_is : (a b : Addr) → same_addr a b ≡ true → a ≡ b
+same_addr_is (V4 a) (V4 b) e = ap V4 (grind (arith, nat_tests))
+same_addr_is (V6 a) (V6 b) e = ap V6 (grind (arith, nat_tests))
+same_addr_is a b e = cc
+
+pub both_true : (p q : Bool) → (p && q) ≡ true → (p ≡ true) × (q ≡ true)
+both_true true q e = (refl, e)
+both_true false q e = cc
+
+pub number_is : (a b : ℕ) → (a == b) ≡ true → a ≡ b
+number_is a b e = grind (arith, nat_tests)
+
+-- kinds that a packet can't tell apart are equal
+pub same_selector_is : (a b : RowKind) → same_selector a b ≡ true → a ≡ b
+same_selector_is (Single i l r) (Single i' l' r') e =
+    let outer = both_true ((i == i') && same_addr l l') (same_addr r r') e in
+    let inner = both_true (i == i') (same_addr l l') outer.0 in
+    let a = number_is i i' inner.0 in
+    let b = same_addr_is l l' inner.1 in
+    let c = same_addr_is r r' outer.1 in
+    cc
+same_selector_is (Multi l r) (Multi l' r') e =
+    let outer = both_true (same_addr l l') (same_addr r r') e in
+    let a = same_addr_is l l' outer.0 in
+    let b = same_addr_is r r' outer.1 in
+    cc
+same_selector_is (Tail d i g s) (Tail d' i' g' s') e =
+    let outer = both_true ((d == d') && (i == i') && same_addr g g') (same_addr s s') e in
+    let inner = both_true ((d == d') && (i == i')) (same_addr g g') outer.0 in
+    let first = both_true (d == d') (i == i') inner.0 in
+    let a = number_is d d' first.0 in
+    let b = number_is i i' first.1 in
+    let c = same_addr_is g g' inner.1 in
+    let f = same_addr_is s s' outer.1 in
+    cc
+same_selector_is a b e = cc
+
+-- a kind without addresses is told from all others
+pub unaddressed : (a b : RowKind) → has_addresses a ≡ false → same_selector a b ≡ false
+unaddressed Seek b h = refl
+unaddressed Reflect b h = refl
+unaddressed Head b h = refl
+unaddressed a b h = cc
+
+pub unaddressed_back : (a b : RowKind) → has_addresses b ≡ false → same_selector a b ≡ false
+unaddressed_back (Single _ _ _) (Single _ _ _) h = cc
+unaddressed_back (Multi _ _) (Multi _ _) h = cc
+unaddressed_back (Tail _ _ _ _) (Tail _ _ _ _) h = cc
+unaddressed_back a b h = cc
+
+-- what no element passes is found nowhere
+pub position_from-none : {X : Type 0} (p : X → Bool) → ((x : X) → p x ≡ false) → (n : ℕ) (xs : List X) → position_from p n xs ≡ None
+position_from-none p never n [] = refl
+position_from-none p never n (x ∷ xs) = rw (never x, position_from-none p never (n + 1) xs) refl
+
+-- the first places of the kinds with addresses, after the row at i
+pub kinds_more : (rows : List Row) (i : ℕ) (d : Row) (old new : RowKind → Option ℕ) → i < length rows →
+    has_addresses (get_or rows i d).kind ≡ true →
+    ((q : RowKind) → has_addresses q ≡ true → old q ≡ position_from (λ row. same_selector q row.kind) 0 (take i rows)) →
+    ((q : RowKind) → new q ≡ cond (is_eq (kinds.ghosts.cmp (get_or rows i d).kind q)) (Some i) (old q)) →
+    None ≡ old (get_or rows i d).kind →
+    (q : RowKind) → has_addresses q ≡ true → new q ≡ position_from (λ row. same_selector q row.kind) 0 (take (i + 1) rows)
+kinds_more rows i d old new lt with_addresses were are none q h =
+    are q
+    ∙ entry_more _ (same_selector q (get_or rows i d).kind) i (old q) (selector_level_back _ _ h) (λ e. ap old (same_selector_is q _ e) ∙ sym none)
+    ∙ ap (λ o. option_or o (cond (same_selector q (get_or rows i d).kind) (Some i) None)) (were q h)
+    ∙ sym (position_from-take (λ row. same_selector q row.kind) rows i d lt)
+
+option_or-none : {X : Type 0} (o : Option X) → option_or o None ≡ o
+option_or-none None = refl
+option_or-none (Some x) = refl
+
+-- the same where the row at i has no addresses
+pub kinds_same : (rows : List Row) (i : ℕ) (d : Row) (old : RowKind → Option ℕ) → i < length rows →
+    has_addresses (get_or rows i d).kind ≡ false →
+    ((q : RowKind) → has_addresses q ≡ true → old q ≡ position_from (λ row. same_selector q row.kind) 0 (take i rows)) →
+    (q : RowKind) → has_addresses q ≡ true → old q ≡ position_from (λ row. same_selector q row.kind) 0 (take (i + 1) rows)
+kinds_same rows i d old lt without were q h =
+    were q h
+    ∙ sym (position_from-take (λ row. same_selector q row.kind) rows i d lt
+    ∙ rw (unaddressed_back q (get_or rows i d).kind without) (option_or-none _))

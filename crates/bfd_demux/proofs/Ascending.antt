@@ -1,0 +1,156 @@
+-- Tables in ascending order, and how many of their entries pass a test.
+use Rattle.std.proofs.Common.{◌≡◌, ◌<◌, ◌≤◌, ℕ, ◌+◌, ◌*◌, ◌-◌, ◌/◌, ◌^◌, Bool, true, false, cond, List, [], ◌∷◌, length, get_or, slice_index_or, refl, sym, ◌∙◌, ap, arith, suc, zero, inl, inr, ◌⊎◌}
+use Rattle.std.proofs.Math.Nat.{pow-le-pow_right, mul-le-mul_left, eq-or-lt_of_le}
+use Rattle.std.proofs.lemmas.Bool.Decides.{leb_tells}
+use Rattle.std.proofs.lemmas.Nat.{pow-add}
+use Rattle.std.proofs.lemmas.List.Sums.{length-filter}
+use Rattle.std.proofs.lemmas.List.MinMax.{ranks_by}
+use Rattle.std.proofs.lemmas.List.Sorted.{sorted_far, sum_by-IsPermutation}
+use Rattle.std.proofs.lemmas.List.Folds.{list_any_none}
+use Rattle.std.specs.List.{filter, list_any, count_by, All}
+use Rattle.std.specs.List.Sorted.{IsPermutation, IsSortedByKey}
+use Rattle.std.specs.Ordering.{is_eq, is_lt, ordering_reverse}
+use Rattle.std.specs.Cmp.{IsTotalOrder, tied_itself, alike_right}
+use Rattle.std.specs.declared.cmp.Ordering.{Ordering}
+use Rattle.std.specs.declared.cmp.Ordering.TheVariants.{Less, Equal, Greater}
+use Rattle.bfd_demux.specs.Table.{how_many, HasKeysOnce, IsAscending, IsPlaceOf}
+
+pub le_or_lt : (a b : ℕ) → (a ≤ b) ⊎ (b < a)
+le_or_lt a b = elim (leb_tells a b) [ inl le ↦ inl le.1 | inr lt ↦ inr lt.1 ]
+
+-- a permutation has as many that pass
+pub how_many-IsPermutation : {X : Type 0} (test : X → Bool) (xs ys : List X) → IsPermutation xs ys → how_many test ys ≡ how_many test xs
+how_many-IsPermutation test xs ys moved = length-filter test ys ∙ sum_by-IsPermutation (λ x. cond (test x) 1 0) xs ys moved ∙ sym (length-filter test xs)
+
+-- one more in front
+pub how_many-cons : {X : Type 0} (test : X → Bool) (x : X) (xs : List X) → how_many test (x ∷ xs) ≡ cond (test x) 1 0 + how_many test xs
+how_many-cons test x xs =
+    elim (test x) as (λ b. length (cond b (x ∷ filter test xs) (filter test xs)) ≡ cond b 1 0 + how_many test xs) [ true ↦ omega arith | false ↦ omega arith ]
+
+-- an element that passes is counted
+one_passes : {X : Type 0} (test : X → Bool) (xs : List X) (i : ℕ) (d : X) → i < length xs → test (get_or xs i d) ≡ true → 1 ≤ how_many test xs
+one_passes test [] i d lt pass = absurd (omega arith)
+one_passes test (x ∷ xs) zero d lt pass = rw (how_many-cons, pass) (omega arith)
+one_passes test (x ∷ xs) (suc i) d lt pass =
+    let more = one_passes test xs i d (omega arith) pass in
+    rw how_many-cons (omega arith)
+
+-- two that pass are counted twice
+two_pass : {X : Type 0} (test : X → Bool) (xs : List X) (i j : ℕ) (d : X) → i < j → j < length xs → test (get_or xs i d) ≡ true → test (get_or xs j d) ≡ true → 2 ≤ how_many test xs
+two_pass test [] i j d lt within pass also = absurd (omega arith)
+two_pass test (x ∷ xs) i zero d lt within pass also = absurd (omega arith)
+two_pass test (x ∷ xs) zero (suc j) d lt within pass also =
+    let more = one_passes test xs j d (omega arith) also in
+    rw (how_many-cons, pass) (omega arith)
+two_pass test (x ∷ xs) (suc i) (suc j) d lt within pass also =
+    let more = two_pass test xs i j d (omega arith) (omega arith) pass also in
+    rw how_many-cons (omega arith)
+
+-- the first so many pass and no other: they are counted
+front_passes : {X : Type 0} (test : X → Bool) (xs : List X) (i : ℕ) → i ≤ length xs → ((k : ℕ) (d : X) → k < i → test (get_or xs k d) ≡ true) → ((k : ℕ) (d : X) → i ≤ k → k < length xs → test (get_or xs k d) ≡ false) → how_many test xs ≡ i
+front_passes test [] i within below above = omega arith
+front_passes test (x ∷ xs) zero within below above =
+    let rest = front_passes test xs zero (omega arith) (λ k d lt. absurd (omega arith)) (λ k d le lt. above (suc k) d (omega arith) (omega arith)) in
+    rw (how_many-cons, above zero x (omega arith) (omega arith)) (omega arith)
+front_passes test (x ∷ xs) (suc i) within below above =
+    let rest = front_passes test xs i (omega arith) (λ k d lt. below (suc k) d (omega arith)) (λ k d le lt. above (suc k) d (omega arith) (omega arith)) in
+    rw (how_many-cons, below zero x (omega arith)) (omega arith)
+
+-- no element passes
+pub none_passes : {X : Type 0} (test : X → Bool) (xs : List X) → ((k : ℕ) (d : X) → k < length xs → test (get_or xs k d) ≡ false) → list_any test xs ≡ false
+none_passes test [] none = refl
+none_passes test (x ∷ xs) none = rw (none zero x (omega arith)) (none_passes test xs (λ k d lt. none (suc k) d (omega arith)))
+
+-- a search over half as many, after one step more
+pub halves : (t size half n : ℕ) → 2 ^ t * size ≤ n → half + half ≤ size → 2 ^ (t + 1) * half ≤ n
+halves t size half n all twice =
+    let doubled : 2 ^ (t + 1) * half ≡ 2 ^ t * (half + half) = rw pow-add (omega arith) in
+    let less = mul-le-mul_left (2 ^ t) twice in
+    omega arith
+
+-- 16 steps halve 65,536 entries to one
+pub few_steps : (t size n : ℕ) → 2 ^ t * size ≤ n → 0 < size → n ≤ 65536 → t ≤ 16
+few_steps t size n all some few =
+    elim (le_or_lt t 16) [
+      | inl le ↦ le
+      | inr gt ↦
+          let more : 2 ^ 17 ≤ 2 ^ t = pow-le-pow_right (omega arith) {i = 17} {j = t} gt in
+          let times = mul-le-mul_left (2 ^ t) some in
+          absurd (omega arith)
+    ]
+
+module _ {K : Type 0} {cmp : K → K → Ordering} (order : IsTotalOrder cmp) where
+  -- what is lower one way is higher the other
+  pub turned : (a b : K) → cmp a b ≡ Less → cmp b a ≡ Greater
+  turned a b less = order.antisymm b a ∙ ap ordering_reverse less
+
+  turned_back : (a b : K) → cmp a b ≡ Greater → cmp b a ≡ Less
+  turned_back a b more = order.antisymm b a ∙ ap ordering_reverse more
+
+  -- of two keys that are not in falling order and differ, the first is lower
+  lower_of : (a b : K) → is_lt (cmp b a) ≡ false → (cmp a b ≡ Equal → ⊥) → cmp a b ≡ Less
+  lower_of a b up apart = go (cmp a b) refl
+    where
+      go : (r : Ordering) → cmp a b ≡ r → cmp a b ≡ Less
+      go Less e = e
+      go Equal e = absurd (apart e)
+      go Greater e = let turned = order.antisymm b a ∙ ap ordering_reverse e in cc
+
+-- a permutation has each key once where the list has
+pub keys_once-IsPermutation : {K V : Type 0} (cmp : K → K → Ordering) (xs ys : List (K × V)) → IsPermutation xs ys → HasKeysOnce cmp xs → HasKeysOnce cmp ys
+keys_once-IsPermutation {K} {V} cmp xs ys moved once key =
+    let same = how_many-IsPermutation (λ (entry : K × V). is_eq (cmp entry.0 key)) xs ys moved in
+    let before = once key in
+    omega arith
+
+module _ {K V : Type 0} {cmp : K → K → Ordering} (order : IsTotalOrder cmp) where
+  -- a sorted list with each key once ascends
+  pub ascending_from_sorted : (xs : List (K × V)) → IsSortedByKey (λ (entry : K × V). entry.0) cmp xs → HasKeysOnce cmp xs → IsAscending cmp xs
+  ascending_from_sorted xs up once i j d lt within =
+      lower_of order _ _ (sorted_far (λ (x y : K × V). is_lt (cmp x.0 y.0)) (ranks_by order (λ (entry : K × V). entry.0)) xs up i j d (omega arith) within)
+      (λ level. let twice = two_pass (λ (entry : K × V). is_eq (cmp entry.0 (get_or xs j d).0)) xs i j d lt within (ap is_eq level) (ap is_eq (tied_itself order _)) in
+      let once_only = once (get_or xs j d).0 in omega arith)
+
+  -- a key below the one at m has a lower entry everywhere up to m
+  pub lower_up_to : (xs : List (K × V)) (key : K) (m : ℕ) (x : K × V) → IsAscending cmp xs → m < length xs → ((d : K × V) → x ≡ get_or xs m d) → cmp x.0 key ≡ Less →
+      (k : ℕ) (d : K × V) → k < m + 1 → cmp (get_or xs k d).0 key ≡ Less
+  lower_up_to xs key m x up within is less k d lt =
+      elim (eq-or-lt_of_le {n = k} {m = m} (omega arith)) [
+        | inl same ↦ rw (same, ← is d) less
+        | inr below ↦ order.trans _ _ _ (up k m d below within) (rw (← is d) less)
+      ]
+
+  -- a key above
+  pub higher_from : (xs : List (K × V)) (key : K) (m : ℕ) (x : K × V) → IsAscending cmp xs → m < length xs → ((d : K × V) → x ≡ get_or xs m d) → cmp x.0 key ≡ Greater →
+      (k : ℕ) (d : K × V) → m ≤ k → k < length xs → cmp (get_or xs k d).0 key ≡ Greater
+  higher_from xs key m x up within is more k d le lt =
+      elim (eq-or-lt_of_le le) [
+        | inl same ↦ rw (← same, ← is d) more
+        | inr above ↦ turned order _ _ (order.trans _ _ _ (rw (← is d) (turned_back order _ _ more)) (up m k d above lt))
+      ]
+
+  -- the entry whose key compares Equal, with all lower ones before it
+  pub place_found : (xs : List (K × V)) (key : K) (m : ℕ) (x : K × V) → IsAscending cmp xs → m < length xs → ((d : K × V) → x ≡ get_or xs m d) → cmp x.0 key ≡ Equal → IsPlaceOf cmp xs key m
+  place_found xs key m x up within is level = record {
+    within = within;
+    level = λ d. rw (← is d) level;
+    lower = front_passes (λ (entry : K × V). is_lt (cmp entry.0 key)) xs m (omega arith)
+        (λ k d lt.
+        let before : cmp (get_or xs k d).0 x.0 ≡ Less = rw (is d) (up k m d lt within) in
+        ap is_lt (sym (alike_right order _ _ _ level) ∙ before))
+        (λ k d le lt. elim (eq-or-lt_of_le le) [
+          | inl same ↦ rw (← same, ← is d) (ap is_lt level)
+          | inr above ↦
+              let after : cmp x.0 (get_or xs k d).0 ≡ Less = rw (is d) (up m k d above lt) in
+              ap is_lt (turned order _ _ (sym (order.congr _ _ _ level) ∙ after))
+        ]);
+  }
+
+  -- all before are lower and all from here on higher: no entry has the key
+  pub place_missing : (xs : List (K × V)) (key : K) (low : ℕ) →
+      ((k : ℕ) (d : K × V) → k < low → cmp (get_or xs k d).0 key ≡ Less) →
+      ((k : ℕ) (d : K × V) → low ≤ k → k < length xs → cmp (get_or xs k d).0 key ≡ Greater) →
+      list_any (λ (entry : K × V). is_eq (cmp entry.0 key)) xs ≡ false
+  place_missing xs key low below above =
+      none_passes (λ (entry : K × V). is_eq (cmp entry.0 key)) xs (λ k d lt.
+      elim (le_or_lt low k) [ inl le ↦ ap is_eq (above k d le lt) | inr before ↦ ap is_eq (below k d before) ])

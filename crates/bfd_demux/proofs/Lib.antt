@@ -1,0 +1,5 @@
+pub mod AlikeRows
+pub mod Ascending
+pub mod Once
+pub mod Lookups
+pub mod Selecting

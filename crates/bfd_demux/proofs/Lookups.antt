@@ -1,0 +1,392 @@
+-- What a lookup in a sorted table says of the rows.
+use Rattle.std.proofs.Common.{◌≡◌, ◌<◌, ◌≤◌, ℕ, ◌+◌, Bool, true, false, cond, not, ◌==◌, ◌&&◌, ◌||◌, nat_lt, List, [], ◌∷◌, length, map, get_or, refl, sym, ◌∙◌, ap, arith, inl, inr, ◌⊎◌, Option, Some, None, is_some, suc, zero}
+use Rattle.std.proofs.Math.Nat.{eq-or-lt_of_le}
+use Rattle.std.proofs.lemmas.Bool.Decides.{nat_tests}
+use Rattle.std.proofs.lemmas.List.Sorted.{list_any-IsPermutation, length_permutation}
+use Rattle.std.proofs.lemmas.List.{length-map}
+use Rattle.std.proofs.lemmas.List.Folds.{list_any_at}
+use Rattle.std.proofs.lemmas.List.Elements.{filter_agree}
+use Rattle.std.specs.List.{filter, list_any}
+use Rattle.std.specs.List.Sorted.{IsPermutation}
+use Rattle.std.specs.Option.{option_map}
+use Rattle.std.specs.Ordering.{nat_cmp, is_eq, is_lt}
+use Rattle.std.specs.Cmp.{IsTotalOrder, alike_right}
+use Rattle.std.specs.declared.cmp.Ordering.{Ordering}
+use Rattle.std.specs.declared.cmp.Ordering.TheVariants.{Less, Equal, Greater}
+use Rattle.bfd_packet.specs.declared.arrival.Port.{Port}
+use Rattle.bfd_packet.specs.declared.arrival.Port.TheVariants.{Single as SinglePort, Multi as MultiPort, Echo as EchoPort, Sbfd as SbfdPort, Answer as AnswerPort}
+use Rattle.bfd_demux.specs.declared.row.Row.{Row}
+use Rattle.bfd_demux.specs.declared.row.RowKind.{RowKind}
+use Rattle.bfd_demux.specs.declared.row.RowKind.TheVariants.{Single, Multi, Seek, Reflect, Head, Tail}
+use Rattle.bfd_demux.specs.declared.name.Name.{Name}
+use Rattle.bfd_demux.specs.declared.name.Name.TheVariants.{Session, Reflector}
+use Rattle.bfd_demux.specs.contracts.name.NameOrd.TheImpl as name_order
+use Rattle.bfd_demux.specs.contracts.name.NameOrd.TheImpl.Laws as name_laws
+use Rattle.bfd_demux.specs.contracts.row.RowKindOrd.TheImpl as kind_order
+use Rattle.bfd_demux.specs.contracts.row.RowKindOrd.TheImpl.Laws as kind_laws
+use Rattle.bfd_demux.specs.Rows.{same_selector, has_addresses, build_fault}
+use Rattle.bfd_demux.specs.Index.{IsIndex, names_of, addresses_of, name_of, name_in, name_on, names_before, is_heard, heard_on}
+use Rattle.bfd_demux.specs.Table.{how_many, IsAscending, IsPlaceOf}
+use Rattle.bfd_demux.specs.Selection.{is_of_kind, has_discr, knows, is_session, session_index, reflector_index, index_on, only, the_one}
+use Rattle.bfd_demux.proofs.AlikeRows.{and_assoc, nat_level, selector_level_back, unaddressed_back, both_true, number_is}
+use Rattle.bfd_demux.proofs.Ascending.{how_many-cons, how_many-IsPermutation, none_passes, le_or_lt, turned}
+use Rattle.bfd_demux.proofs.Once.{how_many-map, how_many_weaker, discr_once, kind_once, sound_rows}
+
+-- ---- numbers and tests
+
+not_equal_above : (m k : ℕ) → m ≤ k → (k ≡ m → ⊥) → m < k
+not_equal_above m k le other = elim (eq-or-lt_of_le le) [ inl same ↦ absurd (other (sym same)) | inr lt ↦ lt ]
+
+same_or_other : (k m : ℕ) → (k ≡ m) ⊎ (k ≡ m → ⊥)
+same_or_other k m = elim (le_or_lt k m) [ inl le ↦ elim (eq-or-lt_of_le le) [ inl same ↦ inl same | inr lt ↦ inr (λ e. absurd (omega arith)) ] | inr gt ↦ inr (λ e. absurd (omega arith)) ]
+
+and_false : (b : Bool) → (b && false) ≡ false
+and_false true = refl
+and_false false = refl
+
+and_true : (b : Bool) → (b && true) ≡ b
+and_true true = refl
+and_true false = refl
+
+-- ---- lists
+
+-- whether an image passes
+list_any-map : {X Y : Type 0} (test : Y → Bool) (f : X → Y) (xs : List X) → list_any test (map f xs) ≡ list_any (λ x. test (f x)) xs
+list_any-map test f [] = refl
+list_any-map test f (x ∷ xs) = ap (λ b. test (f x) || b) (list_any-map test f xs)
+
+-- whether one of those that pass another test passes
+list_any-filter : {X : Type 0} (test also : X → Bool) (xs : List X) → list_any test (filter also xs) ≡ list_any (λ x. also x && test x) xs
+list_any-filter test also [] = refl
+list_any-filter test also (x ∷ xs) =
+    elim (also x) as (λ b. list_any test (cond b (x ∷ filter also xs) (filter also xs)) ≡ ((b && test x) || list_any (λ y. also y && test y) xs)) [
+      | true ↦ ap (λ b. test x || b) (list_any-filter test also xs)
+      | false ↦ list_any-filter test also xs
+    ]
+
+-- two tests that agree
+list_any_agree : {X : Type 0} (test other : X → Bool) → ((x : X) → test x ≡ other x) → (xs : List X) → list_any test xs ≡ list_any other xs
+list_any_agree test other same [] = refl
+list_any_agree test other same (x ∷ xs) = rw (same x, list_any_agree test other same xs) refl
+
+how_many_agree : {X : Type 0} (test other : X → Bool) → ((x : X) → test x ≡ other x) → (xs : List X) → how_many test xs ≡ how_many other xs
+how_many_agree test other same xs = ap length (filter_agree test other same xs)
+
+stronger_more : (t s l k : Bool) → (s ≡ true → t ≡ true) → (t || l) ≡ false → (l ≡ false → k ≡ false) → (s || k) ≡ false
+stronger_more true s l k follows none rest = cc
+stronger_more false true l k follows none rest = let never = follows refl in cc
+stronger_more false false l k follows none rest = rest none
+
+-- a stronger test is passed by none where the weaker is
+list_any_stronger : {X : Type 0} (test stronger : X → Bool) → ((x : X) → stronger x ≡ true → test x ≡ true) → (xs : List X) → list_any test xs ≡ false → list_any stronger xs ≡ false
+list_any_stronger test stronger follows [] none = refl
+list_any_stronger test stronger follows (x ∷ xs) none = stronger_more (test x) (stronger x) (list_any test xs) _ (follows x) none (list_any_stronger test stronger follows xs)
+
+weaker_more : (t w l k : Bool) → (t ≡ true → w ≡ true) → (t || l) ≡ true → (l ≡ true → k ≡ true) → (w || k) ≡ true
+weaker_more t true l k follows some rest = refl
+weaker_more true false l k follows some rest = let never = follows refl in cc
+weaker_more false false l k follows some rest = rest some
+
+-- a weaker test is passed where the stronger is
+list_any_weaker : {X : Type 0} (test weaker : X → Bool) → ((x : X) → test x ≡ true → weaker x ≡ true) → (xs : List X) → list_any test xs ≡ true → list_any weaker xs ≡ true
+list_any_weaker test weaker follows [] some = cc
+list_any_weaker test weaker follows (x ∷ xs) some = weaker_more (test x) (weaker x) (list_any test xs) _ (follows x) some (list_any_weaker test weaker follows xs)
+
+neither_more : {X : Type 0} (b l : Bool) (x : X) (xs : List X) → (b || l) ≡ false → (l ≡ false → xs ≡ []) → cond b (x ∷ xs) xs ≡ []
+neither_more true l x xs none rest = cc
+neither_more false l x xs none rest = rest none
+
+-- none passes: the filter is empty
+filter_none : {X : Type 0} (test : X → Bool) (xs : List X) → list_any test xs ≡ false → filter test xs ≡ []
+filter_none test [] none = refl
+filter_none test (x ∷ xs) none = neither_more (test x) (list_any test xs) x (filter test xs) none (filter_none test xs)
+
+zero_more : (b l : Bool) (n : ℕ) → cond b 1 0 + n ≡ 0 → (n ≡ 0 → l ≡ false) → (b || l) ≡ false
+zero_more true l n zero_all rest = absurd (omega arith)
+zero_more false l n zero_all rest = rest (omega arith)
+
+-- the number of those that pass is 0: none passes
+none_of_zero : {X : Type 0} (test : X → Bool) (xs : List X) → how_many test xs ≡ 0 → list_any test xs ≡ false
+none_of_zero test [] none = refl
+none_of_zero test (x ∷ xs) none = zero_more (test x) (list_any test xs) (how_many test xs) (sym (how_many-cons test x xs) ∙ none) (none_of_zero test xs)
+
+-- the row that is the one that passes, and passes also another test
+pub record IsTheOne (test also : Row → Bool) (rows : List Row) (row : Row) : Type 0 where
+  pub one : the_one test rows ≡ Some row
+  pub passes : test row ≡ true
+  pub also_passes : also row ≡ true
+
+the_one_first : (test : Row → Bool) (row : Row) (rows : List Row) → test row ≡ true → filter test rows ≡ [] → the_one test (row ∷ rows) ≡ Some row
+the_one_first test row rows is none = rw (is, none) refl
+
+the_one_later : (test : Row → Bool) (row : Row) (rows : List Row) → test row ≡ false → the_one test (row ∷ rows) ≡ the_one test rows
+the_one_later test row rows is = rw is refl
+
+or_false : (b : Bool) → (b || false) ≡ b
+or_false true = refl
+or_false false = refl
+
+one_more_of : (test also : Row → Bool) (row : Row) (rows : List Row) → how_many test (row ∷ rows) ≤ 1 → list_any (λ other. test other && also other) (row ∷ rows) ≡ true →
+    (how_many test rows ≤ 1 → list_any (λ other. test other && also other) rows ≡ true → (other : Row) × IsTheOne test also rows other) →
+    (other : Row) × IsTheOne test also (row ∷ rows) other
+one_more_of test also row rows few some rest = go (test row) refl
+  where
+    go : (b : Bool) → test row ≡ b → (other : Row) × IsTheOne test also (row ∷ rows) other
+    go true is =
+        let counted : how_many test (row ∷ rows) ≡ 1 + how_many test rows = how_many-cons test row rows ∙ rw is refl in
+        let none = none_of_zero test rows (omega arith) in
+        let none_both = list_any_stronger test (λ other. test other && also other) (λ other e. (both_true (test other) (also other) e).0) rows none in
+        let passes : also row ≡ true = sym (or_false (also row)) ∙ (rw (is, none_both) at some) in
+        (row, record { one = the_one_first test row rows is (filter_none test rows none); passes = is; also_passes = passes })
+    go false is =
+        let counted : how_many test (row ∷ rows) ≡ how_many test rows = how_many-cons test row rows ∙ rw is (omega arith) in
+        let found = rest (omega arith) (rw is at some) in
+        (found.0, record { one = the_one_later test row rows is ∙ found.1.one; passes = found.1.passes; also_passes = found.1.also_passes })
+
+-- one at most passes, and one that passes also passes another test: it is the one
+one_of : (test also : Row → Bool) (rows : List Row) → how_many test rows ≤ 1 → list_any (λ row. test row && also row) rows ≡ true → (row : Row) × IsTheOne test also rows row
+one_of test also [] few some = cc
+one_of test also (row ∷ rows) few some = one_more_of test also row rows few some (one_of test also rows)
+
+-- ---- tables
+
+-- at two defaults
+at_default : {X : Type 0} (xs : List X) (i : ℕ) (d e : X) → i < length xs → get_or xs i d ≡ get_or xs i e
+at_default [] i d e lt = absurd (omega arith)
+at_default (x ∷ xs) zero d e lt = refl
+at_default (x ∷ xs) (suc i) d e lt = at_default xs i d e (omega arith)
+
+module _ {K V : Type 0} {cmp : K → K → Ordering} (order : IsTotalOrder cmp) where
+  -- no other entry has the key
+  unique_at : (entries : List (K × V)) (key : K) (place : ℕ) → IsAscending cmp entries → IsPlaceOf cmp entries key place →
+      (k : ℕ) (d : K × V) → k < length entries → (k ≡ place → ⊥) → is_eq (cmp (get_or entries k d).0 key) ≡ false
+  unique_at entries key place up at k d lt other =
+      elim (le_or_lt place k) [
+        | inl above ↦
+            let after : cmp (get_or entries place d).0 (get_or entries k d).0 ≡ Less = up place k d (not_equal_above place k above other) lt in
+            let lower : cmp key (get_or entries k d).0 ≡ Less = sym (order.congr _ _ _ (at.level d)) ∙ after in
+            ap is_eq (turned order _ _ lower)
+        | inr below ↦
+            let before : cmp (get_or entries k d).0 (get_or entries place d).0 ≡ Less = up k place d below at.within in
+            ap is_eq (sym (alike_right order _ _ _ (at.level d)) ∙ before)
+      ]
+
+  -- an entry with the key passes another test where the one at its place does
+  any_at : (entries : List (K × V)) (key : K) (place : ℕ) (also : K × V → Bool) (d : K × V) → IsAscending cmp entries → IsPlaceOf cmp entries key place →
+      list_any (λ (entry : K × V). is_eq (cmp entry.0 key) && also entry) entries ≡ also (get_or entries place d)
+  any_at entries key place also d up at = go (also (get_or entries place d)) refl
+    where
+      test : K × V → Bool
+      test entry = is_eq (cmp entry.0 key) && also entry
+
+      go : (b : Bool) → also (get_or entries place d) ≡ b → list_any (λ (entry : K × V). is_eq (cmp entry.0 key) && also entry) entries ≡ b
+      go true is = list_any_at (λ (entry : K × V). is_eq (cmp entry.0 key) && also entry) entries place d at.within (rw (at.level d, is) refl)
+      go false is = none_passes (λ (entry : K × V). is_eq (cmp entry.0 key) && also entry) entries (λ k e lt.
+          elim (same_or_other k place) [
+            | inl same ↦ rw (same, at_default entries place e d at.within, is) (and_false _)
+            | inr other ↦ rw (unique_at entries key place up at k e lt other) refl
+          ])
+
+length-filter-le : {X : Type 0} (test : X → Bool) (xs : List X) → length (filter test xs) ≤ length xs
+length-filter-le test [] = omega arith
+length-filter-le test (x ∷ xs) =
+    let rest = length-filter-le test xs in
+    let first = how_many-cons test x xs in
+    elim (test x) as (λ b. length (cond b (x ∷ filter test xs) (filter test xs)) ≤ length (x ∷ xs)) [ true ↦ omega arith | false ↦ omega arith ]
+
+-- what a lookup says of the same entries and the same key
+pub missing_by : {K V : Type 0} (cmp : K → K → Ordering) {entries table : List (K × V)} {key name : K} → entries ≡ table → key ≡ name →
+    list_any (λ (entry : K × V). is_eq (cmp entry.0 key)) entries ≡ false → list_any (λ (entry : K × V). is_eq (cmp entry.0 name)) table ≡ false
+missing_by {K} {V} cmp {entries} {table} {key} {name} same same_key none = rw (← same, ← same_key) none
+
+pub found_by : {K V : Type 0} {cmp : K → K → Ordering} {entries table : List (K × V)} {key name : K} {place : ℕ} → entries ≡ table → key ≡ name →
+    IsPlaceOf cmp entries key place → IsPlaceOf cmp table name place
+found_by {K} {V} {cmp} {entries} {table} {key} {name} {place} same same_key at = rw (← same, ← same_key) at
+
+-- ---- the names of rows
+
+nat_lower : (a b : ℕ) → is_lt (nat_cmp a b) ≡ nat_lt a b
+nat_lower a b = grind (arith, nat_tests)
+
+-- a row has the name and is heard on the port where it is of the port's kind and has the discriminator
+name_test_in : (port : Port) (kind : RowKind) (discr other : ℕ) →
+    (is_eq (name_order.ghosts.cmp (name_in kind discr) (name_on port other)) && is_heard port (heard_on kind)) ≡ (is_of_kind port kind && (discr == other))
+name_test_in SinglePort (Single _ _ _) discr other = and_true (is_eq (nat_cmp discr other)) ∙ nat_level discr other
+name_test_in EchoPort (Single _ _ _) discr other = and_true (is_eq (nat_cmp discr other)) ∙ nat_level discr other
+name_test_in MultiPort (Multi _ _) discr other = and_true (is_eq (nat_cmp discr other)) ∙ nat_level discr other
+name_test_in AnswerPort Seek discr other = and_true (is_eq (nat_cmp discr other)) ∙ nat_level discr other
+name_test_in SbfdPort Reflect discr other = and_true (is_eq (nat_cmp discr other)) ∙ nat_level discr other
+name_test_in port kind discr other = and_false (is_eq (name_order.ghosts.cmp (name_in kind discr) (name_on port other)))
+
+name_test : (port : Port) (other : ℕ) (row : Row) →
+    (is_eq (name_order.ghosts.cmp (name_of row) (name_on port other)) && is_heard port (heard_on row.kind)) ≡ has_discr port other row
+name_test port other row = name_test_in port row.kind row.discr other
+
+-- a name before a session's is that of a session with a lower discriminator
+lower_session : (kind : RowKind) (discr other : ℕ) → is_lt (name_order.ghosts.cmp (name_in kind discr) (Session other)) ≡ (is_session kind && nat_lt discr other)
+lower_session Reflect discr other = refl
+lower_session kind discr other = nat_lower discr other
+
+-- a name before a reflector's is that of a session, or of a reflector with a lower discriminator
+lower_reflector : (kind : RowKind) (discr other : ℕ) → is_lt (name_order.ghosts.cmp (name_in kind discr) (Reflector other)) ≡ (is_session kind || (not (is_session kind) && nat_lt discr other))
+lower_reflector Reflect discr other = nat_lower discr other
+lower_reflector kind discr other = refl
+
+either_more : (b c : Bool) (l m n : ℕ) → l ≡ m + n → cond (b || (not b && c)) 1 0 + l ≡ (cond b 1 0 + m) + (cond (not b && c) 1 0 + n)
+either_more true c l m n e = omega arith
+either_more false true l m n e = omega arith
+either_more false false l m n e = omega arith
+
+-- those that pass a test, and those that pass another and not the first
+how_many_either : {X : Type 0} (test other : X → Bool) (xs : List X) → how_many (λ x. test x || (not (test x) && other x)) xs ≡ how_many test xs + how_many (λ x. not (test x) && other x) xs
+how_many_either test other [] = omega arith
+how_many_either test other (x ∷ xs) =
+    rw (how_many-cons (λ y. test y || (not (test y) && other y)) x xs, how_many-cons test x xs, how_many-cons (λ y. not (test y) && other y) x xs)
+    (either_more (test x) (other x) _ _ _ (how_many_either test other xs))
+
+-- a row that a packet's addresses name is a session
+session_level : (kind other : RowKind) (discr key : ℕ) → same_selector kind other ≡ true → is_eq (name_order.ghosts.cmp (name_in other discr) (Session key)) ≡ (discr == key)
+session_level kind Reflect discr key e = let never = unaddressed_back kind Reflect refl in cc
+session_level kind other discr key e = nat_level discr key
+
+module _ {rows : List Row} {names : List (Name × Option Port)} {addresses : List (RowKind × ℕ)} {sessions : ℕ} (index : IsIndex rows names addresses sessions) where
+  -- the names of the table have an entry that passes where a row has
+  any_name : (test : Name × Option Port → Bool) → list_any test names ≡ list_any (λ row. test (name_of row, heard_on row.kind)) rows
+  any_name test = sym (list_any-IsPermutation test (names_of rows) names index.named) ∙ list_any-map test (λ row. (name_of row, heard_on row.kind)) rows
+
+  many_names : (test : Name × Option Port → Bool) → how_many test names ≡ how_many (λ row. test (name_of row, heard_on row.kind)) rows
+  many_names test = how_many-IsPermutation test (names_of rows) names index.named ∙ how_many-map test (λ row. (name_of row, heard_on row.kind)) rows
+
+  -- one row at most is of the port's kind and has the discriminator
+  one_named : (port : Port) (discr : ℕ) → how_many (has_discr port discr) rows ≤ 1
+  one_named port discr =
+      let less = how_many_weaker (has_discr port discr) (λ row. row.discr == discr) (λ row e. (both_true (is_of_kind port row.kind) (row.discr == discr) e).1) rows in
+      let once = discr_once rows index.sound discr in
+      omega arith
+
+  -- the name is found, and its row is of the port's kind where it is heard there
+  pub name_known : (port : Port) (discr place : ℕ) (d : Name × Option Port) → IsPlaceOf name_order.ghosts.cmp names (name_on port discr) place →
+      is_heard port (get_or names place d).1 ≡ knows rows port discr
+  name_known port discr place d at =
+      sym (any_at name_laws.total-law names (name_on port discr) place (λ entry. is_heard port entry.1) d index.names_ascend at)
+      ∙ any_name (λ entry. is_eq (name_order.ghosts.cmp entry.0 (name_on port discr)) && is_heard port entry.1)
+      ∙ list_any_agree _ _ (name_test port discr) rows
+
+  -- the name isn't found
+  pub name_unknown : (port : Port) (discr : ℕ) → list_any (λ (entry : Name × Option Port). is_eq (name_order.ghosts.cmp entry.0 (name_on port discr))) names ≡ false → false ≡ knows rows port discr
+  name_unknown port discr none =
+      sym (list_any_stronger (λ (row : Row). is_eq (name_order.ghosts.cmp (name_of row) (name_on port discr))) (has_discr port discr)
+      (λ row e. (both_true (is_eq (name_order.ghosts.cmp (name_of row) (name_on port discr))) (is_heard port (heard_on row.kind)) (name_test port discr row ∙ e)).0)
+      rows (sym (any_name (λ entry. is_eq (name_order.ghosts.cmp entry.0 (name_on port discr)))) ∙ none))
+
+  -- a session's place among the names is its index
+  pub place_of_session : (discr place : ℕ) → IsPlaceOf name_order.ghosts.cmp names (Session discr) place → place ≡ session_index rows discr
+  place_of_session discr place at =
+      sym at.lower ∙ many_names (λ entry. is_lt (name_order.ghosts.cmp entry.0 (Session discr)))
+      ∙ how_many_agree _ _ (λ row. lower_session row.kind row.discr discr) rows
+
+  -- a reflector's place comes after the sessions
+  pub place_of_reflector : (discr place : ℕ) → IsPlaceOf name_order.ghosts.cmp names (Reflector discr) place → place ≡ sessions + reflector_index rows discr
+  place_of_reflector discr place at =
+      sym at.lower ∙ many_names (λ entry. is_lt (name_order.ghosts.cmp entry.0 (Reflector discr)))
+      ∙ how_many_agree _ _ (λ row. lower_reflector row.kind row.discr discr) rows
+      ∙ how_many_either (λ (row : Row). is_session row.kind) (λ row. nat_lt row.discr discr) rows
+      ∙ ap (λ n. n + reflector_index rows discr) (sym index.counted)
+
+  -- so the place is the index, after the names before those of the port
+  pub place_of_name : (port : Port) (discr place : ℕ) → IsPlaceOf name_order.ghosts.cmp names (name_on port discr) place → place ≡ names_before port sessions + index_on port rows discr
+  place_of_name SbfdPort discr place at = place_of_reflector discr place at
+  place_of_name port discr place at = let same = place_of_session discr place at in omega arith
+
+  pub few_names : length names ≤ 65536
+  few_names =
+      let few = (sound_rows rows index.sound).few in
+      let same = length_permutation (names_of rows) names index.named in
+      let mapped : length (names_of rows) ≡ length rows = length-map rows (λ (row : Row). (name_of row, heard_on row.kind)) in
+      omega arith
+
+  pub few_addresses : length addresses ≤ 65536
+  few_addresses =
+      let few = (sound_rows rows index.sound).few in
+      let same = length_permutation (addresses_of rows) addresses index.addressed in
+      let mapped : length (addresses_of rows) ≡ length (filter (λ row. has_addresses row.kind) rows) = length-map (filter (λ row. has_addresses row.kind) rows) (λ (row : Row). (row.kind, row.discr)) in
+      let fewer = length-filter-le (λ (row : Row). has_addresses row.kind) rows in
+      omega arith
+
+  -- no row is of the port's kind and has the discriminator
+  pub none_named : (port : Port) (discr : ℕ) → false ≡ knows rows port discr → the_one (has_discr port discr) rows ≡ None
+  none_named port discr none = ap only (filter_none (has_discr port discr) rows (sym none))
+
+  -- one is, and the index that the port gives it is that of the discriminator
+  pub some_named : (port : Port) (discr : ℕ) → true ≡ knows rows port discr → option_map (λ (row : Row). index_on port rows row.discr) (the_one (has_discr port discr) rows) ≡ Some (index_on port rows discr)
+  some_named port discr some =
+      let found = one_of (has_discr port discr) (λ row. true) rows (one_named port discr) (list_any_agree _ _ (λ row. and_true (has_discr port discr row)) rows ∙ sym some) in
+      let same = number_is found.0.discr discr (both_true (is_of_kind port found.0.kind) (found.0.discr == discr) found.1.passes).1 in
+      ap (option_map (λ (row : Row). index_on port rows row.discr)) found.1.one ∙ ap (λ n. Some (index_on port rows n)) same
+
+  -- ---- the addresses of rows
+
+  -- among the rows with addresses, those of the kind are those that a packet of the kind can't tell apart
+  address_test : (kind : RowKind) → has_addresses kind ≡ true → (row : Row) → (has_addresses row.kind && is_eq (kind_order.ghosts.cmp row.kind kind)) ≡ same_selector kind row.kind
+  address_test kind with_addresses row = go (has_addresses row.kind) refl
+    where
+      go : (b : Bool) → has_addresses row.kind ≡ b → (b && is_eq (kind_order.ghosts.cmp row.kind kind)) ≡ same_selector kind row.kind
+      go true is = selector_level_back row.kind kind with_addresses
+      go false is = sym (unaddressed_back kind row.kind is)
+
+  any_address : (test : RowKind × ℕ → Bool) → list_any test addresses ≡ list_any (λ row. has_addresses row.kind && test (row.kind, row.discr)) rows
+  any_address test =
+      sym (list_any-IsPermutation test (addresses_of rows) addresses index.addressed)
+      ∙ list_any-map test (λ row. (row.kind, row.discr)) (filter (λ row. has_addresses row.kind) rows)
+      ∙ list_any-filter (λ row. test (row.kind, row.discr)) (λ row. has_addresses row.kind) rows
+
+  -- the addresses aren't found
+  pub address_unknown : (kind : RowKind) → has_addresses kind ≡ true → list_any (λ (entry : RowKind × ℕ). is_eq (kind_order.ghosts.cmp entry.0 kind)) addresses ≡ false →
+      false ≡ list_any (λ row. same_selector kind row.kind) rows
+  address_unknown kind with_addresses none =
+      sym (sym (list_any_agree _ _ (address_test kind with_addresses) rows) ∙ sym (any_address (λ entry. is_eq (kind_order.ghosts.cmp entry.0 kind))) ∙ none)
+
+  -- they are found with a discriminator: a row has both
+  pub address_known : (kind : RowKind) (place : ℕ) (d : RowKind × ℕ) → has_addresses kind ≡ true → IsPlaceOf kind_order.ghosts.cmp addresses kind place →
+      list_any (λ row. same_selector kind row.kind && (row.discr == (get_or addresses place d).1)) rows ≡ true
+  address_known kind place d with_addresses at =
+      list_any_agree _ _
+      (λ row.
+      ap (λ b. b && (row.discr == (get_or addresses place d).1)) (sym (address_test kind with_addresses row))
+      ∙ sym (and_assoc (has_addresses row.kind) (is_eq (kind_order.ghosts.cmp row.kind kind)) (row.discr == (get_or addresses place d).1)))
+      rows
+      ∙ sym (any_address (λ entry. is_eq (kind_order.ghosts.cmp entry.0 kind) && (entry.1 == (get_or addresses place d).1)))
+      ∙ any_at kind_laws.total-law addresses kind place (λ entry. entry.1 == (get_or addresses place d).1) d index.addresses_ascend at
+      ∙ grind (arith, nat_tests)
+
+  -- so the addresses are known
+  pub address_named : (kind : RowKind) (place : ℕ) (d : RowKind × ℕ) → has_addresses kind ≡ true → IsPlaceOf kind_order.ghosts.cmp addresses kind place →
+      true ≡ list_any (λ row. same_selector kind row.kind) rows
+  address_named kind place d with_addresses at =
+      sym (list_any_weaker (λ (row : Row). same_selector kind row.kind && (row.discr == (get_or addresses place d).1)) (λ row. same_selector kind row.kind)
+      (λ row e. (both_true (same_selector kind row.kind) (row.discr == (get_or addresses place d).1) e).0) rows (address_known kind place d with_addresses at))
+
+  -- and the discriminator is that of the one row that has them
+  pub address_index : (kind : RowKind) (place : ℕ) (d : RowKind × ℕ) → has_addresses kind ≡ true → IsPlaceOf kind_order.ghosts.cmp addresses kind place →
+      option_map (λ (row : Row). session_index rows row.discr) (the_one (λ row. same_selector kind row.kind) rows) ≡ Some (session_index rows (get_or addresses place d).1)
+  address_index kind place d with_addresses at =
+      let found = one_of (λ row. same_selector kind row.kind) (λ row. row.discr == (get_or addresses place d).1) rows (kind_once rows index.sound kind) (address_known kind place d with_addresses at) in
+      let same = number_is found.0.discr (get_or addresses place d).1 found.1.also_passes in
+      ap (option_map (λ (row : Row). session_index rows row.discr)) found.1.one ∙ ap (λ n. Some (session_index rows n)) same
+
+  -- which is that of a session
+  pub address_session : (kind : RowKind) (place : ℕ) (d : RowKind × ℕ) → has_addresses kind ≡ true → IsPlaceOf kind_order.ghosts.cmp addresses kind place →
+      list_any (λ (entry : Name × Option Port). is_eq (name_order.ghosts.cmp entry.0 (Session (get_or addresses place d).1))) names ≡ false → ⊥
+  address_session kind place d with_addresses at none =
+      let known = address_known kind place d with_addresses at in
+      let missing = list_any_stronger (λ (row : Row). is_eq (name_order.ghosts.cmp (name_of row) (Session (get_or addresses place d).1)))
+      (λ row. same_selector kind row.kind && (row.discr == (get_or addresses place d).1))
+      (λ row e.
+      let parts = both_true (same_selector kind row.kind) (row.discr == (get_or addresses place d).1) e in
+      session_level kind row.kind row.discr (get_or addresses place d).1 parts.0 ∙ parts.1)
+      rows (sym (any_name (λ entry. is_eq (name_order.ghosts.cmp entry.0 (Session (get_or addresses place d).1)))) ∙ none) in
+      cc
+
+  -- no row has the addresses
+  pub none_addressed : (kind : RowKind) → false ≡ list_any (λ row. same_selector kind row.kind) rows → the_one (λ row. same_selector kind row.kind) rows ≡ None
+  none_addressed kind none = ap only (filter_none (λ (row : Row). same_selector kind row.kind) rows (sym none))

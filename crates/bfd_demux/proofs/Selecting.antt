@@ -1,0 +1,145 @@
+-- What the ports have in common: the tests and the target of each kind of packet.
+use Rattle.std.proofs.Common.{◌≡◌, ◌≢◌, ℕ, Bool, true, false, cond, not, ◌==◌, ◌&&◌, ◌||◌, List, [], ◌∷◌, ◌++◌, refl, sym, ◌∙◌, ap, arith, Option, Some, None, Result, Ok, Err, IfOk, find, if◌then◌else◌, IfSome}
+use Rattle.std.proofs.lemmas.Bool.Decides.{nat_tests}
+use Rattle.std.proofs.lemmas.List.Elements.{filter_agree}
+use Rattle.std.specs.List.{list_any}
+use Rattle.std.specs.Option.{option_map, option_or}
+use Rattle.bfd_packet.specs.declared.arrival.Arrival.{Arrival}
+use Rattle.bfd_packet.specs.declared.arrival.Port.{Port}
+use Rattle.bfd_packet.specs.declared.arrival.Port.TheVariants.{Single as SinglePort, Multi as MultiPort, Echo as EchoPort, Sbfd as SbfdPort, Answer as AnswerPort}
+use Rattle.bfd_packet.specs.declared.control.Control.{Control}
+use Rattle.bfd_packet.specs.declared.discard.Test.{Test}
+use Rattle.bfd_packet.specs.declared.discard.Test.TheVariants.{YourUnknown, YourZeroState, NoSession, MultipointYour, NoTail, EchoForm}
+use Rattle.bfd_packet.specs.Layout.{fields_of, word_at}
+use Rattle.bfd_packet.specs.HeaderTests.{header_fails, header_tests, first_failing, read_of, unless}
+use Rattle.bfd_demux.specs.declared.row.Row.{Row}
+use Rattle.bfd_demux.specs.declared.row.RowKind.{RowKind}
+use Rattle.bfd_demux.specs.declared.target.Target.{Target}
+use Rattle.bfd_demux.specs.declared.target.Target.TheVariants.{Session, Reflector, Echo}
+use Rattle.bfd_demux.specs.Rows.{has_addresses}
+use Rattle.bfd_demux.specs.Selection.{only, the_one, names_on, names_session, has_discr, has_selector, selector_on, tail_selector, is_multipoint, knows, is_init_or_up, session_index, reflector_index, target_on, target_named, echo_target, table_fails, session_fails, tests_on_header, tests_on_table, first_header_failing, first_failing_on, first_past_header, first_echo_failing, first_session_failing}
+
+-- tests that agree name the same row
+the_one_agree : (test other : Row → Bool) → ((row : Row) → test row ≡ other row) → (rows : List Row) → the_one test rows ≡ the_one other rows
+the_one_agree test other same rows = ap only (filter_agree test other same rows)
+
+find_more : {X : Type 0} (b : Bool) (x : X) (o rest later : Option X) → cond b (Some x) o ≡ None → (o ≡ None → rest ≡ later) → cond b (Some x) rest ≡ later
+find_more true x o rest later none more = cc
+find_more false x o rest later none more = more none
+
+find-append : {X : Type 0} (test : X → Bool) (xs ys : List X) → find test xs ≡ None → find test (xs ++ ys) ≡ find test ys
+find-append test [] ys none = refl
+find-append test (x ∷ xs) ys none = find_more (test x) x (find test xs) (find test (xs ++ ys)) (find test ys) none (find-append test xs ys)
+
+-- the sentences of the tests on the header are those of the packet's crate
+header_same : (port : Port) (rows : List Row) (arrival : Arrival) →
+    find (λ test. table_fails port test rows arrival) (tests_on_header port) ≡ find (λ test. header_fails test arrival.payload) (tests_on_header port)
+header_same EchoPort rows arrival = refl
+header_same SinglePort rows arrival = refl
+header_same MultiPort rows arrival = refl
+header_same SbfdPort rows arrival = refl
+header_same AnswerPort rows arrival = refl
+
+-- past the header: the tests on the table alone
+pub past_header : (port : Port) (rows : List Row) (arrival : Arrival) → find (λ test. header_fails test arrival.payload) (tests_on_header port) ≡ None →
+    first_failing_on port rows arrival ≡ first_past_header port rows arrival
+past_header port rows arrival none =
+    find-append (λ test. table_fails port test rows arrival) (tests_on_header port) (tests_on_table port (is_multipoint port arrival)) (header_same port rows arrival ∙ none)
+
+-- what follows for an Ok
+pub ok_then : {T E : Type 0} {P Q : T → Type 0} (r : Result T E) → ((t : T) → P t → Q t) → IfOk r P → IfOk r Q
+ok_then (Ok t) follows h = follows t h
+ok_then (Err e) follows h = h
+
+-- an echo packet
+pub echo_failing : (rows : List Row) (arrival : Arrival) → first_echo_failing rows arrival.payload ≡ first_failing_on EchoPort rows arrival
+echo_failing rows arrival = refl
+
+pub echo_named : (rows : List Row) (arrival : Arrival) →
+    option_map (echo_target rows arrival.payload) (the_one (has_discr EchoPort (word_at 4 arrival.payload)) rows) ≡ target_named EchoPort rows arrival
+echo_named rows arrival = refl
+
+unequal : (n : ℕ) → n ≢ 0 → (n == 0) ≡ false
+unequal n some = grind (arith, nat_tests)
+
+-- a packet for a reflector
+pub reflector_failing : (rows : List Row) (arrival : Arrival) (packet : Control) → packet ≡ fields_of arrival.payload →
+    (if (packet.your == 0) || not (knows rows SbfdPort packet.your) then Some YourUnknown else None) ≡ first_past_header SbfdPort rows arrival
+reflector_failing rows arrival packet is = rw is refl
+
+pub reflector_named : (rows : List Row) (arrival : Arrival) (packet : Control) → packet ≡ fields_of arrival.payload → packet.your ≢ 0 →
+    option_map (λ (row : Row). Reflector (reflector_index rows row.discr)) (the_one (has_discr SbfdPort packet.your) rows) ≡ target_named SbfdPort rows arrival
+reflector_named rows arrival packet is some =
+    let zero : ((fields_of arrival.payload).your == 0) ≡ false = ap (λ (p : Control). p.your == 0) (sym is) ∙ unequal packet.your some in
+    ap (option_map (λ (row : Row). Reflector (reflector_index rows row.discr)))
+    (the_one_agree (has_discr SbfdPort packet.your) (names_on SbfdPort arrival) (λ row. rw (is, zero) refl) rows)
+
+tail_cases : (zero known : Bool) →
+    (if zero then if known then None else Some NoTail else Some MultipointYour) ≡ cond (true && not zero) (Some MultipointYour) (cond (true && not known) (Some NoTail) None)
+tail_cases true true = refl
+tail_cases true false = refl
+tail_cases false true = refl
+tail_cases false false = refl
+
+-- a multipoint packet
+pub tail_failing : (port : Port) (rows : List Row) (arrival : Arrival) (packet : Control) → packet ≡ fields_of arrival.payload → is_multipoint port arrival ≡ true →
+    (if packet.your == 0 then if list_any (has_selector (tail_selector arrival)) rows then None else Some NoTail else Some MultipointYour) ≡ first_past_header port rows arrival
+tail_failing SinglePort rows arrival packet is multipoint =
+    rw (is, multipoint, multipoint) (tail_cases ((fields_of arrival.payload).your == 0) (list_any (has_selector (tail_selector arrival)) rows))
+tail_failing port rows arrival packet is multipoint = cc
+
+pub tail_named : (port : Port) (rows : List Row) (arrival : Arrival) → is_multipoint port arrival ≡ true →
+    option_map (λ (row : Row). Session (session_index rows row.discr)) (the_one (has_selector (tail_selector arrival)) rows) ≡ target_named port rows arrival
+tail_named SinglePort rows arrival multipoint =
+    ap (option_map (λ (row : Row). Session (session_index rows row.discr)))
+    (the_one_agree (has_selector (tail_selector arrival)) (names_on SinglePort arrival) (λ row. rw multipoint refl) rows)
+tail_named port rows arrival multipoint = cc
+
+-- any other packet
+pub session_failing : (port : Port) (rows : List Row) (arrival : Arrival) (packet : Control) → packet ≡ fields_of arrival.payload →
+    port ≢ EchoPort → port ≢ SbfdPort → is_multipoint port arrival ≡ false →
+    first_session_failing port packet (selector_on port arrival) rows ≡ first_past_header port rows arrival
+session_failing EchoPort rows arrival packet is no_echo no_sbfd single = absurd (no_echo refl)
+session_failing SbfdPort rows arrival packet is no_echo no_sbfd single = absurd (no_sbfd refl)
+session_failing SinglePort rows arrival packet is no_echo no_sbfd single = rw (is, single) refl
+session_failing MultiPort rows arrival packet is no_echo no_sbfd single = rw is refl
+session_failing AnswerPort rows arrival packet is no_echo no_sbfd single = rw is refl
+
+pub session_named : (port : Port) (rows : List Row) (arrival : Arrival) (packet : Control) → packet ≡ fields_of arrival.payload →
+    port ≢ EchoPort → port ≢ SbfdPort → is_multipoint port arrival ≡ false →
+    option_map (λ (row : Row). Session (session_index rows row.discr)) (the_one (names_session port packet (selector_on port arrival)) rows) ≡ target_named port rows arrival
+session_named EchoPort rows arrival packet is no_echo no_sbfd single = absurd (no_echo refl)
+session_named SbfdPort rows arrival packet is no_echo no_sbfd single = absurd (no_sbfd refl)
+session_named SinglePort rows arrival packet is no_echo no_sbfd single =
+    ap (option_map (λ (row : Row). Session (session_index rows row.discr)))
+    (the_one_agree (names_session SinglePort packet (selector_on SinglePort arrival)) (names_on SinglePort arrival) (λ row. rw (is, single) refl) rows)
+session_named MultiPort rows arrival packet is no_echo no_sbfd single = rw is refl
+session_named AnswerPort rows arrival packet is no_echo no_sbfd single = rw is refl
+
+-- where no row has addresses
+pub selector_none : (rows : List Row) → list_any (has_selector None) rows ≡ false
+selector_none [] = refl
+selector_none (row ∷ rows) = selector_none rows
+
+pub no_session : (port : Port) (packet : Control) (rows : List Row) → packet.your ≡ 0 → is_init_or_up packet.state ≡ false → Some NoSession ≡ first_session_failing port packet None rows
+no_session port packet rows zero down = rw (zero, down, selector_none rows) refl
+
+-- the addresses of an arrival are those of a kind that has addresses
+pub selector_addressed : (port : Port) (arrival : Arrival) → IfSome (selector_on port arrival) (λ kind. has_addresses kind ≡ true)
+selector_addressed SinglePort arrival = refl
+selector_addressed MultiPort arrival = refl
+selector_addressed port arrival = tt
+
+-- a payload that passes the header's tests is read
+pub header_passed : (port : Port) (payload : List ℕ) → port ≢ EchoPort → find (λ test. header_fails test payload) (tests_on_header port) ≡ None → read_of port payload ≡ Ok (fields_of payload)
+header_passed EchoPort payload no_echo none = absurd (no_echo refl)
+header_passed SinglePort payload no_echo none = ap (λ test. unless test (fields_of payload)) none
+header_passed MultiPort payload no_echo none = ap (λ test. unless test (fields_of payload)) none
+header_passed SbfdPort payload no_echo none = ap (λ test. unless test (fields_of payload)) none
+header_passed AnswerPort payload no_echo none = ap (λ test. unless test (fields_of payload)) none
+
+pub same_ok : {T E : Type 0} (r : Result T E) (a b : T) → r ≡ Ok a → r ≡ Ok b → a ≡ b
+same_ok r a b left right = cc
+
+pub never_err : {T E : Type 0} (r : Result T E) (a : T) (e : E) → r ≡ Ok a → r ≡ Err e → ⊥
+never_err r a e left right = cc

@@ -1,0 +1,57 @@
+use Rattle.std.proofs.Common.{◌≡◌, true, false, ◌&&◌, arith, sym, ap, ◌∙◌}
+use Rattle.bfd_packet.specs.HeaderTests.{takes_multipoint_of}
+use Rattle.bfd_demux.specs.Selection.{is_multipoint, first_session_failing, names_session, session_index, the_one}
+use Rattle.std.specs.Option.{option_map}
+use Rattle.bfd_demux.specs.declared.target.Target.TheVariants.{Session}
+use Rattle.bfd_demux.proofs.Selecting.{ok_then, reflector_failing, reflector_named, tail_failing, tail_named, session_failing, session_named, selector_addressed}
+use Rattle.bfd_demux.proofs.demux.Demux.select_packet.Goals as goal
+
+pub returns-in-Sbfd-clause-tests : goal.returns-in-Sbfd-clause-tests
+returns-in-Sbfd-clause-tests g c =
+    rw c.in-Sbfd.is (c.select_reflector.ensures.tests ∙ reflector_failing c.args.self.now c.args.arrival.now c.args.packet.now c.requires.packet)
+
+pub returns-in-Sbfd-clause-target : goal.returns-in-Sbfd-clause-target
+returns-in-Sbfd-clause-target g c =
+    rw c.in-Sbfd.is (ok_then c.select_reflector.result
+    (λ target h. h.1 ∙ reflector_named c.args.self.now c.args.arrival.now c.args.packet.now c.requires.packet h.0)
+    c.select_reflector.ensures.target)
+
+pub returns-in-Sbfd-clause-cost : goal.returns-in-Sbfd-clause-cost
+returns-in-Sbfd-clause-cost g c = omega (arith, c.select_reflector.ensures.cost)
+
+pub select_tail-requires : goal.select_tail-requires
+select_tail-requires g c = c.requires.packet
+
+pub returns-then-is_multipoint : goal.returns-then-is_multipoint
+returns-then-is_multipoint g c =
+    let multipoint : is_multipoint c.args.arrival.now.port c.args.arrival.now ≡ true =
+    ap (λ packet. takes_multipoint_of c.args.arrival.now.port && packet.multi) (sym c.requires.packet) ∙ sym c.is_multipoint.ensures ∙ c.if-is_multipoint.true in
+    record {
+      tests = c.select_tail.ensures.tests ∙ tail_failing c.args.arrival.now.port c.args.self.now c.args.arrival.now c.args.packet.now c.requires.packet multipoint;
+      target = ok_then c.select_tail.result (λ target h. h ∙ tail_named c.args.arrival.now.port c.args.self.now c.args.arrival.now multipoint) c.select_tail.ensures.target;
+      cost = c.select_tail.ensures.cost;
+    }
+
+pub select_session-requires : goal.select_session-requires
+select_session-requires g c = record {
+  port = c.in_default.not-Sbfd;
+  selector = rw c.selector_of.ensures (selector_addressed c.args.arrival.now.port c.args.arrival.now);
+}
+
+pub returns-else-is_multipoint : goal.returns-else-is_multipoint
+returns-else-is_multipoint g c =
+    let single : is_multipoint c.args.arrival.now.port c.args.arrival.now ≡ false =
+    ap (λ packet. takes_multipoint_of c.args.arrival.now.port && packet.multi) (sym c.requires.packet) ∙ sym c.is_multipoint.ensures ∙ c.if-is_multipoint.false in
+    record {
+      tests =
+          c.select_session.ensures.tests
+          ∙ ap (λ selector. first_session_failing c.args.arrival.now.port c.args.packet.now selector c.args.self.now) c.selector_of.ensures
+          ∙ session_failing c.args.arrival.now.port c.args.self.now c.args.arrival.now c.args.packet.now c.requires.packet c.requires.port c.in_default.not-Sbfd single;
+      target = ok_then c.select_session.result
+          (λ target h.
+          h
+          ∙ ap (λ selector. option_map (λ row. Session (session_index c.args.self.now row.discr)) (the_one (names_session c.args.arrival.now.port c.args.packet.now selector) c.args.self.now)) c.selector_of.ensures
+          ∙ session_named c.args.arrival.now.port c.args.self.now c.args.arrival.now c.args.packet.now c.requires.packet c.requires.port c.in_default.not-Sbfd single)
+          c.select_session.ensures.target;
+      cost = c.select_session.ensures.cost;
+    }

@@ -1,0 +1,19 @@
+use Rattle.std.proofs.Common.{arith, sym, ◌∙◌}
+use Rattle.std.specs.Ordering.{nat_cmp}
+use Rattle.std.specs.BTreeMap.{get}
+use Rattle.bfd_demux.specs.Rows.{same_discr}
+use Rattle.bfd_demux.proofs.AlikeRows.{repeated_here, repeated_later, discrs_more}
+use Rattle.bfd_demux.proofs.repeats.repeated_discr.Goals as goal
+
+pub returns-in-Some : goal.returns-in-Some
+returns-in-Some c =
+    sym (repeated_here same_discr c.args.rows.now c.loop-place.place _ c.in-Some.earlier.now (omega arith) (c.in-Some.ensures.value ∙ c.loop-place.invariant.1 _))
+    ∙ c.loop-place.invariant.0
+
+pub loop-place-preserved : goal.loop-place-preserved
+loop-place-preserved c = (
+  repeated_later same_discr c.args.rows.now c.loop-place.place _ (omega arith) (c.in_default.ensures.value ∙ c.loop-place.invariant.1 _)
+      ∙ c.loop-place.invariant.0,
+  discrs_more c.args.rows.now c.loop-place.place _ (get nat_cmp c.loop-place.first) (get nat_cmp c.insert.new.self) (omega arith)
+      c.loop-place.invariant.1 c.in_ok-insert.ensures.updates.0 c.in_default.ensures.value,
+)

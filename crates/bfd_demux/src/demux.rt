@@ -1,0 +1,361 @@
+//! The table: rows behind two sorted indices.
+
+ghost use Rattle.std.specs.Prelude.{◌≡◌, ◌≢◌, ◌+◌, ◌==◌, ◌≤◌, ◌&&◌, ◌||◌, if◌then◌else◌, position, true, not, None, Some, is_some, IfSome, IfOk, MatchResult, ◌⊎◌};
+ghost use Rattle.std.specs.List.{list_any};
+ghost use Rattle.std.specs.Option.{option_map};
+ghost use Rattle.std.specs.Result.{result_err};
+ghost use Rattle.bfd_packet.specs.Layout.{fields_of, word_at};
+ghost use Rattle.bfd_packet.specs.HeaderTests.{takes_multipoint_of};
+ghost use Rattle.bfd_demux.specs.Rows.{build_fault, has_addresses, same_selector};
+ghost use Rattle.bfd_demux.specs.Selection.{echo_target, first_echo_failing, first_header_failing, first_past_header, first_session_failing, first_table_failing, has_discr, has_selector, index_on, is_echo_form, is_init_or_up, is_session, knows, names_session, reflector_index, selector_on, session_index, tail_selector, target_named, target_of, the_one};
+ghost use Rattle.bfd_demux.specs.Index.{names_of, addresses_of};
+ghost use Rattle.bfd_demux.specs.Table.{how_many};
+
+use crate::fault::BuildFault;
+use crate::name::{Name, heard_on, is_heard, name_on, names_before, row_name};
+use crate::repeats::{repeated_addresses, repeated_discr};
+use crate::row::{Row, RowKind};
+use crate::table::{place_of, sort_by_key};
+use crate::target::Target;
+use bfd_num::Steps;
+use bfd_packet::{Arrival, Control, Port, State, Test, read};
+use byteorder::{BigEndian, ByteOrder};
+use std::alloc::{AllocError, Global};
+use std::marker::Model;
+use std::sync::ledger::Ledger;
+
+// What an echo packet begins with: "BFDe".
+const ECHO_SIGN: u32 = 0x4246_4465;
+
+// The most rows that a table has.
+const MOST_ROWS: usize = 65_536;
+
+/// A table of rows: what `select` looks an arrival up in. Contracts see the list of its rows, in the order
+/// in which they were given.
+#[derive(Drop)]
+pub struct Demux {
+    rows: Vec<Row>,
+    // By name: sessions, then reflectors, each in ascending order of discriminator.
+    names: Vec<(Name, Option<Port>)>,
+    // By kind and addresses: the discriminators of the rows that have addresses.
+    addresses: Vec<(RowKind, u32)>,
+    // How many rows are sessions.
+    sessions: usize,
+}
+
+impl Model for Demux {
+    ghost use Rattle.std.specs.Prelude.{List};
+    ghost use Rattle.bfd_demux.specs.declared.row.Row.{Row};
+    ghost use Rattle.bfd_demux.specs.Index.{IsIndex};
+
+    ghost Value = { List Row };
+
+    ghost view = { λ demux. demux.rows.items };
+
+    ghost invariant = { λ demux. IsIndex demux.rows.items demux.names.items demux.addresses.items demux.sessions };
+}
+
+impl Demux {
+    /// The table of these rows, or what is wrong with them, in this order: more than 65,536 rows (TooMany),
+    /// the first row with the discriminator 0 (ZeroDiscr), the least row with the discriminator of an
+    /// earlier one (SameDiscr; RFC 5880 section 6.8.1), the least row of the kind and addresses of an
+    /// earlier one (SameAddresses). These two name the least earlier row first. Memory comes where no
+    /// memory is left, whatever the rows.
+    pub fn build(alloc: Global, rows: &[Row]) -> Result<Demux, BuildFault>
+        ensures { MatchResult result (λ demux. (demux ≡ rows.now) × (build_fault rows.now ≡ None)) (λ fault. (fault ≡ BuildFault.Memory) ⊎ (build_fault rows.now ≡ Some fault)) }
+    {
+        match fault_of(alloc, rows) {
+            Ok(None) => Demux::index(alloc, rows).map_err(|_| BuildFault::Memory),
+            Ok(Some(fault)) => Err(fault),
+            Err(_) => Err(BuildFault::Memory),
+        }
+    }
+
+    // The table of rows that have no fault.
+    fn index(alloc: Global, rows: &[Row]) -> Result<Demux, AllocError>
+        requires { build_fault rows.now ≡ None }
+        ensures { IfOk result (λ demux. demux ≡ rows.now) }
+    {
+        let mut names = names_of(alloc, rows)?;
+        sort_by_key(&mut names);
+        let mut addresses = addresses_of(alloc, rows)?;
+        sort_by_key(&mut addresses);
+        let sessions = count_sessions(rows);
+        let rows = Vec::from_slice(alloc, rows)?;
+        Ok(Demux {
+            rows,
+            names,
+            addresses,
+            sessions,
+        })
+    }
+}
+
+impl Demux {
+    // The index of the row of the port's kind that has this discriminator.
+    fn by_discr<L: Ledger>(&self, port: Port, discr: u32, steps: &mut Steps<L>) -> Option<u32>
+        ensures known { is_some result ≡ knows self.now port discr }
+        ensures found { result ≡ option_map (λ row. index_on port self.now row.discr) (the_one (has_discr port discr) self.now) }
+        ensures cost { steps.new ≤ steps.old + 17 }
+    {
+        let place = place_of(self.names.as_slice(), &name_on(port, discr), steps)?;
+        if !is_heard(port, self.names[place].1) {
+            return None;
+        }
+        Some((place - names_before(port, self.sessions)) as u32)
+    }
+
+    // The index of the session of this kind with these addresses.
+    fn by_addresses<L: Ledger>(&self, kind: RowKind, steps: &mut Steps<L>) -> Option<u32>
+        requires { has_addresses kind ≡ true }
+        ensures known { is_some result ≡ list_any (λ row. same_selector kind row.kind) self.now }
+        ensures found { result ≡ option_map (λ row. session_index self.now row.discr) (the_one (λ row. same_selector kind row.kind) self.now) }
+        ensures cost { steps.new ≤ steps.old + 34 }
+    {
+        let place = place_of(self.addresses.as_slice(), &kind, steps)?;
+        let discr = self.addresses[place].1;
+        let index = place_of(self.names.as_slice(), &Name::Session(discr), steps)?;
+        Some(index as u32)
+    }
+}
+
+impl Demux {
+    /// What the arrival is for, or the first test of its port that it fails (RFC 5880 section 6.8.6). On
+    /// every port but echo the payload has to pass the tests on the header, as `header_test` makes them.
+    /// Then: on echo EchoForm and YourUnknown; on sbfd YourUnknown; on single with M set MultipointYour and
+    /// NoTail (RFC 8562); and else YourUnknown, YourZeroState and NoSession. It takes no memory. A lookup
+    /// takes at most 17 steps, each the look at one entry of a sorted table, and a selection has at most two.
+    #[tactic(none)]
+    pub fn select<L: Ledger>(&self, arrival: &Arrival, steps: &mut Steps<L>) -> Result<Target, Test>
+        requires { first_header_failing arrival.now ≡ None }
+        ensures tests { result_err result ≡ first_table_failing self.now arrival.now }
+        ensures target { IfOk result (λ target. Some target ≡ target_of self.now arrival.now) }
+        ensures cost { steps.new ≤ steps.old + 34 }
+    {
+        match arrival.port {
+            Port::Echo => self.select_echo(arrival.payload.as_slice(), steps),
+            port => {
+                let packet = read(port, arrival.payload.as_slice())?;
+                self.select_packet(arrival, &packet, steps)
+            }
+        }
+    }
+
+    // What an echo packet is for.
+    fn select_echo<L: Ledger>(&self, payload: &[u8], steps: &mut Steps<L>) -> Result<Target, Test>
+        ensures tests { result_err result ≡ first_echo_failing self.now payload.now }
+        ensures target { IfOk result (λ target. Some target ≡ option_map (echo_target self.now payload.now) (the_one (has_discr Port.Echo (word_at 4 payload.now)) self.now)) }
+        ensures cost { steps.new ≤ steps.old + 17 }
+    {
+        let Some((discr, sequence)) = echo_words(payload) else {
+            return Err(Test::EchoForm);
+        };
+        match self.by_discr(Port::Echo, discr, steps) {
+            Some(index) => Ok(Target::Echo(index, sequence)),
+            None => Err(Test::YourUnknown),
+        }
+    }
+
+    // What a packet is for whose header passes the tests.
+    #[tactic(none)]
+    fn select_packet<L: Ledger>(
+        &self,
+        arrival: &Arrival,
+        packet: &Control,
+        steps: &mut Steps<L>,
+    ) -> Result<Target, Test>
+        requires port { arrival.now.port ≢ Port.Echo }
+        requires packet { packet.now ≡ fields_of arrival.now.payload }
+        ensures tests { result_err result ≡ first_past_header arrival.now.port self.now arrival.now }
+        ensures target { IfOk result (λ target. Some target ≡ target_named arrival.now.port self.now arrival.now) }
+        ensures cost { steps.new ≤ steps.old + 34 }
+    {
+        match arrival.port {
+            Port::Sbfd => self.select_reflector(packet.your, steps),
+            port => {
+                if is_multipoint(port, packet) {
+                    return self.select_tail(arrival, packet, steps);
+                }
+                self.select_session(port, packet, selector_of(arrival), steps)
+            }
+        }
+    }
+
+    // What a packet on port sbfd is for.
+    fn select_reflector<L: Ledger>(&self, your: u32, steps: &mut Steps<L>) -> Result<Target, Test>
+        ensures tests { result_err result ≡ (if (your == 0) || not (knows self.now Port.Sbfd your) then Some Test.YourUnknown else None) }
+        ensures target { IfOk result (λ target. (your ≢ 0) × (Some target ≡ option_map (λ row. Target.Reflector (reflector_index self.now row.discr)) (the_one (has_discr Port.Sbfd your) self.now))) }
+        ensures cost { steps.new ≤ steps.old + 17 }
+    {
+        if your == 0 {
+            return Err(Test::YourUnknown);
+        }
+        match self.by_discr(Port::Sbfd, your, steps) {
+            Some(index) => Ok(Target::Reflector(index)),
+            None => Err(Test::YourUnknown),
+        }
+    }
+
+    // What a multipoint packet is for.
+    fn select_tail<L: Ledger>(
+        &self,
+        arrival: &Arrival,
+        packet: &Control,
+        steps: &mut Steps<L>,
+    ) -> Result<Target, Test>
+        requires { packet.now ≡ fields_of arrival.now.payload }
+        ensures tests { result_err result ≡ (if packet.now.your == 0 then if list_any (has_selector (tail_selector arrival.now)) self.now then None else Some Test.NoTail else Some Test.MultipointYour) }
+        ensures target { IfOk result (λ target. Some target ≡ option_map (λ row. Target.Session (session_index self.now row.discr)) (the_one (has_selector (tail_selector arrival.now)) self.now)) }
+        ensures cost { steps.new ≤ steps.old + 34 }
+    {
+        if packet.your != 0 {
+            return Err(Test::MultipointYour);
+        }
+        let kind = RowKind::Tail {
+            head: packet.my,
+            iface: arrival.iface,
+            group: arrival.dst,
+            source: arrival.src,
+        };
+        match self.by_addresses(kind, steps) {
+            Some(index) => Ok(Target::Session(index)),
+            None => Err(Test::NoTail),
+        }
+    }
+
+    // What any other packet is for, where a packet without Your Discriminator names a session by `selector`.
+    fn select_session<L: Ledger>(
+        &self,
+        port: Port,
+        packet: &Control,
+        selector: Option<RowKind>,
+        steps: &mut Steps<L>,
+    ) -> Result<Target, Test>
+        requires port { port ≢ Port.Sbfd }
+        requires selector { IfSome selector (λ kind. has_addresses kind ≡ true) }
+        ensures tests { result_err result ≡ first_session_failing port packet.now selector self.now }
+        ensures target { IfOk result (λ target. Some target ≡ option_map (λ row. Target.Session (session_index self.now row.discr)) (the_one (names_session port packet.now selector) self.now)) }
+        ensures cost { steps.new ≤ steps.old + 34 }
+    {
+        if packet.your != 0 {
+            return match self.by_discr(port, packet.your, steps) {
+                Some(index) => Ok(Target::Session(index)),
+                None => Err(Test::YourUnknown),
+            };
+        }
+        if is_init_or_up(packet.state) {
+            return Err(Test::YourZeroState);
+        }
+        let Some(kind) = selector else {
+            return Err(Test::NoSession);
+        };
+        match self.by_addresses(kind, steps) {
+            Some(index) => Ok(Target::Session(index)),
+            None => Err(Test::NoSession),
+        }
+    }
+}
+
+// The second and third word of a payload in the form of this engine's echo packets.
+fn echo_words(payload: &[u8]) -> Option<(u32, u32)>
+    ensures { result ≡ (if is_echo_form payload.now then Some (word_at 4 payload.now, word_at 8 payload.now) else None) }
+{
+    if payload.len() == 16
+        && BigEndian::read_u32(payload) == ECHO_SIGN
+        && BigEndian::read_u32(&payload[12..]) == 0
+    {
+        let discr = BigEndian::read_u32(&payload[4..]);
+        let sequence = BigEndian::read_u32(&payload[8..]);
+        return Some((discr, sequence));
+    }
+    None
+}
+
+// Whether the state says that the sender has heard this system.
+fn is_init_or_up(state: State) -> bool
+    ensures { result ≡ is_init_or_up state }
+{
+    matches!(state, State::Init | State::Up)
+}
+
+// Whether M is set on the port that takes multipoint packets.
+fn is_multipoint(port: Port, packet: &Control) -> bool
+    ensures { result ≡ (takes_multipoint_of port && packet.now.multi) }
+{
+    matches!(port, Port::Single) && packet.multi
+}
+
+// The kind and addresses by which a packet without Your Discriminator names a row on its port.
+fn selector_of(arrival: &Arrival) -> Option<RowKind>
+    ensures { result ≡ selector_on arrival.now.port arrival.now }
+{
+    match arrival.port {
+        Port::Single => Some(RowKind::Single {
+            iface: arrival.iface,
+            local: arrival.dst,
+            remote: arrival.src,
+        }),
+        Port::Multi => Some(RowKind::Multi {
+            local: arrival.dst,
+            remote: arrival.src,
+        }),
+        _ => None,
+    }
+}
+
+// The name of each row and its port.
+fn names_of(alloc: Global, rows: &[Row]) -> Result<Vec<(Name, Option<Port>)>, AllocError>
+    ensures { IfOk result (λ names. names.items ≡ names_of rows.now) }
+{
+    rows.iter()
+        .map(|row| (row_name(row), heard_on(row)))
+        .collect(alloc)
+}
+
+// The kind, addresses and discriminator of each row that has addresses.
+fn addresses_of(alloc: Global, rows: &[Row]) -> Result<Vec<(RowKind, u32)>, AllocError>
+    ensures { IfOk result (λ addresses. addresses.items ≡ addresses_of rows.now) }
+{
+    rows.iter()
+        .filter(|row| row.kind.has_addresses())
+        .map(|row| (row.kind, row.discr))
+        .collect(alloc)
+}
+
+// How many rows are sessions.
+fn count_sessions(rows: &[Row]) -> usize
+    ensures { result ≡ how_many (λ row. is_session row.kind) rows.now }
+{
+    rows.iter().filter(|row| is_session(row)).count()
+}
+
+// Whether the row is a session, and no reflector.
+fn is_session(row: &Row) -> bool
+    ensures { result ≡ is_session row.now.kind }
+{
+    !matches!(row.kind, RowKind::Reflect)
+}
+
+// The first row whose discriminator is 0.
+fn zero_discr(rows: &[Row]) -> Option<usize>
+    ensures { result ≡ position (λ row. row.discr == 0) rows.now }
+{
+    rows.iter().position(|row| row.discr == 0)
+}
+
+// The first fault of rows.
+fn fault_of(alloc: Global, rows: &[Row]) -> Result<Option<BuildFault>, AllocError>
+    ensures { IfOk result (λ fault. fault ≡ build_fault rows.now) }
+{
+    if rows.len() > MOST_ROWS {
+        return Ok(Some(BuildFault::TooMany(rows.len())));
+    }
+    if let Some(place) = zero_discr(rows) {
+        return Ok(Some(BuildFault::ZeroDiscr(place)));
+    }
+    if let Some((earlier, place)) = repeated_discr(alloc, rows)? {
+        return Ok(Some(BuildFault::SameDiscr(earlier, place)));
+    }
+    let pair = repeated_addresses(alloc, rows)?;
+    Ok(pair.map(|(earlier, place)| BuildFault::SameAddresses(earlier, place)))
+}

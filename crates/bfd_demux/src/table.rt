@@ -1,0 +1,47 @@
+//! Sorted tables: entries by key in ascending order, and the search that counts each entry that it looks at.
+
+ghost use Rattle.std.specs.Prelude.{◌≡◌, ◌+◌, ◌<◌, ◌≤◌, length, false, IfSome, IfNone};
+ghost use Rattle.std.specs.List.{list_any};
+ghost use Rattle.std.specs.List.Sorted.{IsPermutation};
+ghost use Rattle.std.specs.Ordering.{is_eq};
+ghost use Rattle.bfd_demux.specs.Table.{HasKeysOnce, IsAscending, IsPlaceOf};
+
+use bfd_num::Steps;
+use std::cmp::Ordering;
+use std::sync::ledger::Ledger;
+
+/// Puts entries into the ascending order of their keys.
+pub fn sort_by_key<K: Ord + Copy, V>(entries: &mut Vec<(K, V)>)
+    requires { HasKeysOnce K.cmp entries.old.items }
+    ensures permutation { IsPermutation entries.old.items entries.new.items }
+    ensures ascending { IsAscending K.cmp entries.new.items }
+{
+    entries.sort_unstable_by_key(|entry| entry.0);
+}
+
+/// The place of the entry with this key, which is also the number of entries with a lower key, or None where
+/// no entry has it. Each entry that it looks at is one step.
+pub fn place_of<K: Ord, V, L: Ledger>(
+    entries: &[(K, V)],
+    key: &K,
+    steps: &mut Steps<L>,
+) -> Option<usize>
+    requires ascending { IsAscending K.cmp entries.now }
+    requires few { length entries.now ≤ 65536 }
+    ensures found { IfSome result (IsPlaceOf K.cmp entries.now key.now) }
+    ensures none { IfNone result (list_any (λ entry. is_eq (K.cmp entry.0 key.now)) entries.now ≡ false) }
+    ensures cost { steps.new ≤ steps.old + 17 }
+{
+    let mut low = 0;
+    let mut high = entries.len();
+    while low < high {
+        let middle = low + (high - low) / 2;
+        steps.tick();
+        match entries[middle].0.cmp(key) {
+            Ordering::Less => low = middle + 1,
+            Ordering::Equal => return Some(middle),
+            Ordering::Greater => high = middle,
+        }
+    }
+    None
+}
