@@ -1,5 +1,5 @@
 //! The reception of a control packet after settling (RFC 5880 section 6.8.6).
-ghost use Rattle.std.specs.Prelude.{◌≡◌, ◌≢◌, ◌<◌, ◌≤◌, ◌+◌, None, IsSome, List, length, find};
+ghost use Rattle.std.specs.Prelude.{◌≡◌, ◌≢◌, ◌<◌, ◌≤◌, ◌+◌, ◌^◌, None, IsSome, List, length, find};
 ghost use Rattle.bfd_num.specs.Numbers.{moment_bound};
 ghost use Rattle.bfd_packet.specs.declared.control.Control.{Control as ControlOf};
 ghost use Rattle.bfd_packet.specs.Layout.{fields_of};
@@ -109,6 +109,14 @@ fn keeps_sequence(config: &Config, eff: u64, seq: SeqState, vars: &mut Vars)
     renews(config, eff, after, vars);
 }
 
+/// The peer's Required Min RX Interval, which has 32 bits.
+fn min_rx_of(packet: &Control) -> u32
+    ensures value { result ≡ packet.now.min_rx }
+    ensures below { result < 2 ^ 32 }
+{
+    packet.min_rx
+}
+
 /// The peer's fields are kept (section 6.8.6).
 #[tactic(auto, unfolding(crate::specs::Receive::keeps_fields))]
 fn keeps_fields(config: &Config, eff: u64, packet: &Control, vars: &mut Vars)
@@ -120,11 +128,12 @@ fn keeps_fields(config: &Config, eff: u64, packet: &Control, vars: &mut Vars)
     ensures heard { IsSome vars.new.heard }
     ensures course { (m : MarkOf) (os : List Out) → course vars.new m os ≡ receive.keeps_fields eff packet.now (course vars.old m os) }
 {
+    let min_rx = min_rx_of(packet);
     let after = Vars {
         remote_discr: packet.my,
         remote_state: packet.state,
         remote_demand: packet.demand,
-        remote_min_rx: packet.min_rx,
+        remote_min_rx: min_rx,
         remote_min_echo: packet.min_echo,
         remote_mult: packet.mult,
         remote_tx: packet.min_tx,

@@ -1,6 +1,6 @@
 -- The variables of a point-to-point session that can come up, in three stages (RFC 5880 section 6.8.1): what the
 -- raw variables of a rule meet, what holds after each rule, and what holds between events.
-use Rattle.std.specs.Prelude.{◌≡◌, ◌≤◌, ◌<◌, ◌↔◌, ℕ, ◌==◌, nat_le, Bool, true, ◌&&◌, ◌||◌, Option, None, Some, IsTrue, IsSome, IfSome, length}
+use Rattle.std.specs.Prelude.{◌≡◌, ◌≤◌, ◌<◌, ◌↔◌, ℕ, ◌==◌, nat_le, Bool, true, ◌&&◌, ◌||◌, Option, None, Some, IsTrue, IsSome, IfSome, length, ◌^◌}
 use Rattle.bfd_packet.specs.declared.control.State.TheVariants.{Up}
 use Rattle.bfd_packet.specs.KeyChain.{KeyChain}
 use Rattle.bfd_num.specs.Numbers.{moment_bound}
@@ -36,7 +36,8 @@ pub record IsConfig (c : Config) : Type 0 where
   pub some_mult : 0 < c.mult
   pub echo_range : IsTrue (is_echo_interval c.role c.echo)
 
--- what the raw variables of a rule meet: configured values in their ranges, moments below 2^60, and in Up a packet
+-- what the raw variables of a rule meet: configured values in their ranges, moments below 2^60, 32 bits
+-- of the peer's interval, and in Up a packet
 -- was heard
 pub record IsPlain (c : Config) (v : Vars) : Type 0 where
   pub tx_least : 10000 ≤ v.tx
@@ -47,6 +48,7 @@ pub record IsPlain (c : Config) (v : Vars) : Type 0 where
   pub echo_range : IsTrue (is_echo_interval c.role v.echo_every)
   pub diag_below : v.diag < 32
   pub used_least : 10000 ≤ v.used_tx
+  pub peer_rx_below : v.remote_min_rx < 2 ^ 32
   pub heard_below : IfSome v.heard (λ m. m < moment_bound)
   pub seq_below : IfSome v.seq_heard (λ m. m < moment_bound)
   pub poll_below : IfSome (poll_started v.poll) (λ m. m < moment_bound)

@@ -1,3 +1,4 @@
 pub mod Front
 pub mod DueTick
 pub mod Rest
+pub mod Soundness

@@ -16,7 +16,7 @@ mod pair;
 mod session;
 
 pub use event::{Answer, Event, SessionConfig, Shown};
-pub use law::undue_ticks_rest;
+pub use law::tick_laws;
 pub use session::Session;
 
 #[cfg(test)]

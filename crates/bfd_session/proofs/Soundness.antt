@@ -1,0 +1,258 @@
+-- A tick keeps variables sound.
+use Rattle.std.proofs.Common.{◌≡◌, ◌^◌, ◌-◌, ◌<◌, ◌≤◌, ◌+◌, ◌*◌, ◌/◌, ◌%◌, ◌&&◌, ◌||◌, ◌==◌, not, ℕ, min, max, Bool, true, false, refl, sym, ap, ◌∙◌, subst, Option, None, Some, is_some, is_none, IsSome, IfSome, IsTrue, ◌↔◌, option_map, List, [], arith, rules, if◌then◌else◌}
+use Rattle.std.proofs.lemmas.Grind.{common_steps}
+use Rattle.std.proofs.lemmas.Bool.{or_parts}
+use Rattle.bfd_packet.specs.declared.keys.SeqState.{SeqState}
+use Rattle.bfd_num.specs.Numbers.{moment_bound, floor_tick, ceil_tick, next_j}
+use Rattle.bfd_num.specs.Due.{has_come}
+use Rattle.bfd_rules.specs.declared.config.Config.{Config}
+use Rattle.bfd_rules.specs.declared.outputs.Out.{Out}
+use Rattle.bfd_rules.specs.declared.variables.Poll.{Poll}
+use Rattle.bfd_rules.specs.declared.variables.Poll.TheVariants.{Idle, Wanted, Running}
+use Rattle.bfd_rules.specs.declared.variables.Mark.{Mark}
+use Rattle.bfd_rules.specs.declared.variables.Vars.{Vars}
+use Rattle.bfd_rules.specs.Quantities.{adv_tx, deadline, seq_deadline, demand_here, may_send, tx_interval, is_idle}
+use Rattle.bfd_rules.specs.Jitter.{pick}
+use Rattle.bfd_rules.specs.Renewal.{poll_again, poll_renewed, used_renewed, demand_renewed, renewed}
+use Rattle.bfd_rules.specs.Course.{Course, course, begins, changes, sends, is_news, draws, one_changed, drawn}
+use Rattle.bfd_rules.specs.Sound.{IsPlain, IsRenewed, HasPeerMult, IsSteady, IsSound}
+use Rattle.bfd_p2p.specs.Frame.{renews, moves}
+use Rattle.bfd_p2p.specs.Transmit.{transmits}
+use Rattle.bfd_p2p.specs.Settle as settling
+use Rattle.bfd_p2p.specs.Finish as finishing
+use Rattle.bfd_session.specs.declared.event.SessionConfig.{SessionConfig}
+use Rattle.bfd_session.specs.declared.event.SessionConfig.TheVariants.{Pair}
+use Rattle.bfd_session.specs.Step as session
+use Rattle.bfd_session.specs.Step.{tick, tick_next, begun}
+
+-- Renewal
+
+wanted_plain : (c : Config) (v : Vars) → IsPlain c v → IsPlain c (record v { poll = Wanted })
+wanted_plain c v h = search rules
+
+poll_plain : (c : Config) (before v : Vars) → IsPlain c v → IsPlain c (poll_renewed before v)
+unfolding poll_renewed
+poll_plain c before v h = grind (arith, common_steps, wanted_plain)
+
+poll_peer : (before v : Vars) → HasPeerMult v → HasPeerMult (poll_renewed before v)
+unfolding poll_renewed
+poll_peer before v h = grind (arith, common_steps)
+
+used_plain : (c : Config) (v : Vars) → IsPlain c v → IsPlain c (used_renewed v)
+unfolding used_renewed
+used_plain c v h = grind (arith, common_steps)
+
+used_peer : (v : Vars) → HasPeerMult v → HasPeerMult (used_renewed v)
+unfolding used_renewed
+used_peer v h = grind (arith, common_steps)
+
+used_renews : (v : Vars) → IsRenewed (used_renewed v)
+unfolding used_renewed
+used_renews v = grind (arith, common_steps)
+
+heard_plain : (c : Config) (eff : ℕ) (v : Vars) → eff < moment_bound → IsPlain c v → IsPlain c (record v { heard = option_map (λ _. eff) v.heard })
+heard_plain c eff v h plain = grind (arith, common_steps)
+
+again_plain : (c : Config) (v : Vars) → IsPlain c v → IsPlain c (record v { poll = poll_again v.poll })
+again_plain c v plain = grind (arith, common_steps)
+
+plain_by : (c : Config) (eff : ℕ) (v : Vars) (a b : Bool) → eff < moment_bound → IsPlain c v
+  → IsPlain c (if a then (if b then v else record v { heard = option_map (λ _. eff) v.heard }) else (if b then record v { poll = poll_again v.poll } else v))
+plain_by c eff v true true h plain = plain
+plain_by c eff v true false h plain = heard_plain c eff v h plain
+plain_by c eff v false true h plain = again_plain c v plain
+plain_by c eff v false false h plain = plain
+
+demand_plain : (c : Config) (eff : ℕ) (before v : Vars) → eff < moment_bound → IsPlain c v → IsPlain c (demand_renewed eff before v)
+unfolding demand_renewed
+demand_plain c eff before v h plain = plain_by c eff v (demand_here before) (demand_here v) h plain
+
+demand_peer : (eff : ℕ) (before v : Vars) → HasPeerMult v → HasPeerMult (demand_renewed eff before v)
+unfolding demand_renewed
+demand_peer eff before v h = grind (arith, common_steps)
+
+again_idle : (poll : Poll) → is_idle (poll_again poll) ≡ is_idle poll
+again_idle Idle = refl
+again_idle Wanted = refl
+again_idle (Running first) = refl
+
+again_renews : (v : Vars) → IsRenewed v → IsRenewed (record v { poll = poll_again v.poll })
+again_renews v h = record {
+  settled_tx = rw (again_idle v.poll) h.settled_tx;
+  tx_at_most = h.tx_at_most;
+  settled_rx = rw (again_idle v.poll) h.settled_rx;
+  rx_at_least = h.rx_at_least;
+}
+
+heard_renews : (eff : ℕ) (v : Vars) → IsRenewed v → IsRenewed (record v { heard = option_map (λ _. eff) v.heard })
+heard_renews eff v h = record { settled_tx = h.settled_tx; tx_at_most = h.tx_at_most; settled_rx = h.settled_rx; rx_at_least = h.rx_at_least }
+
+renews_by : (eff : ℕ) (v : Vars) (a b : Bool) → IsRenewed v
+  → IsRenewed (if a then (if b then v else record v { heard = option_map (λ _. eff) v.heard }) else (if b then record v { poll = poll_again v.poll } else v))
+renews_by eff v true true h = h
+renews_by eff v true false h = heard_renews eff v h
+renews_by eff v false true h = again_renews v h
+renews_by eff v false false h = h
+
+demand_renews : (eff : ℕ) (before v : Vars) → IsRenewed v → IsRenewed (demand_renewed eff before v)
+unfolding demand_renewed
+demand_renews eff before v h = renews_by eff v (demand_here before) (demand_here v) h
+
+renewed_steady : (c : Config) (eff : ℕ) (before v : Vars) → eff < moment_bound → IsPlain c v → HasPeerMult v → IsSteady c (renewed eff before v)
+unfolding renewed
+renewed_steady c eff before v h plain peer = record {
+  plain = demand_plain c eff before (used_renewed (poll_renewed before v)) h (used_plain c (poll_renewed before v) (poll_plain c before v plain));
+  renewed = demand_renews eff before (used_renewed (poll_renewed before v)) (used_renews (poll_renewed before v));
+  peer = demand_peer eff before (used_renewed (poll_renewed before v)) (used_peer (poll_renewed before v) (poll_peer before v peer));
+}
+
+-- settling
+
+renews_steady : (c : Config) (eff : ℕ) (v : Vars) (s : Course) → eff < moment_bound → IsPlain c v → HasPeerMult v → IsSteady c (renews eff v s).vars
+unfolding renews
+renews_steady c eff v s h plain peer = renewed_steady c eff s.vars v h plain peer
+
+moves_steady : (c : Config) (eff : ℕ) (v : Vars) (s : Course) → eff < moment_bound → IsPlain c v → HasPeerMult v → IsSteady c (moves c.discr eff v s).vars
+unfolding moves changes
+moves_steady c eff v s h plain peer = renewed_steady c eff s.vars v h plain peer
+
+choice_steady : (c : Config) (b : Bool) (x y : Course) → IsSteady c x.vars → IsSteady c y.vars → IsSteady c (if b then x else y).vars
+choice_steady c true x y hx hy = hx
+choice_steady c false x y hx hy = hy
+
+silent_plain : (c : Config) (v : Vars) → IsPlain c v → IsPlain c (settling.goes_silent (settling.forgets_peer v))
+silent_plain c v h = grind (arith, common_steps)
+
+silent_peer : (v : Vars) → HasPeerMult v → HasPeerMult (settling.goes_silent (settling.forgets_peer v))
+silent_peer v h = grind (arith, common_steps)
+
+detection_steady : (c : Config) (limit eff : ℕ) (s : Course) → eff < moment_bound → IsSteady c s.vars → IsSteady c (settling.detection c limit eff s).vars
+unfolding settling.detection
+detection_steady c limit eff s h steady =
+    choice_steady c (has_come limit (deadline s.vars)) (moves c.discr eff (settling.goes_silent (settling.forgets_peer s.vars)) s) s
+      (moves_steady c eff (settling.goes_silent (settling.forgets_peer s.vars)) s h (silent_plain c s.vars steady.plain) (silent_peer s.vars steady.peer)) steady
+
+forgotten_plain : (c : Config) (v : Vars) → IsPlain c v → IsPlain c (settling.forgets_sequence v)
+forgotten_plain c v h = grind (arith, common_steps)
+
+forgotten_peer : (v : Vars) → HasPeerMult v → HasPeerMult (settling.forgets_sequence v)
+forgotten_peer v h = grind (arith, common_steps)
+
+sequence_steady : (c : Config) (limit eff : ℕ) (s : Course) → eff < moment_bound → IsSteady c s.vars → IsSteady c (settling.sequence limit eff s).vars
+unfolding settling.sequence
+sequence_steady c limit eff s h steady =
+    choice_steady c (has_come limit (seq_deadline s.vars)) (renews eff (settling.forgets_sequence s.vars) s) s
+      (renews_steady c eff (settling.forgets_sequence s.vars) s h (forgotten_plain c s.vars steady.plain) (forgotten_peer s.vars steady.peer)) steady
+
+-- what a packet makes of the variables besides the sequence state
+
+told_plain : (c : Config) (eff : ℕ) (seq : SeqState) (v : Vars) → eff < moment_bound → IsPlain c v
+  → IsPlain c (record v { seq = seq; poll = settling.poll_sent eff v.poll; base = eff })
+told_plain c eff seq v h plain = grind (arith, common_steps)
+
+told_peer : (eff : ℕ) (seq : SeqState) (v : Vars) → HasPeerMult v
+  → HasPeerMult (record v { seq = seq; poll = settling.poll_sent eff v.poll; base = eff })
+told_peer eff seq v h = grind (arith, common_steps)
+
+periodic_packet_steady : (c : Config) (eff : ℕ) (s : Course) → eff < moment_bound → IsSteady c s.vars → IsSteady c (settling.periodic_packet c eff s).vars
+unfolding settling.periodic_packet renews transmits sends
+periodic_packet_steady c eff s h steady =
+    renewed_steady c eff s.vars _ h (told_plain c eff _ s.vars h steady.plain) (told_peer eff _ s.vars steady.peer)
+
+periodic_steady : (c : Config) (limit eff : ℕ) (s : Course) → eff < moment_bound → IsSteady c s.vars → IsSteady c (settling.periodic c limit eff s).vars
+unfolding settling.periodic
+periodic_steady c limit eff s h steady =
+    choice_steady c (has_come (floor_tick limit) s.vars.tx_due && may_send c.active s.vars) (settling.periodic_packet c eff s) s
+      (periodic_packet_steady c eff s h steady) steady
+
+settle_steady : (c : Config) (limit eff : ℕ) (s : Course) → eff < moment_bound → IsSteady c s.vars → IsSteady c (settling.settle c limit eff s).vars
+unfolding settling.settle
+settle_steady c limit eff s h steady =
+    periodic_steady c limit eff (settling.sequence limit eff (settling.detection c limit eff s)) h
+      (sequence_steady c limit eff (settling.detection c limit eff s) h (detection_steady c limit eff s h steady))
+
+-- the end of an event
+
+based_steady : (c : Config) (eff : ℕ) (seq : SeqState) (v : Vars) → eff < moment_bound → IsSteady c v → IsSteady c (record v { seq = seq; base = eff })
+based_steady c eff seq v h steady = grind (arith, common_steps)
+
+extra_steady : (c : Config) (eff : ℕ) (s : Course) → eff < moment_bound → IsSteady c s.vars → IsSteady c (finishing.extra c eff s).vars
+unfolding finishing.extra finishing.extra_packet transmits sends
+extra_steady c eff s h steady =
+    choice_steady c (is_news s.mark s.vars && not s.mark.answered && may_send c.active s.vars) (finishing.extra_packet c eff s) s
+      (based_steady c eff _ s.vars h steady) steady
+
+share_most : (one : Bool) (interval : ℕ) → (if one then 9 * interval / 10 else interval) ≤ interval
+share_most true interval = omega arith
+share_most false interval = omega arith
+
+-- a tick between these two lies below the bound of moments
+between_below : (base interval share j : ℕ) → base < 2 ^ 60 → interval < 2 ^ 32 → share ≤ interval
+  → let e : ℕ = (base + (3 * interval + 3) / 4 + 999) / 1000 in e + j % ((base + share) / 1000 - e + 1) < 2 ^ 60
+between_below base interval share j h few least =
+    let e : ℕ = (base + (3 * interval + 3) / 4 + 999) / 1000 in
+    let below : j % ((base + share) / 1000 - e + 1) < (base + share) / 1000 - e + 1 = omega arith in
+    omega arith
+
+picked_below : (v : Vars) → tx_interval v < 2 ^ 32 → v.base < moment_bound → pick v.base (tx_interval v) v.mult v.j < moment_bound
+unfolding pick ceil_tick floor_tick
+picked_below v few base =
+    between_below v.base (tx_interval v) (if v.mult == 1 then 9 * tx_interval v / 10 else tx_interval v) v.j base few
+      (share_most (v.mult == 1) (tx_interval v))
+
+interval_few : (c : Config) (v : Vars) → IsSteady c v → tx_interval v < 2 ^ 32
+interval_few c v steady = grind (arith, common_steps)
+
+due_plain : (c : Config) (v : Vars) (due : Option ℕ) (j : ℕ) → IfSome due (λ t. t < moment_bound) → IsPlain c v → IsPlain c (record v { tx_due = due; j = j })
+due_plain c v due j h plain = grind (arith, common_steps)
+
+due_steady : (c : Config) (v : Vars) (due : Option ℕ) (j : ℕ) → IfSome due (λ t. t < moment_bound) → IsSteady c v → IsSteady c (record v { tx_due = due; j = j })
+due_steady c v due j h steady = record {
+  plain = due_plain c v due j h steady.plain;
+  renewed = record { settled_tx = steady.renewed.settled_tx; tx_at_most = steady.renewed.tx_at_most; settled_rx = steady.renewed.settled_rx; rx_at_least = steady.renewed.rx_at_least };
+  peer = record { heard_mult = steady.peer.heard_mult; seq_mult = steady.peer.seq_mult };
+}
+
+is_there : (o : Option ℕ) → is_none o ≡ false → IsSome o
+is_there None h = cc
+is_there (Some x) h = refl
+
+stands_there : (m : Mark) (v : Vars) → draws m v ≡ false → IsSome v.tx_due
+stands_there m v h =
+    let outer = or_parts (m.moved || is_none v.tx_due || not (tx_interval v == m.interval)) (one_changed m v) h in
+    let middle = or_parts (m.moved || is_none v.tx_due) (not (tx_interval v == m.interval)) outer.0 in
+    let inner = or_parts m.moved (is_none v.tx_due) middle.0 in
+    is_there v.tx_due inner.1
+
+drawn_by : (c : Config) (m : Mark) (v : Vars) (may anew : Bool) → may_send c.active v ≡ may → draws m v ≡ anew → IsSteady c v
+  → IsSound c (if may
+      then (if anew then record v { tx_due = Some (pick v.base (tx_interval v) v.mult v.j); j = next_j v.j } else v)
+      else record v { tx_due = None })
+drawn_by c m v true true is anew steady = record {
+  steady = due_steady c v (Some (pick v.base (tx_interval v) v.mult v.j)) (next_j v.j)
+      (picked_below v (interval_few c v steady) steady.plain.base_below) steady;
+  due = (λ _. is, λ _. refl);
+}
+drawn_by c m v true false is anew steady = record { steady = steady; due = (λ _. is, λ _. stands_there m v anew) }
+drawn_by c m v false anew is _ steady = record {
+  steady = due_steady c v None v.j tt steady;
+  due = (λ h. cc, λ h. cc);
+}
+
+drawn_sound : (c : Config) (m : Mark) (v : Vars) → IsSteady c v → IsSound c (drawn c.active m v)
+unfolding drawn
+drawn_sound c m v steady = drawn_by c m v (may_send c.active v) (draws m v) refl refl steady
+
+finish_sound : (c : Config) (eff : ℕ) (s : Course) → eff < moment_bound → IsSteady c s.vars → IsSound c (finishing.finish c eff s).vars
+unfolding finishing.finish finishing.redrawn
+finish_sound c eff s h steady =
+    let t : Course = finishing.extra c eff s in drawn_sound c t.mark t.vars (extra_steady c eff s h steady)
+
+-- the whole tick
+
+pub tick_sound : (c : SessionConfig) (v : Vars) (limit eff : ℕ) → eff < moment_bound → session.IsSound c v
+  → session.IsSound c (tick_next c limit eff v)
+unfolding tick_next tick
+tick_sound (Pair c) v limit eff h sound =
+    finish_sound c eff (settling.settle c limit eff (begun None v [])) h
+      (settle_steady c limit eff (begun None v []) h sound.steady)
