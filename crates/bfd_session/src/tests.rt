@@ -1,5 +1,5 @@
 //! Worked histories of one session: each event, and what must come of it.
-ghost use Rattle.std.specs.Prelude.{◌≡◌, ◌⊎◌};
+ghost use Rattle.std.specs.Prelude.{◌≡◌, ◌<◌, ◌⊎◌};
 
 use crate::{Answer, Event, Session, SessionConfig};
 use bfd_packet::{Addr, Arrival, AuthType, Key, Keys, Payload, Port, Secret};
