@@ -64,6 +64,12 @@ names_on port arrival row =
     else if (fields_of arrival.payload).your == 0 then has_selector (selector_on port arrival) row
     else has_discr port (fields_of arrival.payload).your row
 
+-- the arrival on this port is looked up by addresses: a multipoint packet, and one whose Your Discriminator is 0
+abbrev pub is_by_addresses : Port → Arrival → Bool
+is_by_addresses EchoPort arrival = false
+is_by_addresses SbfdPort arrival = false
+is_by_addresses port arrival = is_multipoint port arrival || ((fields_of arrival.payload).your == 0)
+
 -- the element of a list of one
 abbrev pub only : {X : Type 0} → List X → Option X
 only [] = None

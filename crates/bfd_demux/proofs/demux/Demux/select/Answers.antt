@@ -23,6 +23,9 @@ returns-in-Echo-clause-target g c =
 pub returns-in-Echo-clause-cost : goal.returns-in-Echo-clause-cost
 returns-in-Echo-clause-cost g c = omega (arith, c.select_echo.ensures.cost)
 
+pub returns-in-Echo-clause-one_lookup : goal.returns-in-Echo-clause-one_lookup
+returns-in-Echo-clause-one_lookup g c = λ _. c.select_echo.ensures.cost
+
 pub returns-in_err-packet-in_default : goal.returns-in_err-packet-in_default
 returns-in_err-packet-in_default g c =
     let passed : c.read.result ≡ Ok (fields_of c.args.arrival.now.payload) =
@@ -43,4 +46,5 @@ returns-in_ok-packet-in_default g c = record {
   tests = c.select_packet.ensures.tests ∙ sym (past_header c.args.arrival.now.port c.args.self.now c.args.arrival.now c.requires);
   target = c.select_packet.ensures.target;
   cost = c.select_packet.ensures.cost;
+  one_lookup = c.select_packet.ensures.one_lookup;
 }
