@@ -211,19 +211,19 @@ impl Demux {
         ensures target { IfOk result (λ target. Some target ≡ option_map (λ row. Target.Session (session_index self.now row.discr)) (the_one (has_selector (tail_selector arrival.now)) self.now)) }
         ensures cost { steps.new ≤ steps.old + 34 }
     {
-        if packet.your != 0 {
-            return Err(Test::MultipointYour);
+        if packet.your == 0 {
+            let kind = RowKind::Tail {
+                head: packet.my,
+                iface: arrival.iface,
+                group: arrival.dst,
+                source: arrival.src,
+            };
+            return match self.by_addresses(kind, steps) {
+                Some(index) => Ok(Target::Session(index)),
+                None => Err(Test::NoTail),
+            };
         }
-        let kind = RowKind::Tail {
-            head: packet.my,
-            iface: arrival.iface,
-            group: arrival.dst,
-            source: arrival.src,
-        };
-        match self.by_addresses(kind, steps) {
-            Some(index) => Ok(Target::Session(index)),
-            None => Err(Test::NoTail),
-        }
+        Err(Test::MultipointYour)
     }
 
     // What any other packet is for, where a packet without Your Discriminator names a session by `selector`.
@@ -293,16 +293,14 @@ fn is_multipoint(port: Port, packet: &Control) -> bool
 fn selector_of(arrival: &Arrival) -> Option<RowKind>
     ensures { result ≡ selector_on arrival.now.port arrival.now }
 {
+    let (iface, local, remote) = (arrival.iface, arrival.dst, arrival.src);
     match arrival.port {
         Port::Single => Some(RowKind::Single {
-            iface: arrival.iface,
-            local: arrival.dst,
-            remote: arrival.src,
+            iface,
+            local,
+            remote,
         }),
-        Port::Multi => Some(RowKind::Multi {
-            local: arrival.dst,
-            remote: arrival.src,
-        }),
+        Port::Multi => Some(RowKind::Multi { local, remote }),
         _ => None,
     }
 }
