@@ -3,21 +3,19 @@ use Rattle.std.proofs.Common.{◌≡◌, ◌≢◌, ℕ, Bool, true, false, cond
 use Rattle.std.proofs.lemmas.Bool.Decides.{nat_tests}
 use Rattle.std.proofs.lemmas.List.Elements.{filter_agree}
 use Rattle.std.specs.List.{list_any}
-use Rattle.std.specs.Option.{option_map, option_or}
+use Rattle.std.specs.Option.{option_map}
 use Rattle.bfd_packet.specs.declared.arrival.Arrival.{Arrival}
 use Rattle.bfd_packet.specs.declared.arrival.Port.{Port}
 use Rattle.bfd_packet.specs.declared.arrival.Port.TheVariants.{Single as SinglePort, Multi as MultiPort, Echo as EchoPort, Sbfd as SbfdPort, Answer as AnswerPort}
 use Rattle.bfd_packet.specs.declared.control.Control.{Control}
-use Rattle.bfd_packet.specs.declared.discard.Test.{Test}
-use Rattle.bfd_packet.specs.declared.discard.Test.TheVariants.{YourUnknown, YourZeroState, NoSession, MultipointYour, NoTail, EchoForm}
+use Rattle.bfd_packet.specs.declared.discard.Test.TheVariants.{YourUnknown, NoSession, MultipointYour, NoTail}
 use Rattle.bfd_packet.specs.Layout.{fields_of, word_at}
-use Rattle.bfd_packet.specs.HeaderTests.{header_fails, header_tests, first_failing, read_of, unless}
+use Rattle.bfd_packet.specs.HeaderTests.{header_fails, read_of, unless}
 use Rattle.bfd_demux.specs.declared.row.Row.{Row}
-use Rattle.bfd_demux.specs.declared.row.RowKind.{RowKind}
-use Rattle.bfd_demux.specs.declared.target.Target.{Target}
-use Rattle.bfd_demux.specs.declared.target.Target.TheVariants.{Session, Reflector, Echo}
+use Rattle.bfd_demux.specs.declared.target.Target.TheVariants.{Session, Reflector}
 use Rattle.bfd_demux.specs.Rows.{has_addresses}
-use Rattle.bfd_demux.specs.Selection.{only, the_one, names_on, names_session, has_discr, has_selector, selector_on, tail_selector, is_multipoint, is_by_addresses, knows, is_init_or_up, session_index, reflector_index, target_on, target_named, echo_target, table_fails, session_fails, tests_on_header, tests_on_table, first_header_failing, first_failing_on, first_past_header, first_echo_failing, first_session_failing}
+use Rattle.bfd_demux.specs.Selection.{only, the_one, names_on, has_discr, has_selector, selector_on, tail_selector, is_multipoint, is_by_addresses, knows, is_init_or_up, session_index, reflector_index, table_fails, tests_on_header, tests_on_table, first_failing_on}
+use Rattle.bfd_demux.specs.Parts.{names_session, target_named, echo_target, first_past_header, first_echo_failing, first_session_failing}
 
 -- tests that agree name the same row
 the_one_agree : (test other : Row → Bool) → ((row : Row) → test row ≡ other row) → (rows : List Row) → the_one test rows ≡ the_one other rows

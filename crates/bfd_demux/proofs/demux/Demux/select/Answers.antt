@@ -3,7 +3,8 @@ use Rattle.std.specs.Option.{option_map}
 use Rattle.bfd_packet.specs.declared.arrival.Port.TheVariants.{Echo as EchoPort}
 use Rattle.bfd_packet.specs.Layout.{fields_of, word_at}
 use Rattle.bfd_packet.specs.HeaderTests.{read_of}
-use Rattle.bfd_demux.specs.Selection.{the_one, has_discr, echo_target, first_echo_failing}
+use Rattle.bfd_demux.specs.Selection.{the_one, has_discr}
+use Rattle.bfd_demux.specs.Parts.{echo_target, first_echo_failing}
 use Rattle.bfd_demux.proofs.Selecting.{ok_then, past_header, echo_failing, echo_named, header_passed, same_ok, never_err}
 use Rattle.bfd_demux.proofs.demux.Demux.select.Goals as goal
 

@@ -1,6 +1,7 @@
 use Rattle.std.proofs.Common.{◌≡◌, true, false, ◌&&◌, arith, sym, ap, ◌∙◌}
 use Rattle.bfd_packet.specs.HeaderTests.{takes_multipoint_of}
-use Rattle.bfd_demux.specs.Selection.{is_multipoint, first_session_failing, names_session, session_index, the_one}
+use Rattle.bfd_demux.specs.Selection.{is_multipoint, session_index, the_one}
+use Rattle.bfd_demux.specs.Parts.{first_session_failing, names_session}
 use Rattle.std.specs.Option.{option_map}
 use Rattle.bfd_demux.specs.declared.target.Target.TheVariants.{Session}
 use Rattle.bfd_demux.proofs.Selecting.{ok_then, reflector_failing, reflector_named, tail_failing, tail_named, session_failing, session_named, selector_addressed, tail_by_addresses, session_by_discr}
