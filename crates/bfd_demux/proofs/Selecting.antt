@@ -12,6 +12,7 @@ use Rattle.bfd_packet.specs.declared.discard.Test.TheVariants.{YourUnknown, NoSe
 use Rattle.bfd_packet.specs.Layout.{fields_of, word_at}
 use Rattle.bfd_packet.specs.HeaderTests.{header_fails, read_of, unless}
 use Rattle.bfd_demux.specs.declared.row.Row.{Row}
+use Rattle.bfd_demux.specs.declared.row.RowKind.{RowKind}
 use Rattle.bfd_demux.specs.declared.target.Target.TheVariants.{Session, Reflector}
 use Rattle.bfd_demux.specs.Rows.{has_addresses}
 use Rattle.bfd_demux.specs.Selection.{only, the_one, names_on, has_discr, has_selector, selector_on, tail_selector, is_multipoint, is_by_addresses, knows, is_init_or_up, session_index, reflector_index, table_fails, tests_on_header, tests_on_table, first_failing_on}
@@ -119,8 +120,10 @@ pub selector_none : (rows : List Row) → list_any (has_selector None) rows ≡ 
 selector_none [] = refl
 selector_none (row ∷ rows) = selector_none rows
 
-pub no_session : (port : Port) (packet : Control) (rows : List Row) → packet.your ≡ 0 → is_init_or_up packet.state ≡ false → Some NoSession ≡ first_session_failing port packet None rows
-no_session port packet rows zero down = rw (zero, down, selector_none rows) refl
+-- no Your Discriminator, a state before Init, and no addresses to look for
+pub no_session : (port : Port) (packet : Control) (selector : Option RowKind) (rows : List Row) → packet.your ≡ 0 → is_init_or_up packet.state ≡ false → selector ≡ None →
+    Some NoSession ≡ first_session_failing port packet selector rows
+no_session port packet selector rows zero down nowhere = rw (zero, down, nowhere, selector_none rows) refl
 
 -- the addresses of an arrival are those of a kind that has addresses
 pub selector_addressed : (port : Port) (arrival : Arrival) → IfSome (selector_on port arrival) (λ kind. has_addresses kind ≡ true)
