@@ -3,21 +3,20 @@ use Rattle.std.proofs.Common.{◌≡◌, ◌≢◌, ℕ, Bool, true, false, cond
 use Rattle.std.proofs.lemmas.Bool.Decides.{nat_tests}
 use Rattle.std.proofs.lemmas.List.Elements.{filter_agree}
 use Rattle.std.specs.List.{list_any}
-use Rattle.std.specs.Option.{option_map, option_or}
+use Rattle.std.specs.Option.{option_map}
 use Rattle.bfd_packet.specs.declared.arrival.Arrival.{Arrival}
 use Rattle.bfd_packet.specs.declared.arrival.Port.{Port}
 use Rattle.bfd_packet.specs.declared.arrival.Port.TheVariants.{Single as SinglePort, Multi as MultiPort, Echo as EchoPort, Sbfd as SbfdPort, Answer as AnswerPort}
 use Rattle.bfd_packet.specs.declared.control.Control.{Control}
-use Rattle.bfd_packet.specs.declared.discard.Test.{Test}
-use Rattle.bfd_packet.specs.declared.discard.Test.TheVariants.{YourUnknown, YourZeroState, NoSession, MultipointYour, NoTail, EchoForm}
+use Rattle.bfd_packet.specs.declared.discard.Test.TheVariants.{YourUnknown, NoSession, MultipointYour, NoTail}
 use Rattle.bfd_packet.specs.Layout.{fields_of, word_at}
-use Rattle.bfd_packet.specs.HeaderTests.{header_fails, header_tests, first_failing, read_of, unless}
+use Rattle.bfd_packet.specs.HeaderTests.{header_fails, read_of, unless}
 use Rattle.bfd_demux.specs.declared.row.Row.{Row}
 use Rattle.bfd_demux.specs.declared.row.RowKind.{RowKind}
-use Rattle.bfd_demux.specs.declared.target.Target.{Target}
-use Rattle.bfd_demux.specs.declared.target.Target.TheVariants.{Session, Reflector, Echo}
+use Rattle.bfd_demux.specs.declared.target.Target.TheVariants.{Session, Reflector}
 use Rattle.bfd_demux.specs.Rows.{has_addresses}
-use Rattle.bfd_demux.specs.Selection.{only, the_one, names_on, names_session, has_discr, has_selector, selector_on, tail_selector, is_multipoint, knows, is_init_or_up, session_index, reflector_index, target_on, target_named, echo_target, table_fails, session_fails, tests_on_header, tests_on_table, first_header_failing, first_failing_on, first_past_header, first_echo_failing, first_session_failing}
+use Rattle.bfd_demux.specs.Selection.{only, the_one, names_on, has_discr, has_selector, selector_on, tail_selector, is_multipoint, is_by_addresses, knows, is_init_or_up, session_index, reflector_index, table_fails, tests_on_header, tests_on_table, first_failing_on}
+use Rattle.bfd_demux.specs.Parts.{names_session, target_named, echo_target, first_past_header, first_echo_failing, first_session_failing}
 
 -- tests that agree name the same row
 the_one_agree : (test other : Row → Bool) → ((row : Row) → test row ≡ other row) → (rows : List Row) → the_one test rows ≡ the_one other rows
@@ -121,8 +120,10 @@ pub selector_none : (rows : List Row) → list_any (has_selector None) rows ≡ 
 selector_none [] = refl
 selector_none (row ∷ rows) = selector_none rows
 
-pub no_session : (port : Port) (packet : Control) (rows : List Row) → packet.your ≡ 0 → is_init_or_up packet.state ≡ false → Some NoSession ≡ first_session_failing port packet None rows
-no_session port packet rows zero down = rw (zero, down, selector_none rows) refl
+-- no Your Discriminator, a state before Init, and no addresses to look for
+pub no_session : (port : Port) (packet : Control) (selector : Option RowKind) (rows : List Row) → packet.your ≡ 0 → is_init_or_up packet.state ≡ false → selector ≡ None →
+    Some NoSession ≡ first_session_failing port packet selector rows
+no_session port packet selector rows zero down nowhere = rw (zero, down, nowhere, selector_none rows) refl
 
 -- the addresses of an arrival are those of a kind that has addresses
 pub selector_addressed : (port : Port) (arrival : Arrival) → IfSome (selector_on port arrival) (λ kind. has_addresses kind ≡ true)
@@ -143,3 +144,23 @@ same_ok r a b left right = cc
 
 pub never_err : {T E : Type 0} (r : Result T E) (a : T) (e : E) → r ≡ Ok a → r ≡ Err e → ⊥
 never_err r a e left right = cc
+
+-- a multipoint packet is looked up by addresses
+pub tail_by_addresses : (port : Port) (arrival : Arrival) → is_multipoint port arrival ≡ true → is_by_addresses port arrival ≡ false → ⊥
+tail_by_addresses SinglePort arrival multipoint other = let never : (true || ((fields_of arrival.payload).your == 0)) ≡ false = rw multipoint at other in cc
+tail_by_addresses port arrival multipoint other = cc
+
+either_true : (b : Bool) → (b || true) ≡ false → ⊥
+either_true true e = cc
+either_true false e = cc
+
+by_your : (b : Bool) (your : ℕ) → (b || (your == 0)) ≡ false → your ≢ 0
+by_your b your other zero = either_true b (rw zero at other)
+
+-- any other packet that isn't has a Your Discriminator
+pub session_by_discr : (port : Port) (arrival : Arrival) (packet : Control) → packet ≡ fields_of arrival.payload → port ≢ EchoPort → port ≢ SbfdPort → is_by_addresses port arrival ≡ false → packet.your ≢ 0
+session_by_discr EchoPort arrival packet is no_echo no_sbfd other = absurd (no_echo refl)
+session_by_discr SbfdPort arrival packet is no_echo no_sbfd other = absurd (no_sbfd refl)
+session_by_discr SinglePort arrival packet is no_echo no_sbfd other = rw is (by_your (is_multipoint SinglePort arrival) (fields_of arrival.payload).your other)
+session_by_discr MultiPort arrival packet is no_echo no_sbfd other = rw is (by_your (is_multipoint MultiPort arrival) (fields_of arrival.payload).your other)
+session_by_discr AnswerPort arrival packet is no_echo no_sbfd other = rw is (by_your (is_multipoint AnswerPort arrival) (fields_of arrival.payload).your other)

@@ -1,4 +1,5 @@
 pub mod Rows
 pub mod Table
 pub mod Selection
+pub mod Parts
 pub mod Index

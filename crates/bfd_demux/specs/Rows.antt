@@ -6,7 +6,7 @@ use Rattle.bfd_packet.specs.declared.arrival.Addr.{Addr}
 use Rattle.bfd_packet.specs.declared.arrival.Addr.TheVariants.{V4, V6}
 use Rattle.bfd_demux.specs.declared.row.Row.{Row}
 use Rattle.bfd_demux.specs.declared.row.RowKind.{RowKind}
-use Rattle.bfd_demux.specs.declared.row.RowKind.TheVariants.{Single, Multi, Seek, Reflect, Head, Tail}
+use Rattle.bfd_demux.specs.declared.row.RowKind.TheVariants.{Single, Multi, Tail}
 use Rattle.bfd_demux.specs.declared.fault.BuildFault.{BuildFault}
 use Rattle.bfd_demux.specs.declared.fault.BuildFault.TheVariants.{SameDiscr, SameAddresses, ZeroDiscr, TooMany}
 
@@ -52,7 +52,8 @@ first_repeat same rows = repeat_after same [] rows
 abbrev pub pair_fault : (ℕ → ℕ → BuildFault) → Option (ℕ × ℕ) → Option BuildFault
 pair_fault fault pair = option_map (λ places. fault places.0 places.1) pair
 
--- what is wrong with rows, in this order: their number, a discriminator of 0, one that comes twice, addresses that come twice
+-- what is wrong with rows, in this order: their number, a discriminator of 0, one that comes twice, addresses
+-- that come twice
 abbrev pub build_fault : List Row → Option BuildFault
 build_fault rows =
     if nat_lt 65536 (length rows) then Some (TooMany (length rows)) else

@@ -1,4 +1,5 @@
--- The row that an arrival names, and the tests up to there (RFC 5880 sections 6.3 and 6.8.6, RFC 5881, RFC 5883, RFC 7880, RFC 8562).
+-- The row that an arrival names, and the tests up to there (RFC 5880 sections 6.3 and 6.8.6, RFC 5881, RFC 5883,
+-- RFC 7880, RFC 8562).
 use Rattle.std.specs.Prelude.{ℕ, Bool, true, false, not, ◌==◌, ◌&&◌, ◌||◌, nat_lt, Option, Some, None, List, [], ◌∷◌, ◌++◌, length, find, if◌then◌else◌}
 use Rattle.std.specs.List.{filter, list_any}
 use Rattle.std.specs.Option.{option_map}
@@ -7,7 +8,6 @@ use Rattle.bfd_packet.specs.declared.arrival.Port.{Port}
 use Rattle.bfd_packet.specs.declared.arrival.Port.TheVariants.{Single as SinglePort, Multi as MultiPort, Echo as EchoPort, Sbfd as SbfdPort, Answer as AnswerPort}
 use Rattle.bfd_packet.specs.declared.control.State.{State}
 use Rattle.bfd_packet.specs.declared.control.State.TheVariants.{Init, Up}
-use Rattle.bfd_packet.specs.declared.control.Control.{Control}
 use Rattle.bfd_packet.specs.declared.discard.Test.{Test}
 use Rattle.bfd_packet.specs.declared.discard.Test.TheVariants.{YourUnknown, YourZeroState, NoSession, MultipointYour, NoTail, EchoForm}
 use Rattle.bfd_packet.specs.Layout.{fields_of, word_at}
@@ -20,7 +20,8 @@ use Rattle.bfd_demux.specs.declared.target.Target.TheVariants.{Session, Reflecto
 use Rattle.bfd_demux.specs.Rows.{same_selector}
 use Rattle.bfd_demux.specs.Table.{how_many}
 
--- the row is of the port's kind; heads and tails are of no port's kind (RFC 5881 section 4, RFC 5883 section 5, RFC 7881 section 3)
+-- the row is of the port's kind; heads and tails are of no port's kind (RFC 5881 section 4, RFC 5883 section 5,
+-- RFC 7881 section 3)
 abbrev pub is_of_kind : Port → RowKind → Bool
 is_of_kind SinglePort (Single _ _ _) = true
 is_of_kind EchoPort (Single _ _ _) = true
@@ -37,13 +38,15 @@ has_discr port discr row = is_of_kind port row.kind && (row.discr == discr)
 abbrev pub knows : List Row → Port → ℕ → Bool
 knows rows port discr = list_any (has_discr port discr) rows
 
--- the kind and addresses by which a packet without Your Discriminator names a row: on single the interface, the destination as local and the source as remote, on multi the last two, and none elsewhere
+-- the kind and addresses by which a packet without Your Discriminator names a row: on single the interface, the
+-- destination as local and the source as remote, on multi the last two, and none elsewhere
 abbrev pub selector_on : Port → Arrival → Option RowKind
 selector_on SinglePort arrival = Some (Single arrival.iface arrival.dst arrival.src)
 selector_on MultiPort arrival = Some (Multi arrival.dst arrival.src)
 selector_on _ arrival = None
 
--- those of a multipoint packet: its My Discriminator, the interface, the destination as group and the source (RFC 8562 section 5.7)
+-- those of a multipoint packet: its My Discriminator, the interface, the destination as group and the source (RFC
+-- 8562 section 5.7)
 abbrev pub tail_selector : Arrival → Option RowKind
 tail_selector arrival = Some (Tail (fields_of arrival.payload).my arrival.iface arrival.dst arrival.src)
 
@@ -56,7 +59,8 @@ has_selector (Some kind) row = same_selector kind row.kind
 abbrev pub is_multipoint : Port → Arrival → Bool
 is_multipoint port arrival = takes_multipoint_of port && (fields_of arrival.payload).multi
 
--- the arrival on this port names the row: an echo packet by its second word, a multipoint packet as a tail does, and any other by Your Discriminator, or where that is 0 by addresses
+-- the arrival on this port names the row: an echo packet by its second word, a multipoint packet as a tail does,
+-- and any other by Your Discriminator, or where that is 0 by addresses
 abbrev pub names_on : Port → Arrival → Row → Bool
 names_on EchoPort arrival row = has_discr EchoPort (word_at 4 arrival.payload) row
 names_on port arrival row =
@@ -88,13 +92,15 @@ is_init_or_up _ = false
 abbrev pub is_echo_form : List ℕ → Bool
 is_echo_form payload = (length payload == 16) && (word_at 0 payload == 0x4246_4465) && (word_at 12 payload == 0)
 
--- the discriminator isn't known on the port: that of an echo packet is its second word, a reflector's may not be 0, and any other's may
+-- the discriminator isn't known on the port: that of an echo packet is its second word, a reflector's may not be
+-- 0, and any other's may
 abbrev pub is_unknown : Port → List Row → Arrival → Bool
 is_unknown EchoPort rows arrival = not (knows rows EchoPort (word_at 4 arrival.payload))
 is_unknown SbfdPort rows arrival = ((fields_of arrival.payload).your == 0) || not (knows rows SbfdPort (fields_of arrival.payload).your)
 is_unknown port rows arrival = not ((fields_of arrival.payload).your == 0) && not (knows rows port (fields_of arrival.payload).your)
 
--- the sentence of each test up to selection, true of an arrival on this port that fails it (RFC 5880 section 6.8.6, RFC 8562 section 5.13)
+-- the sentence of each test up to selection, true of an arrival on this port that fails it (RFC 5880 section
+-- 6.8.6, RFC 8562 section 5.13)
 abbrev pub table_fails : Port → Test → List Row → Arrival → Bool
 table_fails port YourUnknown rows arrival = is_unknown port rows arrival
 table_fails port YourZeroState rows arrival = ((fields_of arrival.payload).your == 0) && is_init_or_up (fields_of arrival.payload).state
@@ -103,26 +109,6 @@ table_fails port MultipointYour rows arrival = is_multipoint port arrival && not
 table_fails port NoTail rows arrival = is_multipoint port arrival && not (list_any (has_selector (tail_selector arrival)) rows)
 table_fails port EchoForm rows arrival = not (is_echo_form arrival.payload)
 table_fails port test rows arrival = header_fails test arrival.payload
-
--- the first of an echo packet's tests that fails
-abbrev pub first_echo_failing : List Row → List ℕ → Option Test
-first_echo_failing rows payload =
-    if not (is_echo_form payload) then Some EchoForm
-    else if not (knows rows EchoPort (word_at 4 payload)) then Some YourUnknown
-    else None
-
--- the same on a port that selects sessions, of a packet that is no multipoint packet: by its fields, and by the kind and addresses that name a row where Your Discriminator is 0
-abbrev pub session_fails : Port → Test → Control → Option RowKind → List Row → Bool
-session_fails port YourUnknown packet selector rows = not (packet.your == 0) && not (knows rows port packet.your)
-session_fails port YourZeroState packet selector rows = (packet.your == 0) && is_init_or_up packet.state
-session_fails port NoSession packet selector rows = (packet.your == 0) && not (list_any (has_selector selector) rows)
-session_fails port _ packet selector rows = false
-
-abbrev pub first_session_failing : Port → Control → Option RowKind → List Row → Option Test
-first_session_failing port packet selector rows = find (λ test. session_fails port test packet selector rows) (YourUnknown ∷ YourZeroState ∷ NoSession ∷ [])
-
-abbrev pub names_session : Port → Control → Option RowKind → Row → Bool
-names_session port packet selector row = if packet.your == 0 then has_selector selector row else has_discr port packet.your row
 
 -- the port's tests on the header: an echo packet has none
 abbrev pub tests_on_header : Port → List Test
@@ -143,10 +129,6 @@ first_header_failing arrival = find (λ test. header_fails test arrival.payload)
 abbrev pub first_failing_on : Port → List Row → Arrival → Option Test
 first_failing_on port rows arrival = find (λ test. table_fails port test rows arrival) (tests_on_header port ++ tests_on_table port (is_multipoint port arrival))
 
--- the same, of the tests that look at the table
-abbrev pub first_past_header : Port → List Row → Arrival → Option Test
-first_past_header port rows arrival = find (λ test. table_fails port test rows arrival) (tests_on_table port (is_multipoint port arrival))
-
 -- the first of the tests up to selection that the arrival fails, in the order of its port
 abbrev pub first_table_failing : List Row → Arrival → Option Test
 first_table_failing rows arrival = first_failing_on arrival.port rows arrival
@@ -164,25 +146,18 @@ session_index rows discr = how_many (λ row. is_session row.kind && nat_lt row.d
 abbrev pub reflector_index : List Row → ℕ → ℕ
 reflector_index rows discr = how_many (λ row. not (is_session row.kind) && nat_lt row.discr discr) rows
 
--- the place of a row that the port selects among
-abbrev pub index_on : Port → List Row → ℕ → ℕ
-index_on SbfdPort rows discr = reflector_index rows discr
-index_on _ rows discr = session_index rows discr
-
--- what an echo packet of the row is for: its third word is its sequence number
-abbrev pub echo_target : List Row → List ℕ → Row → Target
-echo_target rows payload row = Echo (session_index rows row.discr) (word_at 8 payload)
-
 -- what an arrival on this port that names the row is for; an echo packet's third word is its sequence number
 abbrev pub target_on : Port → List Row → Arrival → Row → Target
 target_on EchoPort rows arrival row = Echo (session_index rows row.discr) (word_at 8 arrival.payload)
 target_on SbfdPort rows arrival row = Reflector (reflector_index rows row.discr)
 target_on port rows arrival row = Session (session_index rows row.discr)
 
--- what an arrival on this port that fails no test is for
-abbrev pub target_named : Port → List Row → Arrival → Option Target
-target_named port rows arrival = option_map (target_on port rows arrival) (the_one (names_on port arrival) rows)
-
 -- what an arrival that fails no test is for
 abbrev pub target_of : List Row → Arrival → Option Target
 target_of rows arrival = option_map (target_on arrival.port rows arrival) (selected rows arrival)
+
+-- the arrival on this port is looked up by addresses: a multipoint packet, and one whose Your Discriminator is 0
+abbrev pub is_by_addresses : Port → Arrival → Bool
+is_by_addresses EchoPort arrival = false
+is_by_addresses SbfdPort arrival = false
+is_by_addresses port arrival = is_multipoint port arrival || ((fields_of arrival.payload).your == 0)

@@ -1,13 +1,14 @@
 //! The table: rows behind two sorted indices.
 
-ghost use Rattle.std.specs.Prelude.{◌≡◌, ◌≢◌, ◌+◌, ◌==◌, ◌≤◌, ◌&&◌, ◌||◌, if◌then◌else◌, position, true, not, None, Some, is_some, IfSome, IfOk, MatchResult, ◌⊎◌};
+ghost use Rattle.std.specs.Prelude.{false, ◌≡◌, ◌≢◌, ◌+◌, ◌==◌, ◌≤◌, ◌&&◌, ◌||◌, if◌then◌else◌, position, true, not, None, Some, is_some, IfSome, IfOk, MatchResult, ◌⊎◌};
 ghost use Rattle.std.specs.List.{list_any};
 ghost use Rattle.std.specs.Option.{option_map};
 ghost use Rattle.std.specs.Result.{result_err};
 ghost use Rattle.bfd_packet.specs.Layout.{fields_of, word_at};
 ghost use Rattle.bfd_packet.specs.HeaderTests.{takes_multipoint_of};
 ghost use Rattle.bfd_demux.specs.Rows.{build_fault, has_addresses, same_selector};
-ghost use Rattle.bfd_demux.specs.Selection.{echo_target, first_echo_failing, first_header_failing, first_past_header, first_session_failing, first_table_failing, has_discr, has_selector, index_on, is_echo_form, is_init_or_up, is_session, knows, names_session, reflector_index, selector_on, session_index, tail_selector, target_named, target_of, the_one};
+ghost use Rattle.bfd_demux.specs.Selection.{first_header_failing, first_table_failing, has_discr, has_selector, is_by_addresses, is_echo_form, is_init_or_up, is_session, knows, reflector_index, selector_on, session_index, tail_selector, target_of, the_one};
+ghost use Rattle.bfd_demux.specs.Parts.{echo_target, first_echo_failing, first_past_header, first_session_failing, index_on, names_session, target_named};
 ghost use Rattle.bfd_demux.specs.Index.{names_of, addresses_of};
 ghost use Rattle.bfd_demux.specs.Table.{how_many};
 
@@ -123,14 +124,16 @@ impl Demux {
     /// What the arrival is for, or the first test of its port that it fails (RFC 5880 section 6.8.6). On
     /// every port but echo the payload has to pass the tests on the header, as `header_test` makes them.
     /// Then: on echo EchoForm and YourUnknown; on sbfd YourUnknown; on single with M set MultipointYour and
-    /// NoTail (RFC 8562); and else YourUnknown, YourZeroState and NoSession. It takes no memory. A lookup
-    /// takes at most 17 steps, each the look at one entry of a sorted table, and a selection has at most two.
+    /// NoTail (RFC 8562); and else YourUnknown, YourZeroState and NoSession. It takes no memory. A step is
+    /// the look at one entry of a sorted table: a lookup takes at most 17, and only a selection by addresses
+    /// needs two lookups.
     #[tactic(none)]
     pub fn select<L: Ledger>(&self, arrival: &Arrival, steps: &mut Steps<L>) -> Result<Target, Test>
         requires { first_header_failing arrival.now ≡ None }
         ensures tests { result_err result ≡ first_table_failing self.now arrival.now }
         ensures target { IfOk result (λ target. Some target ≡ target_of self.now arrival.now) }
         ensures cost { steps.new ≤ steps.old + 34 }
+        ensures one_lookup { is_by_addresses arrival.now.port arrival.now ≡ false → steps.new ≤ steps.old + 17 }
     {
         match arrival.port {
             Port::Echo => self.select_echo(arrival.payload.as_slice(), steps),
@@ -169,6 +172,7 @@ impl Demux {
         ensures tests { result_err result ≡ first_past_header arrival.now.port self.now arrival.now }
         ensures target { IfOk result (λ target. Some target ≡ target_named arrival.now.port self.now arrival.now) }
         ensures cost { steps.new ≤ steps.old + 34 }
+        ensures one_lookup { is_by_addresses arrival.now.port arrival.now ≡ false → steps.new ≤ steps.old + 17 }
     {
         match arrival.port {
             Port::Sbfd => self.select_reflector(packet.your, steps),
@@ -208,22 +212,23 @@ impl Demux {
         ensures target { IfOk result (λ target. Some target ≡ option_map (λ row. Target.Session (session_index self.now row.discr)) (the_one (has_selector (tail_selector arrival.now)) self.now)) }
         ensures cost { steps.new ≤ steps.old + 34 }
     {
-        if packet.your != 0 {
-            return Err(Test::MultipointYour);
+        if packet.your == 0 {
+            let kind = RowKind::Tail {
+                head: packet.my,
+                iface: arrival.iface,
+                group: arrival.dst,
+                source: arrival.src,
+            };
+            return match self.by_addresses(kind, steps) {
+                Some(index) => Ok(Target::Session(index)),
+                None => Err(Test::NoTail),
+            };
         }
-        let kind = RowKind::Tail {
-            head: packet.my,
-            iface: arrival.iface,
-            group: arrival.dst,
-            source: arrival.src,
-        };
-        match self.by_addresses(kind, steps) {
-            Some(index) => Ok(Target::Session(index)),
-            None => Err(Test::NoTail),
-        }
+        Err(Test::MultipointYour)
     }
 
     // What any other packet is for, where a packet without Your Discriminator names a session by `selector`.
+    #[tactic(auto, using(crate::proofs::Selecting::no_session))]
     fn select_session<L: Ledger>(
         &self,
         port: Port,
@@ -236,6 +241,7 @@ impl Demux {
         ensures tests { result_err result ≡ first_session_failing port packet.now selector self.now }
         ensures target { IfOk result (λ target. Some target ≡ option_map (λ row. Target.Session (session_index self.now row.discr)) (the_one (names_session port packet.now selector) self.now)) }
         ensures cost { steps.new ≤ steps.old + 34 }
+        ensures one_lookup { packet.now.your ≢ 0 → steps.new ≤ steps.old + 17 }
     {
         if packet.your != 0 {
             return match self.by_discr(port, packet.your, steps) {
@@ -289,16 +295,14 @@ fn is_multipoint(port: Port, packet: &Control) -> bool
 fn selector_of(arrival: &Arrival) -> Option<RowKind>
     ensures { result ≡ selector_on arrival.now.port arrival.now }
 {
+    let (iface, local, remote) = (arrival.iface, arrival.dst, arrival.src);
     match arrival.port {
         Port::Single => Some(RowKind::Single {
-            iface: arrival.iface,
-            local: arrival.dst,
-            remote: arrival.src,
+            iface,
+            local,
+            remote,
         }),
-        Port::Multi => Some(RowKind::Multi {
-            local: arrival.dst,
-            remote: arrival.src,
-        }),
+        Port::Multi => Some(RowKind::Multi { local, remote }),
         _ => None,
     }
 }

@@ -3,7 +3,7 @@
 use thiserror::Error;
 
 /// Why rows make no table. Rows are named by their places, from 0.
-#[derive(Debug, Drop, Error)]
+#[derive(Clone, Copy, Debug, PartialEq, Eq, Error)]
 pub enum BuildFault {
     #[error("rows {0} and {1} have one discriminator")]
     SameDiscr(usize, usize),

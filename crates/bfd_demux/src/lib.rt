@@ -1,4 +1,13 @@
 //! Which session an arrival is for (RFC 5880 sections 6.3 and 6.8.6, RFC 5881, RFC 5883, RFC 7880, RFC 8562).
+//!
+//! A table of up to 65,536 rows has the sessions and reflectors, by discriminator and by addresses. It is
+//! built once; `select` then gives for each arrival the one row that it names, or the first of the port's
+//! tests that it fails.
+//!
+//! It stands on `bfd_packet` for arrivals and the tests on their headers, on `bfd_num` for the counter of
+//! steps, and on `byteorder` and `thiserror`. It promises that `build` refuses exactly the rows that make no
+//! table and names the first fault, that `select` is the standard's choice for every table and arrival, that
+//! it takes no memory, and that a lookup looks at 17 entries at most.
 #![tactic(auto)]
 
 mod demux;
@@ -13,3 +22,8 @@ pub use demux::Demux;
 pub use fault::BuildFault;
 pub use row::{Row, RowKind};
 pub use target::Target;
+
+#[cfg(test)]
+mod random_tests;
+#[cfg(test)]
+mod tests;

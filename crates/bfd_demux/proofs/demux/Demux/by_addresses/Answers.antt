@@ -2,7 +2,6 @@ use Rattle.std.proofs.Common.{arith, sym, ap, ◌∙◌, refl, Some}
 use Rattle.bfd_demux.specs.declared.name.Name.TheVariants.{Session}
 use Rattle.bfd_demux.specs.contracts.name.NameOrd.TheImpl as name_order
 use Rattle.bfd_demux.specs.contracts.row.RowKindOrd.TheImpl as kind_order
-use Rattle.bfd_demux.specs.Selection.{session_index}
 use Rattle.bfd_demux.proofs.Lookups.{missing_by, found_by, few_names, few_addresses, address_unknown, address_named, address_index, address_session, none_addressed, place_of_session}
 use Rattle.bfd_demux.proofs.demux.Demux.by_addresses.Goals as goal
 

@@ -1,5 +1,3 @@
-use Rattle.std.proofs.Common.{subst, sym}
-use Rattle.bfd_demux.specs.Index.{names_of, addresses_of}
 use Rattle.bfd_demux.proofs.Once.{names_once, addresses_once}
 use Rattle.bfd_demux.proofs.demux.Demux.index.Goals as goal
 

@@ -3,7 +3,8 @@ use Rattle.std.specs.Option.{option_map}
 use Rattle.bfd_packet.specs.declared.arrival.Port.TheVariants.{Echo as EchoPort}
 use Rattle.bfd_packet.specs.Layout.{fields_of, word_at}
 use Rattle.bfd_packet.specs.HeaderTests.{read_of}
-use Rattle.bfd_demux.specs.Selection.{the_one, has_discr, echo_target, first_echo_failing}
+use Rattle.bfd_demux.specs.Selection.{the_one, has_discr}
+use Rattle.bfd_demux.specs.Parts.{echo_target, first_echo_failing}
 use Rattle.bfd_demux.proofs.Selecting.{ok_then, past_header, echo_failing, echo_named, header_passed, same_ok, never_err}
 use Rattle.bfd_demux.proofs.demux.Demux.select.Goals as goal
 
@@ -22,6 +23,9 @@ returns-in-Echo-clause-target g c =
 
 pub returns-in-Echo-clause-cost : goal.returns-in-Echo-clause-cost
 returns-in-Echo-clause-cost g c = omega (arith, c.select_echo.ensures.cost)
+
+pub returns-in-Echo-clause-one_lookup : goal.returns-in-Echo-clause-one_lookup
+returns-in-Echo-clause-one_lookup g c = λ _. c.select_echo.ensures.cost
 
 pub returns-in_err-packet-in_default : goal.returns-in_err-packet-in_default
 returns-in_err-packet-in_default g c =
@@ -43,4 +47,5 @@ returns-in_ok-packet-in_default g c = record {
   tests = c.select_packet.ensures.tests ∙ sym (past_header c.args.arrival.now.port c.args.self.now c.args.arrival.now c.requires);
   target = c.select_packet.ensures.target;
   cost = c.select_packet.ensures.cost;
+  one_lookup = c.select_packet.ensures.one_lookup;
 }

@@ -1,9 +1,10 @@
 use Rattle.std.proofs.Common.{◌≡◌, true, false, ◌&&◌, arith, sym, ap, ◌∙◌}
 use Rattle.bfd_packet.specs.HeaderTests.{takes_multipoint_of}
-use Rattle.bfd_demux.specs.Selection.{is_multipoint, first_session_failing, names_session, session_index, the_one}
+use Rattle.bfd_demux.specs.Selection.{is_multipoint, session_index, the_one}
+use Rattle.bfd_demux.specs.Parts.{first_session_failing, names_session}
 use Rattle.std.specs.Option.{option_map}
 use Rattle.bfd_demux.specs.declared.target.Target.TheVariants.{Session}
-use Rattle.bfd_demux.proofs.Selecting.{ok_then, reflector_failing, reflector_named, tail_failing, tail_named, session_failing, session_named, selector_addressed}
+use Rattle.bfd_demux.proofs.Selecting.{ok_then, reflector_failing, reflector_named, tail_failing, tail_named, session_failing, session_named, selector_addressed, tail_by_addresses, session_by_discr}
 use Rattle.bfd_demux.proofs.demux.Demux.select_packet.Goals as goal
 
 pub returns-in-Sbfd-clause-tests : goal.returns-in-Sbfd-clause-tests
@@ -19,6 +20,9 @@ returns-in-Sbfd-clause-target g c =
 pub returns-in-Sbfd-clause-cost : goal.returns-in-Sbfd-clause-cost
 returns-in-Sbfd-clause-cost g c = omega (arith, c.select_reflector.ensures.cost)
 
+pub returns-in-Sbfd-clause-one_lookup : goal.returns-in-Sbfd-clause-one_lookup
+returns-in-Sbfd-clause-one_lookup g c = λ _. c.select_reflector.ensures.cost
+
 pub select_tail-requires : goal.select_tail-requires
 select_tail-requires g c = c.requires.packet
 
@@ -30,6 +34,7 @@ returns-then-is_multipoint g c =
       tests = c.select_tail.ensures.tests ∙ tail_failing c.args.arrival.now.port c.args.self.now c.args.arrival.now c.args.packet.now c.requires.packet multipoint;
       target = ok_then c.select_tail.result (λ target h. h ∙ tail_named c.args.arrival.now.port c.args.self.now c.args.arrival.now multipoint) c.select_tail.ensures.target;
       cost = c.select_tail.ensures.cost;
+      one_lookup = λ other. absurd (tail_by_addresses c.args.arrival.now.port c.args.arrival.now multipoint other);
     }
 
 pub select_session-requires : goal.select_session-requires
@@ -54,4 +59,6 @@ returns-else-is_multipoint g c =
           ∙ session_named c.args.arrival.now.port c.args.self.now c.args.arrival.now c.args.packet.now c.requires.packet c.requires.port c.in_default.not-Sbfd single)
           c.select_session.ensures.target;
       cost = c.select_session.ensures.cost;
+      one_lookup = λ other.
+          c.select_session.ensures.one_lookup (session_by_discr c.args.arrival.now.port c.args.arrival.now c.args.packet.now c.requires.packet c.requires.port c.in_default.not-Sbfd other);
     }
