@@ -1,8 +1,8 @@
 // The trusted edge over std's readers and writers.
-ghost use Rattle.std.specs.Prelude.{◌≡◌, ℕ, ◌<◌, List, Option, length, Ok};
+ghost use Rattle.std.specs.Prelude.{◌≡◌, ◌≢◌, Err, ℕ, ◌<◌, List, Option, length, Ok};
 ghost use Rattle.std.specs.Io.{ReadsAtMost, WritesAtMost};
 ghost use Rattle.std.specs.Io.KnownBytes.{ReadConsumes, WriteAppends};
-ghost use Rattle.bfd_edge.specs.Faults.{HasCause, Rose, raised};
+ghost use Rattle.bfd_edge.specs.Faults.{HasCause, Rose};
 
 use crate::fault::Fault;
 use crate::outside::{Sink, Source};
@@ -29,7 +29,13 @@ impl<R: Read> Source for StdSource<R> {
 
     ghost faults = { λ s. s.faults };
 
-    fn read(&mut self, buf: &mut [u8]) -> Result<usize, Fault> {
+    /// Reads what the reader gives. Its every error is `Failed`.
+    fn read(&mut self, buf: &mut [u8]) -> Result<usize, Fault>
+        ensures bound { ReadsAtMost result buf.new }
+        ensures bytes { ReadConsumes (R.remaining self.old.reader) (R.remaining self.new.reader) result buf.new }
+        ensures cause { HasCause self.old.faults self.new.faults result }
+        ensures no_memory_taken { result ≢ Err Fault.Memory }
+    {
         match self.reader.read(buf) {
             Ok(count) => Ok(count),
             Err(_) => {
@@ -61,7 +67,14 @@ impl<W: Write> Sink for StdSink<W> {
 
     ghost faults = { λ s. s.faults };
 
-    fn write(&mut self, piece: &[u8]) -> Result<usize, Fault> {
+    /// Writes what the writer takes. Its every error is `Failed`.
+    fn write(&mut self, piece: &[u8]) -> Result<usize, Fault>
+        ensures bound { WritesAtMost result piece.now }
+        ensures bytes { WriteAppends (W.contents self.old.writer) (W.contents self.new.writer) result piece.now }
+        ensures cause { HasCause self.old.faults self.new.faults result }
+        ensures none { 0 < length piece.now → result ≡ Ok 0 → Rose self.old.faults self.new.faults }
+        ensures no_memory_taken { result ≢ Err Fault.Memory }
+    {
         match self.writer.write(piece) {
             Ok(count) => {
                 if count == 0 && !piece.is_empty() {
