@@ -11,10 +11,11 @@ use Rattle.bfd_demux.specs.declared.row.RowKind.{RowKind}
 use Rattle.bfd_demux.specs.declared.row.RowKind.TheVariants.{Reflect}
 use Rattle.bfd_demux.specs.declared.name.Name.{Name}
 use Rattle.bfd_demux.specs.declared.name.Name.TheVariants.{Session, Reflector}
+use Rattle.bfd_demux.specs.declared.fault.BuildFault.{BuildFault}
 use Rattle.bfd_demux.specs.declared.fault.BuildFault.TheVariants.{SameDiscr, SameAddresses, ZeroDiscr, TooMany}
 use Rattle.bfd_demux.specs.contracts.name.NameOrd.TheImpl as name_order
 use Rattle.bfd_demux.specs.contracts.row.RowKindOrd.TheImpl as kind_order
-use Rattle.bfd_demux.specs.Rows.{repeat_after, first_repeat, same_discr, same_addresses, same_selector, has_addresses, build_fault, pair_fault}
+use Rattle.bfd_demux.specs.Rows.{repeat_after, first_repeat, same_discr, same_addresses, same_selector, has_addresses, build_fault, early_fault, pair_fault}
 use Rattle.bfd_demux.specs.Index.{names_of, addresses_of, name_of, name_in, heard_on}
 use Rattle.bfd_demux.specs.Table.{how_many, HasKeysOnce}
 use Rattle.bfd_demux.proofs.AlikeRows.{nat_level, selector_level, same_selector_is, number_is, both_true}
@@ -170,3 +171,12 @@ addresses_once rows sound key =
     (λ row e. let parts = both_true (has_addresses row.kind) (is_eq (kind_order.ghosts.cmp row.kind key)) e in sym (selector_level row.kind key parts.0) ∙ parts.1) rows in
     let once = kind_once_back rows sound key in
     omega arith
+
+no_early : (b : Bool) (n : ℕ) (zero : Option ℕ) (later : Option BuildFault) → cond b (Some (TooMany n)) (option_or (option_map ZeroDiscr zero) later) ≡ None → cond b (Some (TooMany n)) (option_map ZeroDiscr zero) ≡ None
+no_early true n zero later e = cc
+no_early false n None later e = refl
+no_early false n (Some place) later e = cc
+
+-- rows without a fault have none that is seen without memory
+pub no_early_fault : (rows : List Row) → build_fault rows ≡ None → early_fault rows ≡ None
+no_early_fault rows e = no_early (nat_lt 65536 (length rows)) (length rows) (position (λ row. row.discr == 0) rows) _ e

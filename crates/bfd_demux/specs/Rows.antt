@@ -52,6 +52,12 @@ first_repeat same rows = repeat_after same [] rows
 abbrev pub pair_fault : (ℕ → ℕ → BuildFault) → Option (ℕ × ℕ) → Option BuildFault
 pair_fault fault pair = option_map (λ places. fault places.0 places.1) pair
 
+-- what is wrong with rows that is seen without memory: their number, or a discriminator of 0
+abbrev pub early_fault : List Row → Option BuildFault
+early_fault rows =
+    if nat_lt 65536 (length rows) then Some (TooMany (length rows)) else
+    option_map ZeroDiscr (position (λ row. row.discr == 0) rows)
+
 -- what is wrong with rows, in this order: their number, a discriminator of 0, one that comes twice, addresses
 -- that come twice
 abbrev pub build_fault : List Row → Option BuildFault

@@ -1,12 +1,12 @@
 //! The table: rows behind two sorted indices.
 
-ghost use Rattle.std.specs.Prelude.{false, ◌≡◌, ◌≢◌, ◌+◌, ◌==◌, ◌≤◌, ◌&&◌, ◌||◌, if◌then◌else◌, position, true, not, None, Some, is_some, IfSome, IfOk, MatchResult, ◌⊎◌};
+ghost use Rattle.std.specs.Prelude.{false, ◌≡◌, ◌≢◌, ◌+◌, ◌==◌, ◌≤◌, ◌&&◌, ◌||◌, if◌then◌else◌, position, true, not, None, Some, is_some, IfSome, IfOk, OnErr, MatchResult, ◌⊎◌};
 ghost use Rattle.std.specs.List.{list_any};
 ghost use Rattle.std.specs.Option.{option_map};
 ghost use Rattle.std.specs.Result.{result_err};
 ghost use Rattle.bfd_packet.specs.Layout.{fields_of, word_at};
 ghost use Rattle.bfd_packet.specs.HeaderTests.{takes_multipoint_of};
-ghost use Rattle.bfd_demux.specs.Rows.{build_fault, has_addresses, same_selector};
+ghost use Rattle.bfd_demux.specs.Rows.{build_fault, early_fault, has_addresses, same_selector};
 ghost use Rattle.bfd_demux.specs.Selection.{first_header_failing, first_table_failing, has_discr, has_selector, is_by_addresses, is_echo_form, is_init_or_up, is_session, knows, reflector_index, selector_on, session_index, tail_selector, target_of, the_one};
 ghost use Rattle.bfd_demux.specs.Parts.{echo_target, first_echo_failing, first_past_header, first_session_failing, index_on, names_session, target_named};
 ghost use Rattle.bfd_demux.specs.Index.{names_of, addresses_of};
@@ -60,10 +60,11 @@ impl Demux {
     /// The table of these rows, or what is wrong with them, in this order: more than 65,536 rows (TooMany),
     /// the first row with the discriminator 0 (ZeroDiscr), the least row with the discriminator of an
     /// earlier one (SameDiscr; RFC 5880 section 6.8.1), the least row of the kind and addresses of an
-    /// earlier one (SameAddresses). These two name the least earlier row first. Memory comes where no
-    /// memory is left, whatever the rows.
+    /// earlier one (SameAddresses). These two name the least earlier row first. Memory comes only
+    /// where no memory is left, and never in place of TooMany or ZeroDiscr.
+    #[tactic(auto, using(crate::proofs::Once::no_early_fault))]
     pub fn build(alloc: Global, rows: &[Row]) -> Result<Demux, BuildFault>
-        ensures { MatchResult result (λ demux. (demux ≡ rows.now) × (build_fault rows.now ≡ None)) (λ fault. (fault ≡ BuildFault.Memory) ⊎ (build_fault rows.now ≡ Some fault)) }
+        ensures { MatchResult result (λ demux. (demux ≡ rows.now) × (build_fault rows.now ≡ None)) (λ fault. ((fault ≡ BuildFault.Memory) × (early_fault rows.now ≡ None)) ⊎ (build_fault rows.now ≡ Some fault)) }
     {
         match fault_of(alloc, rows) {
             Ok(None) => Demux::index(alloc, rows).map_err(|_| BuildFault::Memory),
@@ -349,7 +350,8 @@ fn zero_discr(rows: &[Row]) -> Option<usize>
 
 // The first fault of rows.
 fn fault_of(alloc: Global, rows: &[Row]) -> Result<Option<BuildFault>, AllocError>
-    ensures { IfOk result (λ fault. fault ≡ build_fault rows.now) }
+    ensures fault { IfOk result (λ fault. fault ≡ build_fault rows.now) }
+    ensures memory { OnErr result (early_fault rows.now ≡ None) }
 {
     if rows.len() > MOST_ROWS {
         return Ok(Some(BuildFault::TooMany(rows.len())));
