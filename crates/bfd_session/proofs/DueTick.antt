@@ -1,7 +1,7 @@
 -- A tick comes exactly when the moment that it rounds has come.
-use Rattle.std.proofs.Common.{◌≡◌, ◌||◌, ◌*◌, ℕ, Bool, true, false, refl, subst, Option, None, Some, arith}
+use Rattle.std.proofs.Common.{◌≡◌, ◌||◌, ◌*◌, ℕ, false, refl, subst, Option, None, Some, arith}
 use Rattle.std.proofs.lemmas.Bool.Decides.{nat_tests}
-use Rattle.std.specs.Prelude.{nat_le, min, option_map}
+use Rattle.std.specs.Prelude.{nat_le, option_map}
 use Rattle.bfd_num.specs.Numbers.{ceil_tick, floor_tick}
 use Rattle.bfd_num.specs.Due.{has_come, sooner}
 use Rattle.bfd_rules.specs.declared.variables.Vars.{Vars}

@@ -1,5 +1,5 @@
 -- A tick by which nothing is due leaves sound variables as they are, and puts nothing out.
-use Rattle.std.proofs.Common.{◌≡◌, ◌||◌, ◌&&◌, ◌*◌, ◌==◌, ◌++◌, append-nil, ℕ, Bool, true, false, not, refl, sym, ap, ◌∙◌, subst, Option, None, Some, is_some, is_none, IsSome, IsTrue, ◌↔◌, List, [], if◌then◌else◌, arith}
+use Rattle.std.proofs.Common.{◌≡◌, ◌*◌, ◌==◌, ◌++◌, append-nil, ℕ, Bool, true, false, not, refl, sym, ap, ◌∙◌, Option, None, Some, is_some, is_none, IsSome, IsTrue, ◌↔◌, List, [], if◌then◌else◌, arith}
 use Rattle.std.proofs.lemmas.Bool.{or_parts}
 use Rattle.std.proofs.lemmas.Bool.Decides.{nat_tests}
 use Rattle.bfd_packet.specs.declared.control.State.{State}
@@ -8,10 +8,9 @@ use Rattle.bfd_num.specs.Numbers.{floor_tick}
 use Rattle.bfd_num.specs.Due.{has_come, sooner}
 use Rattle.bfd_rules.specs.declared.config.Config.{Config}
 use Rattle.bfd_rules.specs.declared.outputs.Out.{Out}
-use Rattle.bfd_rules.specs.declared.variables.Mark.{Mark}
 use Rattle.bfd_rules.specs.declared.variables.Vars.{Vars}
 use Rattle.bfd_rules.specs.Quantities.{deadline, seq_deadline, may_send, same_state, tx_interval}
-use Rattle.bfd_rules.specs.Course.{Course, course, begins, is_news, draws, one_changed, drawn}
+use Rattle.bfd_rules.specs.Course.{Course, course, begins, is_news, draws, drawn}
 use Rattle.bfd_rules.specs.Sound as pair
 use Rattle.bfd_p2p.specs.Settle as settling
 use Rattle.bfd_p2p.specs.Finish as finishing

@@ -1,20 +1,19 @@
 -- A tick keeps variables sound.
-use Rattle.std.proofs.Common.{◌≡◌, ◌^◌, ◌-◌, ◌<◌, ◌≤◌, ◌+◌, ◌*◌, ◌/◌, ◌%◌, ◌&&◌, ◌||◌, ◌==◌, not, ℕ, min, max, Bool, true, false, refl, sym, ap, ◌∙◌, subst, Option, None, Some, is_some, is_none, IsSome, IfSome, IsTrue, ◌↔◌, option_map, List, [], arith, rules, if◌then◌else◌}
+use Rattle.std.proofs.Common.{◌≡◌, ◌^◌, ◌-◌, ◌<◌, ◌≤◌, ◌+◌, ◌*◌, ◌/◌, ◌%◌, ◌&&◌, ◌||◌, ◌==◌, not, ℕ, Bool, true, false, refl, Option, None, Some, is_none, IsSome, IfSome, option_map, [], arith, rules, if◌then◌else◌}
 use Rattle.std.proofs.lemmas.Grind.{common_steps}
 use Rattle.std.proofs.lemmas.Bool.{or_parts}
 use Rattle.bfd_packet.specs.declared.keys.SeqState.{SeqState}
 use Rattle.bfd_num.specs.Numbers.{moment_bound, floor_tick, ceil_tick, next_j}
 use Rattle.bfd_num.specs.Due.{has_come}
 use Rattle.bfd_rules.specs.declared.config.Config.{Config}
-use Rattle.bfd_rules.specs.declared.outputs.Out.{Out}
 use Rattle.bfd_rules.specs.declared.variables.Poll.{Poll}
 use Rattle.bfd_rules.specs.declared.variables.Poll.TheVariants.{Idle, Wanted, Running}
 use Rattle.bfd_rules.specs.declared.variables.Mark.{Mark}
 use Rattle.bfd_rules.specs.declared.variables.Vars.{Vars}
-use Rattle.bfd_rules.specs.Quantities.{adv_tx, deadline, seq_deadline, demand_here, may_send, tx_interval, is_idle}
+use Rattle.bfd_rules.specs.Quantities.{deadline, seq_deadline, demand_here, may_send, tx_interval, is_idle}
 use Rattle.bfd_rules.specs.Jitter.{pick}
 use Rattle.bfd_rules.specs.Renewal.{poll_again, poll_renewed, used_renewed, demand_renewed, renewed}
-use Rattle.bfd_rules.specs.Course.{Course, course, begins, changes, sends, is_news, draws, one_changed, drawn}
+use Rattle.bfd_rules.specs.Course.{Course, changes, sends, is_news, draws, one_changed, drawn}
 use Rattle.bfd_rules.specs.Sound.{IsPlain, IsRenewed, HasPeerMult, IsSteady, IsSound}
 use Rattle.bfd_p2p.specs.Frame.{renews, moves}
 use Rattle.bfd_p2p.specs.Transmit.{transmits}
@@ -57,7 +56,7 @@ again_plain : (c : Config) (v : Vars) → IsPlain c v → IsPlain c (record v { 
 again_plain c v plain = grind (arith, common_steps)
 
 plain_by : (c : Config) (eff : ℕ) (v : Vars) (a b : Bool) → eff < moment_bound → IsPlain c v
-  → IsPlain c (if a then (if b then v else record v { heard = option_map (λ _. eff) v.heard }) else (if b then record v { poll = poll_again v.poll } else v))
+    → IsPlain c (if a then (if b then v else record v { heard = option_map (λ _. eff) v.heard }) else (if b then record v { poll = poll_again v.poll } else v))
 plain_by c eff v true true h plain = plain
 plain_by c eff v true false h plain = heard_plain c eff v h plain
 plain_by c eff v false true h plain = again_plain c v plain
@@ -88,7 +87,7 @@ heard_renews : (eff : ℕ) (v : Vars) → IsRenewed v → IsRenewed (record v { 
 heard_renews eff v h = record { settled_tx = h.settled_tx; tx_at_most = h.tx_at_most; settled_rx = h.settled_rx; rx_at_least = h.rx_at_least }
 
 renews_by : (eff : ℕ) (v : Vars) (a b : Bool) → IsRenewed v
-  → IsRenewed (if a then (if b then v else record v { heard = option_map (λ _. eff) v.heard }) else (if b then record v { poll = poll_again v.poll } else v))
+    → IsRenewed (if a then (if b then v else record v { heard = option_map (λ _. eff) v.heard }) else (if b then record v { poll = poll_again v.poll } else v))
 renews_by eff v true true h = h
 renews_by eff v true false h = heard_renews eff v h
 renews_by eff v false true h = again_renews v h
@@ -130,7 +129,7 @@ detection_steady : (c : Config) (limit eff : ℕ) (s : Course) → eff < moment_
 unfolding settling.detection
 detection_steady c limit eff s h steady =
     choice_steady c (has_come limit (deadline s.vars)) (moves c.discr eff (settling.goes_silent (settling.forgets_peer s.vars)) s) s
-      (moves_steady c eff (settling.goes_silent (settling.forgets_peer s.vars)) s h (silent_plain c s.vars steady.plain) (silent_peer s.vars steady.peer)) steady
+    (moves_steady c eff (settling.goes_silent (settling.forgets_peer s.vars)) s h (silent_plain c s.vars steady.plain) (silent_peer s.vars steady.peer)) steady
 
 forgotten_plain : (c : Config) (v : Vars) → IsPlain c v → IsPlain c (settling.forgets_sequence v)
 forgotten_plain c v h = grind (arith, common_steps)
@@ -142,16 +141,16 @@ sequence_steady : (c : Config) (limit eff : ℕ) (s : Course) → eff < moment_b
 unfolding settling.sequence
 sequence_steady c limit eff s h steady =
     choice_steady c (has_come limit (seq_deadline s.vars)) (renews eff (settling.forgets_sequence s.vars) s) s
-      (renews_steady c eff (settling.forgets_sequence s.vars) s h (forgotten_plain c s.vars steady.plain) (forgotten_peer s.vars steady.peer)) steady
+    (renews_steady c eff (settling.forgets_sequence s.vars) s h (forgotten_plain c s.vars steady.plain) (forgotten_peer s.vars steady.peer)) steady
 
 -- what a packet makes of the variables besides the sequence state
 
 told_plain : (c : Config) (eff : ℕ) (seq : SeqState) (v : Vars) → eff < moment_bound → IsPlain c v
-  → IsPlain c (record v { seq = seq; poll = settling.poll_sent eff v.poll; base = eff })
+    → IsPlain c (record v { seq = seq; poll = settling.poll_sent eff v.poll; base = eff })
 told_plain c eff seq v h plain = grind (arith, common_steps)
 
 told_peer : (eff : ℕ) (seq : SeqState) (v : Vars) → HasPeerMult v
-  → HasPeerMult (record v { seq = seq; poll = settling.poll_sent eff v.poll; base = eff })
+    → HasPeerMult (record v { seq = seq; poll = settling.poll_sent eff v.poll; base = eff })
 told_peer eff seq v h = grind (arith, common_steps)
 
 periodic_packet_steady : (c : Config) (eff : ℕ) (s : Course) → eff < moment_bound → IsSteady c s.vars → IsSteady c (settling.periodic_packet c eff s).vars
@@ -163,13 +162,13 @@ periodic_steady : (c : Config) (limit eff : ℕ) (s : Course) → eff < moment_b
 unfolding settling.periodic
 periodic_steady c limit eff s h steady =
     choice_steady c (has_come (floor_tick limit) s.vars.tx_due && may_send c.active s.vars) (settling.periodic_packet c eff s) s
-      (periodic_packet_steady c eff s h steady) steady
+    (periodic_packet_steady c eff s h steady) steady
 
 settle_steady : (c : Config) (limit eff : ℕ) (s : Course) → eff < moment_bound → IsSteady c s.vars → IsSteady c (settling.settle c limit eff s).vars
 unfolding settling.settle
 settle_steady c limit eff s h steady =
     periodic_steady c limit eff (settling.sequence limit eff (settling.detection c limit eff s)) h
-      (sequence_steady c limit eff (settling.detection c limit eff s) h (detection_steady c limit eff s h steady))
+    (sequence_steady c limit eff (settling.detection c limit eff s) h (detection_steady c limit eff s h steady))
 
 -- the end of an event
 
@@ -180,7 +179,7 @@ extra_steady : (c : Config) (eff : ℕ) (s : Course) → eff < moment_bound → 
 unfolding finishing.extra finishing.extra_packet transmits sends
 extra_steady c eff s h steady =
     choice_steady c (is_news s.mark s.vars && not s.mark.answered && may_send c.active s.vars) (finishing.extra_packet c eff s) s
-      (based_steady c eff _ s.vars h steady) steady
+    (based_steady c eff _ s.vars h steady) steady
 
 share_most : (one : Bool) (interval : ℕ) → (if one then 9 * interval / 10 else interval) ≤ interval
 share_most true interval = omega arith
@@ -188,7 +187,7 @@ share_most false interval = omega arith
 
 -- a tick between these two lies below the bound of moments
 between_below : (base interval share j : ℕ) → base < 2 ^ 60 → interval < 2 ^ 32 → share ≤ interval
-  → let e : ℕ = (base + (3 * interval + 3) / 4 + 999) / 1000 in e + j % ((base + share) / 1000 - e + 1) < 2 ^ 60
+    → let e : ℕ = (base + (3 * interval + 3) / 4 + 999) / 1000 in e + j % ((base + share) / 1000 - e + 1) < 2 ^ 60
 between_below base interval share j h few least =
     let e : ℕ = (base + (3 * interval + 3) / 4 + 999) / 1000 in
     let below : j % ((base + share) / 1000 - e + 1) < (base + share) / 1000 - e + 1 = omega arith in
@@ -198,7 +197,7 @@ picked_below : (v : Vars) → tx_interval v < 2 ^ 32 → v.base < moment_bound �
 unfolding pick ceil_tick floor_tick
 picked_below v few base =
     between_below v.base (tx_interval v) (if v.mult == 1 then 9 * tx_interval v / 10 else tx_interval v) v.j base few
-      (share_most (v.mult == 1) (tx_interval v))
+    (share_most (v.mult == 1) (tx_interval v))
 
 interval_few : (c : Config) (v : Vars) → IsSteady c v → tx_interval v < 2 ^ 32
 interval_few c v steady = grind (arith, common_steps)
@@ -225,9 +224,9 @@ stands_there m v h =
     is_there v.tx_due inner.1
 
 drawn_by : (c : Config) (m : Mark) (v : Vars) (may anew : Bool) → may_send c.active v ≡ may → draws m v ≡ anew → IsSteady c v
-  → IsSound c (if may
-      then (if anew then record v { tx_due = Some (pick v.base (tx_interval v) v.mult v.j); j = next_j v.j } else v)
-      else record v { tx_due = None })
+    → IsSound c (if may
+    then (if anew then record v { tx_due = Some (pick v.base (tx_interval v) v.mult v.j); j = next_j v.j } else v)
+    else record v { tx_due = None })
 drawn_by c m v true true is anew steady = record {
   steady = due_steady c v (Some (pick v.base (tx_interval v) v.mult v.j)) (next_j v.j)
       (picked_below v (interval_few c v steady) steady.plain.base_below) steady;
@@ -251,8 +250,8 @@ finish_sound c eff s h steady =
 -- the whole tick
 
 pub tick_sound : (c : SessionConfig) (v : Vars) (limit eff : ℕ) → eff < moment_bound → session.IsSound c v
-  → session.IsSound c (tick_next c limit eff v)
+    → session.IsSound c (tick_next c limit eff v)
 unfolding tick_next tick
 tick_sound (Pair c) v limit eff h sound =
     finish_sound c eff (settling.settle c limit eff (begun None v [])) h
-      (settle_steady c limit eff (begun None v []) h sound.steady)
+    (settle_steady c limit eff (begun None v []) h sound.steady)

@@ -1,5 +1,4 @@
 -- What a session's machine shows.
-use Rattle.bfd_p2p.specs.Machine.{Machine as PairMachine}
 use Rattle.bfd_session.specs.declared.event.SessionConfig.TheVariants.{Pair}
 use Rattle.bfd_session.specs.declared.session.Machine.{Machine}
 use Rattle.bfd_session.specs.declared.session.Machine.TheVariants.{Pair as PairOf}

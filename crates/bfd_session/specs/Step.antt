@@ -1,5 +1,5 @@
 -- One event of a session: what has come due, the event's own rules, and the end of the event.
-use Rattle.std.specs.Prelude.{◌≡◌, ℕ, ◌*◌, Option, None, Some, List, [], true, false}
+use Rattle.std.specs.Prelude.{◌≡◌, ℕ, Option, None, Some, List, []}
 use Rattle.bfd_packet.specs.declared.discard.Test.TheVariants.{EchoStale}
 use Rattle.bfd_packet.specs.declared.arrival.Arrival.{Arrival}
 use Rattle.bfd_packet.specs.HeaderTests.{first_failing}
@@ -25,7 +25,7 @@ use Rattle.bfd_session.specs.declared.event.SessionConfig.TheVariants.{Pair}
 use Rattle.bfd_session.specs.declared.event.Event.{Event}
 use Rattle.bfd_session.specs.declared.event.Event.TheVariants.{Packet, Returned, Command, Show}
 use Rattle.bfd_session.specs.declared.event.Answer.{Answer}
-use Rattle.bfd_session.specs.declared.event.Answer.TheVariants.{Handled, Ticked, Dropped, Refused, Shown as Showing}
+use Rattle.bfd_session.specs.declared.event.Answer.TheVariants.{Handled, Dropped, Refused, Shown as Showing}
 use Rattle.bfd_session.specs.declared.event.Shown.{Shown}
 
 -- a configuration within its ranges
