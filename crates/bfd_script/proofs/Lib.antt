@@ -1,3 +1,3 @@
 pub mod Ascii
 pub mod Decimal
-pub mod Lines
+pub mod FirstLine

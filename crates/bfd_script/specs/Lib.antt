@@ -5,3 +5,4 @@ pub mod Entries
 pub mod Reading
 pub mod Gives
 pub mod Report
+pub mod Spelling

@@ -3,6 +3,7 @@ use Rattle.std.specs.Prelude.{ℕ, ◌+◌, ◌++◌, Bool, List, [], ◌∷◌,
 use Rattle.bfd_script.specs.declared.fault.LineFault.{LineFault}
 use Rattle.bfd_script.specs.declared.fault.LineFault.TheVariants.{MissingEnd, TooMany}
 use Rattle.bfd_script.specs.declared.fault.BadLine.{BadLine}
+use Rattle.bfd_session.specs.declared.event.SessionConfig.{SessionConfig}
 use Rattle.bfd_script.specs.declared.words.Place.{Place}
 use Rattle.bfd_script.specs.declared.words.Place.TheVariants as places
 use Rattle.bfd_script.specs.declared.entries.Line.{Line}
@@ -14,6 +15,8 @@ use Rattle.bfd_script.specs.Gives.{◌>>=◌}
 
 -- a script, as contracts see it
 pub record Lists : Type 0 where
+  -- the sessions, ascending by discriminator
+  pub configs : List SessionConfig
   -- the event lines, in the order of the text
   pub events : List Line
 
@@ -45,7 +48,7 @@ step live s line = entry_of s.place live line >>= λ entry. accepted entry s
 
 -- the text ended with this place, where the next line would have had this number
 abbrev pub finished_at : Place → ℕ → List Line → Result Lists BadLine
-finished_at places.Over number events = Ok (record { events = events })
+finished_at places.Over number events = Ok (record { configs = []; events = events })
 finished_at place number events = Err (record { line = number; fault = MissingEnd })
 
 -- the text ended

@@ -6,18 +6,36 @@ ghost use Rattle.bfd_script.specs.Gives.{Gives};
 use crate::fault::{LineFault, ReadFault};
 use crate::fields::{line_text, number, split_fields};
 use crate::words::{Place, Word, word_named};
-use bfd_num::{GREATEST_TICK, Tick};
+use bfd_num::{GREATEST_TICK, Moment, Tick};
+use bfd_packet::Arrival;
+use bfd_rules::Cmd;
 use std::alloc::Global;
 
 /// An event line.
-#[derive(Debug, Drop)]
+#[derive(Drop)]
 pub enum Line {
+    /// A packet came in.
+    Rx {
+        moment: Moment,
+        arrival: Arrival,
+    },
     /// The clock ticks.
     Tick(Tick),
+    /// A command to the session of this discriminator.
+    Cmd {
+        moment: Moment,
+        discr: u32,
+        cmd: Cmd,
+    },
+    /// The session of this discriminator is to show itself.
+    Show {
+        moment: Moment,
+        discr: u32,
+    },
 }
 
 /// What one line says.
-#[derive(Debug, Drop)]
+#[derive(Drop)]
 pub(crate) enum Entry {
     Version,
     Run,

@@ -20,7 +20,7 @@ fn first_lf(text: &[u8]) -> Option<usize>
 }
 
 /// The first line without its LF, and the text after it.
-#[tactic(auto, using(crate::proofs::Lines::first_of_more, crate::proofs::Lines::the_last))]
+#[tactic(auto, using(crate::proofs::FirstLine::first_of_more, crate::proofs::FirstLine::the_last))]
 pub(crate) fn first_line(text: &[u8]) -> (&[u8], &[u8])
     requires { 0 < length text.now }
     ensures lines { lines_of text.now ≡ result.0.now ∷ lines_of result.1.now }

@@ -16,7 +16,9 @@
 mod entries;
 mod fault;
 mod fields;
+mod names;
 mod reading;
+mod report;
 mod script;
 mod state;
 mod words;
@@ -24,6 +26,7 @@ mod words;
 pub use entries::Line;
 pub use fault::{BadLine, LineFault, ScriptFault};
 pub use reading::read;
+pub use report::lines;
 pub use script::Script;
 
 #[cfg(test)]

@@ -1,10 +1,13 @@
 // A script.
 use crate::entries::Line;
+use bfd_session::SessionConfig;
 use std::marker::Model;
 
 /// A script: what a packet file says. Contracts see it as the record `Lists`.
 #[derive(Drop)]
 pub struct Script {
+    /// The sessions, ascending by discriminator. There are at most 65,536.
+    pub configs: Vec<SessionConfig>,
     /// The event lines, in the order of the file. There are at most 200,000.
     pub events: Vec<Line>,
 }
@@ -14,5 +17,5 @@ impl Model for Script {
 
     ghost Value = { Lists };
 
-    ghost view = { λ s. record { events = s.events.items } };
+    ghost view = { λ s. record { configs = s.configs.items; events = s.events.items } };
 }

@@ -84,7 +84,10 @@ impl Reading {
     {
         let Reading { place, events } = self;
         match place {
-            Place::Over => Ok(Script { events }),
+            Place::Over => {
+                let configs = Vec::new(*events.allocator());
+                Ok(Script { configs, events })
+            },
             _ => Err(BadLine {
                 line: number,
                 fault: LineFault::MissingEnd,
