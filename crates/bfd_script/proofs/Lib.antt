@@ -1,3 +1,5 @@
 pub mod Ascii
 pub mod Decimal
 pub mod FirstLine
+pub mod Inserting
+pub mod Kept

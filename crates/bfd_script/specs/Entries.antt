@@ -1,6 +1,6 @@
 -- What one line says, and its first fault.
-use Rattle.std.specs.Prelude.{ℕ, Bool, List, [], ◌∷◌, Option, Some, None, Result, Ok, Err, if◌then◌else◌}
-use Rattle.bfd_num.specs.Numbers.{greatest_tick}
+use Rattle.std.specs.Prelude.{ℕ, Bool, List, [], ◌∷◌, ◌-◌, Option, Some, None, length, ◌==◌, Result, Ok, Err, if◌then◌else◌}
+use Rattle.bfd_num.specs.Numbers.{moment_bound, greatest_tick}
 use Rattle.bfd_script.specs.declared.fault.LineFault.{LineFault}
 use Rattle.bfd_script.specs.declared.fault.LineFault.TheVariants.{UnknownWord, FieldCount, Order, NotBuilt}
 use Rattle.bfd_script.specs.declared.words.Word.{Word}
@@ -9,8 +9,10 @@ use Rattle.bfd_script.specs.declared.words.Place.{Place}
 use Rattle.bfd_script.specs.declared.entries.Entry.{Entry}
 use Rattle.bfd_script.specs.declared.entries.Entry.TheVariants as entries
 use Rattle.bfd_script.specs.declared.entries.Line.TheVariants as events
+use Rattle.bfd_script.specs.Arrivals.{port_of, arrival_fields}
 use Rattle.bfd_script.specs.Fields.{text_of, fields_of, number_in}
 use Rattle.bfd_script.specs.Gives.{◌>>=◌}
+use Rattle.bfd_script.specs.Pairs.{pair_of}
 use Rattle.bfd_script.specs.Words.{word_of, stands}
 
 -- a line that is its word alone
@@ -28,10 +30,34 @@ abbrev pub ticked : List (List ℕ) → Result Entry LineFault
 ticked (number ∷ []) = number_in 0 greatest_tick number >>= λ tick. Ok (entries.Event (events.Tick tick))
 ticked values = Err FieldCount
 
+-- `p2p DISCR single|multi IFACE LOCAL REMOTE active|passive TX RX MULT ECHO SEED`
+abbrev pub row_of : List (List ℕ) → Result Entry LineFault
+row_of values = pair_of values >>= λ config. Ok (entries.Row config)
+
+-- an `rx` line of these values
+unfoldable pub received_of : List ℕ → List ℕ → List ℕ → List (List ℕ) → Result Entry LineFault
+received_of moment port iface rest = do
+  moment ← number_in 0 (moment_bound - 1) moment
+  port ← port_of port
+  iface ← number_in 0 65535 iface
+  arrival ← arrival_fields port iface rest
+  Ok (entries.Event (events.Rx moment arrival))
+
+-- an `rx` line: the last four values are the packet's own
+abbrev pub received_fields : List (List ℕ) → Result Entry LineFault
+received_fields (moment ∷ port ∷ iface ∷ rest) = received_of moment port iface rest
+received_fields values = Err FieldCount
+
+-- `rx MOMENT single|multi|echo|sbfd|answer IFACE SRC DST TTL HEX`
+abbrev pub received : List (List ℕ) → Result Entry LineFault
+received values = if length values == 7 then received_fields values else Err FieldCount
+
 -- what the values of a word say
 abbrev pub valued : Word → List (List ℕ) → Result Entry LineFault
 valued words.Bfd values = version values
+valued words.P2p values = row_of values
 valued words.Run values = alone entries.Run values
+valued words.Rx values = received values
 valued words.Tick values = ticked values
 valued words.End values = alone entries.End values
 valued word values = Err NotBuilt

@@ -6,3 +6,10 @@ pub mod Reading
 pub mod Gives
 pub mod Report
 pub mod Spelling
+pub mod Selecting
+pub mod Rows
+pub mod Sound
+pub mod Tables
+pub mod Values
+pub mod Pairs
+pub mod Arrivals

@@ -1,17 +1,23 @@
 -- A whole text: the script that it spells, or its first faulty line with that line's first fault.
-use Rattle.std.specs.Prelude.{ℕ, ◌+◌, ◌++◌, Bool, List, [], ◌∷◌, length, nat_le, Result, Ok, Err, if◌then◌else◌}
+use Rattle.std.specs.Prelude.{ℕ, ◌+◌, ◌++◌, ◌==◌, Bool, true, false, not, List, [], ◌∷◌, length, nat_le, Result, Ok, Err, if◌then◌else◌}
 use Rattle.bfd_script.specs.declared.fault.LineFault.{LineFault}
-use Rattle.bfd_script.specs.declared.fault.LineFault.TheVariants.{MissingEnd, TooMany}
+use Rattle.bfd_script.specs.declared.fault.LineFault.TheVariants.{SameDiscr, SameAddresses, MissingEnd, TooMany, NotBuilt}
 use Rattle.bfd_script.specs.declared.fault.BadLine.{BadLine}
+use Rattle.bfd_packet.specs.declared.arrival.Port.{Port}
+use Rattle.bfd_packet.specs.declared.arrival.Port.TheVariants as ports
 use Rattle.bfd_session.specs.declared.event.SessionConfig.{SessionConfig}
+use Rattle.bfd_session.specs.declared.event.SessionConfig.TheVariants.{Pair}
+use Rattle.bfd_session.specs.Kinds.{discr_of}
 use Rattle.bfd_script.specs.declared.words.Place.{Place}
 use Rattle.bfd_script.specs.declared.words.Place.TheVariants as places
 use Rattle.bfd_script.specs.declared.entries.Line.{Line}
+use Rattle.bfd_script.specs.declared.entries.Line.TheVariants as events
 use Rattle.bfd_script.specs.declared.entries.Entry.{Entry}
 use Rattle.bfd_script.specs.declared.entries.Entry.TheVariants as entries
 use Rattle.bfd_script.specs.Entries.{entry_of}
 use Rattle.bfd_script.specs.Fields.{lines_of}
 use Rattle.bfd_script.specs.Gives.{◌>>=◌}
+use Rattle.bfd_script.specs.Rows.{has_discr, has_place, inserted}
 
 -- a script, as contracts see it
 pub record Lists : Type 0 where
@@ -24,21 +30,52 @@ pub record Lists : Type 0 where
 pub record State : Type 0 where
   -- what may come next
   pub place : Place
+  -- the sessions so far, ascending by discriminator
+  pub configs : List SessionConfig
   -- the event lines so far
   pub events : List Line
 
 -- before the first line
 abbrev pub start : State
-start = record { place = places.Version; events = [] }
+start = record { place = places.Version; configs = []; events = [] }
+
+-- a session that this program serves: the Echo function isn't built
+abbrev pub is_built : SessionConfig → Bool
+is_built (Pair c) = c.echo == 0
+
+-- a port that this program serves
+abbrev pub is_built_port : Port → Bool
+is_built_port ports.Single = true
+is_built_port ports.Multi = true
+is_built_port port = false
+
+-- an event that this program serves
+abbrev pub is_built_line : Line → Bool
+is_built_line (events.Rx moment arrival) = is_built_port arrival.port
+is_built_line (events.Tick tick) = true
+is_built_line event = false
+
+-- one more table row: its discriminator and its selecting addresses are new, and there are at most 65,536
+abbrev pub with_config : SessionConfig → State → Result State LineFault
+with_config config s =
+    if has_discr (discr_of config) s.configs then Err SameDiscr
+    else if has_place config s.configs then Err SameAddresses
+    else if nat_le 65536 (length s.configs) then Err TooMany
+    else if not (is_built config) then Err NotBuilt
+    else Ok (record s { configs = inserted config s.configs })
 
 -- one more event line: there are at most 200,000
 abbrev pub with_event : Line → State → Result State LineFault
-with_event event s = if nat_le 200000 (length s.events) then Err TooMany else Ok (record s { events = s.events ++ event ∷ [] })
+with_event event s =
+    if nat_le 200000 (length s.events) then Err TooMany
+    else if not (is_built_line event) then Err NotBuilt
+    else Ok (record s { events = s.events ++ event ∷ [] })
 
 -- a line is taken after those before it, or has a fault because of them
 abbrev pub accepted : Entry → State → Result State LineFault
 accepted entries.Version s = Ok (record s { place = places.Table })
 accepted entries.Run s = Ok (record s { place = places.Events })
+accepted (entries.Row config) s = with_config config s
 accepted (entries.Event event) s = with_event event s
 accepted entries.End s = Ok (record s { place = places.Over })
 
@@ -47,13 +84,13 @@ abbrev pub step : Bool → State → List ℕ → Result State LineFault
 step live s line = entry_of s.place live line >>= λ entry. accepted entry s
 
 -- the text ended with this place, where the next line would have had this number
-abbrev pub finished_at : Place → ℕ → List Line → Result Lists BadLine
-finished_at places.Over number events = Ok (record { configs = []; events = events })
-finished_at place number events = Err (record { line = number; fault = MissingEnd })
+abbrev pub finished_at : Place → ℕ → Lists → Result Lists BadLine
+finished_at places.Over number script = Ok script
+finished_at place number script = Err (record { line = number; fault = MissingEnd })
 
 -- the text ended
 abbrev pub finished : ℕ → State → Result Lists BadLine
-finished number s = finished_at s.place number s.events
+finished number s = finished_at s.place number (record { configs = s.configs; events = s.events })
 
 -- go on, or stop at the faulty line of this number
 abbrev pub after : {X Y : Type 0} → ℕ → Result X LineFault → (X → Result Y BadLine) → Result Y BadLine

@@ -1,15 +1,22 @@
 // What one line says.
-ghost use Rattle.std.specs.Prelude.{◌≡◌, map};
-ghost use Rattle.bfd_script.specs.Entries.{alone, entry_of, ticked, valued, version, worded};
+ghost use Rattle.std.specs.Prelude.{◌≡◌, IfOk, map};
+ghost use Rattle.bfd_script.specs.Entries.{alone, entry_of, received, received_fields, received_of, row_of, ticked, valued, version, worded};
 ghost use Rattle.bfd_script.specs.Gives.{Gives};
+ghost use Rattle.bfd_script.specs.Sound.{IsEntry};
 
+use crate::arrivals::{port_named, read_arrival};
 use crate::fault::{LineFault, ReadFault};
 use crate::fields::{line_text, number, split_fields};
+use crate::pairs::read_pair;
 use crate::words::{Place, Word, word_named};
-use bfd_num::{GREATEST_TICK, Moment, Tick};
+use bfd_num::{GREATEST_TICK, MOMENT_BOUND, Moment, Tick};
 use bfd_packet::Arrival;
 use bfd_rules::Cmd;
+use bfd_session::SessionConfig;
 use std::alloc::Global;
+
+/// The values of an `rx` line.
+const RECEIVED_VALUES: usize = 7;
 
 /// An event line.
 #[derive(Drop)]
@@ -38,6 +45,7 @@ pub enum Line {
 #[derive(Drop)]
 pub(crate) enum Entry {
     Version,
+    Row(SessionConfig),
     Run,
     Event(Line),
     End,
@@ -45,7 +53,9 @@ pub(crate) enum Entry {
 
 /// A line that is its word alone.
 fn read_alone(entry: Entry, values: &[&str]) -> Result<Entry, LineFault>
-    ensures { result ≡ alone entry (map (λ value. value.now) values.now) }
+    requires { IsEntry entry }
+    ensures value { result ≡ alone entry (map (λ value. value.now) values.now) }
+    ensures sound { IfOk result IsEntry }
 {
     match values {
         [] => Ok(entry),
@@ -55,7 +65,8 @@ fn read_alone(entry: Entry, values: &[&str]) -> Result<Entry, LineFault>
 
 /// `bfd VERSION`
 fn read_version(values: &[&str]) -> Result<Entry, LineFault>
-    ensures { result ≡ version (map (λ value. value.now) values.now) }
+    ensures value { result ≡ version (map (λ value. value.now) values.now) }
+    ensures sound { IfOk result IsEntry }
 {
     match values {
         [value] => {
@@ -68,7 +79,8 @@ fn read_version(values: &[&str]) -> Result<Entry, LineFault>
 
 /// `tick T`
 fn read_tick(values: &[&str]) -> Result<Entry, LineFault>
-    ensures { result ≡ ticked (map (λ value. value.now) values.now) }
+    ensures value { result ≡ ticked (map (λ value. value.now) values.now) }
+    ensures sound { IfOk result IsEntry }
 {
     match values {
         [value] => {
@@ -79,33 +91,90 @@ fn read_tick(values: &[&str]) -> Result<Entry, LineFault>
     }
 }
 
+/// An `rx` line of these values.
+#[tactic(auto, unfolding(crate::specs::Entries::received_of))]
+fn received(
+    alloc: Global,
+    moment: &str,
+    port: &str,
+    iface: &str,
+    rest: &[&str],
+) -> Result<Entry, ReadFault>
+    ensures value { Gives (λ entry. entry) result (received_of moment.now port.now iface.now (map (λ value. value.now) rest.now)) }
+    ensures sound { IfOk result IsEntry }
+{
+    let moment = number(moment, 0, MOMENT_BOUND - 1)?;
+    let port = port_named(port)?;
+    let iface = number(iface, 0, 65_535)? as u32;
+    let arrival = read_arrival(alloc, port, iface, rest)?;
+    Ok(Entry::Event(Line::Rx {
+        moment: Moment::new(moment).unwrap(),
+        arrival,
+    }))
+}
+
+/// The values of an `rx` line, of which there are seven.
+fn received_fields(alloc: Global, values: &[&str]) -> Result<Entry, ReadFault>
+    ensures value { Gives (λ entry. entry) result (received_fields (map (λ value. value.now) values.now)) }
+    ensures sound { IfOk result IsEntry }
+{
+    match values {
+        [moment, port, iface, rest @ ..] => received(alloc, moment, port, iface, rest),
+        _ => Err(ReadFault::Fault(LineFault::FieldCount)),
+    }
+}
+
+/// `rx MOMENT single|multi|echo|sbfd|answer IFACE SRC DST TTL HEX`
+fn read_received(alloc: Global, values: &[&str]) -> Result<Entry, ReadFault>
+    ensures value { Gives (λ entry. entry) result (received (map (λ value. value.now) values.now)) }
+    ensures sound { IfOk result IsEntry }
+{
+    if values.len() != RECEIVED_VALUES {
+        return Err(ReadFault::Fault(LineFault::FieldCount));
+    }
+    received_fields(alloc, values)
+}
+
+/// `p2p DISCR single|multi IFACE LOCAL REMOTE active|passive TX RX MULT ECHO SEED`
+fn read_row(alloc: Global, values: &[&str]) -> Result<Entry, ReadFault>
+    ensures value { Gives (λ entry. entry) result (row_of (map (λ value. value.now) values.now)) }
+    ensures sound { IfOk result IsEntry }
+{
+    let config = read_pair(alloc, values)?;
+    Ok(Entry::Row(config))
+}
+
 /// What the values of a word say.
-fn read_values(word: Word, values: &[&str]) -> Result<Entry, LineFault>
-    ensures { result ≡ valued word (map (λ value. value.now) values.now) }
+fn read_values(alloc: Global, word: Word, values: &[&str]) -> Result<Entry, ReadFault>
+    ensures value { Gives (λ entry. entry) result (valued word (map (λ value. value.now) values.now)) }
+    ensures sound { IfOk result IsEntry }
 {
     match word {
-        Word::Bfd => read_version(values),
-        Word::Run => read_alone(Entry::Run, values),
-        Word::Tick => read_tick(values),
-        Word::End => read_alone(Entry::End, values),
-        _ => Err(LineFault::NotBuilt),
+        Word::Bfd => Ok(read_version(values)?),
+        Word::P2p => read_row(alloc, values),
+        Word::Run => Ok(read_alone(Entry::Run, values)?),
+        Word::Rx => read_received(alloc, values),
+        Word::Tick => Ok(read_tick(values)?),
+        Word::End => Ok(read_alone(Entry::End, values)?),
+        _ => Err(ReadFault::Fault(LineFault::NotBuilt)),
     }
 }
 
 /// What the fields of a line say.
-fn read_fields(place: Place, live: bool, fields: &[&str]) -> Result<Entry, LineFault>
-    ensures { result ≡ worded place live (map (λ field. field.now) fields.now) }
+fn read_fields(alloc: Global, place: Place, live: bool, fields: &[&str]) -> Result<Entry, ReadFault>
+    ensures value { Gives (λ entry. entry) result (worded place live (map (λ field. field.now) fields.now)) }
+    ensures sound { IfOk result IsEntry }
 {
     let Some((name, values)) = fields.split_first() else {
-        return Err(LineFault::UnknownWord);
+        return Err(ReadFault::Fault(LineFault::UnknownWord));
     };
     let Some(word) = word_named(name) else {
-        return Err(LineFault::UnknownWord);
+        return Err(ReadFault::Fault(LineFault::UnknownWord));
     };
     if !place.takes(live, word) {
-        return Err(LineFault::Order);
+        return Err(ReadFault::Fault(LineFault::Order));
     }
-    read_values(word, values)
+    read_values(alloc, word, values)
 }
 
 /// What a line says by itself, or the first of its faults that it has by itself.
@@ -115,9 +184,10 @@ pub(crate) fn read_line(
     live: bool,
     line: &[u8],
 ) -> Result<Entry, ReadFault>
-    ensures { Gives (λ entry. entry) result (entry_of place live line.now) }
+    ensures value { Gives (λ entry. entry) result (entry_of place live line.now) }
+    ensures sound { IfOk result IsEntry }
 {
     let text = line_text(line)?;
     let fields = split_fields(alloc, text)?;
-    Ok(read_fields(place, live, &fields)?)
+    read_fields(alloc, place, live, &fields)
 }

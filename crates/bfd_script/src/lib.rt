@@ -1,26 +1,37 @@
-//! bfd_script: the packet file.
+//! bfd_script: the packet file and the report.
 //!
 //! A packet file is a text of lines: the version, a table of sessions, `run`, event lines and `end`. This crate is the home
-//! of its grammar. [`read`] answers the script that the bytes spell, or the first faulty line with that line's first fault:
-//! `specs/Reading.antt` says which, as a definition over lists that knows nothing of the code.
+//! of its grammar, and of the text that a report gives each event. [`read`] answers the script that the bytes spell, or the
+//! first faulty line with that line's first fault: `specs/Reading.antt` says which, as a definition over lists that knows
+//! nothing of the code. A script that it answers is sound, as `specs/Sound.antt` says: sessions ascend by discriminator,
+//! each is within its ranges, and no two have the same selecting addresses. [`lines`] appends the report lines of one event,
+//! which `specs/Report.antt` defines.
 //!
 //! Layers, lowest first: `fault` (what can be wrong), `words` (the words and where they may stand), `fields` (lines, fields
-//! and numbers), `entries` (what one line says), `state` (what is kept from line to line), `reading` (the whole text).
+//! and numbers), `values` (addresses and bytes), `pairs` and `arrivals` (the values of a table line and of a packet),
+//! `entries` (what one line says), `selecting` and `table` (the sessions so far), `state` (what is kept from line to line),
+//! `reading` (the whole text); beside them `names` and `report`.
 //!
-//! Built so far are the words `bfd`, `run`, `tick` and `end`. Every other word of version 1 is known, and is answered
-//! with [`LineFault::NotBuilt`] where it may stand.
+//! Built so far are the words `bfd`, `p2p`, `run`, `rx`, `tick` and `end`. Every other word of version 1 is known, and is
+//! answered with [`LineFault::NotBuilt`] where it may stand. A `p2p` line with an interval of the Echo function, and an `rx`
+//! line on another port than `single` and `multi`, are answered with it where they have no other fault.
 //!
-//! It stands on `bfd_num`.
+//! It stands on `bfd_num`, `bfd_packet`, `bfd_rules` and `bfd_session`, and on `byteorder` and `hex`.
 #![tactic(auto)]
 
+mod arrivals;
 mod entries;
 mod fault;
 mod fields;
 mod names;
+mod pairs;
 mod reading;
 mod report;
 mod script;
+mod selecting;
 mod state;
+mod table;
+mod values;
 mod words;
 
 pub use entries::Line;

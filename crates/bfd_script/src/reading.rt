@@ -1,6 +1,8 @@
 // The whole text.
+ghost use Rattle.std.specs.Prelude.{IfOk};
 ghost use Rattle.bfd_script.specs.Gives.{Gives, GivesScript};
 ghost use Rattle.bfd_script.specs.Reading.{script_of, step};
+ghost use Rattle.bfd_script.specs.Sound.{IsScript};
 
 use crate::entries::read_line;
 use crate::fault::{BadLine, ReadFault, ScriptFault};
@@ -21,7 +23,8 @@ fn read_step(alloc: Global, live: bool, reading: Reading, line: &[u8]) -> Result
 ///
 /// In a `live` script the lines `rx` and `tick` may not stand, since packets and ticks come from outside.
 pub fn read(alloc: Global, bytes: &[u8], live: bool) -> Result<Script, ScriptFault>
-    ensures { GivesScript result (script_of live bytes.now) }
+    ensures script { GivesScript result (script_of live bytes.now) }
+    ensures sound { IfOk result IsScript }
 {
     let mut reading = Reading::new(alloc);
     let mut rest = bytes;
@@ -41,8 +44,5 @@ pub fn read(alloc: Global, bytes: &[u8], live: bool) -> Result<Script, ScriptFau
         rest = after;
         number += 1;
     }
-    match reading.finish(number) {
-        Ok(script) => Ok(script),
-        Err(bad) => Err(ScriptFault::Bad(bad)),
-    }
+    reading.finish(alloc, number)
 }

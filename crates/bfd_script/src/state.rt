@@ -1,14 +1,23 @@
 // What is kept from line to line.
-ghost use Rattle.std.specs.Prelude.{◌≡◌};
-ghost use Rattle.bfd_script.specs.Gives.{Gives};
-ghost use Rattle.bfd_script.specs.Reading.{accepted, finished, start, with_event};
+ghost use Rattle.std.specs.Prelude.{◌≡◌, IfOk};
+ghost use Rattle.bfd_session.specs.Step.{IsFit};
+ghost use Rattle.bfd_script.specs.Gives.{Gives, GivesScript};
+ghost use Rattle.bfd_script.specs.Reading as reading;
+ghost use Rattle.bfd_script.specs.Reading.{accepted, finished, start, with_config, with_event};
+ghost use Rattle.bfd_script.specs.Sound.{IsEntry, IsEvent, IsRow, IsScript};
 
 use crate::entries::{Entry, Line};
-use crate::fault::{BadLine, LineFault, ReadFault};
+use crate::fault::{BadLine, LineFault, ReadFault, ScriptFault};
 use crate::script::Script;
+use crate::table::Table;
 use crate::words::Place;
+use bfd_packet::Port;
+use bfd_session::SessionConfig;
 use std::alloc::Global;
 use std::marker::Model;
+
+/// The most table rows of a script.
+const MOST_ROWS: usize = 65_536;
 
 /// The most event lines of a script.
 const MOST_EVENTS: usize = 200_000;
@@ -17,15 +26,38 @@ const MOST_EVENTS: usize = 200_000;
 #[derive(Drop)]
 pub(crate) struct Reading {
     place: Place,
+    table: Table,
     events: Vec<Line>,
 }
 
 impl Model for Reading {
     ghost use Rattle.bfd_script.specs.Reading.{State};
+    ghost use Rattle.bfd_script.specs.Sound.{AreEvents};
 
     ghost Value = { State };
 
-    ghost view = { λ r. record { place = r.place; events = r.events.items } };
+    ghost view = { λ r. record { place = r.place; configs = r.table; events = r.events.items } };
+
+    ghost invariant = { λ r. AreEvents r.events.items };
+}
+
+/// Whether this program serves the session.
+fn is_built(config: &SessionConfig) -> bool
+    ensures { result ≡ reading.is_built config.now }
+{
+    let SessionConfig::Pair(pair) = config;
+    pair.echo == 0
+}
+
+/// Whether this program serves the event.
+fn is_built_line(line: &Line) -> bool
+    ensures { result ≡ reading.is_built_line line.now }
+{
+    match line {
+        Line::Rx { moment: _, arrival } => matches!(arrival.port, Port::Single | Port::Multi),
+        Line::Tick(_) => true,
+        Line::Cmd { .. } | Line::Show { .. } => false,
+    }
 }
 
 impl Reading {
@@ -35,6 +67,7 @@ impl Reading {
     {
         Reading {
             place: Place::Version,
+            table: Table::new(alloc),
             events: Vec::new(alloc),
         }
     }
@@ -46,24 +79,70 @@ impl Reading {
         self.place
     }
 
-    /// One more event line: refused where there are 200,000.
+    /// One more table row: refused where its discriminator or its selecting addresses are there, where there are 65,536,
+    /// and where this program doesn't serve it.
+    fn with_row(self, config: SessionConfig) -> Result<Reading, ReadFault>
+        requires fit { IsFit config }
+        requires row { IsRow config }
+        ensures { Gives (λ s. s) result (with_config config self) }
+    {
+        let Reading {
+            place,
+            table,
+            events,
+        } = self;
+        if table.has_discr(config.discr()) {
+            return Err(ReadFault::Fault(LineFault::SameDiscr));
+        }
+        if table.has_place(&config) {
+            return Err(ReadFault::Fault(LineFault::SameAddresses));
+        }
+        if table.len() >= MOST_ROWS {
+            return Err(ReadFault::Fault(LineFault::TooMany));
+        }
+        if !is_built(&config) {
+            return Err(ReadFault::Fault(LineFault::NotBuilt));
+        }
+        let table = table.with(config)?;
+        Ok(Reading {
+            place,
+            table,
+            events,
+        })
+    }
+
+    /// One more event line: refused where there are 200,000, and where this program doesn't serve it.
     fn with_line(self, line: Line) -> Result<Reading, ReadFault>
+        requires { IsEvent line }
         ensures { Gives (λ s. s) result (with_event line self) }
     {
-        let Reading { place, mut events } = self;
+        let Reading {
+            place,
+            table,
+            mut events,
+        } = self;
         if events.len() >= MOST_EVENTS {
             return Err(ReadFault::Fault(LineFault::TooMany));
         }
+        if !is_built_line(&line) {
+            return Err(ReadFault::Fault(LineFault::NotBuilt));
+        }
         events.push(line)?;
-        Ok(Reading { place, events })
+        Ok(Reading {
+            place,
+            table,
+            events,
+        })
     }
 
     /// The state after a line that says this, or the fault that it has because of the lines before it.
     pub(crate) fn accept(self, entry: Entry) -> Result<Reading, ReadFault>
+        requires { IsEntry entry }
         ensures { Gives (λ s. s) result (accepted entry self) }
     {
         match entry {
             Entry::Version => Ok(self.at(Place::Table)),
+            Entry::Row(config) => self.with_row(config),
             Entry::Run => Ok(self.at(Place::Events)),
             Entry::Event(line) => self.with_line(line),
             Entry::End => Ok(self.at(Place::Over)),
@@ -74,24 +153,37 @@ impl Reading {
     fn at(self, place: Place) -> Reading
         ensures { result ≡ record self { place = place } }
     {
-        let Reading { place: _, events } = self;
-        Reading { place, events }
+        let Reading {
+            place: _,
+            table,
+            events,
+        } = self;
+        Reading {
+            place,
+            table,
+            events,
+        }
     }
 
     /// The script, where the text ended after `end`; `number` is that of the line that would come next.
-    pub(crate) fn finish(self, number: u64) -> Result<Script, BadLine>
-        ensures { result ≡ finished number self }
+    pub(crate) fn finish(self, alloc: Global, number: u64) -> Result<Script, ScriptFault>
+        ensures script { GivesScript result (finished number self) }
+        ensures sound { IfOk result IsScript }
     {
-        let Reading { place, events } = self;
+        let Reading {
+            place,
+            table,
+            events,
+        } = self;
         match place {
-            Place::Over => {
-                let configs = Vec::new(*events.allocator());
-                Ok(Script { configs, events })
+            Place::Over => match table.into_rows(alloc) {
+                Ok(configs) => Ok(Script { configs, events }),
+                Err(_) => Err(ScriptFault::Memory),
             },
-            _ => Err(BadLine {
+            _ => Err(ScriptFault::Bad(BadLine {
                 line: number,
                 fault: LineFault::MissingEnd,
-            }),
+            })),
         }
     }
 }

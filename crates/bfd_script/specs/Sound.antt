@@ -1,0 +1,89 @@
+-- What is true of each script that the grammar gives.
+use Rattle.std.specs.Prelude.{◌≡◌, ◌<◌, ◌≤◌, ◌^◌, ℕ, true, false, None, List, [], ◌∷◌, length}
+use Rattle.hex.specs.Hex.{IsBytes}
+use Rattle.bfd_num.specs.Numbers.{moment_bound, greatest_tick}
+use Rattle.bfd_packet.specs.declared.arrival.Arrival.{Arrival}
+use Rattle.bfd_rules.specs.declared.config.Config.{Config}
+use Rattle.bfd_session.specs.declared.event.SessionConfig.{SessionConfig}
+use Rattle.bfd_session.specs.declared.event.SessionConfig.TheVariants.{Pair}
+use Rattle.bfd_session.specs.Kinds.{discr_of}
+use Rattle.bfd_session.specs.Step.{IsFit}
+use Rattle.bfd_script.specs.declared.entries.Entry.{Entry}
+use Rattle.bfd_script.specs.declared.entries.Entry.TheVariants as entries
+use Rattle.bfd_script.specs.declared.entries.Line.{Line}
+use Rattle.bfd_script.specs.declared.entries.Line.TheVariants as events
+use Rattle.bfd_script.specs.Reading.{Lists, is_built, is_built_line}
+use Rattle.bfd_script.specs.Selecting.{same_selector}
+use Rattle.bfd_script.specs.Values.{IsAddress}
+
+-- a fact is true of each element
+abbrev pub Each : {X : Type 0} → (X → Type 0) → List X → Type 0
+Each P [] = Unit {0}
+Each P (x ∷ xs) = P x × Each P xs
+
+-- sessions stand strictly ascending by discriminator
+abbrev pub Ascends : List SessionConfig → Type 0
+Ascends [] = Unit {0}
+Ascends (config ∷ configs) = Each (λ later. discr_of config < discr_of later) configs × Ascends configs
+
+-- no two sessions have the same selecting addresses
+abbrev pub Differs : List SessionConfig → Type 0
+Differs [] = Unit {0}
+Differs (config ∷ configs) = Each (λ later. same_selector config later ≡ false) configs × Differs configs
+
+-- the numbers of a `p2p` line fit their fields, and it has no keys
+pub record IsPairRow (c : Config) : Type 0 where
+  pub discr : c.discr < 2 ^ 32
+  pub local : IsAddress c.local
+  pub remote : IsAddress c.remote
+  pub mult : c.mult < 256
+  pub seed : c.seed < 2 ^ 32
+  pub no_keys : c.keys ≡ None
+
+-- a session as its table row gives it
+abbrev pub IsRow : SessionConfig → Type 0
+IsRow (Pair c) = IsPairRow c
+
+-- the numbers of an `rx` line fit their fields; at most 256 bytes of the payload are kept
+pub record IsReceived (moment : ℕ) (arrival : Arrival) : Type 0 where
+  pub moment_below : moment < moment_bound
+  pub iface : arrival.iface < 65536
+  pub src : IsAddress arrival.src
+  pub sport : arrival.sport ≡ 49152
+  pub dst : IsAddress arrival.dst
+  pub ttl : arrival.ttl < 256
+  pub bytes : IsBytes arrival.payload
+  pub short : length arrival.payload ≤ 256
+
+-- an event as its line gives it
+abbrev pub IsEvent : Line → Type 0
+IsEvent (events.Rx moment arrival) = IsReceived moment arrival
+IsEvent (events.Tick tick) = tick ≤ greatest_tick
+IsEvent event = Unit {0}
+
+-- what a line says, as the line gives it
+abbrev pub IsEntry : Entry → Type 0
+IsEntry (entries.Row config) = IsFit config × IsRow config
+IsEntry (entries.Event event) = IsEvent event
+IsEntry entry = Unit {0}
+
+-- a table of sessions: strictly ascending by discriminator, each within its ranges, no two with the same selecting
+-- addresses, and at most 65,536
+pub record AreConfigs (configs : List SessionConfig) : Type 0 where
+  pub ascends : Ascends configs
+  pub differs : Differs configs
+  pub fit : Each IsFit configs
+  pub rows : Each IsRow configs
+  pub built : Each (λ c. is_built c ≡ true) configs
+  pub few : length configs ≤ 65536
+
+-- events: at most 200,000
+pub record AreEvents (events : List Line) : Type 0 where
+  pub lines : Each IsEvent events
+  pub built : Each (λ e. is_built_line e ≡ true) events
+  pub few : length events ≤ 200000
+
+-- a script that the grammar gives
+pub record IsScript (script : Lists) : Type 0 where
+  pub configs : AreConfigs script.configs
+  pub events : AreEvents script.events

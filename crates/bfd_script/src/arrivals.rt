@@ -1,0 +1,76 @@
+// The packet of an event line.
+ghost use Rattle.std.specs.Prelude.{◌≡◌, ◌<◌, ℕ, IfOk, map};
+ghost use Rattle.bfd_num.specs.Numbers.{moment_bound};
+ghost use Rattle.bfd_script.specs.Arrivals.{arrival_fields, arrival_of, port_of};
+ghost use Rattle.bfd_script.specs.Gives.{Gives};
+ghost use Rattle.bfd_script.specs.Sound.{IsReceived};
+
+use crate::fault::{LineFault, ReadFault};
+use crate::fields::number;
+use crate::values::{address, payload_read};
+use bfd_packet::{Arrival, Port};
+use std::alloc::Global;
+
+/// The source port of every packet.
+const SOURCE_PORT: u16 = 49_152;
+
+/// The kind of port.
+pub(crate) fn port_named(field: &str) -> Result<Port, LineFault>
+    ensures { result ≡ port_of field.now }
+{
+    match field {
+        "single" => Ok(Port::Single),
+        "multi" => Ok(Port::Multi),
+        "echo" => Ok(Port::Echo),
+        "sbfd" => Ok(Port::Sbfd),
+        "answer" => Ok(Port::Answer),
+        _ => Err(LineFault::UnknownWord),
+    }
+}
+
+/// A packet of the last four values.
+#[tactic(auto, unfolding(crate::specs::Arrivals::arrival_of))]
+fn arrival(
+    alloc: Global,
+    port: Port,
+    iface: u32,
+    src: &str,
+    dst: &str,
+    ttl: &str,
+    payload: &str,
+) -> Result<Arrival, ReadFault>
+    requires { iface < 65536 }
+    ensures value { Gives (λ a. a) result (arrival_of port iface src.now dst.now ttl.now payload.now) }
+    ensures sound { IfOk result (λ a. (m : ℕ) → m < moment_bound → IsReceived m a) }
+{
+    let src = address(alloc, src)?;
+    let dst = address(alloc, dst)?;
+    let ttl = number(ttl, 0, 255)? as u8;
+    let payload = payload_read(alloc, payload)?;
+    Ok(Arrival {
+        port,
+        iface,
+        src,
+        sport: SOURCE_PORT,
+        dst,
+        ttl,
+        payload,
+    })
+}
+
+/// A packet that came on this port and interface, of the last four of the values.
+pub(crate) fn read_arrival(
+    alloc: Global,
+    port: Port,
+    iface: u32,
+    values: &[&str],
+) -> Result<Arrival, ReadFault>
+    requires { iface < 65536 }
+    ensures value { Gives (λ a. a) result (arrival_fields port iface (map (λ value. value.now) values.now)) }
+    ensures sound { IfOk result (λ a. (m : ℕ) → m < moment_bound → IsReceived m a) }
+{
+    match values {
+        [src, dst, ttl, payload] => arrival(alloc, port, iface, src, dst, ttl, payload),
+        _ => Err(ReadFault::Fault(LineFault::FieldCount)),
+    }
+}

@@ -1,0 +1,211 @@
+// The table line of a point-to-point session.
+ghost use Rattle.std.specs.Prelude.{◌≡◌, IfOk, IsTrue, map};
+ghost use Rattle.bfd_rules.specs.Sound.{is_echo_interval};
+ghost use Rattle.bfd_session.specs.Step.{IsFit};
+ghost use Rattle.bfd_script.specs.Gives.{Gives};
+ghost use Rattle.bfd_script.specs.Pairs.{AreEnds, IsTiming, active_of, config_by, echo_of, ends_of, pair_fields, pair_of, pair_with, role_of, timing_fields, timing_of};
+ghost use Rattle.bfd_script.specs.Sound.{IsRow};
+
+use crate::fault::{LineFault, ReadFault};
+use crate::fields::number;
+use crate::values::address;
+use bfd_packet::Addr;
+use bfd_rules::{Config, Role};
+use bfd_session::SessionConfig;
+use std::alloc::Global;
+
+/// The values of a `p2p` line.
+const PAIR_VALUES: usize = 11;
+
+/// The least and the greatest interval, in microseconds.
+const LEAST_INTERVAL: u64 = 10_000;
+
+const MOST_INTERVAL: u64 = 60_000_000;
+
+/// Which session it is, and between which addresses.
+#[derive(Clone, Copy, Debug, PartialEq, Eq)]
+pub(crate) struct Ends {
+    discr: u32,
+    role: Role,
+    iface: u32,
+    local: Addr,
+    remote: Addr,
+}
+
+/// Who begins, and the intervals in microseconds.
+#[derive(Clone, Copy, Debug, PartialEq, Eq)]
+pub(crate) struct Timing {
+    active: bool,
+    tx: u32,
+    rx: u32,
+    mult: u8,
+    echo: u32,
+    seed: u32,
+}
+
+/// Over how many hops.
+fn role_named(field: &str) -> Result<Role, LineFault>
+    ensures { result ≡ role_of field.now }
+{
+    match field {
+        "single" => Ok(Role::Single),
+        "multi" => Ok(Role::Multi),
+        _ => Err(LineFault::UnknownWord),
+    }
+}
+
+/// Whether the session sends before it has heard the peer.
+fn active_named(field: &str) -> Result<bool, LineFault>
+    ensures { result ≡ active_of field.now }
+{
+    match field {
+        "active" => Ok(true),
+        "passive" => Ok(false),
+        _ => Err(LineFault::UnknownWord),
+    }
+}
+
+/// Whether the Echo function may have this interval.
+fn may_echo(role: Role, every: u64) -> bool
+    ensures { result ≡ is_echo_interval role every }
+{
+    match role {
+        Role::Single => every == 0 || (every >= LEAST_INTERVAL && every <= MOST_INTERVAL),
+        Role::Multi => every == 0,
+    }
+}
+
+/// The interval of the Echo function.
+fn echo(role: Role, field: &str) -> Result<u32, LineFault>
+    ensures value { result ≡ echo_of role field.now }
+    ensures range { IfOk result (λ every. IsTrue (is_echo_interval role every)) }
+{
+    let every = number(field, 0, MOST_INTERVAL)?;
+    if !may_echo(role, every) {
+        return Err(LineFault::OutOfRange);
+    }
+    Ok(every as u32)
+}
+
+/// The first five values.
+#[tactic(auto, unfolding(crate::specs::Pairs::ends_of))]
+fn read_ends(
+    alloc: Global,
+    discr: &str,
+    role: &str,
+    iface: &str,
+    local: &str,
+    remote: &str,
+) -> Result<Ends, ReadFault>
+    ensures value { Gives (λ e. e) result (ends_of discr.now role.now iface.now local.now remote.now) }
+    ensures range { IfOk result AreEnds }
+{
+    let discr = number(discr, 1, 4_294_967_295)? as u32;
+    let role = role_named(role)?;
+    let iface = number(iface, 0, 65_535)? as u32;
+    let local = address(alloc, local)?;
+    let remote = address(alloc, remote)?;
+    Ok(Ends {
+        discr,
+        role,
+        iface,
+        local,
+        remote,
+    })
+}
+
+/// The last six values.
+#[tactic(auto, unfolding(crate::specs::Pairs::timing_of))]
+fn timed(
+    role: Role,
+    mode: &str,
+    tx: &str,
+    rx: &str,
+    mult: &str,
+    every: &str,
+    seed: &str,
+) -> Result<Timing, LineFault>
+    ensures value { result ≡ timing_of role mode.now tx.now rx.now mult.now every.now seed.now }
+    ensures range { IfOk result (IsTiming role) }
+{
+    let active = active_named(mode)?;
+    let tx = number(tx, LEAST_INTERVAL, MOST_INTERVAL)? as u32;
+    let rx = number(rx, LEAST_INTERVAL, MOST_INTERVAL)? as u32;
+    let mult = number(mult, 1, 255)? as u8;
+    let echo = echo(role, every)?;
+    let seed = number(seed, 0, 4_294_967_295)? as u32;
+    Ok(Timing {
+        active,
+        tx,
+        rx,
+        mult,
+        echo,
+        seed,
+    })
+}
+
+/// The last six of the values.
+fn read_timing(role: Role, values: &[&str]) -> Result<Timing, LineFault>
+    ensures value { result ≡ timing_fields role (map (λ value. value.now) values.now) }
+    ensures range { IfOk result (IsTiming role) }
+{
+    match values {
+        [mode, tx, rx, mult, every, seed] => timed(role, mode, tx, rx, mult, every, seed),
+        _ => Err(LineFault::FieldCount),
+    }
+}
+
+/// The session of both parts.
+fn config(ends: Ends, timing: Timing) -> SessionConfig
+    ensures { result ≡ config_by ends timing }
+{
+    SessionConfig::Pair(Config {
+        discr: ends.discr,
+        role: ends.role,
+        iface: ends.iface,
+        local: ends.local,
+        remote: ends.remote,
+        active: timing.active,
+        tx: timing.tx,
+        rx: timing.rx,
+        mult: timing.mult,
+        echo: timing.echo,
+        seed: timing.seed,
+        keys: None,
+    })
+}
+
+/// The session of the first five values and the others.
+fn pair(ends: Ends, rest: &[&str]) -> Result<SessionConfig, LineFault>
+    requires { AreEnds ends }
+    ensures value { result ≡ pair_with ends (map (λ value. value.now) rest.now) }
+    ensures sound { IfOk result (λ c. IsFit c × IsRow c) }
+{
+    let timing = read_timing(ends.role, rest)?;
+    Ok(config(ends, timing))
+}
+
+/// The session of these values.
+fn pair_fields(alloc: Global, values: &[&str]) -> Result<SessionConfig, ReadFault>
+    ensures value { Gives (λ c. c) result (pair_fields (map (λ value. value.now) values.now)) }
+    ensures sound { IfOk result (λ c. IsFit c × IsRow c) }
+{
+    match values {
+        [discr, role, iface, local, remote, rest @ ..] => {
+            let ends = read_ends(alloc, discr, role, iface, local, remote)?;
+            Ok(pair(ends, rest)?)
+        }
+        _ => Err(ReadFault::Fault(LineFault::FieldCount)),
+    }
+}
+
+/// The session of a `p2p` line.
+pub(crate) fn read_pair(alloc: Global, values: &[&str]) -> Result<SessionConfig, ReadFault>
+    ensures value { Gives (λ c. c) result (pair_of (map (λ value. value.now) values.now)) }
+    ensures sound { IfOk result (λ c. IsFit c × IsRow c) }
+{
+    if values.len() != PAIR_VALUES {
+        return Err(ReadFault::Fault(LineFault::FieldCount));
+    }
+    pair_fields(alloc, values)
+}

@@ -1,0 +1,95 @@
+// The table of sessions: unique by discriminator and by selecting addresses.
+ghost use Rattle.std.specs.Prelude.{◌≡◌, ◌<◌, [], false, true, length, IfOk};
+ghost use Rattle.bfd_session.specs.Kinds.{discr_of};
+ghost use Rattle.bfd_session.specs.Step.{IsFit};
+ghost use Rattle.bfd_script.specs.Reading.{is_built};
+ghost use Rattle.bfd_script.specs.Rows.{has_discr, has_place, inserted};
+ghost use Rattle.bfd_script.specs.Sound.{AreConfigs, IsRow};
+
+use crate::selecting::{Selector, selecting};
+use bfd_session::SessionConfig;
+use std::alloc::{AllocError, Global};
+use std::collections::{BTreeMap, BTreeSet};
+use std::marker::Model;
+
+/// Sessions with the Echo function off. Contracts see the list of them, ascending by discriminator.
+#[derive(Drop)]
+pub(crate) struct Table {
+    rows: BTreeMap<u32, SessionConfig>,
+    places: BTreeSet<Selector>,
+}
+
+impl Model for Table {
+    ghost use Rattle.std.specs.Prelude.{List};
+    ghost use Rattle.std.specs.BTreeMap.{values};
+    ghost use Rattle.std.specs.BTreeSet.{contains};
+    ghost use Rattle.bfd_session.specs.declared.event.SessionConfig.{SessionConfig};
+    ghost use Rattle.bfd_script.specs.Tables.{IsTable};
+
+    ghost Value = { List SessionConfig };
+
+    ghost view = { λ t. values t.rows };
+
+    ghost invariant = { λ t. IsTable t.rows.entries (contains (⟦<Selector as Ord>⟧.cmp) t.places) };
+}
+
+impl Table {
+    /// A table without sessions.
+    pub(crate) fn new(alloc: Global) -> Table
+        ensures { result ≡ [] }
+    {
+        Table {
+            rows: BTreeMap::new(alloc),
+            places: BTreeSet::new(alloc),
+        }
+    }
+
+    /// How many sessions there are.
+    pub(crate) fn len(&self) -> usize
+        ensures { result ≡ length self.now }
+    {
+        self.rows.len()
+    }
+
+    /// Whether a session has this discriminator.
+    #[tactic(auto, using(crate::proofs::Inserting::known_at))]
+    pub(crate) fn has_discr(&self, discr: u32) -> bool
+        ensures { result ≡ has_discr discr self.now }
+    {
+        self.rows.contains_key(&discr)
+    }
+
+    /// Whether a session has the selecting addresses of this one.
+    pub(crate) fn has_place(&self, config: &SessionConfig) -> bool
+        ensures { result ≡ has_place config.now self.now }
+    {
+        self.places.contains(&selecting(config))
+    }
+
+    /// One more session, whose discriminator and selecting addresses are new. The one refusal is want of memory.
+    pub(crate) fn with(self, config: SessionConfig) -> Result<Table, AllocError>
+        requires discr { has_discr (discr_of config) self ≡ false }
+        requires place { has_place config self ≡ false }
+        requires room { length self < 65536 }
+        requires fit { IsFit config }
+        requires row { IsRow config }
+        requires built { is_built config ≡ true }
+        ensures { IfOk result (λ table. table ≡ inserted config self) }
+    {
+        let Table {
+            mut rows,
+            mut places,
+        } = self;
+        places.insert(selecting(&config))?;
+        rows.insert(config.discr(), config)?;
+        Ok(Table { rows, places })
+    }
+
+    /// The sessions, ascending by discriminator.
+    pub(crate) fn into_rows(self, alloc: Global) -> Result<Vec<SessionConfig>, AllocError>
+        ensures rows { IfOk result (λ rows. rows.items ≡ self) }
+        ensures sound { AreConfigs self }
+    {
+        self.rows.into_values().collect(alloc)
+    }
+}
