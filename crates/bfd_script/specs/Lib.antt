@@ -13,3 +13,4 @@ pub mod Tables
 pub mod Values
 pub mod Pairs
 pub mod Arrivals
+pub mod Written

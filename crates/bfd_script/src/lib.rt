@@ -33,12 +33,14 @@ mod state;
 mod table;
 mod values;
 mod words;
+mod writing;
 
 pub use entries::Line;
 pub use fault::{BadLine, LineFault, ScriptFault};
 pub use reading::read;
 pub use report::lines;
 pub use script::Script;
+pub use writing::write;
 
 #[cfg(test)]
 mod tests;

@@ -1,0 +1,89 @@
+-- The one spelling of a script.
+use Rattle.std.specs.Prelude.{ℕ, ◌/◌, ◌%◌, Bool, true, false, List, [], ◌∷◌, ◌++◌, codes}
+use Rattle.std.specs.List.{flat_map}
+use Rattle.std.specs.Fmt.{decimal}
+use Rattle.byteorder.specs.Endian.{big_bytes}
+use Rattle.hex.specs.Hex.{encode_lower}
+use Rattle.bfd_packet.specs.declared.arrival.Addr.{Addr}
+use Rattle.bfd_packet.specs.declared.arrival.Addr.TheVariants.{V4, V6}
+use Rattle.bfd_packet.specs.declared.arrival.Port.{Port}
+use Rattle.bfd_packet.specs.declared.arrival.Port.TheVariants as ports
+use Rattle.bfd_rules.specs.declared.commands.Cmd.{Cmd}
+use Rattle.bfd_rules.specs.declared.commands.Cmd.TheVariants as commands
+use Rattle.bfd_rules.specs.declared.config.Role.{Role}
+use Rattle.bfd_rules.specs.declared.config.Role.TheVariants as roles
+use Rattle.bfd_session.specs.declared.event.SessionConfig.{SessionConfig}
+use Rattle.bfd_session.specs.declared.event.SessionConfig.TheVariants.{Pair}
+use Rattle.bfd_script.specs.declared.entries.Line.{Line}
+use Rattle.bfd_script.specs.declared.entries.Line.TheVariants as events
+use Rattle.bfd_script.specs.Reading.{Lists}
+use Rattle.bfd_script.specs.Spelling.{line, hex_field}
+
+-- four numbers with dots
+abbrev pub dotted_field : ℕ → ℕ → ℕ → ℕ → List ℕ
+dotted_field a b c d = decimal a ++ (46 ∷ (decimal b ++ (46 ∷ (decimal c ++ (46 ∷ decimal d)))))
+
+-- an address: four numbers with dots, or 32 hexadecimal digits in lower case
+abbrev pub address_field : Addr → List ℕ
+address_field (V4 n) = dotted_field (n / 256 / 256 / 256) (n / 256 / 256 % 256) (n / 256 % 256) (n % 256)
+address_field (V6 n) = encode_lower (big_bytes 16 n)
+
+-- over how many hops
+abbrev pub role_field : Role → List ℕ
+role_field roles.Single = codes "single"
+role_field roles.Multi = codes "multi"
+
+-- whether the session sends before it has heard the peer
+abbrev pub mode_field : Bool → List ℕ
+mode_field true = codes "active"
+mode_field false = codes "passive"
+
+-- the kind of port
+abbrev pub port_field : Port → List ℕ
+port_field ports.Single = codes "single"
+port_field ports.Multi = codes "multi"
+port_field ports.Echo = codes "echo"
+port_field ports.Sbfd = codes "sbfd"
+port_field ports.Answer = codes "answer"
+
+-- a command: its word, and its number where it has one
+abbrev pub verb_fields : Cmd → List (List ℕ)
+verb_fields commands.Disable = codes "disable" ∷ []
+verb_fields commands.Enable = codes "enable" ∷ []
+verb_fields commands.Reset = codes "reset" ∷ []
+verb_fields (commands.Path n) = codes "path" ∷ decimal n ∷ []
+verb_fields (commands.Tx n) = codes "tx" ∷ decimal n ∷ []
+verb_fields (commands.Rx n) = codes "rx" ∷ decimal n ∷ []
+verb_fields (commands.Mult n) = codes "mult" ∷ decimal n ∷ []
+verb_fields (commands.Demand n) = codes "demand" ∷ decimal n ∷ []
+verb_fields (commands.EchoEvery n) = codes "echo" ∷ decimal n ∷ []
+verb_fields (commands.Key n) = codes "key" ∷ decimal n ∷ []
+
+-- the fields of a table row
+abbrev pub row_fields : SessionConfig → List (List ℕ)
+row_fields (Pair c) =
+    codes "p2p" ∷ decimal c.discr ∷ role_field c.role ∷ decimal c.iface ∷ address_field c.local ∷ address_field c.remote
+    ∷ mode_field c.active ∷ decimal c.tx ∷ decimal c.rx ∷ decimal c.mult ∷ decimal c.echo ∷ decimal c.seed ∷ []
+
+-- the fields of an event
+abbrev pub event_fields : Line → List (List ℕ)
+event_fields (events.Rx moment a) =
+    codes "rx" ∷ decimal moment ∷ port_field a.port ∷ decimal a.iface ∷ address_field a.src ∷ address_field a.dst
+    ∷ decimal a.ttl ∷ hex_field a.payload ∷ []
+event_fields (events.Tick tick) = codes "tick" ∷ decimal tick ∷ []
+event_fields (events.Cmd moment discr cmd) = codes "cmd" ∷ decimal moment ∷ decimal discr ∷ verb_fields cmd
+event_fields (events.Show moment discr) = codes "show" ∷ decimal moment ∷ decimal discr ∷ []
+
+-- the lines of table rows
+abbrev pub rows_text : List SessionConfig → List ℕ
+rows_text configs = flat_map (λ config. line (row_fields config)) configs
+
+-- the lines of events
+abbrev pub events_text : List Line → List ℕ
+events_text events = flat_map (λ event. line (event_fields event)) events
+
+-- the text of a script: the version, the table, `run`, the events and `end`
+abbrev pub spelling : Lists → List ℕ
+spelling script =
+    line (codes "bfd" ∷ codes "1" ∷ []) ++ (rows_text script.configs
+    ++ (line (codes "run" ∷ []) ++ (events_text script.events ++ line (codes "end" ∷ []))))

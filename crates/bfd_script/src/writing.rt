@@ -1,0 +1,202 @@
+// The one spelling of a script.
+ghost use Rattle.std.specs.Prelude.{◌≡◌, [], ◌∷◌, IfOk, codes, string_bytes};
+ghost use Rattle.std.specs.Fmt.{decimal};
+ghost use Rattle.bfd_script.specs.Spelling.{line};
+ghost use Rattle.bfd_script.specs.Written.{address_field, event_fields, events_text, mode_field, port_field, role_field, row_fields, rows_text, spelling};
+
+use crate::entries::Line;
+use crate::names::hex_text;
+use crate::script::Script;
+use bfd_packet::{Addr, Arrival, Port};
+use bfd_rules::{Cmd, Role};
+use bfd_session::SessionConfig;
+use byteorder::{BigEndian, ByteOrder};
+use std::alloc::{AllocError, Global};
+use std::fmt::Write;
+
+/// An address: four numbers with dots, or 32 hexadecimal digits in lower case.
+fn address_text(alloc: Global, address: Addr) -> Result<String, AllocError>
+    ensures { IfOk result (λ text. string_bytes text ≡ address_field address) }
+{
+    match address {
+        Addr::V4(n) => {
+            let a = n / 256 / 256 / 256;
+            let b = n / 256 / 256 % 256;
+            let c = n / 256 % 256;
+            let d = n % 256;
+            format!(in alloc; "{a}.{b}.{c}.{d}")
+        }
+        Addr::V6(n) => {
+            let mut bytes = [0; 16];
+            BigEndian::write_u128(&mut bytes, n);
+            hex::encode(alloc, bytes.as_slice())
+        }
+    }
+}
+
+/// Over how many hops.
+fn role_text(role: Role) -> &'static str
+    ensures { result.now ≡ role_field role }
+{
+    match role {
+        Role::Single => "single",
+        Role::Multi => "multi",
+    }
+}
+
+/// Whether the session sends before it has heard the peer.
+fn mode_text(active: bool) -> &'static str
+    ensures { result.now ≡ mode_field active }
+{
+    if active { "active" } else { "passive" }
+}
+
+/// The kind of port.
+fn port_text(port: Port) -> &'static str
+    ensures { result.now ≡ port_field port }
+{
+    match port {
+        Port::Single => "single",
+        Port::Multi => "multi",
+        Port::Echo => "echo",
+        Port::Sbfd => "sbfd",
+        Port::Answer => "answer",
+    }
+}
+
+/// The line of a table row.
+fn row_text(alloc: Global, config: &SessionConfig) -> Result<String, AllocError>
+    ensures { IfOk result (λ text. string_bytes text ≡ line (row_fields config.now)) }
+{
+    let SessionConfig::Pair(pair) = config;
+    let discr = pair.discr;
+    let role = role_text(pair.role);
+    let iface = pair.iface;
+    let local = address_text(alloc, pair.local)?;
+    let remote = address_text(alloc, pair.remote)?;
+    let mode = mode_text(pair.active);
+    let (tx, rx, mult, echo, seed) = (pair.tx, pair.rx, pair.mult, pair.echo, pair.seed);
+    let mut text = String::new(alloc);
+    writeln!(
+        text,
+        "p2p {discr} {role} {iface} {local} {remote} {mode} {tx} {rx} {mult} {echo} {seed}"
+    )?;
+    Ok(text)
+}
+
+/// The lines of table rows.
+fn rows_text(alloc: Global, configs: &[SessionConfig]) -> Result<String, AllocError>
+    ensures { IfOk result (λ text. string_bytes text ≡ rows_text configs.now) }
+{
+    let mut text = String::new(alloc);
+    for config in configs {
+        let row = row_text(alloc, config)?;
+        text.push_str(row.as_str())?;
+    }
+    Ok(text)
+}
+
+/// The line of a packet.
+fn packet_text(alloc: Global, moment: u64, arrival: &Arrival) -> Result<String, AllocError>
+    ensures { IfOk result (λ text. string_bytes text ≡ line (event_fields (Line.Rx moment arrival.now))) }
+{
+    let port = port_text(arrival.port);
+    let iface = arrival.iface;
+    let src = address_text(alloc, arrival.src)?;
+    let dst = address_text(alloc, arrival.dst)?;
+    let ttl = arrival.ttl;
+    let payload = hex_text(alloc, arrival.payload.as_slice())?;
+    let mut text = String::new(alloc);
+    writeln!(
+        text,
+        "rx {moment} {port} {iface} {src} {dst} {ttl} {payload}"
+    )?;
+    Ok(text)
+}
+
+/// The line of a command without number.
+fn plain_text(alloc: Global, moment: u64, discr: u32, verb: &str) -> Result<String, AllocError>
+    ensures { IfOk result (λ text. string_bytes text ≡ line (codes "cmd" ∷ decimal moment ∷ decimal discr ∷ verb.now ∷ [])) }
+{
+    format!(in alloc; "cmd {moment} {discr} {verb}\n")
+}
+
+/// The line of a command with a number.
+fn number_text(
+    alloc: Global,
+    moment: u64,
+    discr: u32,
+    verb: &str,
+    number: u64,
+) -> Result<String, AllocError>
+    ensures { IfOk result (λ text. string_bytes text ≡ line (codes "cmd" ∷ decimal moment ∷ decimal discr ∷ verb.now ∷ decimal number ∷ [])) }
+{
+    format!(in alloc; "cmd {moment} {discr} {verb} {number}\n")
+}
+
+/// The line of a command.
+fn command_text(alloc: Global, moment: u64, discr: u32, cmd: Cmd) -> Result<String, AllocError>
+    ensures { IfOk result (λ text. string_bytes text ≡ line (event_fields (Line.Cmd moment discr cmd))) }
+{
+    match cmd {
+        Cmd::Disable => plain_text(alloc, moment, discr, "disable"),
+        Cmd::Enable => plain_text(alloc, moment, discr, "enable"),
+        Cmd::Reset => plain_text(alloc, moment, discr, "reset"),
+        Cmd::Path(n) => number_text(alloc, moment, discr, "path", n),
+        Cmd::Tx(n) => number_text(alloc, moment, discr, "tx", n),
+        Cmd::Rx(n) => number_text(alloc, moment, discr, "rx", n),
+        Cmd::Mult(n) => number_text(alloc, moment, discr, "mult", n),
+        Cmd::Demand(n) => number_text(alloc, moment, discr, "demand", n),
+        Cmd::EchoEvery(n) => number_text(alloc, moment, discr, "echo", n),
+        Cmd::Key(n) => number_text(alloc, moment, discr, "key", n),
+    }
+}
+
+/// The line of an event.
+fn event_text(alloc: Global, event: &Line) -> Result<String, AllocError>
+    ensures { IfOk result (λ text. string_bytes text ≡ line (event_fields event.now)) }
+{
+    match event {
+        Line::Rx { moment, arrival } => packet_text(alloc, moment.get(), arrival),
+        Line::Tick(tick) => {
+            let tick = tick.get();
+            format!(in alloc; "tick {tick}\n")
+        }
+        Line::Cmd { moment, discr, cmd } => command_text(alloc, moment.get(), *discr, *cmd),
+        Line::Show { moment, discr } => {
+            let moment = moment.get();
+            format!(in alloc; "show {moment} {discr}\n")
+        }
+    }
+}
+
+/// The lines of events.
+fn events_text(alloc: Global, events: &[Line]) -> Result<String, AllocError>
+    ensures { IfOk result (λ text. string_bytes text ≡ events_text events.now) }
+{
+    let mut text = String::new(alloc);
+    for event in events {
+        let line = event_text(alloc, event)?;
+        text.push_str(line.as_str())?;
+    }
+    Ok(text)
+}
+
+/// The text of a script.
+fn script_text(alloc: Global, script: &Script) -> Result<String, AllocError>
+    ensures { IfOk result (λ text. string_bytes text ≡ spelling script.now) }
+{
+    let rows = rows_text(alloc, &script.configs)?;
+    let events = events_text(alloc, &script.events)?;
+    format!(in alloc; "bfd 1\n{rows}run\n{events}end\n")
+}
+
+/// The one spelling of a script, as bytes: the table rows as they stand, each with decimal numbers without leading zeros
+/// and hexadecimal digits in lower case. `read` of it gives a script that `read` gave. The one refusal is want of memory.
+/// Keys of a session aren't written, since `auth` lines aren't built yet.
+pub fn write(alloc: Global, script: &Script) -> Result<Vec<u8>, AllocError>
+    ensures text { IfOk result (λ bytes. bytes.items ≡ spelling script.now) }
+{
+    let text = script_text(alloc, script)?;
+    Ok(text.into_bytes())
+}
