@@ -22,6 +22,7 @@ use Rattle.bfd_script.specs.Rows.{has_discr, has_place, has_selector, inserted, 
 use Rattle.bfd_script.specs.Selecting.{selector_of, same_addr, same_place, same_selector}
 use Rattle.bfd_script.specs.Sound.{Each, Ascends, Differs, AreConfigs, IsRow}
 use Rattle.bfd_script.specs.Tables.{IsTable}
+use Rattle.bfd_script.proofs.Elements.{each_to}
 
 -- ---- the entries
 
@@ -128,10 +129,6 @@ places_more old new c cs were are q =
 
 -- ---- what stays true
 
-each_map : {X : Type 0} {P Q : X → Type 0} (xs : List X) → ((x : X) → P x → Q x) → Each P xs → Each Q xs
-each_map [] f all = tt
-each_map (x ∷ xs) f all = (f x all.0, each_map xs f all.1)
-
 each_cond : {X : Type 0} (P : X → Type 0) (b : Bool) (c d : X) (ds rest : List X) → P c → P d → Each P ds → Each P rest
     → Each P (cond b (c ∷ d ∷ ds) (d ∷ rest))
 each_cond P true c d ds rest new here all more = (new, (here, all))
@@ -155,7 +152,7 @@ ascends_cond : (less same has : Bool) (c d : SessionConfig) (ds : List SessionCo
     → Ascends (d ∷ ds) → (has ≡ false → Ascends (inserted c ds)) → Ascends (cond less (c ∷ d ∷ ds) (d ∷ inserted c ds))
 ascends_cond true same has c d ds l s none all more =
     let low : discr_of c < discr_of d = grind (arith, nat_tests) in
-    ((low, each_map ds (λ x h. let k : discr_of d < discr_of x = h in omega arith) all.0), all)
+    ((low, each_to ds (λ x h. let k : discr_of d < discr_of x = h in omega arith) all.0), all)
 ascends_cond false true has c d ds l s none all more = cc
 ascends_cond false false has c d ds l s none all more =
     let high : discr_of d < discr_of c = grind (arith, nat_tests) in

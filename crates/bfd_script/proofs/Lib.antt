@@ -3,3 +3,9 @@ pub mod Decimal
 pub mod FirstLine
 pub mod Inserting
 pub mod Kept
+pub mod Splitting
+pub mod Numerals
+pub mod Rereading
+pub mod LinesAgain
+pub mod ScriptAgain
+pub mod Elements

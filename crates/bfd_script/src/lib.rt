@@ -5,12 +5,13 @@
 //! first faulty line with that line's first fault: `specs/Reading.antt` says which, as a definition over lists that knows
 //! nothing of the code. A script that it answers is sound, as `specs/Sound.antt` says: sessions ascend by discriminator,
 //! each is within its ranges, and no two have the same selecting addresses. [`lines`] appends the report lines of one event,
-//! which `specs/Report.antt` defines.
+//! which `specs/Report.antt` defines. [`write`] gives the one spelling of a script, `specs/Written.antt`, and reading it gives
+//! each sound script back.
 //!
 //! Layers, lowest first: `fault` (what can be wrong), `words` (the words and where they may stand), `fields` (lines, fields
 //! and numbers), `values` (addresses and bytes), `pairs` and `arrivals` (the values of a table line and of a packet),
 //! `entries` (what one line says), `selecting` and `table` (the sessions so far), `state` (what is kept from line to line),
-//! `reading` (the whole text); beside them `names` and `report`.
+//! `reading` (the whole text); beside them `names`, `report` and `writing`.
 //!
 //! Built so far are the words `bfd`, `p2p`, `run`, `rx`, `tick` and `end`. Every other word of version 1 is known, and is
 //! answered with [`LineFault::NotBuilt`] where it may stand. A `p2p` line with an interval of the Echo function, and an `rx`

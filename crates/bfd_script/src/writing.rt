@@ -1,6 +1,8 @@
 // The one spelling of a script.
-ghost use Rattle.std.specs.Prelude.{◌≡◌, [], ◌∷◌, IfOk, codes, string_bytes};
+ghost use Rattle.std.specs.Prelude.{◌≡◌, [], ◌∷◌, IfOk, Ok, codes, false, string_bytes};
 ghost use Rattle.std.specs.Fmt.{decimal};
+ghost use Rattle.bfd_script.specs.Reading.{script_of};
+ghost use Rattle.bfd_script.specs.Sound.{IsScript};
 ghost use Rattle.bfd_script.specs.Spelling.{line};
 ghost use Rattle.bfd_script.specs.Written.{address_field, event_fields, events_text, mode_field, port_field, role_field, row_fields, rows_text, spelling};
 
@@ -194,8 +196,10 @@ fn script_text(alloc: Global, script: &Script) -> Result<String, AllocError>
 /// The one spelling of a script, as bytes: the table rows as they stand, each with decimal numbers without leading zeros
 /// and hexadecimal digits in lower case. `read` of it gives a script that `read` gave. The one refusal is want of memory.
 /// Keys of a session aren't written, since `auth` lines aren't built yet.
+#[tactic(auto, using(crate::proofs::ScriptAgain::text_again))]
 pub fn write(alloc: Global, script: &Script) -> Result<Vec<u8>, AllocError>
     ensures text { IfOk result (λ bytes. bytes.items ≡ spelling script.now) }
+    ensures again { IsScript script.now → IfOk result (λ bytes. script_of false bytes.items ≡ Ok script.now) }
 {
     let text = script_text(alloc, script)?;
     Ok(text.into_bytes())

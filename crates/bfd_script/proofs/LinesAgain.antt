@@ -1,0 +1,269 @@
+-- Table rows and events, written and read again.
+use Rattle.std.proofs.Common.{◌≡◌, ℕ, ◌≤◌, ◌-◌, Bool, true, false, cond, [], ◌∷◌, length, Ok, Err, refl, sym, ap, ◌∙◌, arith}
+use Rattle.std.proofs.lemmas.Bool.Decides.{nat_tests}
+use Rattle.std.specs.Prelude.{codes}
+use Rattle.std.specs.Fmt.{decimal}
+use Rattle.bfd_num.specs.Numbers.{moment_bound, greatest_tick}
+use Rattle.bfd_packet.specs.declared.arrival.Arrival.{Arrival}
+use Rattle.bfd_packet.specs.declared.arrival.Port.{Port}
+use Rattle.bfd_packet.specs.declared.arrival.Port.TheVariants as ports
+use Rattle.bfd_rules.specs.Sound.{IsConfig, is_echo_interval}
+use Rattle.bfd_rules.specs.declared.config.Config.{Config}
+use Rattle.bfd_rules.specs.declared.config.Role.{Role}
+use Rattle.bfd_rules.specs.declared.config.Role.TheVariants as roles
+use Rattle.bfd_session.specs.Step.{IsFit}
+use Rattle.bfd_session.specs.declared.event.SessionConfig.{SessionConfig}
+use Rattle.bfd_session.specs.declared.event.SessionConfig.TheVariants.{Pair}
+use Rattle.bfd_script.specs.declared.fault.LineFault.TheVariants.{OutOfRange}
+use Rattle.bfd_script.specs.declared.entries.Entry.TheVariants as entries
+use Rattle.bfd_script.specs.declared.entries.Line.{Line}
+use Rattle.bfd_script.specs.declared.entries.Line.TheVariants as events
+use Rattle.bfd_script.specs.declared.words.Place.TheVariants as places
+use Rattle.bfd_script.specs.Arrivals.{arrival_of, port_of}
+use Rattle.bfd_script.specs.Entries.{entry_of, received_of}
+use Rattle.bfd_script.specs.Gives.{◌>>=◌}
+use Rattle.bfd_script.specs.Pairs.{active_of, config_by, echo_of, ends_of, pair_of, pair_with, role_of, timing_of}
+use Rattle.bfd_script.specs.Reading.{is_built_line}
+use Rattle.bfd_script.specs.Sound.{Each, IsEvent, IsPairRow, IsReceived, IsRow}
+use Rattle.bfd_script.specs.Spelling.{hex_field, spaced}
+use Rattle.bfd_script.specs.Written.{address_field, event_fields, mode_field, port_field, role_field, row_fields}
+use Rattle.bfd_script.proofs.Numerals.{number_again, number_field, number_short}
+use Rattle.bfd_script.proofs.Rereading.{address_again, address_is_field, address_short, hex_is_field, hex_short, payload_again}
+use Rattle.bfd_script.proofs.Elements.{IsField, word}
+use Rattle.bfd_script.proofs.Splitting.{entry_again, total}
+
+-- ---- words
+
+role_again : (role : Role) → role_of (role_field role) ≡ Ok role
+role_again roles.Single = refl
+role_again roles.Multi = refl
+
+role_is_field : (role : Role) → IsField (role_field role)
+role_is_field roles.Single = word (codes "single") refl
+role_is_field roles.Multi = word (codes "multi") refl
+
+role_short : (role : Role) → length (role_field role) ≤ 6
+role_short roles.Single = omega arith
+role_short roles.Multi = omega arith
+
+active_again : (active : Bool) → active_of (mode_field active) ≡ Ok active
+active_again true = refl
+active_again false = refl
+
+mode_is_field : (active : Bool) → IsField (mode_field active)
+mode_is_field true = word (codes "active") refl
+mode_is_field false = word (codes "passive") refl
+
+mode_short : (active : Bool) → length (mode_field active) ≤ 7
+mode_short true = omega arith
+mode_short false = omega arith
+
+port_again : (port : Port) → port_of (port_field port) ≡ Ok port
+port_again ports.Single = refl
+port_again ports.Multi = refl
+port_again ports.Echo = refl
+port_again ports.Sbfd = refl
+port_again ports.Answer = refl
+
+port_is_field : (port : Port) → IsField (port_field port)
+port_is_field ports.Single = word (codes "single") refl
+port_is_field ports.Multi = word (codes "multi") refl
+port_is_field ports.Echo = word (codes "echo") refl
+port_is_field ports.Sbfd = word (codes "sbfd") refl
+port_is_field ports.Answer = word (codes "answer") refl
+
+port_short : (port : Port) → length (port_field port) ≤ 6
+port_short ports.Single = omega arith
+port_short ports.Multi = omega arith
+port_short ports.Echo = omega arith
+port_short ports.Sbfd = omega arith
+port_short ports.Answer = omega arith
+
+p2p_is_field : IsField (codes "p2p")
+p2p_is_field = word (codes "p2p") refl
+
+rx_is_field : IsField (codes "rx")
+rx_is_field = word (codes "rx") refl
+
+tick_is_field : IsField (codes "tick")
+tick_is_field = word (codes "tick") refl
+
+-- ---- a table row
+
+ends_again : (c : Config) → IsConfig c → IsPairRow c
+    → ends_of (decimal c.discr) (role_field c.role) (decimal c.iface) (address_field c.local) (address_field c.remote)
+    ≡ Ok (record { discr = c.discr; role = c.role; iface = c.iface; local = c.local; remote = c.remote })
+unfolding ends_of
+ends_again c fit row = rw (
+  number_again 1 4294967295 c.discr fit.discr (let k = row.discr in omega arith) (let k = row.discr in omega arith),
+  role_again c.role,
+  number_again 0 65535 c.iface (omega arith) (let k = fit.iface in omega arith) (let k = fit.iface in omega arith),
+  address_again c.local row.local,
+  address_again c.remote row.remote,
+) refl
+
+echo_step : (fits : Bool) (n : ℕ) → fits ≡ true → cond fits (Ok n) (Err OutOfRange) ≡ Ok n
+echo_step fits n h = rw h refl
+
+echo_again : (role : Role) (n : ℕ) → is_echo_interval role n ≡ true → n ≤ 60000000 → echo_of role (decimal n) ≡ Ok n
+echo_again role n fits high =
+    ap (λ r. r >>= λ every. cond (is_echo_interval role every) (Ok every) (Err OutOfRange)) (number_again 0 60000000 n (omega arith) high (omega arith))
+    ∙ echo_step (is_echo_interval role n) n fits
+
+timing_again : (c : Config) → IsConfig c → IsPairRow c → c.echo ≤ 60000000
+    → timing_of c.role (mode_field c.active) (decimal c.tx) (decimal c.rx) (decimal c.mult) (decimal c.echo) (decimal c.seed)
+    ≡ Ok (record { active = c.active; tx = c.tx; rx = c.rx; mult = c.mult; echo = c.echo; seed = c.seed })
+unfolding timing_of
+timing_again c fit row high = rw (
+  active_again c.active,
+  number_again 10000 60000000 c.tx fit.tx_least fit.tx_most (let k = fit.tx_most in omega arith),
+  number_again 10000 60000000 c.rx fit.rx_least fit.rx_most (let k = fit.rx_most in omega arith),
+  number_again 1 255 c.mult fit.some_mult (let k = row.mult in omega arith) (let k = row.mult in omega arith),
+  echo_again c.role c.echo fit.echo_range high,
+  number_again 0 4294967295 c.seed (omega arith) (let k = row.seed in omega arith) (let k = row.seed in omega arith),
+) refl
+
+pair_again : (c : Config) → IsConfig c → IsPairRow c → c.echo ≤ 60000000
+    → pair_of (decimal c.discr ∷ role_field c.role ∷ decimal c.iface ∷ address_field c.local ∷ address_field c.remote
+    ∷ mode_field c.active ∷ decimal c.tx ∷ decimal c.rx ∷ decimal c.mult ∷ decimal c.echo ∷ decimal c.seed ∷ []) ≡ Ok (Pair c)
+pair_again c fit row high =
+    ap (λ r. r >>= λ ends. pair_with ends (mode_field c.active ∷ decimal c.tx ∷ decimal c.rx ∷ decimal c.mult ∷ decimal c.echo ∷ decimal c.seed ∷ [])) (ends_again c fit row)
+    ∙ ap (λ r. r >>= λ timing. Ok (config_by (record { discr = c.discr; role = c.role; iface = c.iface; local = c.local; remote = c.remote }) timing)) (timing_again c fit row high)
+    ∙ ap (λ k. Ok (Pair (record c { keys = k }))) (sym row.no_keys)
+
+row_is_fields : (c : Config) → IsConfig c → IsPairRow c → c.echo ≤ 60000000 → Each IsField (row_fields (Pair c))
+row_is_fields c fit row high = (
+  p2p_is_field,
+  (
+    number_field c.discr (let k = row.discr in omega arith),
+    (
+      role_is_field c.role,
+      (
+        number_field c.iface (let k = fit.iface in omega arith),
+        (
+          address_is_field c.local row.local,
+          (
+            address_is_field c.remote row.remote,
+            (
+              mode_is_field c.active,
+              (
+                number_field c.tx (let k = fit.tx_most in omega arith),
+                (
+                  number_field c.rx (let k = fit.rx_most in omega arith),
+                  (
+                    number_field c.mult (let k = row.mult in omega arith),
+                    (
+                      number_field c.echo (omega arith),
+                      (number_field c.seed (let k = row.seed in omega arith), tt),
+                    ),
+                  ),
+                ),
+              ),
+            ),
+          ),
+        ),
+      ),
+    ),
+  ),
+)
+
+row_short : (c : Config) → IsConfig c → IsPairRow c → c.echo ≤ 60000000 → total (row_fields (Pair c)) ≤ 4096
+row_short c fit row high =
+    let l1 = number_short c.discr (let k = row.discr in omega arith) in
+    let l2 = role_short c.role in
+    let l3 = number_short c.iface (let k = fit.iface in omega arith) in
+    let l4 = address_short c.local row.local in
+    let l5 = address_short c.remote row.remote in
+    let l6 = mode_short c.active in
+    let l7 = number_short c.tx (let k = fit.tx_most in omega arith) in
+    let l8 = number_short c.rx (let k = fit.rx_most in omega arith) in
+    let l9 = number_short c.mult (let k = row.mult in omega arith) in
+    let l10 = number_short c.echo (omega arith) in
+    let l11 = number_short c.seed (let k = row.seed in omega arith) in
+    omega arith
+
+-- an interval of the Echo function is at most the greatest
+echo_most : (role : Role) (n : ℕ) → is_echo_interval role n ≡ true → n ≤ 60000000
+echo_most roles.Single n h = grind (arith, nat_tests)
+echo_most roles.Multi n h = grind (arith, nat_tests)
+
+pub row_again : (live : Bool) (config : SessionConfig) → IsFit config → IsRow config
+    → entry_of places.Table live (spaced (row_fields config) []) ≡ Ok (entries.Row config)
+row_again live (Pair c) fit row =
+    let high = echo_most c.role c.echo fit.echo_range in
+    entry_again places.Table live (codes "p2p") (decimal c.discr ∷ role_field c.role ∷ decimal c.iface ∷ address_field c.local ∷ address_field c.remote ∷ mode_field c.active ∷ decimal c.tx ∷ decimal c.rx ∷ decimal c.mult ∷ decimal c.echo ∷ decimal c.seed ∷ [])
+    (row_is_fields c fit row high) (row_short c fit row high)
+    ∙ ap (λ r. r >>= λ config. Ok (entries.Row config)) (pair_again c fit row high)
+
+pub row_fields_fit : (config : SessionConfig) → IsFit config → IsRow config → Each IsField (row_fields config)
+row_fields_fit (Pair c) fit row = row_is_fields c fit row (echo_most c.role c.echo fit.echo_range)
+
+-- ---- an event
+
+arrival_again : (m : ℕ) (a : Arrival) → IsReceived m a
+    → arrival_of a.port a.iface (address_field a.src) (address_field a.dst) (decimal a.ttl) (hex_field a.payload) ≡ Ok a
+unfolding arrival_of
+arrival_again m a h = rw (
+  address_again a.src h.src,
+  address_again a.dst h.dst,
+  number_again 0 255 a.ttl (omega arith) (let k = h.ttl in omega arith) (let k = h.ttl in omega arith),
+  payload_again a.payload h.bytes h.short,
+)
+    (ap (λ s. Ok (record a { sport = s })) (sym h.sport))
+
+received_again : (m : ℕ) (a : Arrival) → IsReceived m a
+    → received_of (decimal m) (port_field a.port) (decimal a.iface) (address_field a.src ∷ address_field a.dst ∷ decimal a.ttl ∷ hex_field a.payload ∷ [])
+    ≡ Ok (entries.Event (events.Rx m a))
+unfolding received_of
+received_again m a h = rw (
+  number_again 0 (moment_bound - 1) m (omega arith) (let k = h.moment_below in omega arith) (let k = h.moment_below in omega arith),
+  port_again a.port,
+  number_again 0 65535 a.iface (omega arith) (let k = h.iface in omega arith) (let k = h.iface in omega arith),
+  arrival_again m a h,
+) refl
+
+rx_is_fields : (m : ℕ) (a : Arrival) → IsReceived m a → Each IsField (event_fields (events.Rx m a))
+rx_is_fields m a h = (
+  rx_is_field,
+  (
+    number_field m (let k = h.moment_below in omega arith),
+    (
+      port_is_field a.port,
+      (
+        number_field a.iface (let k = h.iface in omega arith),
+        (address_is_field a.src h.src, (address_is_field a.dst h.dst, (number_field a.ttl (let k = h.ttl in omega arith), (hex_is_field a.payload h.bytes, tt)))),
+      ),
+    ),
+  ),
+)
+
+rx_short : (m : ℕ) (a : Arrival) → IsReceived m a → total (event_fields (events.Rx m a)) ≤ 4096
+rx_short m a h =
+    let l1 = number_short m (let k = h.moment_below in omega arith) in
+    let l2 = port_short a.port in
+    let l3 = number_short a.iface (let k = h.iface in omega arith) in
+    let l4 = address_short a.src h.src in
+    let l5 = address_short a.dst h.dst in
+    let l6 = number_short a.ttl (let k = h.ttl in omega arith) in
+    let l7 = hex_short a.payload h.short in
+    omega arith
+
+tick_short : (tick : ℕ) → tick ≤ greatest_tick → total (event_fields (events.Tick tick)) ≤ 4096
+tick_short tick h = let l = number_short tick (omega arith) in omega arith
+
+pub event_fields_fit : (event : Line) → IsEvent event → is_built_line event ≡ true → Each IsField (event_fields event)
+event_fields_fit (events.Rx m a) h built = rx_is_fields m a h
+event_fields_fit (events.Tick tick) h built = (tick_is_field, (number_field tick (omega arith), tt))
+event_fields_fit (events.Cmd m d cmd) h built = cc
+event_fields_fit (events.Show m d) h built = cc
+
+pub event_again : (event : Line) → IsEvent event → is_built_line event ≡ true
+    → entry_of places.Events false (spaced (event_fields event) []) ≡ Ok (entries.Event event)
+event_again (events.Rx m a) h built =
+    entry_again places.Events false (codes "rx") (decimal m ∷ port_field a.port ∷ decimal a.iface ∷ address_field a.src ∷ address_field a.dst ∷ decimal a.ttl ∷ hex_field a.payload ∷ [])
+    (rx_is_fields m a h) (rx_short m a h) ∙ received_again m a h
+event_again (events.Tick tick) h built =
+    entry_again places.Events false (codes "tick") (decimal tick ∷ []) (event_fields_fit (events.Tick tick) h built) (tick_short tick h)
+    ∙ ap (λ r. r >>= λ t. Ok (entries.Event (events.Tick t))) (number_again 0 greatest_tick tick (omega arith) h (omega arith))
+event_again (events.Cmd m d cmd) h built = cc
+event_again (events.Show m d) h built = cc
