@@ -9,3 +9,4 @@ pub mod Rereading
 pub mod LinesAgain
 pub mod ScriptAgain
 pub mod Elements
+pub mod Following

@@ -13,13 +13,12 @@ use Rattle.bfd_script.specs.Fields.{lines_of}
 use Rattle.bfd_script.specs.Gives.{◌>>=◌}
 use Rattle.bfd_script.specs.Reading.{Lists, State, accepted, after, is_built, is_built_line, script_of, start, step, told_from, with_config, with_event}
 use Rattle.bfd_script.specs.Rows.{has_discr, inserted}
-use Rattle.bfd_script.specs.Selecting.{selector_of, same_selector}
-use Rattle.bfd_script.specs.Sound.{Ascends, Differs, Each, IsEvent, IsRow, IsScript}
+use Rattle.bfd_script.specs.Selecting.{same_selector}
+use Rattle.bfd_script.specs.Sound.{Each, IsEvent, IsRow, IsScript}
 use Rattle.bfd_script.specs.Spelling.{line, spaced}
 use Rattle.bfd_script.specs.Written.{event_fields, events_text, row_fields, rows_text, spelling}
-use Rattle.bfd_script.proofs.Inserting.{place_turned}
 use Rattle.bfd_script.proofs.LinesAgain.{event_again, event_fields_fit, row_again, row_fields_fit}
-use Rattle.bfd_script.proofs.Elements.{each_more, each_to}
+use Rattle.bfd_script.proofs.Following.{Follows, Ready, ready}
 use Rattle.bfd_script.proofs.Splitting.{lines_again}
 
 -- ---- one line
@@ -34,38 +33,6 @@ line_taken s next number fields rest split taken =
     ∙ ap (λ (r : Result State LineFault). after number r (λ n. told_from false n (number + 1) (lines_of rest))) taken
 
 -- ---- the table
-
--- each session before is below this one, and has other selecting addresses
-pub record Follows (done : List SessionConfig) (c : SessionConfig) : Type 0 where
-  pub above : Each (λ d. discr_of d < discr_of c) done
-  pub apart : Each (λ d. same_selector c d ≡ false) done
-
--- each session is after those before it
-abbrev Ready : List SessionConfig → List SessionConfig → Type 0
-Ready done [] = Unit {0}
-Ready done (c ∷ cs) = Follows done c × Ready (done ++ c ∷ []) cs
-
--- all sessions before are below these, and have other selecting addresses
-pub record AllBefore (d : SessionConfig) (cs : List SessionConfig) : Type 0 where
-  pub below : Each (λ c. discr_of d < discr_of c) cs
-  pub apart : Each (λ c. same_selector d c ≡ false) cs
-
-before_tail : (c : SessionConfig) (cs : List SessionConfig) (d : SessionConfig) → AllBefore d (c ∷ cs) → AllBefore d cs
-before_tail c cs d h = record { below = h.below.1; apart = h.apart.1 }
-
-before_above : (c : SessionConfig) (cs : List SessionConfig) (d : SessionConfig) → AllBefore d (c ∷ cs) → discr_of d < discr_of c
-before_above c cs d h = h.below.0
-
-before_apart : (c : SessionConfig) (cs : List SessionConfig) (d : SessionConfig) → AllBefore d (c ∷ cs) → same_selector c d ≡ false
-before_apart c cs d h = place_turned (selector_of c) (selector_of d) ∙ h.apart.0
-
-ready : (done cs : List SessionConfig) → Each (λ d. AllBefore d cs) done → Ascends cs → Differs cs → Ready done cs
-ready done [] before up apart = tt
-ready done (c ∷ cs) before up apart = (
-  record { above = each_to done (before_above c cs) before; apart = each_to done (before_apart c cs) before },
-  ready (done ++ c ∷ []) cs
-      (each_more (λ d. AllBefore d cs) done (c ∷ []) (each_to done (before_tail c cs) before) (record { below = up.0; apart = apart.0 }, tt)) up.1 apart.1,
-)
 
 none_above : (k : ℕ) (done : List SessionConfig) → Each (λ d. discr_of d < k) done → has_discr k done ≡ false
 none_above k [] h = refl

@@ -1,5 +1,8 @@
 // Small files and what they give, by hand from the grammar.
-use crate::{BadLine, LineFault, ScriptFault, read};
+use crate::{BadLine, LineFault, ScriptFault, lines, read, write};
+use bfd_packet::{Addr, Datagram, State, Test, Wire};
+use bfd_rules::Out;
+use bfd_session::Answer;
 use std::test::Fail;
 
 /// How many event lines a text has, or its first faulty line.
@@ -57,5 +60,61 @@ fn complaints(rt: HostRuntime) -> Result<(), Fail> {
         fault: LineFault::SameAddresses,
     };
     assert_eq!(rt; bad.to_string(rt.alloc())?.as_str(), "bad 17 SameAddresses");
+    Ok(())
+}
+
+#[test]
+fn one_spelling(rt: HostRuntime) -> Result<(), Fail> {
+    let text = "bfd 1\n\
+        p2p 9 multi 65535 20010DB800000000000000000000000a 20010db8000000000000000000000001 active 10000 60000000 255 0 4294967295\n\
+        p2p 5 single 1 192.0.2.1 192.0.2.254 passive 1000000 50000 3 0 0\n\
+        run\n\
+        rx 1500 single 1 192.0.2.254 192.0.2.1 255 20C0\n\
+        tick 3002\n\
+        end";
+    let want = "bfd 1\n\
+        p2p 5 single 1 192.0.2.1 192.0.2.254 passive 1000000 50000 3 0 0\n\
+        p2p 9 multi 65535 20010db800000000000000000000000a 20010db8000000000000000000000001 active 10000 60000000 255 0 4294967295\n\
+        run\n\
+        rx 1500 single 1 192.0.2.254 192.0.2.1 255 20c0\n\
+        tick 3002\n\
+        end\n";
+    match read(rt.alloc(), text.as_bytes(), false) {
+        Ok(script) => {
+            let bytes = write(rt.alloc(), &script)?;
+            assert!(rt; bytes.as_slice() == want.as_bytes(), "the one spelling");
+        }
+        Err(_) => assert!(rt; false, "the text is a script"),
+    }
+    Ok(())
+}
+
+#[test]
+fn lines_of_an_event(rt: HostRuntime) -> Result<(), Fail> {
+    let address = Addr::V4(1);
+    let sent = Out::Sent {
+        discr: 5,
+        datagram: Datagram {
+            iface: 1,
+            src: address,
+            sport: 49152,
+            dst: address,
+            dport: 3784,
+            ttl: 255,
+            bytes: Wire::of(&[32, 192, 3]),
+        },
+    };
+    let changed = Out::Changed {
+        discr: 5,
+        old: State::Down,
+        new: State::Init,
+        diag: 0,
+    };
+    let mut text = Vec::new(rt.alloc());
+    lines(7, &[changed, sent], &Answer::Dropped(Test::Ttl), &mut text)?;
+    assert!(rt;
+        text.as_slice() == b"7 state 5 Down Init 0\n7 tx 5 20c003\n7 drop Ttl\n".as_slice(),
+        "items, then the answer"
+    );
     Ok(())
 }
