@@ -1,0 +1,12 @@
+pub mod Ticks
+pub mod Places
+pub mod Loops
+pub mod Ports
+pub mod Tables
+pub mod Reach
+pub mod Turns
+pub mod Headers
+pub mod Kept
+pub mod Stages
+pub mod Counts
+pub mod Telling

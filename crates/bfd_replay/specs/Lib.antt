@@ -1,0 +1,4 @@
+pub mod Rows
+pub mod World
+pub mod Reaching
+pub mod Stage

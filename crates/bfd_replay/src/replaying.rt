@@ -1,0 +1,196 @@
+//! A world of sessions, and the replay of a script.
+ghost use Rattle.std.specs.Prelude.{◌≡◌, ◌<◌, ◌≤◌, ◌+◌, ◌*◌, ◌++◌, ℕ, IfOk, length, map, string_bytes, sum_by};
+ghost use Rattle.bfd_session.specs.Step.{IsFit};
+ghost use Rattle.bfd_script.specs.Report.{sent_by, dropped_by, done_line, report};
+ghost use Rattle.bfd_script.specs.Sound.{Each, AreConfigs, IsScript};
+ghost use Rattle.bfd_replay.specs.Rows.{rows_of as rows_list};
+ghost use Rattle.bfd_replay.specs.Stage.{IsStage};
+ghost use Rattle.bfd_replay.specs.World.{turned};
+ghost use Rattle.bfd_replay.specs.World as world;
+
+use crate::rows::rows_of;
+use crate::world::happen;
+use bfd_demux::{BuildFault, Demux};
+use bfd_rules::{Out, Outs};
+use bfd_script::{Line, Script, lines};
+use bfd_session::{Answer, Session, SessionConfig};
+use std::alloc::{AllocError, Global};
+use std::marker::Model;
+
+/// A replay on its way: the sessions by ascending discriminator, their table, the last tick, and the outputs of the
+/// last event.
+#[derive(Drop)]
+struct Progress {
+    sessions: Vec<Session>,
+    demux: Demux,
+    last: u64,
+    outs: Outs,
+}
+
+impl Model for Progress {
+    ghost use Rattle.bfd_replay.specs.Stage.{Stage, IsStage};
+
+    ghost Value = { Stage };
+
+    ghost view = { λ r. record { world = record { sessions = r.sessions.items; last = r.last }; items = r.outs.items } };
+
+    ghost invariant = { λ r. IsStage r.sessions.items r.demux r.last r.outs };
+}
+
+/// The sessions at the start.
+fn started(alloc: Global, configs: Vec<SessionConfig>) -> Result<Vec<Session>, AllocError>
+    requires { Each IsFit configs.items }
+    ensures { IfOk result (λ sessions. sessions.items ≡ map world.started configs.items) }
+{
+    let mut sessions = Vec::new(alloc);
+    for config in configs {
+        sessions.push(Session::make(config))?;
+    }
+    Ok(sessions)
+}
+
+/// The table of the sessions, which have no fault.
+#[tactic(auto, using(crate::proofs::Tables::no_fault))]
+fn table(alloc: Global, configs: &[SessionConfig]) -> Result<Demux, AllocError>
+    requires { AreConfigs configs.now }
+    ensures { IfOk result (λ demux. demux ≡ rows_list configs.now) }
+{
+    let rows = rows_of(alloc, configs)?;
+    match Demux::build(alloc, &rows) {
+        Ok(demux) => Ok(demux),
+        Err(BuildFault::Memory) => Err(AllocError),
+        Err(_) => unreachable!(),
+    }
+}
+
+/// Does one event of a stage in its parts.
+#[tactic(auto, using(crate::proofs::Stages::stage_kept))]
+fn turn(
+    sessions: &mut Vec<Session>,
+    demux: &Demux,
+    last: u64,
+    line: Line,
+    outs: &mut Outs,
+) -> (u64, Answer)
+    requires stage { IsStage sessions.old.items demux.now last outs.old }
+    ensures turn { turned sessions.new.items result.0 outs.new.items result.1
+        ≡ world.happens line (record { sessions = sessions.old.items; last = last }) }
+    ensures stage { IsStage sessions.new.items demux.now result.0 outs.new }
+{
+    outs.clear();
+    happen(sessions, demux, last, line, outs)
+}
+
+impl Progress {
+    /// The world at the start of a script.
+    fn open(alloc: Global, configs: Vec<SessionConfig>) -> Result<Progress, AllocError>
+        requires { AreConfigs configs.items }
+        ensures { IfOk result (λ replay. replay.world ≡ world.opened configs.items) }
+    {
+        let demux = table(alloc, &configs)?;
+        let outs = Outs::make(alloc, 5 * configs.as_slice().len() + 5)?;
+        let sessions = started(alloc, configs)?;
+        Ok(Progress {
+            sessions,
+            demux,
+            last: 0,
+            outs,
+        })
+    }
+
+    /// One event: what it gave is in the outputs and the answer.
+    fn happen(&mut self, line: Line) -> Answer
+        ensures { turned self.new.world.sessions self.new.world.last self.new.items result ≡ world.happens line self.old.world }
+    {
+        let (last, answer) = turn(
+            &mut self.sessions,
+            &self.demux,
+            self.last,
+            line,
+            &mut self.outs,
+        );
+        self.last = last;
+        answer
+    }
+
+    /// The outputs of the last event.
+    fn items(&self) -> &[Out]
+        ensures { result.now ≡ self.now.items }
+    {
+        self.outs.items()
+    }
+}
+
+/// How many packets an output tells of.
+fn packets(out: &Out) -> u64
+    ensures value { result ≡ sent_by out.now }
+    ensures few { result ≤ 1 }
+{
+    match out {
+        Out::Sent { .. } => 1,
+        Out::Changed { .. } => 0,
+    }
+}
+
+/// How many packets the outputs tell of.
+fn sent(outs: &[Out]) -> u64
+    ensures value { result ≡ sum_by sent_by outs.now }
+    ensures few { result ≤ length outs.now }
+{
+    let mut count = 0u64;
+    for out in outs {
+        count += packets(out);
+    }
+    count
+}
+
+/// How many packets the answer says were dropped.
+fn dropped(answer: &Answer) -> u64
+    ensures value { result ≡ dropped_by answer.now }
+    ensures few { result ≤ 1 }
+{
+    match answer {
+        Answer::Dropped(_) => 1,
+        Answer::Handled | Answer::Ticked | Answer::Refused(_) | Answer::Shown(_) => 0,
+    }
+}
+
+/// The last line of a report.
+fn done_text(alloc: Global, events: u64, txs: u64, drops: u64) -> Result<String, AllocError>
+    ensures { IfOk result (λ text. string_bytes text ≡ done_line events txs drops) }
+{
+    format!(in alloc; "done {events} {txs} {drops}\n")
+}
+
+/// The report of the events that are left.
+fn tell(alloc: Global, replay: Progress, events: Vec<Line>) -> Result<Vec<u8>, AllocError>
+    requires { length events.items ≤ 200000 }
+    ensures { IfOk result (λ text. text.items ≡ report (world.outcomes events.items replay.world)) }
+{
+    let mut replay = replay;
+    let mut text = Vec::new(alloc);
+    let mut number = 1u64;
+    let mut txs = 0u64;
+    let mut drops = 0u64;
+    for line in events {
+        let answer = replay.happen(line);
+        lines(number, replay.items(), &answer, &mut text)?;
+        txs += sent(replay.items());
+        drops += dropped(&answer);
+        number += 1;
+    }
+    let done = done_text(alloc, number - 1, txs, drops)?;
+    text.extend_from_slice(done.as_bytes())?;
+    Ok(text)
+}
+
+/// The report of a replay of the script, as text: what its events give, one after another. The one refusal is want of
+/// memory.
+pub fn replay(alloc: Global, script: Script) -> Result<Vec<u8>, AllocError>
+    requires { IsScript script }
+    ensures { IfOk result (λ text. text.items ≡ world.replayed script) }
+{
+    let Script { configs, events } = script;
+    let replay = Progress::open(alloc, configs)?;
+    tell(alloc, replay, events)
+}
