@@ -1,2 +1,1 @@
-pub mod Silence
 pub mod Taking

@@ -2,4 +2,3 @@ pub mod Outside
 pub mod Status
 pub mod Text
 pub mod Words
-pub mod World

@@ -1,11 +1,11 @@
 -- What a run does with the text of its source.
 use Rattle.std.specs.Prelude.{false, ℕ, List, [], ◌∷◌, ◌++◌, length, nat_lt, Result, Ok, Err, if◌then◌else◌}
+use Rattle.bfd_replay.specs.World.{replayed}
 use Rattle.bfd_script.specs.declared.fault.BadLine.{BadLine as FaultyLine}
 use Rattle.bfd_script.specs.Complaints.{complaint}
 use Rattle.bfd_script.specs.Reading.{Lists, script_of}
 use Rattle.bfdd.specs.declared.status.Status.{Status}
 use Rattle.bfdd.specs.declared.status.Status.TheVariants.{Done, BadLine, TooLarge}
-use Rattle.bfdd.specs.World.{replayed}
 
 -- the most bytes that a text may have
 abbrev pub most_bytes : ℕ

@@ -7,9 +7,9 @@
 //! Built so far is the word `replay`: it reads a packet file, and writes the report of its events.
 //!
 //! Layers, lowest first: `status`, `words` (of the command line), `input` and `output` (a whole text from a source and to a
-//! sink), `world` (what the events of a script give), `top` ([`run`] itself).
+//! sink), `top` ([`run`] itself).
 //!
-//! It stands on `bfd_edge`, `bfd_num` and `bfd_script`.
+//! It stands on `bfd_edge`, `bfd_script` and `bfd_replay`.
 #![tactic(auto)]
 
 mod input;
@@ -17,7 +17,6 @@ mod output;
 mod status;
 mod top;
 mod words;
-mod world;
 
 use bfd_edge::{StdSink, StdSource};
 pub use status::Status;

@@ -2,33 +2,35 @@
 ghost use Rattle.std.specs.Prelude.{◌≡◌, ◌<◌, ◌≤◌, ◌+◌, ◌⊎◌, ◌↔◌, IfOk, IfSome, IsErrOf, OnOk, true, false, length, map, string_bytes, Ok, Err};
 ghost use Rattle.std.specs.Io.KnownBytes.{Appends, IsAtEnd};
 ghost use Rattle.bfd_edge.specs.Faults.{Rose};
+ghost use Rattle.bfd_replay.specs.World.{replayed, world};
 ghost use Rattle.bfd_script.specs.Reading.{Lists, script_of};
 ghost use Rattle.bfd_script.specs.Report.{report};
+ghost use Rattle.bfd_script.specs.Sound.{IsScript};
 ghost use Rattle.bfdd.specs.Outside.{ConsumesAtMost, TookFront};
 ghost use Rattle.bfdd.specs.Status.{IsDecided, OnBadLine};
 ghost use Rattle.bfdd.specs.Text.{most_bytes, answer_to, complaint_line, status_of};
 ghost use Rattle.bfdd.specs.Words.{is_replay};
-ghost use Rattle.bfdd.specs.World.{replayed, world};
 
 use crate::input::{InputFault, read_all};
 use crate::output::write_all;
 use crate::status::Status;
 use crate::words::asks_replay;
-use crate::world::report_of;
 use bfd_edge::{Fault, Sink, Source};
+use bfd_replay::replay;
 use bfd_script::{BadLine, Script, ScriptFault, read};
 use std::alloc::{AllocError, Global};
 
 /// Writes the report of a replay of the script.
 #[tactic(auto, using(crate::proofs::Taking::took_nothing))]
-fn tell<K: Sink>(alloc: Global, script: &Script, sink: &mut K) -> Result<(), Fault>
-    ensures whole { OnOk result (Appends (K.taken sink.old) (K.taken sink.new) (replayed script.now)) }
+fn tell<K: Sink>(alloc: Global, script: Script, sink: &mut K) -> Result<(), Fault>
+    requires { IsScript script }
+    ensures whole { OnOk result (Appends (K.taken sink.old) (K.taken sink.new) (replayed script)) }
     ensures failed { IsErrOf result Fault.Failed → Rose (K.faults sink.old) (K.faults sink.new) }
-    ensures front { TookFront (K.taken sink.old) (K.taken sink.new) (replayed script.now) }
+    ensures front { TookFront (K.taken sink.old) (K.taken sink.new) (replayed script) }
     ensures later { K.faults sink.old ≤ K.faults sink.new }
 {
-    match report_of(alloc, script) {
-        Ok(text) => write_all(sink, text.as_bytes()),
+    match replay(alloc, script) {
+        Ok(text) => write_all(sink, &text),
         Err(_) => Err(Fault::Memory),
     }
 }
@@ -115,7 +117,7 @@ pub fn run<S: Source, K: Sink>(
         Err(InputFault::Memory) => return Status::Memory,
     };
     match read(alloc, &bytes, false) {
-        Ok(script) => match tell(alloc, &script, sink) {
+        Ok(script) => match tell(alloc, script, sink) {
             Ok(()) => Status::Done,
             Err(Fault::Failed) => Status::WriteFault,
             Err(Fault::Memory) => Status::Memory,
