@@ -88,7 +88,7 @@ any_cond test true c d cs rest e = refl
 any_cond test false c d cs rest e = rw e (any_step false (test c) (test d) (list_any test cs))
 
 -- a session of the longer table passes a test where the new one or an old one does
-any_inserted : (test : SessionConfig → Bool) (c : SessionConfig) (cs : List SessionConfig) → list_any test (inserted c cs) ≡ (test c || list_any test cs)
+pub any_inserted : (test : SessionConfig → Bool) (c : SessionConfig) (cs : List SessionConfig) → list_any test (inserted c cs) ≡ (test c || list_any test cs)
 any_inserted test c [] = refl
 any_inserted test c (d ∷ ds) = any_cond test (nat_lt (discr_of c) (discr_of d)) c d ds (inserted c ds) (any_inserted test c ds)
 

@@ -10,3 +10,4 @@ pub mod LinesAgain
 pub mod ScriptAgain
 pub mod Elements
 pub mod Following
+pub mod Naming

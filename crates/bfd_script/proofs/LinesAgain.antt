@@ -1,5 +1,5 @@
 -- Table rows and events, written and read again.
-use Rattle.std.proofs.Common.{◌≡◌, ℕ, ◌≤◌, ◌-◌, Bool, true, false, cond, [], ◌∷◌, length, Ok, Err, refl, sym, ap, ◌∙◌, arith}
+use Rattle.std.proofs.Common.{◌≡◌, ℕ, ◌<◌, ◌≤◌, ◌^◌, ◌-◌, Bool, true, false, cond, List, [], ◌∷◌, length, Some, Ok, Err, refl, sym, ap, ◌∙◌, arith}
 use Rattle.std.proofs.lemmas.Bool.Decides.{nat_tests}
 use Rattle.std.specs.Prelude.{codes}
 use Rattle.std.specs.Fmt.{decimal}
@@ -8,6 +8,8 @@ use Rattle.bfd_packet.specs.declared.arrival.Arrival.{Arrival}
 use Rattle.bfd_packet.specs.declared.arrival.Port.{Port}
 use Rattle.bfd_packet.specs.declared.arrival.Port.TheVariants as ports
 use Rattle.bfd_rules.specs.Sound.{IsConfig, is_echo_interval}
+use Rattle.bfd_rules.specs.declared.commands.Cmd.{Cmd}
+use Rattle.bfd_rules.specs.declared.commands.Cmd.TheVariants as commands
 use Rattle.bfd_rules.specs.declared.config.Config.{Config}
 use Rattle.bfd_rules.specs.declared.config.Role.{Role}
 use Rattle.bfd_rules.specs.declared.config.Role.TheVariants as roles
@@ -18,15 +20,19 @@ use Rattle.bfd_script.specs.declared.fault.LineFault.TheVariants.{OutOfRange}
 use Rattle.bfd_script.specs.declared.entries.Entry.TheVariants as entries
 use Rattle.bfd_script.specs.declared.entries.Line.{Line}
 use Rattle.bfd_script.specs.declared.entries.Line.TheVariants as events
+use Rattle.bfd_script.specs.declared.verbs.Verb.{Verb}
+use Rattle.bfd_script.specs.declared.verbs.Verb.TheVariants as verbs
 use Rattle.bfd_script.specs.declared.words.Place.TheVariants as places
 use Rattle.bfd_script.specs.Arrivals.{arrival_of, port_of}
-use Rattle.bfd_script.specs.Entries.{entry_of, received_of}
+use Rattle.bfd_script.specs.Entries.{commanded, entry_of, numbered_of, plain_of, received_of, shown_of}
+use Rattle.bfd_script.specs.Fields.{number_in}
 use Rattle.bfd_script.specs.Gives.{◌>>=◌}
 use Rattle.bfd_script.specs.Pairs.{active_of, config_by, echo_of, ends_of, pair_of, pair_with, role_of, timing_of}
-use Rattle.bfd_script.specs.Reading.{is_built_line}
-use Rattle.bfd_script.specs.Sound.{Each, IsEvent, IsPairRow, IsReceived, IsRow}
+use Rattle.bfd_script.specs.Reading.{is_built_command, is_built_line}
+use Rattle.bfd_script.specs.Sound.{Each, IsAsked, IsEvent, IsPairRow, IsReceived, IsRow}
 use Rattle.bfd_script.specs.Spelling.{hex_field, spaced}
-use Rattle.bfd_script.specs.Written.{address_field, event_fields, mode_field, port_field, role_field, row_fields}
+use Rattle.bfd_script.specs.Verbs.{command, number_of, verb_of}
+use Rattle.bfd_script.specs.Written.{address_field, event_fields, mode_field, port_field, role_field, row_fields, verb_fields}
 use Rattle.bfd_script.proofs.Numerals.{number_again, number_field, number_short}
 use Rattle.bfd_script.proofs.Rereading.{address_again, address_is_field, address_short, hex_is_field, hex_short, payload_again}
 use Rattle.bfd_script.proofs.Elements.{IsField, word}
@@ -251,11 +257,103 @@ rx_short m a h =
 tick_short : (tick : ℕ) → tick ≤ greatest_tick → total (event_fields (events.Tick tick)) ≤ 4096
 tick_short tick h = let l = number_short tick (omega arith) in omega arith
 
+-- ---- a command
+
+-- a command is a verb with its number, the verb is spelled by the first field, and the number stands after it where it has one
+verb_fits : (cmd : Cmd) → number_of cmd < 2 ^ 64 → Each IsField (verb_fields cmd)
+verb_fits commands.Disable h = (word (codes "disable") refl, tt)
+verb_fits commands.Enable h = (word (codes "enable") refl, tt)
+verb_fits commands.Reset h = (word (codes "reset") refl, tt)
+verb_fits (commands.Path n) h = (word (codes "path") refl, (number_field n h, tt))
+verb_fits (commands.Tx n) h = (word (codes "tx") refl, (number_field n h, tt))
+verb_fits (commands.Rx n) h = (word (codes "rx") refl, (number_field n h, tt))
+verb_fits (commands.Mult n) h = (word (codes "mult") refl, (number_field n h, tt))
+verb_fits (commands.Demand n) h = (word (codes "demand") refl, (number_field n h, tt))
+verb_fits (commands.EchoEvery n) h = (word (codes "echo") refl, (number_field n h, tt))
+verb_fits (commands.Key n) h = (word (codes "key") refl, (number_field n h, tt))
+
+verb_short : (cmd : Cmd) → number_of cmd < 2 ^ 64 → total (verb_fields cmd) ≤ 40
+verb_short commands.Disable h = omega arith
+verb_short commands.Enable h = omega arith
+verb_short commands.Reset h = omega arith
+verb_short (commands.Path n) h = let l = number_short n h in omega arith
+verb_short (commands.Tx n) h = let l = number_short n h in omega arith
+verb_short (commands.Rx n) h = let l = number_short n h in omega arith
+verb_short (commands.Mult n) h = let l = number_short n h in omega arith
+verb_short (commands.Demand n) h = let l = number_short n h in omega arith
+verb_short (commands.EchoEvery n) h = let l = number_short n h in omega arith
+verb_short (commands.Key n) h = let l = number_short n h in omega arith
+
+moment_again : (m d : ℕ) → IsAsked m d → number_in 0 (moment_bound - 1) (decimal m) ≡ Ok m
+moment_again m d h =
+    number_again 0 (moment_bound - 1) m (omega arith) (let k = h.moment_below in omega arith) (let k = h.moment_below in omega arith)
+
+asked_again : (m d : ℕ) → IsAsked m d → number_in 1 4294967295 (decimal d) ≡ Ok d
+asked_again m d h =
+    number_again 1 4294967295 d h.some_discr (let k = h.discr_below in omega arith) (let k = h.discr_below in omega arith)
+
+plain_again : (m d : ℕ) (field : List ℕ) (verb : Verb) → IsAsked m d → verb_of field ≡ Some verb
+    → plain_of (decimal m) (decimal d) field ≡ Ok (entries.Event (events.Cmd m d (command verb 0)))
+unfolding plain_of
+plain_again m d field verb h e = rw (moment_again m d h, asked_again m d h, e) refl
+
+numbered_again : (m d n : ℕ) (field : List ℕ) (verb : Verb) → IsAsked m d → n < 2 ^ 64 → verb_of field ≡ Some verb
+    → numbered_of (decimal m) (decimal d) field (decimal n) ≡ Ok (entries.Event (events.Cmd m d (command verb n)))
+unfolding numbered_of
+numbered_again m d n field verb h below e =
+    rw (moment_again m d h, asked_again m d h, e, number_again 0 (2 ^ 64 - 1) n (omega arith) (omega arith) below) refl
+
+command_again : (m d : ℕ) (cmd : Cmd) → IsAsked m d → number_of cmd < 2 ^ 64 → is_built_command cmd ≡ true
+    → commanded (decimal m ∷ decimal d ∷ verb_fields cmd) ≡ Ok (entries.Event (events.Cmd m d cmd))
+command_again m d commands.Disable h n built = plain_again m d (codes "disable") verbs.Disable h refl
+command_again m d commands.Enable h n built = plain_again m d (codes "enable") verbs.Enable h refl
+command_again m d commands.Reset h n built = plain_again m d (codes "reset") verbs.Reset h refl
+command_again m d (commands.Path n) h below built = numbered_again m d n (codes "path") verbs.Path h below refl
+command_again m d (commands.Tx n) h below built = numbered_again m d n (codes "tx") verbs.Tx h below refl
+command_again m d (commands.Rx n) h below built = numbered_again m d n (codes "rx") verbs.Rx h below refl
+command_again m d (commands.Mult n) h below built = numbered_again m d n (codes "mult") verbs.Mult h below refl
+command_again m d (commands.Demand n) h below built = numbered_again m d n (codes "demand") verbs.Demand h below refl
+command_again m d (commands.EchoEvery n) h below built = cc
+command_again m d (commands.Key n) h below built = cc
+
+cmd_is_fields : (m d : ℕ) (cmd : Cmd) → IsAsked m d → number_of cmd < 2 ^ 64 → Each IsField (event_fields (events.Cmd m d cmd))
+cmd_is_fields m d cmd h below = (
+  word (codes "cmd") refl,
+  (number_field m (let k = h.moment_below in omega arith), (number_field d (let k = h.discr_below in omega arith), verb_fits cmd below)),
+)
+
+cmd_short : (m d : ℕ) (cmd : Cmd) → IsAsked m d → number_of cmd < 2 ^ 64 → total (event_fields (events.Cmd m d cmd)) ≤ 4096
+cmd_short m d cmd h below =
+    let l1 = number_short m (let k = h.moment_below in omega arith) in
+    let l2 = number_short d (let k = h.discr_below in omega arith) in
+    let l3 = verb_short cmd below in
+    omega arith
+
+-- ---- a question
+
+shown_again : (m d : ℕ) → IsAsked m d → shown_of (decimal m) (decimal d) ≡ Ok (entries.Event (events.Show m d))
+unfolding shown_of
+shown_again m d h = rw (moment_again m d h, asked_again m d h) refl
+
+show_is_fields : (m d : ℕ) → IsAsked m d → Each IsField (event_fields (events.Show m d))
+show_is_fields m d h = (
+  word (codes "show") refl,
+  (number_field m (let k = h.moment_below in omega arith), (number_field d (let k = h.discr_below in omega arith), tt)),
+)
+
+show_short : (m d : ℕ) → IsAsked m d → total (event_fields (events.Show m d)) ≤ 4096
+show_short m d h =
+    let l1 = number_short m (let k = h.moment_below in omega arith) in
+    let l2 = number_short d (let k = h.discr_below in omega arith) in
+    omega arith
+
+-- ---- any event
+
 pub event_fields_fit : (event : Line) → IsEvent event → is_built_line event ≡ true → Each IsField (event_fields event)
 event_fields_fit (events.Rx m a) h built = rx_is_fields m a h
 event_fields_fit (events.Tick tick) h built = (tick_is_field, (number_field tick (omega arith), tt))
-event_fields_fit (events.Cmd m d cmd) h built = cc
-event_fields_fit (events.Show m d) h built = cc
+event_fields_fit (events.Cmd m d cmd) h built = cmd_is_fields m d cmd h.0 h.1
+event_fields_fit (events.Show m d) h built = show_is_fields m d h
 
 pub event_again : (event : Line) → IsEvent event → is_built_line event ≡ true
     → entry_of places.Events false (spaced (event_fields event) []) ≡ Ok (entries.Event event)
@@ -265,5 +363,8 @@ event_again (events.Rx m a) h built =
 event_again (events.Tick tick) h built =
     entry_again places.Events false (codes "tick") (decimal tick ∷ []) (event_fields_fit (events.Tick tick) h built) (tick_short tick h)
     ∙ ap (λ r. r >>= λ t. Ok (entries.Event (events.Tick t))) (number_again 0 greatest_tick tick (omega arith) h (omega arith))
-event_again (events.Cmd m d cmd) h built = cc
-event_again (events.Show m d) h built = cc
+event_again (events.Cmd m d cmd) h built =
+    entry_again places.Events false (codes "cmd") (decimal m ∷ decimal d ∷ verb_fields cmd) (cmd_is_fields m d cmd h.0 h.1) (cmd_short m d cmd h.0 h.1)
+    ∙ command_again m d cmd h.0 h.1 built
+event_again (events.Show m d) h built =
+    entry_again places.Events false (codes "show") (decimal m ∷ decimal d ∷ []) (show_is_fields m d h) (show_short m d h) ∙ shown_again m d h

@@ -11,10 +11,10 @@ use Rattle.bfd_script.specs.declared.entries.Line.{Line}
 use Rattle.bfd_script.specs.declared.words.Place.TheVariants as places
 use Rattle.bfd_script.specs.Fields.{lines_of}
 use Rattle.bfd_script.specs.Gives.{◌>>=◌}
-use Rattle.bfd_script.specs.Reading.{Lists, State, accepted, after, is_built, is_built_line, script_of, start, step, told_from, with_config, with_event}
+use Rattle.bfd_script.specs.Reading.{Lists, State, accepted, after, is_built, is_built_line, is_named, script_of, start, step, told_from, with_config, with_event}
 use Rattle.bfd_script.specs.Rows.{has_discr, inserted}
 use Rattle.bfd_script.specs.Selecting.{same_selector}
-use Rattle.bfd_script.specs.Sound.{Each, IsEvent, IsRow, IsScript}
+use Rattle.bfd_script.specs.Sound.{AreNamed, Each, IsEvent, IsRow, IsScript}
 use Rattle.bfd_script.specs.Spelling.{line, spaced}
 use Rattle.bfd_script.specs.Written.{event_fields, events_text, row_fields, rows_text, spelling}
 use Rattle.bfd_script.proofs.LinesAgain.{event_again, event_fields_fit, row_again, row_fields_fit}
@@ -85,33 +85,33 @@ rows_again (c ∷ cs) done number rest fit row built follows room =
 
 -- ---- the events
 
-event_taken : (event : Line) (s : State) → length s.events < 200000 → is_built_line event ≡ true
+event_taken : (event : Line) (s : State) → is_named event s.configs ≡ true → length s.events < 200000 → is_built_line event ≡ true
     → with_event event s ≡ Ok (record s { events = s.events ++ event ∷ [] })
-event_taken event s room built =
+event_taken event s named room built =
     let few : nat_le 200000 (length s.events) ≡ false = grind (arith, nat_tests) in
-    rw (few, built) refl
+    rw (named, few, built) refl
 
-event_step : (event : Line) (configs : List SessionConfig) (done : List Line) → IsEvent event → length done < 200000 → is_built_line event ≡ true
+event_step : (event : Line) (configs : List SessionConfig) (done : List Line) → IsEvent event → is_named event configs ≡ true → length done < 200000 → is_built_line event ≡ true
     → step false (record { place = places.Events; configs = configs; events = done }) (spaced (event_fields event) [])
     ≡ Ok (record { place = places.Events; configs = configs; events = done ++ event ∷ [] })
-event_step event configs done fit room built =
+event_step event configs done fit named room built =
     ap (λ r. r >>= λ entry. accepted entry (record { place = places.Events; configs = configs; events = done })) (event_again event fit built)
-    ∙ event_taken event (record { place = places.Events; configs = configs; events = done }) room built
+    ∙ event_taken event (record { place = places.Events; configs = configs; events = done }) named room built
 
-events_again : (events : List Line) (configs : List SessionConfig) (done : List Line) (number : ℕ) (rest : List ℕ) → Each IsEvent events
+events_again : (events : List Line) (configs : List SessionConfig) (done : List Line) (number : ℕ) (rest : List ℕ) → Each IsEvent events → AreNamed configs events
     → Each (λ e. is_built_line e ≡ true) events → length done + length events ≤ 200000
     → told_from false (record { place = places.Events; configs = configs; events = done }) number (lines_of (events_text events ++ rest))
     ≡ told_from false (record { place = places.Events; configs = configs; events = done ++ events }) (number + length events) (lines_of rest)
-events_again [] configs done number rest fit built room =
+events_again [] configs done number rest fit named built room =
     let e : number + 0 ≡ number = omega arith in rw (append-nil done, e) refl
-events_again (event ∷ events) configs done number rest fit built room =
+events_again (event ∷ events) configs done number rest fit named built room =
     let more = length-append done (event ∷ []) in
     let e : number + 1 + length events ≡ number + suc (length events) = omega arith in
     let joined = append_assoc done (event ∷ []) events in
     ap (λ t. told_from false (record { place = places.Events; configs = configs; events = done }) number (lines_of t)) (append_assoc (line (event_fields event)) (events_text events) rest)
     ∙ line_taken (record { place = places.Events; configs = configs; events = done }) (record { place = places.Events; configs = configs; events = done ++ event ∷ [] }) number (event_fields event) (events_text events ++ rest)
-    (lines_again (event_fields event) (events_text events ++ rest) (event_fields_fit event fit.0 built.0)) (event_step event configs done fit.0 (omega arith) built.0)
-    ∙ events_again events configs (done ++ event ∷ []) (number + 1) rest fit.1 built.1 (omega arith)
+    (lines_again (event_fields event) (events_text events ++ rest) (event_fields_fit event fit.0 built.0)) (event_step event configs done fit.0 named.0 (omega arith) built.0)
+    ∙ events_again events configs (done ++ event ∷ []) (number + 1) rest fit.1 named.1 built.1 (omega arith)
     ∙ ap (λ xs. told_from false (record { place = places.Events; configs = configs; events = xs }) (number + 1 + length events) (lines_of rest)) joined
     ∙ ap (λ n. told_from false (record { place = places.Events; configs = configs; events = done ++ (event ∷ events) }) n (lines_of rest)) e
 
@@ -139,7 +139,7 @@ script_again script h =
     h.configs.fit h.configs.rows h.configs.built (ready [] script.configs tt h.configs.ascends h.configs.differs) (let k = h.configs.few in omega arith)
     ∙ run_read script.configs (2 + length script.configs) (events_text script.events ++ line (codes "end" ∷ []))
     ∙ events_again script.events script.configs [] (2 + length script.configs + 1) (line (codes "end" ∷ []))
-    h.events.lines h.events.built (let k = h.events.few in omega arith)
+    h.events.lines h.named h.events.built (let k = h.events.few in omega arith)
     ∙ end_read script.configs script.events (2 + length script.configs + 1 + length script.events)
 
 -- and so does any text that is the spelling

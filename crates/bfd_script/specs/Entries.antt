@@ -1,5 +1,5 @@
 -- What one line says, and its first fault.
-use Rattle.std.specs.Prelude.{ℕ, Bool, List, [], ◌∷◌, ◌-◌, Option, Some, None, length, ◌==◌, Result, Ok, Err, if◌then◌else◌}
+use Rattle.std.specs.Prelude.{ℕ, Bool, List, [], ◌∷◌, ◌-◌, ◌^◌, true, false, Option, Some, None, length, ◌==◌, Result, Ok, Err, if◌then◌else◌}
 use Rattle.bfd_num.specs.Numbers.{moment_bound, greatest_tick}
 use Rattle.bfd_script.specs.declared.fault.LineFault.{LineFault}
 use Rattle.bfd_script.specs.declared.fault.LineFault.TheVariants.{UnknownWord, FieldCount, Order, NotBuilt}
@@ -13,6 +13,7 @@ use Rattle.bfd_script.specs.Arrivals.{port_of, arrival_fields}
 use Rattle.bfd_script.specs.Fields.{text_of, fields_of, number_in}
 use Rattle.bfd_script.specs.Gives.{◌>>=◌}
 use Rattle.bfd_script.specs.Pairs.{pair_of}
+use Rattle.bfd_script.specs.Verbs.{verb_of, fits, known, command}
 use Rattle.bfd_script.specs.Words.{word_of, stands}
 
 -- a line that is its word alone
@@ -52,6 +53,41 @@ received_fields values = Err FieldCount
 abbrev pub received : List (List ℕ) → Result Entry LineFault
 received values = if length values == 7 then received_fields values else Err FieldCount
 
+-- a `cmd` line of these values, without number
+unfoldable pub plain_of : List ℕ → List ℕ → List ℕ → Result Entry LineFault
+plain_of moment discr verb = do
+  moment ← number_in 0 (moment_bound - 1) moment
+  discr ← number_in 1 4294967295 discr
+  verb ← known (verb_of verb)
+  Ok (entries.Event (events.Cmd moment discr (command verb 0)))
+
+-- a `cmd` line of these values; the number has the range of its type, and the session tests its own
+unfoldable pub numbered_of : List ℕ → List ℕ → List ℕ → List ℕ → Result Entry LineFault
+numbered_of moment discr verb number = do
+  moment ← number_in 0 (moment_bound - 1) moment
+  discr ← number_in 1 4294967295 discr
+  verb ← known (verb_of verb)
+  number ← number_in 0 (2 ^ 64 - 1) number
+  Ok (entries.Event (events.Cmd moment discr (command verb number)))
+
+-- `cmd MOMENT DISCR VERB` or `cmd MOMENT DISCR VERB N`
+abbrev pub commanded : List (List ℕ) → Result Entry LineFault
+commanded (moment ∷ discr ∷ verb ∷ []) = if fits (verb_of verb) false then plain_of moment discr verb else Err FieldCount
+commanded (moment ∷ discr ∷ verb ∷ number ∷ []) = if fits (verb_of verb) true then numbered_of moment discr verb number else Err FieldCount
+commanded values = Err FieldCount
+
+-- a `show` line of these values
+unfoldable pub shown_of : List ℕ → List ℕ → Result Entry LineFault
+shown_of moment discr = do
+  moment ← number_in 0 (moment_bound - 1) moment
+  discr ← number_in 1 4294967295 discr
+  Ok (entries.Event (events.Show moment discr))
+
+-- `show MOMENT DISCR`
+abbrev pub shown : List (List ℕ) → Result Entry LineFault
+shown (moment ∷ discr ∷ []) = shown_of moment discr
+shown values = Err FieldCount
+
 -- what the values of a word say
 abbrev pub valued : Word → List (List ℕ) → Result Entry LineFault
 valued words.Bfd values = version values
@@ -59,6 +95,8 @@ valued words.P2p values = row_of values
 valued words.Run values = alone entries.Run values
 valued words.Rx values = received values
 valued words.Tick values = ticked values
+valued words.Cmd values = commanded values
+valued words.Show values = shown values
 valued words.End values = alone entries.End values
 valued word values = Err NotBuilt
 

@@ -13,4 +13,5 @@ pub mod Tables
 pub mod Values
 pub mod Pairs
 pub mod Arrivals
+pub mod Verbs
 pub mod Written

@@ -1,10 +1,12 @@
 -- A whole text: the script that it spells, or its first faulty line with that line's first fault.
 use Rattle.std.specs.Prelude.{ℕ, ◌+◌, ◌++◌, ◌==◌, Bool, true, false, not, List, [], ◌∷◌, length, nat_le, Result, Ok, Err, if◌then◌else◌}
 use Rattle.bfd_script.specs.declared.fault.LineFault.{LineFault}
-use Rattle.bfd_script.specs.declared.fault.LineFault.TheVariants.{SameDiscr, SameAddresses, MissingEnd, TooMany, NotBuilt}
+use Rattle.bfd_script.specs.declared.fault.LineFault.TheVariants.{SameDiscr, SameAddresses, NoSuchSession, MissingEnd, TooMany, NotBuilt}
 use Rattle.bfd_script.specs.declared.fault.BadLine.{BadLine}
 use Rattle.bfd_packet.specs.declared.arrival.Port.{Port}
 use Rattle.bfd_packet.specs.declared.arrival.Port.TheVariants as ports
+use Rattle.bfd_rules.specs.declared.commands.Cmd.{Cmd}
+use Rattle.bfd_rules.specs.declared.commands.Cmd.TheVariants as commands
 use Rattle.bfd_session.specs.declared.event.SessionConfig.{SessionConfig}
 use Rattle.bfd_session.specs.declared.event.SessionConfig.TheVariants.{Pair}
 use Rattle.bfd_session.specs.Kinds.{discr_of}
@@ -49,11 +51,24 @@ is_built_port ports.Single = true
 is_built_port ports.Multi = true
 is_built_port port = false
 
+-- a command that this program serves
+abbrev pub is_built_command : Cmd → Bool
+is_built_command (commands.EchoEvery n) = false
+is_built_command (commands.Key n) = false
+is_built_command cmd = true
+
 -- an event that this program serves
 abbrev pub is_built_line : Line → Bool
 is_built_line (events.Rx moment arrival) = is_built_port arrival.port
 is_built_line (events.Tick tick) = true
-is_built_line event = false
+is_built_line (events.Cmd moment discr cmd) = is_built_command cmd
+is_built_line (events.Show moment discr) = true
+
+-- the session that an event names is there; a packet and a tick name none
+abbrev pub is_named : Line → List SessionConfig → Bool
+is_named (events.Cmd moment discr cmd) configs = has_discr discr configs
+is_named (events.Show moment discr) configs = has_discr discr configs
+is_named event configs = true
 
 -- one more table row: its discriminator and its selecting addresses are new, and there are at most 65,536
 abbrev pub with_config : SessionConfig → State → Result State LineFault
@@ -64,10 +79,11 @@ with_config config s =
     else if not (is_built config) then Err NotBuilt
     else Ok (record s { configs = inserted config s.configs })
 
--- one more event line: there are at most 200,000
+-- one more event line: the session that it names is there, and there are at most 200,000
 abbrev pub with_event : Line → State → Result State LineFault
 with_event event s =
-    if nat_le 200000 (length s.events) then Err TooMany
+    if not (is_named event s.configs) then Err NoSuchSession
+    else if nat_le 200000 (length s.events) then Err TooMany
     else if not (is_built_line event) then Err NotBuilt
     else Ok (record s { events = s.events ++ event ∷ [] })
 

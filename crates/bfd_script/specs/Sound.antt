@@ -12,9 +12,10 @@ use Rattle.bfd_script.specs.declared.entries.Entry.{Entry}
 use Rattle.bfd_script.specs.declared.entries.Entry.TheVariants as entries
 use Rattle.bfd_script.specs.declared.entries.Line.{Line}
 use Rattle.bfd_script.specs.declared.entries.Line.TheVariants as events
-use Rattle.bfd_script.specs.Reading.{Lists, is_built, is_built_line}
+use Rattle.bfd_script.specs.Reading.{Lists, is_built, is_built_line, is_named}
 use Rattle.bfd_script.specs.Selecting.{same_selector}
 use Rattle.bfd_script.specs.Values.{IsAddress}
+use Rattle.bfd_script.specs.Verbs.{number_of}
 
 -- a fact is true of each element
 abbrev pub Each : {X : Type 0} → (X → Type 0) → List X → Type 0
@@ -55,11 +56,18 @@ pub record IsReceived (moment : ℕ) (arrival : Arrival) : Type 0 where
   pub bytes : IsBytes arrival.payload
   pub short : length arrival.payload ≤ 256
 
+-- the numbers that a `cmd` line and a `show` line begin with fit their fields
+pub record IsAsked (moment discr : ℕ) : Type 0 where
+  pub moment_below : moment < moment_bound
+  pub some_discr : 0 < discr
+  pub discr_below : discr < 2 ^ 32
+
 -- an event as its line gives it
 abbrev pub IsEvent : Line → Type 0
 IsEvent (events.Rx moment arrival) = IsReceived moment arrival
 IsEvent (events.Tick tick) = tick ≤ greatest_tick
-IsEvent event = Unit {0}
+IsEvent (events.Cmd moment discr cmd) = IsAsked moment discr × (number_of cmd < 2 ^ 64)
+IsEvent (events.Show moment discr) = IsAsked moment discr
 
 -- what a line says, as the line gives it
 abbrev pub IsEntry : Entry → Type 0
@@ -83,7 +91,12 @@ pub record AreEvents (events : List Line) : Type 0 where
   pub built : Each (λ e. is_built_line e ≡ true) events
   pub few : length events ≤ 200000
 
+-- each event that names a session names one of the table
+abbrev pub AreNamed : List SessionConfig → List Line → Type 0
+AreNamed configs events = Each (λ e. is_named e configs ≡ true) events
+
 -- a script that the grammar gives
 pub record IsScript (script : Lists) : Type 0 where
   pub configs : AreConfigs script.configs
   pub events : AreEvents script.events
+  pub named : AreNamed script.configs script.events

@@ -1,13 +1,16 @@
 // What one line says.
-ghost use Rattle.std.specs.Prelude.{◌≡◌, IfOk, map};
-ghost use Rattle.bfd_script.specs.Entries.{alone, entry_of, received, received_fields, received_of, row_of, ticked, valued, version, worded};
+ghost use Rattle.std.specs.Prelude.{◌≡◌, Err, IfOk, false, if◌then◌else◌, map, true};
+ghost use Rattle.bfd_script.specs.Entries.{alone, commanded, entry_of, numbered_of, plain_of, received, received_fields, received_of, row_of, shown, shown_of, ticked, valued, version, worded};
 ghost use Rattle.bfd_script.specs.Gives.{Gives};
 ghost use Rattle.bfd_script.specs.Sound.{IsEntry};
+ghost use Rattle.bfd_script.specs.Verbs.{fits, verb_of};
+ghost use Rattle.bfd_script.specs.declared.fault.LineFault.TheVariants.{FieldCount};
 
 use crate::arrivals::{port_named, read_arrival};
 use crate::fault::{LineFault, ReadFault};
 use crate::fields::{line_text, number, split_fields};
 use crate::pairs::read_pair;
+use crate::verbs::{commanding, known_verb, may_fit, verb_named};
 use crate::words::{Place, Word, word_named};
 use bfd_num::{GREATEST_TICK, MOMENT_BOUND, Moment, Tick};
 use bfd_packet::Arrival;
@@ -135,6 +138,98 @@ fn read_received(alloc: Global, values: &[&str]) -> Result<Entry, ReadFault>
     received_fields(alloc, values)
 }
 
+/// A `cmd` line of these values, without number.
+#[tactic(auto, unfolding(crate::specs::Entries::plain_of))]
+fn plain(moment: &str, discr: &str, verb: &str) -> Result<Entry, LineFault>
+    ensures value { result ≡ plain_of moment.now discr.now verb.now }
+    ensures sound { IfOk result IsEntry }
+{
+    let moment = number(moment, 0, MOMENT_BOUND - 1)?;
+    let discr = number(discr, 1, 4_294_967_295)? as u32;
+    let verb = known_verb(verb_named(verb))?;
+    Ok(Entry::Event(Line::Cmd {
+        moment: Moment::new(moment).unwrap(),
+        discr,
+        cmd: commanding(verb, 0),
+    }))
+}
+
+/// A `cmd` line of these values.
+#[tactic(auto, unfolding(crate::specs::Entries::numbered_of))]
+fn numbered(moment: &str, discr: &str, verb: &str, n: &str) -> Result<Entry, LineFault>
+    ensures value { result ≡ numbered_of moment.now discr.now verb.now n.now }
+    ensures sound { IfOk result IsEntry }
+{
+    let moment = number(moment, 0, MOMENT_BOUND - 1)?;
+    let discr = number(discr, 1, 4_294_967_295)? as u32;
+    let verb = known_verb(verb_named(verb))?;
+    let n = number(n, 0, u64::MAX)?;
+    Ok(Entry::Event(Line::Cmd {
+        moment: Moment::new(moment).unwrap(),
+        discr,
+        cmd: commanding(verb, n),
+    }))
+}
+
+/// A `cmd` line of these values, without number, where the verb has none.
+fn read_plain(moment: &str, discr: &str, verb: &str) -> Result<Entry, LineFault>
+    ensures value { result ≡ (if fits (verb_of verb.now) false then plain_of moment.now discr.now verb.now else Err FieldCount) }
+    ensures sound { IfOk result IsEntry }
+{
+    if !may_fit(verb_named(verb), false) {
+        return Err(LineFault::FieldCount);
+    }
+    plain(moment, discr, verb)
+}
+
+/// A `cmd` line of these values, where the verb has a number.
+fn read_numbered(moment: &str, discr: &str, verb: &str, n: &str) -> Result<Entry, LineFault>
+    ensures value { result ≡ (if fits (verb_of verb.now) true then numbered_of moment.now discr.now verb.now n.now else Err FieldCount) }
+    ensures sound { IfOk result IsEntry }
+{
+    if !may_fit(verb_named(verb), true) {
+        return Err(LineFault::FieldCount);
+    }
+    numbered(moment, discr, verb, n)
+}
+
+/// `cmd MOMENT DISCR VERB` or `cmd MOMENT DISCR VERB N`
+fn read_command(values: &[&str]) -> Result<Entry, LineFault>
+    ensures value { result ≡ commanded (map (λ value. value.now) values.now) }
+    ensures sound { IfOk result IsEntry }
+{
+    match values {
+        [moment, discr, verb] => read_plain(moment, discr, verb),
+        [moment, discr, verb, n] => read_numbered(moment, discr, verb, n),
+        _ => Err(LineFault::FieldCount),
+    }
+}
+
+/// A `show` line of these values.
+#[tactic(auto, unfolding(crate::specs::Entries::shown_of))]
+fn show(moment: &str, discr: &str) -> Result<Entry, LineFault>
+    ensures value { result ≡ shown_of moment.now discr.now }
+    ensures sound { IfOk result IsEntry }
+{
+    let moment = number(moment, 0, MOMENT_BOUND - 1)?;
+    let discr = number(discr, 1, 4_294_967_295)? as u32;
+    Ok(Entry::Event(Line::Show {
+        moment: Moment::new(moment).unwrap(),
+        discr,
+    }))
+}
+
+/// `show MOMENT DISCR`
+fn read_show(values: &[&str]) -> Result<Entry, LineFault>
+    ensures value { result ≡ shown (map (λ value. value.now) values.now) }
+    ensures sound { IfOk result IsEntry }
+{
+    match values {
+        [moment, discr] => show(moment, discr),
+        _ => Err(LineFault::FieldCount),
+    }
+}
+
 /// `p2p DISCR single|multi IFACE LOCAL REMOTE active|passive TX RX MULT ECHO SEED`
 fn read_row(alloc: Global, values: &[&str]) -> Result<Entry, ReadFault>
     ensures value { Gives (λ entry. entry) result (row_of (map (λ value. value.now) values.now)) }
@@ -155,6 +250,8 @@ fn read_values(alloc: Global, word: Word, values: &[&str]) -> Result<Entry, Read
         Word::Run => Ok(read_alone(Entry::Run, values)?),
         Word::Rx => read_received(alloc, values),
         Word::Tick => Ok(read_tick(values)?),
+        Word::Cmd => Ok(read_command(values)?),
+        Word::Show => Ok(read_show(values)?),
         Word::End => Ok(read_alone(Entry::End, values)?),
         _ => Err(ReadFault::Fault(LineFault::NotBuilt)),
     }

@@ -12,6 +12,7 @@ use crate::script::Script;
 use crate::table::Table;
 use crate::words::Place;
 use bfd_packet::Port;
+use bfd_rules::Cmd;
 use bfd_session::SessionConfig;
 use std::alloc::Global;
 use std::marker::Model;
@@ -32,13 +33,13 @@ pub(crate) struct Reading {
 
 impl Model for Reading {
     ghost use Rattle.bfd_script.specs.Reading.{State};
-    ghost use Rattle.bfd_script.specs.Sound.{AreEvents};
+    ghost use Rattle.bfd_script.specs.Sound.{AreEvents, AreNamed};
 
     ghost Value = { State };
 
     ghost view = { λ r. record { place = r.place; configs = r.table; events = r.events.items } };
 
-    ghost invariant = { λ r. AreEvents r.events.items };
+    ghost invariant = { λ r. AreEvents r.events.items × AreNamed r.table r.events.items };
 }
 
 /// Whether this program serves the session.
@@ -49,6 +50,13 @@ fn is_built(config: &SessionConfig) -> bool
     pair.echo == 0
 }
 
+/// Whether this program serves the command.
+fn is_built_command(cmd: Cmd) -> bool
+    ensures { result ≡ reading.is_built_command cmd }
+{
+    !matches!(cmd, Cmd::EchoEvery(_) | Cmd::Key(_))
+}
+
 /// Whether this program serves the event.
 fn is_built_line(line: &Line) -> bool
     ensures { result ≡ reading.is_built_line line.now }
@@ -56,7 +64,19 @@ fn is_built_line(line: &Line) -> bool
     match line {
         Line::Rx { moment: _, arrival } => matches!(arrival.port, Port::Single | Port::Multi),
         Line::Tick(_) => true,
-        Line::Cmd { .. } | Line::Show { .. } => false,
+        Line::Cmd { moment: _, discr: _, cmd } => is_built_command(*cmd),
+        Line::Show { .. } => true,
+    }
+}
+
+/// Whether the session that the event names is in the table.
+fn is_named(line: &Line, table: &Table) -> bool
+    ensures { result ≡ reading.is_named line.now table.now }
+{
+    match line {
+        Line::Rx { .. } | Line::Tick(_) => true,
+        Line::Cmd { moment: _, discr, cmd: _ } => table.has_discr(*discr),
+        Line::Show { moment: _, discr } => table.has_discr(*discr),
     }
 }
 
@@ -111,7 +131,8 @@ impl Reading {
         })
     }
 
-    /// One more event line: refused where there are 200,000, and where this program doesn't serve it.
+    /// One more event line: refused where the session that it names isn't there, where there are 200,000, and where this
+    /// program doesn't serve it.
     fn with_line(self, line: Line) -> Result<Reading, ReadFault>
         requires { IsEvent line }
         ensures { Gives (λ s. s) result (with_event line self) }
@@ -121,6 +142,9 @@ impl Reading {
             table,
             mut events,
         } = self;
+        if !is_named(&line, &table) {
+            return Err(ReadFault::Fault(LineFault::NoSuchSession));
+        }
         if events.len() >= MOST_EVENTS {
             return Err(ReadFault::Fault(LineFault::TooMany));
         }
