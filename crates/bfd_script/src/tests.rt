@@ -34,7 +34,11 @@ fn small_files(rt: HostRuntime) -> Result<(), Fail> {
             "bfd 1\nrun\ntick 1152921504606847\nend\n",
             bad(3, LineFault::OutOfRange),
         ),
-        ("bfd 1\nrun\nshow 5 1\nend\n", bad(3, LineFault::NotBuilt)),
+        (
+            "bfd 1\nrun\nshow 5 1\nend\n",
+            bad(3, LineFault::NoSuchSession),
+        ),
+        ("bfd 1\nauth 1 1 6 00\nrun\nend\n", bad(2, LineFault::NotBuilt)),
         ("bfd 1\nrun\nend\nrun\n", bad(4, LineFault::Order)),
         (
             "bfd 1\nkey 1 6 00\nrun\nend\n",
@@ -50,6 +54,50 @@ fn small_files(rt: HostRuntime) -> Result<(), Fail> {
         bad(3, LineFault::Order),
         "a tick in a live script"
     );
+    Ok(())
+}
+
+/// What a text says that has one session, 5, and one event line.
+fn asked(rt: &HostRuntime, line: &str, live: bool) -> Result<Result<usize, BadLine>, Fail> {
+    let text = format!(in rt.alloc(); "bfd 1\np2p 5 single 1 192.0.2.1 192.0.2.254 passive 1000000 50000 3 0 0\nrun\n{line}\nend\n")?;
+    Ok(told(rt, text.as_str(), live))
+}
+
+#[test]
+fn commands_and_questions(rt: HostRuntime) -> Result<(), Fail> {
+    let bad = |fault: LineFault| -> Result<usize, BadLine> { Err(BadLine { line: 4, fault }) };
+    let cases = [
+        ("cmd 0 5 disable", Ok(1)),
+        ("cmd 1152921504606846975 5 tx 18446744073709551615", Ok(1)),
+        ("cmd 7 5 demand 2", Ok(1)),
+        ("show 7 5", Ok(1)),
+        ("cmd 7 5", bad(LineFault::FieldCount)),
+        ("cmd 7 5 reset 0", bad(LineFault::FieldCount)),
+        ("cmd 7 5 mult", bad(LineFault::FieldCount)),
+        ("cmd 7 5 what 1 2", bad(LineFault::FieldCount)),
+        ("cmd 07 5 what", bad(LineFault::BadNumber)),
+        ("cmd 7 0 what", bad(LineFault::OutOfRange)),
+        ("cmd 7 6 what", bad(LineFault::UnknownWord)),
+        ("cmd 7 5 key 01", bad(LineFault::UnknownWord)),
+        ("cmd 7 5 rx 01", bad(LineFault::BadNumber)),
+        (
+            "cmd 7 5 path 18446744073709551616",
+            bad(LineFault::OutOfRange),
+        ),
+        (
+            "cmd 1152921504606846976 5 enable",
+            bad(LineFault::OutOfRange),
+        ),
+        ("cmd 7 6 echo 0", bad(LineFault::NoSuchSession)),
+        ("cmd 7 5 echo 0", bad(LineFault::NotBuilt)),
+        ("show 7 6", bad(LineFault::NoSuchSession)),
+        ("show 7 4294967296", bad(LineFault::OutOfRange)),
+        ("show 7 5 ", bad(LineFault::FieldCount)),
+    ];
+    for (line, want) in cases {
+        assert_eq!(rt; asked(&rt, line, false)?, want, "{line}");
+        assert_eq!(rt; asked(&rt, line, true)?, want, "{line} in a live script");
+    }
     Ok(())
 }
 
@@ -71,6 +119,9 @@ fn one_spelling(rt: HostRuntime) -> Result<(), Fail> {
         run\n\
         rx 1500 single 1 192.0.2.254 192.0.2.1 255 20C0\n\
         tick 3002\n\
+        cmd 3002000 9 disable\n\
+        cmd 3002000 5 rx 250000\n\
+        show 3002001 5\n\
         end";
     let want = "bfd 1\n\
         p2p 5 single 1 192.0.2.1 192.0.2.254 passive 1000000 50000 3 0 0\n\
@@ -78,6 +129,9 @@ fn one_spelling(rt: HostRuntime) -> Result<(), Fail> {
         run\n\
         rx 1500 single 1 192.0.2.254 192.0.2.1 255 20c0\n\
         tick 3002\n\
+        cmd 3002000 9 disable\n\
+        cmd 3002000 5 rx 250000\n\
+        show 3002001 5\n\
         end\n";
     match read(rt.alloc(), text.as_bytes(), false) {
         Ok(script) => {
