@@ -259,7 +259,7 @@ tick_short tick h = let l = number_short tick (omega arith) in omega arith
 
 -- ---- a command
 
--- a command is a verb with its number, the verb is spelled by the first field, and the number stands after it where it has one
+-- the fields of a command after its discriminator
 verb_fits : (cmd : Cmd) → number_of cmd < 2 ^ 64 → Each IsField (verb_fields cmd)
 verb_fits commands.Disable h = (word (codes "disable") refl, tt)
 verb_fits commands.Enable h = (word (codes "enable") refl, tt)

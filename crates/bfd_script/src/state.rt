@@ -64,7 +64,11 @@ fn is_built_line(line: &Line) -> bool
     match line {
         Line::Rx { moment: _, arrival } => matches!(arrival.port, Port::Single | Port::Multi),
         Line::Tick(_) => true,
-        Line::Cmd { moment: _, discr: _, cmd } => is_built_command(*cmd),
+        Line::Cmd {
+            moment: _,
+            discr: _,
+            cmd,
+        } => is_built_command(*cmd),
         Line::Show { .. } => true,
     }
 }
@@ -75,7 +79,11 @@ fn is_named(line: &Line, table: &Table) -> bool
 {
     match line {
         Line::Rx { .. } | Line::Tick(_) => true,
-        Line::Cmd { moment: _, discr, cmd: _ } => table.has_discr(*discr),
+        Line::Cmd {
+            moment: _,
+            discr,
+            cmd: _,
+        } => table.has_discr(*discr),
         Line::Show { moment: _, discr } => table.has_discr(*discr),
     }
 }

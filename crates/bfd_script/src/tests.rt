@@ -38,7 +38,10 @@ fn small_files(rt: HostRuntime) -> Result<(), Fail> {
             "bfd 1\nrun\nshow 5 1\nend\n",
             bad(3, LineFault::NoSuchSession),
         ),
-        ("bfd 1\nauth 1 1 6 00\nrun\nend\n", bad(2, LineFault::NotBuilt)),
+        (
+            "bfd 1\nauth 1 1 6 00\nrun\nend\n",
+            bad(2, LineFault::NotBuilt),
+        ),
         ("bfd 1\nrun\nend\nrun\n", bad(4, LineFault::Order)),
         (
             "bfd 1\nkey 1 6 00\nrun\nend\n",
@@ -59,7 +62,9 @@ fn small_files(rt: HostRuntime) -> Result<(), Fail> {
 
 /// What a text says that has one session, 5, and one event line.
 fn asked(rt: &HostRuntime, line: &str, live: bool) -> Result<Result<usize, BadLine>, Fail> {
-    let text = format!(in rt.alloc(); "bfd 1\np2p 5 single 1 192.0.2.1 192.0.2.254 passive 1000000 50000 3 0 0\nrun\n{line}\nend\n")?;
+    let text = format!(in rt.alloc();
+        "bfd 1\np2p 5 single 1 192.0.2.1 192.0.2.254 passive 1000000 50000 3 0 0\nrun\n{line}\nend\n"
+    )?;
     Ok(told(rt, text.as_str(), live))
 }
 
