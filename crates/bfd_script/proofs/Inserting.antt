@@ -26,7 +26,7 @@ use Rattle.bfd_script.proofs.Elements.{each_to}
 
 -- ---- the entries
 
-level : (a b : ℕ) → is_eq (nat_cmp a b) ≡ (a == b)
+pub level : (a b : ℕ) → is_eq (nat_cmp a b) ≡ (a == b)
 level a b = grind (arith, nat_tests)
 
 level_back : (a b : ℕ) → is_eq (nat_cmp a b) ≡ (b == a)
@@ -62,7 +62,7 @@ entry_inserted c (d ∷ ds) none =
     (insert_entry nat_cmp (by_discr ds) (discr_of c) c) none (entry_inserted c ds)
 
 -- the sessions of entries by discriminator
-values_by : (cs : List SessionConfig) → values_of (by_discr cs) ≡ cs
+pub values_by : (cs : List SessionConfig) → values_of (by_discr cs) ≡ cs
 values_by [] = refl
 values_by (c ∷ cs) = ap (λ t. c ∷ t) (values_by cs)
 

@@ -11,3 +11,4 @@ pub mod ScriptAgain
 pub mod Elements
 pub mod Following
 pub mod Naming
+pub mod Giving

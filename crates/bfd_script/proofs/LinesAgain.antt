@@ -1,12 +1,17 @@
 -- Table rows and events, written and read again.
-use Rattle.std.proofs.Common.{◌≡◌, ℕ, ◌<◌, ◌≤◌, ◌^◌, ◌-◌, Bool, true, false, cond, List, [], ◌∷◌, length, Some, Ok, Err, refl, sym, ap, ◌∙◌, arith}
+use Rattle.std.proofs.Common.{◌≡◌, ℕ, nat_le, ◌<◌, ◌≤◌, ◌^◌, ◌-◌, Bool, true, false, cond, List, [], ◌∷◌, length, Some, None, Ok, Err, refl, sym, ap, ◌∙◌, arith}
 use Rattle.std.proofs.lemmas.Bool.Decides.{nat_tests}
 use Rattle.std.specs.Prelude.{codes}
 use Rattle.std.specs.Fmt.{decimal}
 use Rattle.bfd_num.specs.Numbers.{moment_bound, greatest_tick}
+use Rattle.hex.specs.Hex.{IsBytes}
+use Rattle.bfd_packet.specs.KeyChain.{digest_size, fits_kind}
 use Rattle.bfd_packet.specs.declared.arrival.Arrival.{Arrival}
 use Rattle.bfd_packet.specs.declared.arrival.Port.{Port}
 use Rattle.bfd_packet.specs.declared.arrival.Port.TheVariants as ports
+use Rattle.bfd_packet.specs.declared.keys.AuthType.{AuthType}
+use Rattle.bfd_packet.specs.declared.keys.AuthType.TheVariants as kinds
+use Rattle.bfd_packet.specs.declared.keys.Key.{Key}
 use Rattle.bfd_rules.specs.Sound.{IsConfig, is_echo_interval}
 use Rattle.bfd_rules.specs.declared.commands.Cmd.{Cmd}
 use Rattle.bfd_rules.specs.declared.commands.Cmd.TheVariants as commands
@@ -29,13 +34,14 @@ use Rattle.bfd_script.specs.Fields.{number_in}
 use Rattle.bfd_script.specs.Gives.{◌>>=◌}
 use Rattle.bfd_script.specs.Pairs.{active_of, config_by, echo_of, ends_of, pair_of, pair_with, role_of, timing_of}
 use Rattle.bfd_script.specs.Reading.{is_built_command, is_built_line}
-use Rattle.bfd_script.specs.Sound.{Each, IsAsked, IsEvent, IsPairRow, IsReceived, IsRow}
+use Rattle.bfd_script.specs.Secrets.{chain_of, fitting, kind_by, kind_of, one_key, secret_of}
+use Rattle.bfd_script.specs.Sound.{Each, IsAsked, IsEvent, IsKey, IsPairRow, IsReceived, IsRow}
 use Rattle.bfd_script.specs.Spelling.{hex_field, spaced}
 use Rattle.bfd_script.specs.Verbs.{command, number_of, verb_of}
-use Rattle.bfd_script.specs.Written.{address_field, event_fields, mode_field, port_field, role_field, row_fields, verb_fields}
+use Rattle.bfd_script.specs.Written.{address_field, event_fields, key_fields, kind_number, mode_field, port_field, role_field, row_fields, verb_fields}
 use Rattle.bfd_script.proofs.Numerals.{number_again, number_field, number_short}
-use Rattle.bfd_script.proofs.Rereading.{address_again, address_is_field, address_short, hex_is_field, hex_short, payload_again}
-use Rattle.bfd_script.proofs.Elements.{IsField, word}
+use Rattle.bfd_script.proofs.Rereading.{address_again, address_is_field, address_short, bytes_again, hex_is_field, hex_short, payload_again}
+use Rattle.bfd_script.proofs.Elements.{IsField, both, word}
 use Rattle.bfd_script.proofs.Splitting.{entry_again, total}
 
 -- ---- words
@@ -131,11 +137,10 @@ timing_again c fit row high = rw (
 
 pair_again : (c : Config) → IsConfig c → IsPairRow c → c.echo ≤ 60000000
     → pair_of (decimal c.discr ∷ role_field c.role ∷ decimal c.iface ∷ address_field c.local ∷ address_field c.remote
-    ∷ mode_field c.active ∷ decimal c.tx ∷ decimal c.rx ∷ decimal c.mult ∷ decimal c.echo ∷ decimal c.seed ∷ []) ≡ Ok (Pair c)
+    ∷ mode_field c.active ∷ decimal c.tx ∷ decimal c.rx ∷ decimal c.mult ∷ decimal c.echo ∷ decimal c.seed ∷ []) ≡ Ok (Pair (record c { keys = None }))
 pair_again c fit row high =
     ap (λ r. r >>= λ ends. pair_with ends (mode_field c.active ∷ decimal c.tx ∷ decimal c.rx ∷ decimal c.mult ∷ decimal c.echo ∷ decimal c.seed ∷ [])) (ends_again c fit row)
     ∙ ap (λ r. r >>= λ timing. Ok (config_by (record { discr = c.discr; role = c.role; iface = c.iface; local = c.local; remote = c.remote }) timing)) (timing_again c fit row high)
-    ∙ ap (λ k. Ok (Pair (record c { keys = k }))) (sym row.no_keys)
 
 row_is_fields : (c : Config) → IsConfig c → IsPairRow c → c.echo ≤ 60000000 → Each IsField (row_fields (Pair c))
 row_is_fields c fit row high = (
@@ -193,9 +198,10 @@ echo_most : (role : Role) (n : ℕ) → is_echo_interval role n ≡ true → n �
 echo_most roles.Single n h = grind (arith, nat_tests)
 echo_most roles.Multi n h = grind (arith, nat_tests)
 
-pub row_again : (live : Bool) (config : SessionConfig) → IsFit config → IsRow config
-    → entry_of places.Table live (spaced (row_fields config) []) ≡ Ok (entries.Row config)
-row_again live (Pair c) fit row =
+-- the row has no keys
+pub row_again : (live : Bool) (c : Config) → IsFit (Pair c) → IsRow (Pair c)
+    → entry_of places.Table live (spaced (row_fields (Pair c)) []) ≡ Ok (entries.Row (Pair (record c { keys = None })))
+row_again live c fit row =
     let high = echo_most c.role c.echo fit.echo_range in
     entry_again places.Table live (codes "p2p") (decimal c.discr ∷ role_field c.role ∷ decimal c.iface ∷ address_field c.local ∷ address_field c.remote ∷ mode_field c.active ∷ decimal c.tx ∷ decimal c.rx ∷ decimal c.mult ∷ decimal c.echo ∷ decimal c.seed ∷ [])
     (row_is_fields c fit row high) (row_short c fit row high)
@@ -203,6 +209,84 @@ row_again live (Pair c) fit row =
 
 pub row_fields_fit : (config : SessionConfig) → IsFit config → IsRow config → Each IsField (row_fields config)
 row_fields_fit (Pair c) fit row = row_is_fields c fit row (echo_most c.role c.echo fit.echo_range)
+
+-- ---- the keys of a session
+
+kind_again : (kind : AuthType) → kind_of (decimal (kind_number kind)) ≡ Ok kind
+kind_again kinds.Password = ap (λ r. r >>= λ n. Ok (kind_by n)) (number_again 1 5 1 (omega arith) (omega arith) (omega arith))
+kind_again kinds.KeyedMd5 = ap (λ r. r >>= λ n. Ok (kind_by n)) (number_again 1 5 2 (omega arith) (omega arith) (omega arith))
+kind_again kinds.MeticulousMd5 = ap (λ r. r >>= λ n. Ok (kind_by n)) (number_again 1 5 3 (omega arith) (omega arith) (omega arith))
+kind_again kinds.KeyedSha1 = ap (λ r. r >>= λ n. Ok (kind_by n)) (number_again 1 5 4 (omega arith) (omega arith) (omega arith))
+kind_again kinds.MeticulousSha1 = ap (λ r. r >>= λ n. Ok (kind_by n)) (number_again 1 5 5 (omega arith) (omega arith) (omega arith))
+
+kind_small : (kind : AuthType) → kind_number kind < 2 ^ 64
+kind_small kinds.Password = omega arith
+kind_small kinds.KeyedMd5 = omega arith
+kind_small kinds.MeticulousMd5 = omega arith
+kind_small kinds.KeyedSha1 = omega arith
+kind_small kinds.MeticulousSha1 = omega arith
+
+most_room : (kind : AuthType) → digest_size kind ≤ 20
+most_room kinds.Password = omega arith
+most_room kinds.KeyedMd5 = omega arith
+most_room kinds.MeticulousMd5 = omega arith
+most_room kinds.KeyedSha1 = omega arith
+most_room kinds.MeticulousSha1 = omega arith
+
+at_most : (n room : ℕ) → nat_le n room ≡ true → n ≤ room
+at_most n room h = grind (arith, nat_tests)
+
+secret_few : (kind : AuthType) (secret : List ℕ) → fits_kind kind secret ≡ true → length secret ≤ 20
+secret_few kind secret h =
+    let e = both (nat_le 1 (length secret)) (nat_le (length secret) (digest_size kind)) h in
+    let most = at_most (length secret) (digest_size kind) e.1 in
+    let room = most_room kind in omega arith
+
+fit_step : (fits : Bool) (bytes : List ℕ) → fits ≡ true → cond fits (Ok bytes) (Err OutOfRange) ≡ Ok bytes
+fit_step fits bytes h = rw h refl
+
+secret_again : (kind : AuthType) (secret : List ℕ) → IsBytes secret → fits_kind kind secret ≡ true → secret_of kind (hex_field secret) ≡ Ok secret
+secret_again kind secret h fits =
+    ap (λ r. r >>= λ bytes. fitting kind bytes) (bytes_again secret h) ∙ fit_step (fits_kind kind secret) secret fits
+
+chain_again : (kind : AuthType) (key : Key) → IsKey kind key
+    → chain_of (decimal (kind_number kind)) (decimal key.id) (hex_field key.secret) ≡ Ok (one_key kind key.id key.secret)
+unfolding chain_of
+chain_again kind key h = rw (
+  kind_again kind,
+  number_again 0 255 key.id (omega arith) (let k = h.id in omega arith) (let k = h.id in omega arith),
+  secret_again kind key.secret h.bytes h.fits,
+) refl
+
+pub key_fields_fit : (d : ℕ) (kind : AuthType) (key : Key) → d < 2 ^ 32 → IsKey kind key → Each IsField (key_fields d kind key)
+key_fields_fit d kind key below h = (
+  word (codes "auth") refl,
+  (
+    number_field d (omega arith),
+    (
+      number_field (kind_number kind) (kind_small kind),
+      (number_field key.id (let k = h.id in omega arith), (hex_is_field key.secret h.bytes, tt)),
+    ),
+  ),
+)
+
+key_short : (d : ℕ) (kind : AuthType) (key : Key) → d < 2 ^ 32 → IsKey kind key → total (key_fields d kind key) ≤ 4096
+key_short d kind key below h =
+    let few = secret_few kind key.secret h.fits in
+    let l1 = number_short d (omega arith) in
+    let l2 = number_short (kind_number kind) (kind_small kind) in
+    let l3 = number_short key.id (let k = h.id in omega arith) in
+    let l4 = hex_short key.secret (omega arith) in
+    omega arith
+
+pub key_again : (live : Bool) (d : ℕ) (kind : AuthType) (key : Key) → 0 < d → d < 2 ^ 32 → IsKey kind key
+    → entry_of places.Table live (spaced (key_fields d kind key) []) ≡ Ok (entries.Auth d (one_key kind key.id key.secret))
+key_again live d kind key some below h =
+    entry_again places.Table live (codes "auth") (decimal d ∷ decimal (kind_number kind) ∷ decimal key.id ∷ hex_field key.secret ∷ [])
+    (key_fields_fit d kind key below h) (key_short d kind key below h)
+    ∙ ap (λ r. r >>= λ discr. chain_of (decimal (kind_number kind)) (decimal key.id) (hex_field key.secret) >>= λ keys. Ok (entries.Auth discr keys))
+    (number_again 1 4294967295 d some (omega arith) (omega arith))
+    ∙ ap (λ r. r >>= λ keys. Ok (entries.Auth d keys)) (chain_again kind key h)
 
 -- ---- an event
 

@@ -16,7 +16,7 @@ use Rattle.hex.proofs.HexLemmas.{decode_of-encode_lower, decode_sized-encode_low
 use Rattle.bfd_packet.specs.declared.arrival.Addr.{Addr}
 use Rattle.bfd_packet.specs.declared.arrival.Addr.TheVariants.{V4, V6}
 use Rattle.bfd_script.specs.Spelling.{hex_field}
-use Rattle.bfd_script.specs.Values.{IsAddress, address_by, address_of, dotted_of, octet_of, part_of, payload_of, quad_of}
+use Rattle.bfd_script.specs.Values.{IsAddress, address_by, address_of, bytes_of, dotted_of, octet_of, part_of, payload_of, quad_of}
 use Rattle.bfd_script.specs.Written.{address_field, dotted_field}
 use Rattle.bfd_script.proofs.Numerals.{number_again, number_dotless, number_field, octet_short}
 use Rattle.bfd_script.proofs.Elements.{IsVisible, IsField, both, each_more, is_visible, seen}
@@ -122,6 +122,10 @@ no_dash b bytes = and_false _
 
 some_digits : (b : ℕ) (bytes : List ℕ) → (length (encode_with lower_digits (b ∷ bytes)) == 0) ≡ false
 some_digits b bytes = let e = length-encode_with lower_digits (b ∷ bytes) in grind (arith, nat_tests)
+
+pub bytes_again : (bytes : List ℕ) → IsBytes bytes → bytes_of (hex_field bytes) ≡ Ok bytes
+bytes_again [] h = refl
+bytes_again (b ∷ bytes) h = rw (no_dash b bytes, some_digits b bytes, decode_of-encode_lower (b ∷ bytes) h) refl
 
 pub payload_again : (bytes : List ℕ) → IsBytes bytes → length bytes ≤ 256 → payload_of (hex_field bytes) ≡ Ok bytes
 payload_again [] h few = refl

@@ -13,6 +13,7 @@ use Rattle.bfd_script.specs.Arrivals.{port_of, arrival_fields}
 use Rattle.bfd_script.specs.Fields.{text_of, fields_of, number_in}
 use Rattle.bfd_script.specs.Gives.{◌>>=◌}
 use Rattle.bfd_script.specs.Pairs.{pair_of}
+use Rattle.bfd_script.specs.Secrets.{chain_of}
 use Rattle.bfd_script.specs.Verbs.{verb_of, fits, known, command}
 use Rattle.bfd_script.specs.Words.{word_of, stands}
 
@@ -34,6 +35,16 @@ ticked values = Err FieldCount
 -- `p2p DISCR single|multi IFACE LOCAL REMOTE active|passive TX RX MULT ECHO SEED`
 abbrev pub row_of : List (List ℕ) → Result Entry LineFault
 row_of values = pair_of values >>= λ config. Ok (entries.Row config)
+
+-- an `auth` line of these values
+abbrev pub keyed_of : List ℕ → List ℕ → List ℕ → List ℕ → Result Entry LineFault
+keyed_of discr kind id secret =
+    number_in 1 4294967295 discr >>= λ discr. chain_of kind id secret >>= λ keys. Ok (entries.Auth discr keys)
+
+-- `auth DISCR TYPE KEYID SECRET`
+abbrev pub keyed : List (List ℕ) → Result Entry LineFault
+keyed (discr ∷ kind ∷ id ∷ secret ∷ []) = keyed_of discr kind id secret
+keyed values = Err FieldCount
 
 -- an `rx` line of these values
 unfoldable pub received_of : List ℕ → List ℕ → List ℕ → List (List ℕ) → Result Entry LineFault
@@ -92,6 +103,7 @@ shown values = Err FieldCount
 abbrev pub valued : Word → List (List ℕ) → Result Entry LineFault
 valued words.Bfd values = version values
 valued words.P2p values = row_of values
+valued words.Auth values = keyed values
 valued words.Run values = alone entries.Run values
 valued words.Rx values = received values
 valued words.Tick values = ticked values

@@ -12,6 +12,7 @@ pub mod Sound
 pub mod Tables
 pub mod Values
 pub mod Pairs
+pub mod Secrets
 pub mod Arrivals
 pub mod Verbs
 pub mod Written

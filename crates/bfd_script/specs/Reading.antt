@@ -3,6 +3,7 @@ use Rattle.std.specs.Prelude.{ℕ, ◌+◌, ◌++◌, ◌==◌, Bool, true, fals
 use Rattle.bfd_script.specs.declared.fault.LineFault.{LineFault}
 use Rattle.bfd_script.specs.declared.fault.LineFault.TheVariants.{SameDiscr, SameAddresses, NoSuchSession, MissingEnd, TooMany, NotBuilt}
 use Rattle.bfd_script.specs.declared.fault.BadLine.{BadLine}
+use Rattle.bfd_packet.specs.KeyChain.{KeyChain}
 use Rattle.bfd_packet.specs.declared.arrival.Port.{Port}
 use Rattle.bfd_packet.specs.declared.arrival.Port.TheVariants as ports
 use Rattle.bfd_rules.specs.declared.commands.Cmd.{Cmd}
@@ -19,7 +20,7 @@ use Rattle.bfd_script.specs.declared.entries.Entry.TheVariants as entries
 use Rattle.bfd_script.specs.Entries.{entry_of}
 use Rattle.bfd_script.specs.Fields.{lines_of}
 use Rattle.bfd_script.specs.Gives.{◌>>=◌}
-use Rattle.bfd_script.specs.Rows.{has_discr, has_place, inserted}
+use Rattle.bfd_script.specs.Rows.{given, has_discr, has_keys, has_place, inserted}
 
 -- a script, as contracts see it
 pub record Lists : Type 0 where
@@ -79,6 +80,13 @@ with_config config s =
     else if not (is_built config) then Err NotBuilt
     else Ok (record s { configs = inserted config s.configs })
 
+-- keys for a session: it has none yet, and is there
+abbrev pub with_keys : ℕ → KeyChain → State → Result State LineFault
+with_keys discr keys s =
+    if has_keys discr s.configs then Err SameDiscr
+    else if not (has_discr discr s.configs) then Err NoSuchSession
+    else Ok (record s { configs = given discr keys s.configs })
+
 -- one more event line: the session that it names is there, and there are at most 200,000
 abbrev pub with_event : Line → State → Result State LineFault
 with_event event s =
@@ -92,6 +100,7 @@ abbrev pub accepted : Entry → State → Result State LineFault
 accepted entries.Version s = Ok (record s { place = places.Table })
 accepted entries.Run s = Ok (record s { place = places.Events })
 accepted (entries.Row config) s = with_config config s
+accepted (entries.Auth discr keys) s = with_keys discr keys s
 accepted (entries.Event event) s = with_event event s
 accepted entries.End s = Ok (record s { place = places.Over })
 

@@ -1,7 +1,9 @@
 -- The table of sessions, ascending by discriminator.
-use Rattle.std.specs.Prelude.{ℕ, Bool, ◌==◌, nat_lt, List, [], ◌∷◌, map, if◌then◌else◌}
+use Rattle.std.specs.Prelude.{ℕ, Bool, false, ◌==◌, nat_lt, List, [], ◌∷◌, map, find, Option, Some, None, is_some, if◌then◌else◌}
 use Rattle.std.specs.List.{list_any}
+use Rattle.bfd_packet.specs.KeyChain.{KeyChain}
 use Rattle.bfd_session.specs.declared.event.SessionConfig.{SessionConfig}
+use Rattle.bfd_session.specs.declared.event.SessionConfig.TheVariants.{Pair}
 use Rattle.bfd_session.specs.Kinds.{discr_of}
 use Rattle.bfd_script.specs.declared.selecting.Selector.{Selector}
 use Rattle.bfd_script.specs.Selecting.{selector_of, same_place, same_selector}
@@ -22,6 +24,24 @@ has_place config configs = list_any (same_selector config) configs
 abbrev pub inserted : SessionConfig → List SessionConfig → List SessionConfig
 inserted config [] = config ∷ []
 inserted config (other ∷ configs) = if nat_lt (discr_of config) (discr_of other) then config ∷ other ∷ configs else other ∷ inserted config configs
+
+-- this session has keys
+abbrev pub is_keyed : Option SessionConfig → Bool
+is_keyed None = false
+is_keyed (Some (Pair c)) = is_some c.keys
+
+-- the session of this discriminator has keys
+abbrev pub has_keys : ℕ → List SessionConfig → Bool
+has_keys discr configs = is_keyed (find (λ c. discr == discr_of c) configs)
+
+-- a session with these keys
+abbrev pub keyed_with : KeyChain → SessionConfig → SessionConfig
+keyed_with keys (Pair c) = Pair (record c { keys = Some keys })
+
+-- the session of this discriminator gets these keys
+abbrev pub given : ℕ → KeyChain → List SessionConfig → List SessionConfig
+given discr keys [] = []
+given discr keys (c ∷ configs) = if discr == discr_of c then keyed_with keys c ∷ configs else c ∷ given discr keys configs
 
 -- sessions, each with its discriminator
 abbrev pub by_discr : List SessionConfig → List (ℕ × SessionConfig)

@@ -1,8 +1,11 @@
 -- What is true of each script that the grammar gives.
-use Rattle.std.specs.Prelude.{◌≡◌, ◌<◌, ◌≤◌, ◌^◌, ℕ, true, false, None, List, [], ◌∷◌, length}
+use Rattle.std.specs.Prelude.{◌≡◌, ◌<◌, ◌≤◌, ◌^◌, ℕ, true, false, Option, Some, None, List, [], ◌∷◌, length, IsTrue}
 use Rattle.hex.specs.Hex.{IsBytes}
 use Rattle.bfd_num.specs.Numbers.{moment_bound, greatest_tick}
+use Rattle.bfd_packet.specs.KeyChain.{KeyChain, fits_kind}
 use Rattle.bfd_packet.specs.declared.arrival.Arrival.{Arrival}
+use Rattle.bfd_packet.specs.declared.keys.AuthType.{AuthType}
+use Rattle.bfd_packet.specs.declared.keys.Key.{Key}
 use Rattle.bfd_rules.specs.declared.config.Config.{Config}
 use Rattle.bfd_session.specs.declared.event.SessionConfig.{SessionConfig}
 use Rattle.bfd_session.specs.declared.event.SessionConfig.TheVariants.{Pair}
@@ -32,16 +35,32 @@ abbrev pub Differs : List SessionConfig → Type 0
 Differs [] = Unit {0}
 Differs (config ∷ configs) = Each (λ later. same_selector config later ≡ false) configs × Differs configs
 
--- the numbers of a `p2p` line fit their fields, and it has no keys
+-- a key as an `auth` line gives it: its secret has bytes, as many as its type has room for
+pub record IsKey (kind : AuthType) (key : Key) : Type 0 where
+  pub id : key.id < 256
+  pub bytes : IsBytes key.secret
+  pub fits : IsTrue (fits_kind kind key.secret)
+
+-- one key
+abbrev pub IsOneKey : AuthType → List Key → Type 0
+IsOneKey kind (key ∷ []) = IsKey kind key
+IsOneKey kind keys = ⊥
+
+-- no keys, or those of one `auth` line
+abbrev pub AreKeys : Option KeyChain → Type 0
+AreKeys None = Unit {0}
+AreKeys (Some keys) = IsOneKey keys.kind keys.list
+
+-- the numbers of a `p2p` line fit their fields, and its keys are none or those of one `auth` line
 pub record IsPairRow (c : Config) : Type 0 where
   pub discr : c.discr < 2 ^ 32
   pub local : IsAddress c.local
   pub remote : IsAddress c.remote
   pub mult : c.mult < 256
   pub seed : c.seed < 2 ^ 32
-  pub no_keys : c.keys ≡ None
+  pub keys : AreKeys c.keys
 
--- a session as its table row gives it
+-- a session as its table lines give it
 abbrev pub IsRow : SessionConfig → Type 0
 IsRow (Pair c) = IsPairRow c
 
@@ -72,6 +91,7 @@ IsEvent (events.Show moment discr) = IsAsked moment discr
 -- what a line says, as the line gives it
 abbrev pub IsEntry : Entry → Type 0
 IsEntry (entries.Row config) = IsFit config × IsRow config
+IsEntry (entries.Auth discr keys) = (discr < 2 ^ 32) × IsOneKey keys.kind keys.list
 IsEntry (entries.Event event) = IsEvent event
 IsEntry entry = Unit {0}
 

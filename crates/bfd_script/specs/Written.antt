@@ -1,13 +1,17 @@
 -- The one spelling of a script.
-use Rattle.std.specs.Prelude.{ℕ, ◌/◌, ◌%◌, Bool, true, false, List, [], ◌∷◌, ◌++◌, codes}
+use Rattle.std.specs.Prelude.{ℕ, ◌/◌, ◌%◌, Bool, true, false, List, [], ◌∷◌, ◌++◌, Option, Some, None, codes}
 use Rattle.std.specs.List.{flat_map}
 use Rattle.std.specs.Fmt.{decimal}
 use Rattle.byteorder.specs.Endian.{big_bytes}
 use Rattle.hex.specs.Hex.{encode_lower}
+use Rattle.bfd_packet.specs.KeyChain.{KeyChain}
 use Rattle.bfd_packet.specs.declared.arrival.Addr.{Addr}
 use Rattle.bfd_packet.specs.declared.arrival.Addr.TheVariants.{V4, V6}
 use Rattle.bfd_packet.specs.declared.arrival.Port.{Port}
 use Rattle.bfd_packet.specs.declared.arrival.Port.TheVariants as ports
+use Rattle.bfd_packet.specs.declared.keys.AuthType.{AuthType}
+use Rattle.bfd_packet.specs.declared.keys.AuthType.TheVariants as kinds
+use Rattle.bfd_packet.specs.declared.keys.Key.{Key}
 use Rattle.bfd_rules.specs.declared.commands.Cmd.{Cmd}
 use Rattle.bfd_rules.specs.declared.commands.Cmd.TheVariants as commands
 use Rattle.bfd_rules.specs.declared.config.Role.{Role}
@@ -65,6 +69,32 @@ row_fields (Pair c) =
     codes "p2p" ∷ decimal c.discr ∷ role_field c.role ∷ decimal c.iface ∷ address_field c.local ∷ address_field c.remote
     ∷ mode_field c.active ∷ decimal c.tx ∷ decimal c.rx ∷ decimal c.mult ∷ decimal c.echo ∷ decimal c.seed ∷ []
 
+-- the number of an Auth Type (RFC 5880 section 4.1)
+abbrev pub kind_number : AuthType → ℕ
+kind_number kinds.Password = 1
+kind_number kinds.KeyedMd5 = 2
+kind_number kinds.MeticulousMd5 = 3
+kind_number kinds.KeyedSha1 = 4
+kind_number kinds.MeticulousSha1 = 5
+
+-- the fields of an `auth` line
+abbrev pub key_fields : ℕ → AuthType → Key → List (List ℕ)
+key_fields discr kind key = codes "auth" ∷ decimal discr ∷ decimal (kind_number kind) ∷ decimal key.id ∷ hex_field key.secret ∷ []
+
+-- the line of the first of these keys
+abbrev pub list_text : ℕ → AuthType → List Key → List ℕ
+list_text discr kind [] = []
+list_text discr kind (key ∷ keys) = line (key_fields discr kind key)
+
+-- the line of a session's keys, where it has some
+abbrev pub keys_text : ℕ → Option KeyChain → List ℕ
+keys_text discr None = []
+keys_text discr (Some keys) = list_text discr keys.kind keys.list
+
+-- the lines of a session: its table row, and then its keys
+abbrev pub config_text : SessionConfig → List ℕ
+config_text (Pair c) = line (row_fields (Pair c)) ++ keys_text c.discr c.keys
+
 -- the fields of an event
 abbrev pub event_fields : Line → List (List ℕ)
 event_fields (events.Rx moment a) =
@@ -74,9 +104,9 @@ event_fields (events.Tick tick) = codes "tick" ∷ decimal tick ∷ []
 event_fields (events.Cmd moment discr cmd) = codes "cmd" ∷ decimal moment ∷ decimal discr ∷ verb_fields cmd
 event_fields (events.Show moment discr) = codes "show" ∷ decimal moment ∷ decimal discr ∷ []
 
--- the lines of table rows
+-- the lines of sessions
 abbrev pub rows_text : List SessionConfig → List ℕ
-rows_text configs = flat_map (λ config. line (row_fields config)) configs
+rows_text configs = flat_map config_text configs
 
 -- the lines of events
 abbrev pub events_text : List Line → List ℕ

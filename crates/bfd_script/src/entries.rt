@@ -1,6 +1,6 @@
 // What one line says.
 ghost use Rattle.std.specs.Prelude.{◌≡◌, Err, IfOk, false, if◌then◌else◌, map, true};
-ghost use Rattle.bfd_script.specs.Entries.{alone, commanded, entry_of, numbered_of, plain_of, received, received_fields, received_of, row_of, shown, shown_of, ticked, valued, version, worded};
+ghost use Rattle.bfd_script.specs.Entries.{alone, commanded, entry_of, keyed, keyed_of, numbered_of, plain_of, received, received_fields, received_of, row_of, shown, shown_of, ticked, valued, version, worded};
 ghost use Rattle.bfd_script.specs.Gives.{Gives};
 ghost use Rattle.bfd_script.specs.Sound.{IsEntry};
 ghost use Rattle.bfd_script.specs.Verbs.{fits, verb_of};
@@ -10,10 +10,11 @@ use crate::arrivals::{port_named, read_arrival};
 use crate::fault::{LineFault, ReadFault};
 use crate::fields::{line_text, number, split_fields};
 use crate::pairs::read_pair;
+use crate::secrets::read_chain;
 use crate::verbs::{commanding, known_verb, may_fit, verb_named};
 use crate::words::{Place, Word, word_named};
 use bfd_num::{GREATEST_TICK, MOMENT_BOUND, Moment, Tick};
-use bfd_packet::Arrival;
+use bfd_packet::{Arrival, Keys};
 use bfd_rules::Cmd;
 use bfd_session::SessionConfig;
 use std::alloc::Global;
@@ -49,6 +50,10 @@ pub enum Line {
 pub(crate) enum Entry {
     Version,
     Row(SessionConfig),
+    Auth {
+        discr: u32,
+        keys: Keys,
+    },
     Run,
     Event(Line),
     End,
@@ -239,6 +244,33 @@ fn read_row(alloc: Global, values: &[&str]) -> Result<Entry, ReadFault>
     Ok(Entry::Row(config))
 }
 
+/// An `auth` line of these values.
+fn keyed(
+    alloc: Global,
+    discr: &str,
+    kind: &str,
+    id: &str,
+    secret: &str,
+) -> Result<Entry, ReadFault>
+    ensures value { Gives (λ entry. entry) result (keyed_of discr.now kind.now id.now secret.now) }
+    ensures sound { IfOk result IsEntry }
+{
+    let discr = number(discr, 1, 4_294_967_295)? as u32;
+    let keys = read_chain(alloc, kind, id, secret)?;
+    Ok(Entry::Auth { discr, keys })
+}
+
+/// `auth DISCR TYPE KEYID SECRET`
+fn read_auth(alloc: Global, values: &[&str]) -> Result<Entry, ReadFault>
+    ensures value { Gives (λ entry. entry) result (keyed (map (λ value. value.now) values.now)) }
+    ensures sound { IfOk result IsEntry }
+{
+    match values {
+        [discr, kind, id, secret] => keyed(alloc, discr, kind, id, secret),
+        _ => Err(ReadFault::Fault(LineFault::FieldCount)),
+    }
+}
+
 /// What the values of a word say.
 fn read_values(alloc: Global, word: Word, values: &[&str]) -> Result<Entry, ReadFault>
     ensures value { Gives (λ entry. entry) result (valued word (map (λ value. value.now) values.now)) }
@@ -247,6 +279,7 @@ fn read_values(alloc: Global, word: Word, values: &[&str]) -> Result<Entry, Read
     match word {
         Word::Bfd => Ok(read_version(values)?),
         Word::P2p => read_row(alloc, values),
+        Word::Auth => read_auth(alloc, values),
         Word::Run => Ok(read_alone(Entry::Run, values)?),
         Word::Rx => read_received(alloc, values),
         Word::Tick => Ok(read_tick(values)?),

@@ -9,11 +9,11 @@
 //! each sound script back.
 //!
 //! Layers, lowest first: `fault` (what can be wrong), `words` (the words and where they may stand), `fields` (lines, fields
-//! and numbers), `values` (addresses and bytes), `pairs`, `arrivals` and `verbs` (the values of a table line, of a packet and
-//! of a command), `entries` (what one line says), `selecting` and `table` (the sessions so far), `state` (what is kept from
+//! and numbers), `values` (addresses and bytes), `pairs`, `secrets`, `arrivals` and `verbs` (the values of a table line, of keys,
+//! of a packet and of a command), `entries` (what one line says), `selecting` and `table` (the sessions so far), `state` (what is kept from
 //! line to line), `reading` (the whole text); beside them `names`, `report` and `writing`.
 //!
-//! Built so far are the words `bfd`, `p2p`, `run`, `rx`, `tick`, `cmd`, `show` and `end`. Every other word of version 1 is known, and is
+//! Built so far are the words `bfd`, `p2p`, `auth`, `run`, `rx`, `tick`, `cmd`, `show` and `end`. Every other word of version 1 is known, and is
 //! answered with [`LineFault::NotBuilt`] where it may stand. A `p2p` line with an interval of the Echo function, an `rx`
 //! line on another port than `single` and `multi`, and a `cmd` line of the verb `echo` are answered with it where they have
 //! no other fault.
@@ -30,6 +30,7 @@ mod pairs;
 mod reading;
 mod report;
 mod script;
+mod secrets;
 mod selecting;
 mod state;
 mod table;

@@ -3,15 +3,15 @@ ghost use Rattle.std.specs.Prelude.{◌≡◌, IfOk};
 ghost use Rattle.bfd_session.specs.Step.{IsFit};
 ghost use Rattle.bfd_script.specs.Gives.{Gives, GivesScript};
 ghost use Rattle.bfd_script.specs.Reading as reading;
-ghost use Rattle.bfd_script.specs.Reading.{accepted, finished, start, with_config, with_event};
-ghost use Rattle.bfd_script.specs.Sound.{IsEntry, IsEvent, IsRow, IsScript};
+ghost use Rattle.bfd_script.specs.Reading.{accepted, finished, start, with_config, with_event, with_keys};
+ghost use Rattle.bfd_script.specs.Sound.{IsEntry, IsEvent, IsOneKey, IsRow, IsScript};
 
 use crate::entries::{Entry, Line};
 use crate::fault::{BadLine, LineFault, ReadFault, ScriptFault};
 use crate::script::Script;
 use crate::table::Table;
 use crate::words::Place;
-use bfd_packet::Port;
+use bfd_packet::{Keys, Port};
 use bfd_rules::Cmd;
 use bfd_session::SessionConfig;
 use std::alloc::Global;
@@ -139,6 +139,30 @@ impl Reading {
         })
     }
 
+    /// Keys for a session: refused where it has some, and where it isn't there.
+    fn with_keys(self, discr: u32, keys: Keys) -> Result<Reading, ReadFault>
+        requires { IsOneKey keys.kind keys.list }
+        ensures { Gives (λ s. s) result (with_keys discr keys self) }
+    {
+        let Reading {
+            place,
+            table,
+            events,
+        } = self;
+        if table.has_keys(discr) {
+            return Err(ReadFault::Fault(LineFault::SameDiscr));
+        }
+        if !table.has_discr(discr) {
+            return Err(ReadFault::Fault(LineFault::NoSuchSession));
+        }
+        let table = table.with_keys(discr, keys);
+        Ok(Reading {
+            place,
+            table,
+            events,
+        })
+    }
+
     /// One more event line: refused where the session that it names isn't there, where there are 200,000, and where this
     /// program doesn't serve it.
     fn with_line(self, line: Line) -> Result<Reading, ReadFault>
@@ -175,6 +199,7 @@ impl Reading {
         match entry {
             Entry::Version => Ok(self.at(Place::Table)),
             Entry::Row(config) => self.with_row(config),
+            Entry::Auth { discr, keys } => self.with_keys(discr, keys),
             Entry::Run => Ok(self.at(Place::Events)),
             Entry::Event(line) => self.with_line(line),
             Entry::End => Ok(self.at(Place::Over)),

@@ -1,12 +1,14 @@
 // The table of sessions: unique by discriminator and by selecting addresses.
-ghost use Rattle.std.specs.Prelude.{◌≡◌, ◌<◌, [], false, true, length, IfOk};
+ghost use Rattle.std.specs.Prelude.{◌≡◌, ◌<◌, [], false, true, length, IfOk, Some};
 ghost use Rattle.bfd_session.specs.Kinds.{discr_of};
 ghost use Rattle.bfd_session.specs.Step.{IsFit};
 ghost use Rattle.bfd_script.specs.Reading.{is_built};
-ghost use Rattle.bfd_script.specs.Rows.{has_discr, has_place, inserted};
-ghost use Rattle.bfd_script.specs.Sound.{AreConfigs, IsRow};
+ghost use Rattle.std.specs.Map.{values_of};
+ghost use Rattle.bfd_script.specs.Rows.{by_discr, given, has_discr, has_keys, has_place, inserted, is_keyed, keyed_with};
+ghost use Rattle.bfd_script.specs.Sound.{AreConfigs, IsOneKey, IsRow};
 
 use crate::selecting::{Selector, selecting};
+use bfd_packet::Keys;
 use bfd_session::SessionConfig;
 use std::alloc::{AllocError, Global};
 use std::collections::{BTreeMap, BTreeSet};
@@ -31,6 +33,33 @@ impl Model for Table {
     ghost view = { λ t. values t.rows };
 
     ghost invariant = { λ t. IsTable t.rows.entries (contains (⟦<Selector as Ord>⟧.cmp) t.places) };
+}
+
+/// Whether a session has keys.
+fn is_keyed(config: &SessionConfig) -> bool
+    ensures { result ≡ is_keyed (Some config.now) }
+{
+    let SessionConfig::Pair(pair) = config;
+    pair.keys.is_some()
+}
+
+/// A session gets these keys.
+fn set_keys(config: &mut SessionConfig, keys: Keys)
+    ensures { config.new ≡ keyed_with keys config.old }
+{
+    let SessionConfig::Pair(pair) = config;
+    pair.keys = Some(keys);
+}
+
+/// The session of this discriminator gets these keys.
+fn give(rows: &mut BTreeMap<u32, SessionConfig>, discr: u32, keys: Keys)
+    requires { rows.old.entries ≡ by_discr (values_of rows.old.entries) }
+    ensures { rows.new.entries ≡ by_discr (given discr keys (values_of rows.old.entries)) }
+{
+    let Some(config) = rows.get_mut(&discr) else {
+        return;
+    };
+    set_keys(config, keys);
 }
 
 impl Table {
@@ -59,6 +88,17 @@ impl Table {
         self.rows.contains_key(&discr)
     }
 
+    /// Whether the session of this discriminator has keys.
+    #[tactic(auto, using(crate::proofs::Giving::found_at))]
+    pub(crate) fn has_keys(&self, discr: u32) -> bool
+        ensures { result ≡ has_keys discr self.now }
+    {
+        match self.rows.get(&discr) {
+            Some(config) => is_keyed(config),
+            None => false,
+        }
+    }
+
     /// Whether a session has the selecting addresses of this one.
     pub(crate) fn has_place(&self, config: &SessionConfig) -> bool
         ensures { result ≡ has_place config.now self.now }
@@ -83,6 +123,16 @@ impl Table {
         places.insert(selecting(&config))?;
         rows.insert(config.discr(), config)?;
         Ok(Table { rows, places })
+    }
+
+    /// The session of this discriminator gets these keys; its selecting addresses stay.
+    pub(crate) fn with_keys(self, discr: u32, keys: Keys) -> Table
+        requires { IsOneKey keys.kind keys.list }
+        ensures { result ≡ given discr keys self }
+    {
+        let Table { mut rows, places } = self;
+        give(&mut rows, discr, keys);
+        Table { rows, places }
     }
 
     /// The sessions, ascending by discriminator.

@@ -4,12 +4,12 @@ ghost use Rattle.std.specs.Fmt.{decimal};
 ghost use Rattle.bfd_script.specs.Reading.{script_of};
 ghost use Rattle.bfd_script.specs.Sound.{IsScript};
 ghost use Rattle.bfd_script.specs.Spelling.{line};
-ghost use Rattle.bfd_script.specs.Written.{address_field, event_fields, events_text, mode_field, port_field, role_field, row_fields, rows_text, spelling};
+ghost use Rattle.bfd_script.specs.Written.{address_field, config_text, event_fields, events_text, keys_text, kind_number, key_fields, list_text, mode_field, port_field, role_field, row_fields, rows_text, spelling};
 
 use crate::entries::Line;
 use crate::names::hex_text;
 use crate::script::Script;
-use bfd_packet::{Addr, Arrival, Port};
+use bfd_packet::{Addr, Arrival, AuthType, Key, Keys, Port};
 use bfd_rules::{Cmd, Role};
 use bfd_session::SessionConfig;
 use byteorder::{BigEndian, ByteOrder};
@@ -86,14 +86,67 @@ fn row_text(alloc: Global, config: &SessionConfig) -> Result<String, AllocError>
     Ok(text)
 }
 
-/// The lines of table rows.
+/// The number of an Auth Type.
+fn kind_number(kind: AuthType) -> u8
+    ensures { result ≡ kind_number kind }
+{
+    match kind {
+        AuthType::Password => 1,
+        AuthType::KeyedMd5 => 2,
+        AuthType::MeticulousMd5 => 3,
+        AuthType::KeyedSha1 => 4,
+        AuthType::MeticulousSha1 => 5,
+    }
+}
+
+/// The `auth` line of a key.
+fn key_text(alloc: Global, discr: u32, kind: AuthType, key: &Key) -> Result<String, AllocError>
+    ensures { IfOk result (λ text. string_bytes text ≡ line (key_fields discr kind key.now)) }
+{
+    let kind = kind_number(kind);
+    let id = key.id;
+    let secret = hex_text(alloc, key.secret.as_slice())?;
+    format!(in alloc; "auth {discr} {kind} {id} {secret}\n")
+}
+
+/// The line of the first of these keys.
+fn list_text(alloc: Global, discr: u32, kind: AuthType, keys: &[Key]) -> Result<String, AllocError>
+    ensures { IfOk result (λ text. string_bytes text ≡ list_text discr kind keys.now) }
+{
+    match keys {
+        [] => Ok(String::new(alloc)),
+        [key, ..] => key_text(alloc, discr, kind, key),
+    }
+}
+
+/// The line of a session's keys, where it has some.
+fn keys_text(alloc: Global, discr: u32, keys: &Option<Keys>) -> Result<String, AllocError>
+    ensures { IfOk result (λ text. string_bytes text ≡ keys_text discr keys.now) }
+{
+    match keys {
+        None => Ok(String::new(alloc)),
+        Some(keys) => list_text(alloc, discr, keys.kind, keys.list.as_slice()),
+    }
+}
+
+/// The lines of a session.
+fn config_text(alloc: Global, config: &SessionConfig) -> Result<String, AllocError>
+    ensures { IfOk result (λ text. string_bytes text ≡ config_text config.now) }
+{
+    let row = row_text(alloc, config)?;
+    let SessionConfig::Pair(pair) = config;
+    let keys = keys_text(alloc, pair.discr, &pair.keys)?;
+    format!(in alloc; "{row}{keys}")
+}
+
+/// The lines of sessions.
 fn rows_text(alloc: Global, configs: &[SessionConfig]) -> Result<String, AllocError>
     ensures { IfOk result (λ text. string_bytes text ≡ rows_text configs.now) }
 {
     let mut text = String::new(alloc);
     for config in configs {
-        let row = row_text(alloc, config)?;
-        text.push_str(row.as_str())?;
+        let lines = config_text(alloc, config)?;
+        text.push_str(lines.as_str())?;
     }
     Ok(text)
 }
@@ -193,9 +246,9 @@ fn script_text(alloc: Global, script: &Script) -> Result<String, AllocError>
     format!(in alloc; "bfd 1\n{rows}run\n{events}end\n")
 }
 
-/// The one spelling of a script, as bytes: the table rows as they stand, each with decimal numbers without leading zeros
+/// The one spelling of a script, as bytes: the sessions as they stand, each with its keys after it, with decimal numbers without leading zeros
 /// and hexadecimal digits in lower case. `read` of it gives a script that `read` gave. The one refusal is want of memory.
-/// Keys of a session aren't written, since `auth` lines aren't built yet.
+/// Of several keys of a session the first alone is written.
 #[tactic(auto, using(crate::proofs::ScriptAgain::text_again))]
 pub fn write(alloc: Global, script: &Script) -> Result<Vec<u8>, AllocError>
     ensures text { IfOk result (λ bytes. bytes.items ≡ spelling script.now) }

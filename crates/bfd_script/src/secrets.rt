@@ -1,0 +1,93 @@
+// The keys of a session.
+ghost use Rattle.std.specs.Prelude.{◌≡◌, ◌<◌, IfOk, IsTrue};
+ghost use Rattle.hex.specs.Hex.{IsBytes};
+ghost use Rattle.bfd_packet.specs.KeyChain.{fits_kind};
+ghost use Rattle.bfd_script.specs.Gives.{Gives};
+ghost use Rattle.bfd_script.specs.Secrets.{chain_of, fitting, kind_by, kind_of, one_key, secret_of};
+ghost use Rattle.bfd_script.specs.Sound.{IsOneKey};
+
+use crate::fault::{LineFault, ReadFault};
+use crate::fields::number;
+use bfd_packet::{AuthType, Key, Keys, Secret};
+use hex::FromHexError;
+use std::alloc::Global;
+
+/// The Auth Type of a number 1 to 5.
+fn kind_by(n: u64) -> AuthType
+    ensures { result ≡ kind_by n }
+{
+    match n {
+        1 => AuthType::Password,
+        2 => AuthType::KeyedMd5,
+        3 => AuthType::MeticulousMd5,
+        4 => AuthType::KeyedSha1,
+        _ => AuthType::MeticulousSha1,
+    }
+}
+
+/// A field that is an Auth Type.
+fn kind_read(field: &str) -> Result<AuthType, LineFault>
+    ensures { result ≡ kind_of field.now }
+{
+    let n = number(field, 1, 5)?;
+    Ok(kind_by(n))
+}
+
+/// Bytes that are a secret: OutOfRange where there are none, and where there are more than its type has room for.
+fn fit(kind: AuthType, bytes: &[u8]) -> Result<Secret, LineFault>
+    ensures value { result ≡ fitting kind bytes.now }
+    ensures bytes { IfOk result (λ secret. IsBytes secret) }
+    ensures fits { IfOk result (λ secret. IsTrue (fits_kind kind secret)) }
+{
+    if bytes.is_empty() || bytes.len() > kind.digest_size() {
+        return Err(LineFault::OutOfRange);
+    }
+    Ok(Secret::of(bytes))
+}
+
+/// A field that is a secret: an even number of hexadecimal digits of both cases. BadHex where it is something else; `-`
+/// has no bytes.
+fn secret_read(alloc: Global, kind: AuthType, field: &str) -> Result<Secret, ReadFault>
+    ensures value { Gives (λ s. s) result (secret_of kind field.now) }
+    ensures bytes { IfOk result (λ secret. IsBytes secret) }
+    ensures fits { IfOk result (λ secret. IsTrue (fits_kind kind secret)) }
+{
+    if field == "-" {
+        return Ok(fit(kind, &[])?);
+    }
+    if field.is_empty() {
+        return Err(ReadFault::Fault(LineFault::BadHex));
+    }
+    match hex::decode(alloc, field) {
+        Ok(bytes) => Ok(fit(kind, bytes.as_slice())?),
+        Err(FromHexError::OutOfMemory) => Err(ReadFault::Memory),
+        Err(_) => Err(ReadFault::Fault(LineFault::BadHex)),
+    }
+}
+
+/// One key of this type.
+fn one(kind: AuthType, id: u8, secret: Secret) -> Keys
+    requires bytes { IsBytes secret }
+    requires fits { IsTrue (fits_kind kind secret) }
+    ensures value { result ≡ one_key kind id secret }
+    ensures sound { IsOneKey result.kind result.list }
+{
+    Keys::one(kind, Key { id, secret })
+}
+
+/// The last three values of an `auth` line.
+#[tactic(auto, unfolding(crate::specs::Secrets::chain_of))]
+pub(crate) fn read_chain(
+    alloc: Global,
+    kind: &str,
+    id: &str,
+    secret: &str,
+) -> Result<Keys, ReadFault>
+    ensures value { Gives (λ k. k) result (chain_of kind.now id.now secret.now) }
+    ensures sound { IfOk result (λ k. IsOneKey k.kind k.list) }
+{
+    let kind = kind_read(kind)?;
+    let id = number(id, 0, 255)? as u8;
+    let secret = secret_read(alloc, kind, secret)?;
+    Ok(one(kind, id, secret))
+}
