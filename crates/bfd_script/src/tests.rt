@@ -38,10 +38,8 @@ fn small_files(rt: HostRuntime) -> Result<(), Fail> {
             "bfd 1\nrun\nshow 5 1\nend\n",
             bad(3, LineFault::NoSuchSession),
         ),
-        (
-            "bfd 1\nauth 1 1 6 00\nrun\nend\n",
-            bad(2, LineFault::NotBuilt),
-        ),
+        ("bfd 1\nauth 1 1 6 00\nrun\nend\n", bad(2, LineFault::NoSuchSession)),
+        ("bfd 1\nsbfd\nrun\nend\n", bad(2, LineFault::NotBuilt)),
         ("bfd 1\nrun\nend\nrun\n", bad(4, LineFault::Order)),
         (
             "bfd 1\nkey 1 6 00\nrun\nend\n",
@@ -62,9 +60,7 @@ fn small_files(rt: HostRuntime) -> Result<(), Fail> {
 
 /// What a text says that has one session, 5, and one event line.
 fn asked(rt: &HostRuntime, line: &str, live: bool) -> Result<Result<usize, BadLine>, Fail> {
-    let text = format!(in rt.alloc();
-        "bfd 1\np2p 5 single 1 192.0.2.1 192.0.2.254 passive 1000000 50000 3 0 0\nrun\n{line}\nend\n"
-    )?;
+    let text = format!(in rt.alloc(); "bfd 1\np2p 5 single 1 192.0.2.1 192.0.2.254 passive 1000000 50000 3 0 0\nrun\n{line}\nend\n")?;
     Ok(told(rt, text.as_str(), live))
 }
 
@@ -106,6 +102,42 @@ fn commands_and_questions(rt: HostRuntime) -> Result<(), Fail> {
     Ok(())
 }
 
+/// What a text says that has one session, 5, and then this in its table.
+fn keyed(rt: &HostRuntime, line: &str, live: bool) -> Result<Result<usize, BadLine>, Fail> {
+    let text = format!(in rt.alloc(); "bfd 1\np2p 5 single 1 192.0.2.1 192.0.2.254 passive 1000000 50000 3 0 0\n{line}\nrun\nend\n")?;
+    Ok(told(rt, text.as_str(), live))
+}
+
+#[test]
+fn keys_of_a_session(rt: HostRuntime) -> Result<(), Fail> {
+    let bad = |fault: LineFault| -> Result<usize, BadLine> { Err(BadLine { line: 3, fault }) };
+    let second = |fault: LineFault| -> Result<usize, BadLine> { Err(BadLine { line: 4, fault }) };
+    let cases = [
+        ("auth 5 1 6 00", Ok(0)),
+        ("auth 5 2 0 000102030405060708090a0b0c0d0e0f", Ok(0)),
+        ("auth 5 3 0 000102030405060708090a0b0c0d0e0f10", bad(LineFault::OutOfRange)),
+        ("auth 5 4 255 000102030405060708090A0B0C0D0E0F10111213", Ok(0)),
+        ("auth 5 5 0 000102030405060708090a0b0c0d0e0f1011121314", bad(LineFault::OutOfRange)),
+        ("auth 5 1 6 -", bad(LineFault::OutOfRange)),
+        ("auth 5 1 6 ", bad(LineFault::BadHex)),
+        ("auth 5 1 6 0", bad(LineFault::BadHex)),
+        ("auth 5 1 6", bad(LineFault::FieldCount)),
+        ("auth 5 0 6 0", bad(LineFault::OutOfRange)),
+        ("auth 5 6 06 0", bad(LineFault::OutOfRange)),
+        ("auth 5 01 256 0", bad(LineFault::BadNumber)),
+        ("auth 5 1 256 0", bad(LineFault::OutOfRange)),
+        ("auth 6 1 6 -", bad(LineFault::OutOfRange)),
+        ("auth 6 1 6 00", bad(LineFault::NoSuchSession)),
+        ("auth 5 1 6 00\nauth 5 1 7 00", second(LineFault::SameDiscr)),
+        ("auth 5 1 6 00\nauth 6 1 7 00", second(LineFault::NoSuchSession)),
+    ];
+    for (line, want) in cases {
+        assert_eq!(rt; keyed(&rt, line, false)?, want, "{line}");
+        assert_eq!(rt; keyed(&rt, line, true)?, want, "{line} in a live script");
+    }
+    Ok(())
+}
+
 #[test]
 fn complaints(rt: HostRuntime) -> Result<(), Fail> {
     let bad = BadLine {
@@ -121,6 +153,8 @@ fn one_spelling(rt: HostRuntime) -> Result<(), Fail> {
     let text = "bfd 1\n\
         p2p 9 multi 65535 20010DB800000000000000000000000a 20010db8000000000000000000000001 active 10000 60000000 255 0 4294967295\n\
         p2p 5 single 1 192.0.2.1 192.0.2.254 passive 1000000 50000 3 0 0\n\
+        auth 5 4 7 0AfF\n\
+        auth 9 1 255 70617373\n\
         run\n\
         rx 1500 single 1 192.0.2.254 192.0.2.1 255 20C0\n\
         tick 3002\n\
@@ -130,7 +164,9 @@ fn one_spelling(rt: HostRuntime) -> Result<(), Fail> {
         end";
     let want = "bfd 1\n\
         p2p 5 single 1 192.0.2.1 192.0.2.254 passive 1000000 50000 3 0 0\n\
+        auth 5 4 7 0aff\n\
         p2p 9 multi 65535 20010db800000000000000000000000a 20010db8000000000000000000000001 active 10000 60000000 255 0 4294967295\n\
+        auth 9 1 255 70617373\n\
         run\n\
         rx 1500 single 1 192.0.2.254 192.0.2.1 255 20c0\n\
         tick 3002\n\
