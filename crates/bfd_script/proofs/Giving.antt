@@ -122,8 +122,14 @@ apart_kept d keys c h = ap (same_place (selector_of d)) (kept_place keys c) ∙ 
 
 fit_kept : (keys : KeyChain) (c : SessionConfig) → IsFit c → IsFit (keyed_with keys c)
 fit_kept keys (Pair c) h = record {
-  discr = h.discr; iface = h.iface; tx_least = h.tx_least; tx_most = h.tx_most; rx_least = h.rx_least; rx_most = h.rx_most;
-  some_mult = h.some_mult; echo_range = h.echo_range;
+  discr = h.discr;
+  iface = h.iface;
+  tx_least = h.tx_least;
+  tx_most = h.tx_most;
+  rx_least = h.rx_least;
+  rx_most = h.rx_most;
+  some_mult = h.some_mult;
+  echo_range = h.echo_range;
 }
 
 row_kept : (keys : KeyChain) → IsOneKey keys.kind keys.list → (c : SessionConfig) → IsRow c → IsRow (keyed_with keys c)

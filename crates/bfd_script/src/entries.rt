@@ -50,10 +50,7 @@ pub enum Line {
 pub(crate) enum Entry {
     Version,
     Row(SessionConfig),
-    Auth {
-        discr: u32,
-        keys: Keys,
-    },
+    Auth { discr: u32, keys: Keys },
     Run,
     Event(Line),
     End,
@@ -245,13 +242,7 @@ fn read_row(alloc: Global, values: &[&str]) -> Result<Entry, ReadFault>
 }
 
 /// An `auth` line of these values.
-fn keyed(
-    alloc: Global,
-    discr: &str,
-    kind: &str,
-    id: &str,
-    secret: &str,
-) -> Result<Entry, ReadFault>
+fn keyed(alloc: Global, discr: &str, kind: &str, id: &str, secret: &str) -> Result<Entry, ReadFault>
     ensures value { Gives (λ entry. entry) result (keyed_of discr.now kind.now id.now secret.now) }
     ensures sound { IfOk result IsEntry }
 {

@@ -38,7 +38,10 @@ fn small_files(rt: HostRuntime) -> Result<(), Fail> {
             "bfd 1\nrun\nshow 5 1\nend\n",
             bad(3, LineFault::NoSuchSession),
         ),
-        ("bfd 1\nauth 1 1 6 00\nrun\nend\n", bad(2, LineFault::NoSuchSession)),
+        (
+            "bfd 1\nauth 1 1 6 00\nrun\nend\n",
+            bad(2, LineFault::NoSuchSession),
+        ),
         ("bfd 1\nsbfd\nrun\nend\n", bad(2, LineFault::NotBuilt)),
         ("bfd 1\nrun\nend\nrun\n", bad(4, LineFault::Order)),
         (
@@ -60,7 +63,9 @@ fn small_files(rt: HostRuntime) -> Result<(), Fail> {
 
 /// What a text says that has one session, 5, and one event line.
 fn asked(rt: &HostRuntime, line: &str, live: bool) -> Result<Result<usize, BadLine>, Fail> {
-    let text = format!(in rt.alloc(); "bfd 1\np2p 5 single 1 192.0.2.1 192.0.2.254 passive 1000000 50000 3 0 0\nrun\n{line}\nend\n")?;
+    let text = format!(in rt.alloc();
+        "bfd 1\np2p 5 single 1 192.0.2.1 192.0.2.254 passive 1000000 50000 3 0 0\nrun\n{line}\nend\n"
+    )?;
     Ok(told(rt, text.as_str(), live))
 }
 
@@ -104,7 +109,9 @@ fn commands_and_questions(rt: HostRuntime) -> Result<(), Fail> {
 
 /// What a text says that has one session, 5, and then this in its table.
 fn keyed(rt: &HostRuntime, line: &str, live: bool) -> Result<Result<usize, BadLine>, Fail> {
-    let text = format!(in rt.alloc(); "bfd 1\np2p 5 single 1 192.0.2.1 192.0.2.254 passive 1000000 50000 3 0 0\n{line}\nrun\nend\n")?;
+    let text = format!(in rt.alloc();
+        "bfd 1\np2p 5 single 1 192.0.2.1 192.0.2.254 passive 1000000 50000 3 0 0\n{line}\nrun\nend\n"
+    )?;
     Ok(told(rt, text.as_str(), live))
 }
 
@@ -115,9 +122,18 @@ fn keys_of_a_session(rt: HostRuntime) -> Result<(), Fail> {
     let cases = [
         ("auth 5 1 6 00", Ok(0)),
         ("auth 5 2 0 000102030405060708090a0b0c0d0e0f", Ok(0)),
-        ("auth 5 3 0 000102030405060708090a0b0c0d0e0f10", bad(LineFault::OutOfRange)),
-        ("auth 5 4 255 000102030405060708090A0B0C0D0E0F10111213", Ok(0)),
-        ("auth 5 5 0 000102030405060708090a0b0c0d0e0f1011121314", bad(LineFault::OutOfRange)),
+        (
+            "auth 5 3 0 000102030405060708090a0b0c0d0e0f10",
+            bad(LineFault::OutOfRange),
+        ),
+        (
+            "auth 5 4 255 000102030405060708090A0B0C0D0E0F10111213",
+            Ok(0),
+        ),
+        (
+            "auth 5 5 0 000102030405060708090a0b0c0d0e0f1011121314",
+            bad(LineFault::OutOfRange),
+        ),
         ("auth 5 1 6 -", bad(LineFault::OutOfRange)),
         ("auth 5 1 6 ", bad(LineFault::BadHex)),
         ("auth 5 1 6 0", bad(LineFault::BadHex)),
@@ -129,7 +145,10 @@ fn keys_of_a_session(rt: HostRuntime) -> Result<(), Fail> {
         ("auth 6 1 6 -", bad(LineFault::OutOfRange)),
         ("auth 6 1 6 00", bad(LineFault::NoSuchSession)),
         ("auth 5 1 6 00\nauth 5 1 7 00", second(LineFault::SameDiscr)),
-        ("auth 5 1 6 00\nauth 6 1 7 00", second(LineFault::NoSuchSession)),
+        (
+            "auth 5 1 6 00\nauth 6 1 7 00",
+            second(LineFault::NoSuchSession),
+        ),
     ];
     for (line, want) in cases {
         assert_eq!(rt; keyed(&rt, line, false)?, want, "{line}");
