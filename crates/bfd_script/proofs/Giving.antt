@@ -15,7 +15,7 @@ use Rattle.bfd_session.specs.Kinds.{discr_of}
 use Rattle.bfd_session.specs.Step.{IsFit}
 use Rattle.bfd_script.specs.declared.selecting.Selector.{Selector}
 use Rattle.bfd_script.specs.Reading.{is_built}
-use Rattle.bfd_script.specs.Rows.{by_discr, given, has_discr, has_selector, keyed_with}
+use Rattle.bfd_script.specs.Rows.{by_discr, given, has_selector, keyed_with}
 use Rattle.bfd_script.specs.Selecting.{same_place, same_selector, selector_by, selector_of}
 use Rattle.bfd_script.specs.Sound.{AreConfigs, Ascends, Differs, Each, IsOneKey, IsRow}
 use Rattle.bfd_script.specs.Tables.{IsTable}
