@@ -1,11 +1,13 @@
--- Keys for a session of a table: the entries, the places, and what stays true of the sessions.
-use Rattle.std.proofs.Common.{◌≡◌, ℕ, ◌<◌, ◌==◌, Bool, true, false, cond, List, [], ◌∷◌, length, Option, Some, None, refl, sym, ap, ◌∙◌, arith, subst}
+-- A session of a table becomes another: the entries, the places, and what stays true of the sessions.
+use Rattle.std.proofs.Common.{◌≡◌, ℕ, ◌<◌, ◌==◌, Bool, true, false, cond, List, [], ◌∷◌, ◌++◌, length, Option, Some, None, refl, sym, ap, ◌∙◌, arith, subst, append_assoc, append-nil, length-append}
 use Rattle.std.specs.Prelude.{find}
 use Rattle.std.specs.List.{list_any}
 use Rattle.std.specs.Map.{values_of, lookup, set_value}
 use Rattle.std.specs.BTreeMap.{is_at}
 use Rattle.std.specs.Ordering.{nat_cmp, is_eq}
 use Rattle.bfd_packet.specs.KeyChain.{KeyChain}
+use Rattle.bfd_packet.specs.declared.keys.AuthType.{AuthType}
+use Rattle.bfd_packet.specs.declared.keys.Key.{Key}
 use Rattle.bfd_rules.specs.declared.config.Config.{Config}
 use Rattle.bfd_rules.specs.declared.config.Role.{Role}
 use Rattle.bfd_rules.specs.declared.config.Role.TheVariants as roles
@@ -15,12 +17,20 @@ use Rattle.bfd_session.specs.Kinds.{discr_of}
 use Rattle.bfd_session.specs.Step.{IsFit}
 use Rattle.bfd_script.specs.declared.selecting.Selector.{Selector}
 use Rattle.bfd_script.specs.Reading.{is_built}
-use Rattle.bfd_script.specs.Rows.{by_discr, given, has_selector, keyed_with}
+use Rattle.bfd_script.specs.Rows.{by_discr, changed, has_selector, keyed_more, keyed_with, keys_in, keys_of, one_more}
+use Rattle.bfd_script.specs.Secrets.{key_fault}
 use Rattle.bfd_script.specs.Selecting.{same_place, same_selector, selector_by, selector_of}
-use Rattle.bfd_script.specs.Sound.{AreConfigs, Ascends, Differs, Each, IsOneKey, IsRow}
+use Rattle.bfd_script.specs.Sound.{AreConfigs, AreKeys, AreNext, Ascends, Differs, Each, IsChain, IsKey, IsNext, IsRow}
 use Rattle.bfd_script.specs.Tables.{IsTable}
 use Rattle.bfd_script.proofs.Elements.{each_to}
 use Rattle.bfd_script.proofs.Inserting.{level, values_by}
+
+-- what a change of a session leaves: all but its keys
+pub record Keeps (f : SessionConfig → SessionConfig) : Type 0 where
+  pub discr : (c : SessionConfig) → discr_of (f c) ≡ discr_of c
+  pub place : (c : SessionConfig) → selector_of (f c) ≡ selector_of c
+  pub fit : (c : SessionConfig) → IsFit c → IsFit (f c)
+  pub built : (c : SessionConfig) → is_built c ≡ true → is_built (f c) ≡ true
 
 -- ---- the entries
 
@@ -36,57 +46,58 @@ pub found_at : (k : ℕ) (entries : List (ℕ × SessionConfig)) → entries ≡
     → lookup (is_at (nat_cmp k)) entries ≡ find (λ c. k == discr_of c) (values_of entries)
 found_at k entries keyed = ap (λ es. lookup (is_at (nat_cmp k)) es) keyed ∙ found k (values_of entries)
 
-given_step : (at same : Bool) (x c : SessionConfig) (keys : KeyChain) (cs rest : List SessionConfig) (es : List (ℕ × SessionConfig)) (o : Option SessionConfig)
+changed_step : (f : SessionConfig → SessionConfig) → Keeps f → (at same : Bool) (x c : SessionConfig) (cs rest : List SessionConfig) (es : List (ℕ × SessionConfig)) (o : Option SessionConfig)
     → at ≡ same → Some c ≡ cond at (Some x) o → (Some c ≡ o → es ≡ by_discr rest)
-    → cond at ((discr_of x, keyed_with keys c) ∷ by_discr cs) ((discr_of x, x) ∷ es) ≡ by_discr (cond same (keyed_with keys x ∷ cs) (x ∷ rest))
-given_step true true (Pair x) (Pair c) keys cs rest es o e h next = cc
-given_step false false x c keys cs rest es o e h next = ap (λ t. (discr_of x, x) ∷ t) (next h)
-given_step true false x c keys cs rest es o e h next = cc
-given_step false true x c keys cs rest es o e h next = cc
+    → cond at ((discr_of x, f c) ∷ by_discr cs) ((discr_of x, x) ∷ es) ≡ by_discr (cond same (f x ∷ cs) (x ∷ rest))
+changed_step f kept true true x c cs rest es o e h next = let k = kept.discr x in cc
+changed_step f kept false false x c cs rest es o e h next = ap (λ t. (discr_of x, x) ∷ t) (next h)
+changed_step f kept true false x c cs rest es o e h next = cc
+changed_step f kept false true x c cs rest es o e h next = cc
 
-set_given : (k : ℕ) (keys : KeyChain) (c : SessionConfig) (cs : List SessionConfig) → Some c ≡ lookup (is_at (nat_cmp k)) (by_discr cs)
-    → set_value (is_at (nat_cmp k)) (by_discr cs) (keyed_with keys c) ≡ by_discr (given k keys cs)
-set_given k keys c [] h = refl
-set_given k keys c (x ∷ cs) h =
-    given_step (is_eq (nat_cmp k (discr_of x))) (k == discr_of x) x c keys cs (given k keys cs) (set_value (is_at (nat_cmp k)) (by_discr cs) (keyed_with keys c))
-    (lookup (is_at (nat_cmp k)) (by_discr cs)) (level k (discr_of x)) h (set_given k keys c cs)
+set_changed : (f : SessionConfig → SessionConfig) → Keeps f → (k : ℕ) (c : SessionConfig) (cs : List SessionConfig) → Some c ≡ lookup (is_at (nat_cmp k)) (by_discr cs)
+    → set_value (is_at (nat_cmp k)) (by_discr cs) (f c) ≡ by_discr (changed k f cs)
+set_changed f kept k c [] h = refl
+set_changed f kept k c (x ∷ cs) h =
+    changed_step f kept (is_eq (nat_cmp k (discr_of x))) (k == discr_of x) x c cs (changed k f cs) (set_value (is_at (nat_cmp k)) (by_discr cs) (f c))
+    (lookup (is_at (nat_cmp k)) (by_discr cs)) (level k (discr_of x)) h (set_changed f kept k c cs)
 
 -- the map's change is that of the sessions
-pub entries_given : (k : ℕ) (keys : KeyChain) (c w : SessionConfig) (entries more : List (ℕ × SessionConfig)) → entries ≡ by_discr (values_of entries)
-    → Some c ≡ lookup (is_at (nat_cmp k)) entries → w ≡ keyed_with keys c → more ≡ set_value (is_at (nat_cmp k)) entries w
-    → more ≡ by_discr (given k keys (values_of entries))
-entries_given k keys c w entries more keyed here e changed =
-    changed ∙ ap (λ t. set_value (is_at (nat_cmp k)) entries t) e ∙ ap (λ es. set_value (is_at (nat_cmp k)) es (keyed_with keys c)) keyed
-    ∙ set_given k keys c (values_of entries) (here ∙ ap (λ es. lookup (is_at (nat_cmp k)) es) keyed)
+pub entries_changed : (f : SessionConfig → SessionConfig) → Keeps f → (k : ℕ) (c w : SessionConfig) (entries more : List (ℕ × SessionConfig)) → entries ≡ by_discr (values_of entries)
+    → Some c ≡ lookup (is_at (nat_cmp k)) entries → w ≡ f c → more ≡ set_value (is_at (nat_cmp k)) entries w
+    → more ≡ by_discr (changed k f (values_of entries))
+entries_changed f kept k c w entries more keyed here e new =
+    new ∙ ap (λ t. set_value (is_at (nat_cmp k)) entries t) e ∙ ap (λ es. set_value (is_at (nat_cmp k)) es (f c)) keyed
+    ∙ set_changed f kept k c (values_of entries) (here ∙ ap (λ es. lookup (is_at (nat_cmp k)) es) keyed)
 
-lost_step : (same : Bool) (x : SessionConfig) (keys : KeyChain) (cs rest : List SessionConfig) (o : Option SessionConfig)
-    → None ≡ cond same (Some x) o → (None ≡ o → rest ≡ cs) → cond same (keyed_with keys x ∷ cs) (x ∷ rest) ≡ x ∷ cs
-lost_step true x keys cs rest o h next = cc
-lost_step false x keys cs rest o h next = ap (λ t. x ∷ t) (next h)
+lost_step : (same : Bool) (x y : SessionConfig) (cs rest : List SessionConfig) (o : Option SessionConfig)
+    → None ≡ cond same (Some x) o → (None ≡ o → rest ≡ cs) → cond same (y ∷ cs) (x ∷ rest) ≡ x ∷ cs
+lost_step true x y cs rest o h next = cc
+lost_step false x y cs rest o h next = ap (λ t. x ∷ t) (next h)
 
-lost : (k : ℕ) (keys : KeyChain) (cs : List SessionConfig) → None ≡ find (λ c. k == discr_of c) cs → given k keys cs ≡ cs
-lost k keys [] h = refl
-lost k keys (x ∷ cs) h = lost_step (k == discr_of x) x keys cs (given k keys cs) (find (λ d. k == discr_of d) cs) h (lost k keys cs)
+lost : (f : SessionConfig → SessionConfig) (k : ℕ) (cs : List SessionConfig) → None ≡ find (λ c. k == discr_of c) cs → changed k f cs ≡ cs
+lost f k [] h = refl
+lost f k (x ∷ cs) h = lost_step (k == discr_of x) x (f x) cs (changed k f cs) (find (λ d. k == discr_of d) cs) h (lost f k cs)
 
 -- where no session has the discriminator nothing changes
-pub entries_kept : (k : ℕ) (keys : KeyChain) (entries : List (ℕ × SessionConfig)) → entries ≡ by_discr (values_of entries)
-    → None ≡ lookup (is_at (nat_cmp k)) entries → entries ≡ by_discr (given k keys (values_of entries))
-entries_kept k keys entries keyed here =
-    keyed ∙ ap by_discr (sym (lost k keys (values_of entries) (here ∙ found_at k entries keyed)))
+pub entries_kept : (f : SessionConfig → SessionConfig) (k : ℕ) (entries : List (ℕ × SessionConfig)) → entries ≡ by_discr (values_of entries)
+    → None ≡ lookup (is_at (nat_cmp k)) entries → entries ≡ by_discr (changed k f (values_of entries))
+entries_kept f k entries keyed here =
+    keyed ∙ ap by_discr (sym (lost f k (values_of entries) (here ∙ found_at k entries keyed)))
 
 -- ---- what stays true
 
--- a fact that keys don't touch
-each_cond : (P : SessionConfig → Type 0) (same : Bool) (x y : SessionConfig) (cs rest : List SessionConfig) → P y → P x → Each P cs → Each P rest
-    → Each P (cond same (y ∷ cs) (x ∷ rest))
-each_cond P true x y cs rest new here all more = (new, all)
-each_cond P false x y cs rest new here all more = (here, more)
+-- a fact that the change keeps for the session that it changes
+each_cond : (P : SessionConfig → Type 0) (f : SessionConfig → SessionConfig) (same : Bool) (x : SessionConfig) (cs rest : List SessionConfig) (o : Option SessionConfig)
+    → ((c : SessionConfig) → Some c ≡ cond same (Some x) o → P c → P (f c)) → P x → Each P cs
+    → (((c : SessionConfig) → Some c ≡ o → P c → P (f c)) → Each P rest) → Each P (cond same (f x ∷ cs) (x ∷ rest))
+each_cond P f true x cs rest o g here all more = (g x refl here, all)
+each_cond P f false x cs rest o g here all more = (here, more g)
 
-each_given : (P : SessionConfig → Type 0) (k : ℕ) (keys : KeyChain) (cs : List SessionConfig) → ((c : SessionConfig) → P c → P (keyed_with keys c)) → Each P cs
-    → Each P (given k keys cs)
-each_given P k keys [] f all = tt
-each_given P k keys (c ∷ cs) f all =
-    each_cond P (k == discr_of c) c (keyed_with keys c) cs (given k keys cs) (f c all.0) all.0 all.1 (each_given P k keys cs f all.1)
+each_changed : (P : SessionConfig → Type 0) (f : SessionConfig → SessionConfig) (k : ℕ) (cs : List SessionConfig)
+    → ((c : SessionConfig) → Some c ≡ find (λ d. k == discr_of d) cs → P c → P (f c)) → Each P cs → Each P (changed k f cs)
+each_changed P f k [] g all = tt
+each_changed P f k (x ∷ cs) g all =
+    each_cond P f (k == discr_of x) x cs (changed k f cs) (find (λ d. k == discr_of d) cs) g all.0 all.1 (λ h. each_changed P f k cs h all.1)
 
 any_cond : (test : SessionConfig → Bool) (same : Bool) (x y : SessionConfig) (cs rest : List SessionConfig) → test y ≡ test x → list_any test rest ≡ list_any test cs
     → list_any test (cond same (y ∷ cs) (x ∷ rest)) ≡ list_any test (x ∷ cs)
@@ -94,34 +105,82 @@ any_cond test true x y cs rest e more = rw e refl
 any_cond test false x y cs rest e more = rw more refl
 
 -- a test that doesn't look at keys
-pub any_given : (test : SessionConfig → Bool) (k : ℕ) (keys : KeyChain) (cs : List SessionConfig) → ((c : SessionConfig) → test (keyed_with keys c) ≡ test c)
-    → list_any test (given k keys cs) ≡ list_any test cs
-any_given test k keys [] f = refl
-any_given test k keys (c ∷ cs) f = any_cond test (k == discr_of c) c (keyed_with keys c) cs (given k keys cs) (f c) (any_given test k keys cs f)
+pub any_changed : (test : SessionConfig → Bool) (f : SessionConfig → SessionConfig) (k : ℕ) (cs : List SessionConfig) → ((c : SessionConfig) → test (f c) ≡ test c)
+    → list_any test (changed k f cs) ≡ list_any test cs
+any_changed test f k [] e = refl
+any_changed test f k (c ∷ cs) e = any_cond test (k == discr_of c) c (f c) cs (changed k f cs) (e c) (any_changed test f k cs e)
 
 length_cond : (same : Bool) (x y : SessionConfig) (cs rest : List SessionConfig) → length rest ≡ length cs → length (cond same (y ∷ cs) (x ∷ rest)) ≡ length (x ∷ cs)
 length_cond true x y cs rest e = refl
 length_cond false x y cs rest e = omega arith
 
-length_given : (k : ℕ) (keys : KeyChain) (cs : List SessionConfig) → length (given k keys cs) ≡ length cs
-length_given k keys [] = refl
-length_given k keys (c ∷ cs) = length_cond (k == discr_of c) c (keyed_with keys c) cs (given k keys cs) (length_given k keys cs)
+length_changed : (f : SessionConfig → SessionConfig) (k : ℕ) (cs : List SessionConfig) → length (changed k f cs) ≡ length cs
+length_changed f k [] = refl
+length_changed f k (c ∷ cs) = length_cond (k == discr_of c) c (f c) cs (changed k f cs) (length_changed f k cs)
 
-selector_kept : (keys : KeyChain) (role : Role) (c : Config) → selector_by role (record c { keys = Some keys }) ≡ selector_by role c
-selector_kept keys roles.Single c = refl
-selector_kept keys roles.Multi c = refl
+apart_kept : (d : SessionConfig) (f : SessionConfig → SessionConfig) → Keeps f → (c : SessionConfig) → same_selector d c ≡ false → same_selector d (f c) ≡ false
+apart_kept d f kept c h = ap (same_place (selector_of d)) (kept.place c) ∙ h
 
-kept_place : (keys : KeyChain) (c : SessionConfig) → selector_of (keyed_with keys c) ≡ selector_of c
-kept_place keys (Pair c) = selector_kept keys c.role c
+ascends_cond : (f : SessionConfig → SessionConfig) → Keeps f → (same : Bool) (x : SessionConfig) (cs rest : List SessionConfig) → Ascends (x ∷ cs)
+    → Each (λ d. discr_of x < discr_of d) rest → Ascends rest → Ascends (cond same (f x ∷ cs) (x ∷ rest))
+ascends_cond f kept true x cs rest all above more = (subst (λ k. Each (λ d. k < discr_of d) cs) (sym (kept.discr x)) all.0, all.1)
+ascends_cond f kept false x cs rest all above more = (above, more)
 
-below_kept : (k : ℕ) (keys : KeyChain) (c : SessionConfig) → k < discr_of c → k < discr_of (keyed_with keys c)
-below_kept k keys (Pair c) h = h
+ascends_changed : (f : SessionConfig → SessionConfig) → Keeps f → (k : ℕ) (cs : List SessionConfig) → Ascends cs → Ascends (changed k f cs)
+ascends_changed f kept k [] all = tt
+ascends_changed f kept k (c ∷ cs) all =
+    ascends_cond f kept (k == discr_of c) c cs (changed k f cs) all
+    (each_changed (λ d. discr_of c < discr_of d) f k cs (λ d here h. subst (λ n. discr_of c < n) (sym (kept.discr d)) h) all.0)
+    (ascends_changed f kept k cs all.1)
 
-apart_kept : (d : SessionConfig) (keys : KeyChain) (c : SessionConfig) → same_selector d c ≡ false → same_selector d (keyed_with keys c) ≡ false
-apart_kept d keys c h = ap (same_place (selector_of d)) (kept_place keys c) ∙ h
+differs_cond : (f : SessionConfig → SessionConfig) → Keeps f → (same : Bool) (x : SessionConfig) (cs rest : List SessionConfig) → Differs (x ∷ cs)
+    → Each (λ d. same_selector x d ≡ false) rest → Differs rest → Differs (cond same (f x ∷ cs) (x ∷ rest))
+differs_cond f kept true x cs rest all apart more = (each_to cs (λ d h. ap (λ s. same_place s (selector_of d)) (kept.place x) ∙ h) all.0, all.1)
+differs_cond f kept false x cs rest all apart more = (apart, more)
 
-fit_kept : (keys : KeyChain) (c : SessionConfig) → IsFit c → IsFit (keyed_with keys c)
-fit_kept keys (Pair c) h = record {
+differs_changed : (f : SessionConfig → SessionConfig) → Keeps f → (k : ℕ) (cs : List SessionConfig) → Differs cs → Differs (changed k f cs)
+differs_changed f kept k [] all = tt
+differs_changed f kept k (c ∷ cs) all =
+    differs_cond f kept (k == discr_of c) c cs (changed k f cs) all (each_changed (λ d. same_selector c d ≡ false) f k cs (λ d here h. apart_kept c f kept d h) all.0)
+    (differs_changed f kept k cs all.1)
+
+configs_changed : (f : SessionConfig → SessionConfig) → Keeps f → (k : ℕ) (cs : List SessionConfig)
+    → ((c : SessionConfig) → Some c ≡ find (λ d. k == discr_of d) cs → IsRow c → IsRow (f c)) → AreConfigs cs → AreConfigs (changed k f cs)
+configs_changed f kept k cs row were = record {
+  ascends = ascends_changed f kept k cs were.ascends;
+  differs = differs_changed f kept k cs were.differs;
+  fit = each_changed IsFit f k cs (λ c here h. kept.fit c h) were.fit;
+  rows = each_changed IsRow f k cs row were.rows;
+  built = each_changed (λ x. is_built x ≡ true) f k cs (λ c here h. kept.built c h) were.built;
+  few = let e = length_changed f k cs in let few = were.few in omega arith;
+}
+
+-- the sessions of the changed table
+pub rows_changed : (f : SessionConfig → SessionConfig) (k : ℕ) (cs : List SessionConfig) (entries more : List (ℕ × SessionConfig)) → values_of entries ≡ cs
+    → more ≡ by_discr (changed k f (values_of entries)) → values_of more ≡ changed k f cs
+rows_changed f k cs entries more view e = ap (λ es. values_of es) e ∙ values_by (changed k f (values_of entries)) ∙ ap (changed k f) view
+
+-- the whole table
+table_changed : (f : SessionConfig → SessionConfig) → Keeps f → (k : ℕ) (entries more : List (ℕ × SessionConfig)) (has : Selector → Bool) → IsTable entries has
+    → ((c : SessionConfig) → Some c ≡ find (λ d. k == discr_of d) (values_of entries) → IsRow c → IsRow (f c))
+    → more ≡ by_discr (changed k f (values_of entries)) → IsTable more has
+table_changed f kept k entries more has were row e =
+    let are : values_of more ≡ changed k f (values_of entries) = rows_changed f k (values_of entries) entries more refl e in
+    record {
+      keyed = e ∙ ap by_discr (sym are);
+      places = λ q. were.places q ∙ sym (any_changed (λ d. same_place q (selector_of d)) f k (values_of entries) (λ c. ap (same_place q) (kept.place c)))
+          ∙ ap (has_selector q) (sym are);
+      configs = subst (λ xs. AreConfigs xs) (sym are) (configs_changed f kept k (values_of entries) row were.configs);
+    }
+
+-- ---- keys for a session
+
+by_role : (role : Role) (keys : Option KeyChain) (c : Config) → selector_by role (record c { keys = keys }) ≡ selector_by role c
+by_role roles.Single keys c = refl
+by_role roles.Multi keys c = refl
+
+fit_keyed : (keys : Option KeyChain) (c : Config) → IsFit (Pair c) → IsFit (Pair (record c { keys = keys }))
+fit_keyed keys c h = record {
   discr = h.discr;
   iface = h.iface;
   tx_least = h.tx_least;
@@ -132,57 +191,73 @@ fit_kept keys (Pair c) h = record {
   echo_range = h.echo_range;
 }
 
-row_kept : (keys : KeyChain) → IsOneKey keys.kind keys.list → (c : SessionConfig) → IsRow c → IsRow (keyed_with keys c)
-row_kept keys one (Pair c) h = record { discr = h.discr; local = h.local; remote = h.remote; mult = h.mult; seed = h.seed; keys = one }
+row_keyed : (keys : Option KeyChain) (c : Config) → AreKeys keys → IsRow (Pair c) → IsRow (Pair (record c { keys = keys }))
+row_keyed keys c are h = record { discr = h.discr; local = h.local; remote = h.remote; mult = h.mult; seed = h.seed; keys = are }
 
-built_kept : (keys : KeyChain) (c : SessionConfig) → is_built c ≡ true → is_built (keyed_with keys c) ≡ true
-built_kept keys (Pair c) h = h
+with_discr : (keys : KeyChain) (c : SessionConfig) → discr_of (keyed_with keys c) ≡ discr_of c
+with_discr keys (Pair c) = refl
 
-ascends_cond : (same : Bool) (keys : KeyChain) (x : SessionConfig) (cs rest : List SessionConfig) → Ascends (x ∷ cs)
-    → Each (λ d. discr_of x < discr_of d) rest → Ascends rest → Ascends (cond same (keyed_with keys x ∷ cs) (x ∷ rest))
-ascends_cond true keys (Pair x) cs rest all above more = all
-ascends_cond false keys x cs rest all above more = (above, more)
+with_place : (keys : KeyChain) (c : SessionConfig) → selector_of (keyed_with keys c) ≡ selector_of c
+with_place keys (Pair c) = by_role c.role (Some keys) c
 
-ascends_given : (k : ℕ) (keys : KeyChain) (cs : List SessionConfig) → Ascends cs → Ascends (given k keys cs)
-ascends_given k keys [] all = tt
-ascends_given k keys (c ∷ cs) all =
-    ascends_cond (k == discr_of c) keys c cs (given k keys cs) all (each_given (λ d. discr_of c < discr_of d) k keys cs (below_kept (discr_of c) keys) all.0)
-    (ascends_given k keys cs all.1)
+with_fit : (keys : KeyChain) (c : SessionConfig) → IsFit c → IsFit (keyed_with keys c)
+with_fit keys (Pair c) h = fit_keyed (Some keys) c h
 
-differs_cond : (same : Bool) (keys : KeyChain) (x : SessionConfig) (cs rest : List SessionConfig) → Differs (x ∷ cs)
-    → Each (λ d. same_selector x d ≡ false) rest → Differs rest → Differs (cond same (keyed_with keys x ∷ cs) (x ∷ rest))
-differs_cond true keys x cs rest all apart more = (each_to cs (λ d h. ap (λ s. same_place s (selector_of d)) (kept_place keys x) ∙ h) all.0, all.1)
-differs_cond false keys x cs rest all apart more = (apart, more)
+with_built : (keys : KeyChain) (c : SessionConfig) → is_built c ≡ true → is_built (keyed_with keys c) ≡ true
+with_built keys (Pair c) h = h
 
-differs_given : (k : ℕ) (keys : KeyChain) (cs : List SessionConfig) → Differs cs → Differs (given k keys cs)
-differs_given k keys [] all = tt
-differs_given k keys (c ∷ cs) all =
-    differs_cond (k == discr_of c) keys c cs (given k keys cs) all (each_given (λ d. same_selector c d ≡ false) k keys cs (apart_kept c keys) all.0)
-    (differs_given k keys cs all.1)
+with_row : (keys : KeyChain) → IsChain keys → (c : SessionConfig) → IsRow c → IsRow (keyed_with keys c)
+with_row keys are (Pair c) h = row_keyed (Some keys) c are h
 
-configs_given : (k : ℕ) (keys : KeyChain) (cs : List SessionConfig) → IsOneKey keys.kind keys.list → AreConfigs cs → AreConfigs (given k keys cs)
-configs_given k keys cs one were = record {
-  ascends = ascends_given k keys cs were.ascends;
-  differs = differs_given k keys cs were.differs;
-  fit = each_given IsFit k keys cs (fit_kept keys) were.fit;
-  rows = each_given IsRow k keys cs (row_kept keys one) were.rows;
-  built = each_given (λ x. is_built x ≡ true) k keys cs (built_kept keys) were.built;
-  few = let e = length_given k keys cs in let f = were.few in omega arith;
+pub with_keeps : (keys : KeyChain) → Keeps (keyed_with keys)
+with_keeps keys = record { discr = with_discr keys; place = with_place keys; fit = with_fit keys; built = with_built keys }
+
+pub table_given : (k : ℕ) (keys : KeyChain) (entries more : List (ℕ × SessionConfig)) (has : Selector → Bool) → IsTable entries has
+    → IsChain keys → more ≡ by_discr (changed k (keyed_with keys) (values_of entries)) → IsTable more has
+table_given k keys entries more has were are e =
+    table_changed (keyed_with keys) (with_keeps keys) k entries more has were (λ c here h. with_row keys are c h) e
+
+-- ---- one more key
+
+more_discr : (key : Key) (c : SessionConfig) → discr_of (keyed_more key c) ≡ discr_of c
+more_discr key (Pair c) = refl
+
+more_place : (key : Key) (c : SessionConfig) → selector_of (keyed_more key c) ≡ selector_of c
+more_place key (Pair c) = by_role c.role (one_more key c.keys) c
+
+more_fit : (key : Key) (c : SessionConfig) → IsFit c → IsFit (keyed_more key c)
+more_fit key (Pair c) h = fit_keyed (one_more key c.keys) c h
+
+more_built : (key : Key) (c : SessionConfig) → is_built c ≡ true → is_built (keyed_more key c) ≡ true
+more_built key (Pair c) h = h
+
+pub more_keeps : (key : Key) → Keeps (keyed_more key)
+more_keeps key = record { discr = more_discr key; place = more_place key; fit = more_fit key; built = more_built key }
+
+-- the session that a look-up finds is the one whose keys are tested
+pub found_room : (k : ℕ) (key : Key) (c : SessionConfig) (entries : List (ℕ × SessionConfig)) → entries ≡ by_discr (values_of entries)
+    → Some c ≡ lookup (is_at (nat_cmp k)) entries → key_fault (keys_of k (values_of entries)) key ≡ None → key_fault (keys_in (Some c)) key ≡ None
+found_room k key c entries keyed here free = ap (λ o. key_fault (keys_in o) key) (here ∙ found_at k entries keyed) ∙ free
+
+-- a key that may come behind all of them
+next_more : (kind : AuthType) (before list : List Key) (key : Key) → AreNext kind before list → IsNext kind (before ++ list) key → AreNext kind before (list ++ key ∷ [])
+next_more kind before [] key all next = (subst (λ t. IsNext kind t key) (append-nil before) next, tt)
+next_more kind before (k ∷ list) key all next =
+    (all.0, next_more kind (before ++ k ∷ []) list key all.1 (subst (λ t. IsNext kind t key) (sym (append_assoc before (k ∷ []) list)) next))
+
+more_keys : (keys : Option KeyChain) (key : Key) → key_fault keys key ≡ None → IsKey key → AreKeys keys → AreKeys (one_more key keys)
+more_keys None key free is all = tt
+more_keys (Some keys) key free is all = record {
+  some = let e = length-append keys.list (key ∷ []) in omega arith;
+  list = next_more keys.kind [] keys.list key all.list (record { fits = is; free = free });
 }
 
--- the sessions of the changed table
-pub rows_given : (k : ℕ) (keys : KeyChain) (cs : List SessionConfig) (entries more : List (ℕ × SessionConfig)) → values_of entries ≡ cs
-    → more ≡ by_discr (given k keys (values_of entries)) → values_of more ≡ given k keys cs
-rows_given k keys cs entries more view e = ap (λ es. values_of es) e ∙ values_by (given k keys (values_of entries)) ∙ ap (given k keys) view
+more_row : (key : Key) (c : SessionConfig) → key_fault (keys_in (Some c)) key ≡ None → IsKey key → IsRow c → IsRow (keyed_more key c)
+more_row key (Pair c) free is h = row_keyed (one_more key c.keys) c (more_keys c.keys key free is h.keys) h
 
--- the whole table
-pub table_given : (k : ℕ) (keys : KeyChain) (entries more : List (ℕ × SessionConfig)) (has : Selector → Bool) → IsTable entries has
-    → IsOneKey keys.kind keys.list → more ≡ by_discr (given k keys (values_of entries)) → IsTable more has
-table_given k keys entries more has were one e =
-    let are : values_of more ≡ given k keys (values_of entries) = rows_given k keys (values_of entries) entries more refl e in
-    record {
-      keyed = e ∙ ap by_discr (sym are);
-      places = λ q. were.places q ∙ sym (any_given (λ d. same_place q (selector_of d)) k keys (values_of entries) (λ c. ap (same_place q) (kept_place keys c)))
-          ∙ ap (has_selector q) (sym are);
-      configs = subst (λ xs. AreConfigs xs) (sym are) (configs_given k keys (values_of entries) one were.configs);
-    }
+pub table_more_keys : (k : ℕ) (key : Key) (cs : List SessionConfig) (entries more : List (ℕ × SessionConfig)) (has : Selector → Bool) → IsTable entries has
+    → values_of entries ≡ cs → key_fault (keys_of k cs) key ≡ None → IsKey key
+    → more ≡ by_discr (changed k (keyed_more key) (values_of entries)) → IsTable more has
+table_more_keys k key cs entries more has were view free is e =
+    table_changed (keyed_more key) (more_keeps key) k entries more has were
+    (λ c here h. more_row key c (ap (λ o. key_fault (keys_in o) key) here ∙ ap (λ xs. key_fault (keys_of k xs) key) view ∙ free) is h) e

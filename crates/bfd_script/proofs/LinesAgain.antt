@@ -1,5 +1,5 @@
 -- Table rows and events, written and read again.
-use Rattle.std.proofs.Common.{◌≡◌, ℕ, nat_le, ◌<◌, ◌≤◌, ◌^◌, ◌-◌, Bool, true, false, cond, List, [], ◌∷◌, length, Some, None, Ok, Err, refl, sym, ap, ◌∙◌, arith}
+use Rattle.std.proofs.Common.{◌≡◌, ℕ, nat_le, ◌<◌, ◌≤◌, ◌^◌, ◌-◌, Bool, true, false, cond, ◌&&◌, List, [], ◌∷◌, length, Some, None, Ok, Err, refl, sym, ap, ◌∙◌, arith}
 use Rattle.std.proofs.lemmas.Bool.Decides.{nat_tests}
 use Rattle.std.specs.Prelude.{codes}
 use Rattle.std.specs.Fmt.{decimal}
@@ -21,28 +21,37 @@ use Rattle.bfd_rules.specs.declared.config.Role.TheVariants as roles
 use Rattle.bfd_session.specs.Step.{IsFit}
 use Rattle.bfd_session.specs.declared.event.SessionConfig.{SessionConfig}
 use Rattle.bfd_session.specs.declared.event.SessionConfig.TheVariants.{Pair}
-use Rattle.bfd_script.specs.declared.fault.LineFault.TheVariants.{OutOfRange}
+use Rattle.bfd_script.specs.declared.fault.LineFault.TheVariants.{FieldCount, OutOfRange}
 use Rattle.bfd_script.specs.declared.entries.Entry.TheVariants as entries
 use Rattle.bfd_script.specs.declared.entries.Line.{Line}
 use Rattle.bfd_script.specs.declared.entries.Line.TheVariants as events
 use Rattle.bfd_script.specs.declared.verbs.Verb.{Verb}
 use Rattle.bfd_script.specs.declared.verbs.Verb.TheVariants as verbs
 use Rattle.bfd_script.specs.declared.words.Place.TheVariants as places
+use Rattle.bfd_script.specs.declared.words.Version.{Version}
+use Rattle.bfd_script.specs.declared.words.Version.TheVariants.{One, Two}
 use Rattle.bfd_script.specs.Arrivals.{arrival_of, port_of}
 use Rattle.bfd_script.specs.Entries.{commanded, entry_of, numbered_of, plain_of, received_of, shown_of}
 use Rattle.bfd_script.specs.Fields.{number_in}
 use Rattle.bfd_script.specs.Gives.{◌>>=◌}
 use Rattle.bfd_script.specs.Pairs.{active_of, config_by, echo_of, ends_of, pair_of, pair_with, role_of, timing_of}
 use Rattle.bfd_script.specs.Reading.{is_built_command, is_built_line}
-use Rattle.bfd_script.specs.Secrets.{chain_of, fitting, kind_by, kind_of, one_key, secret_of}
+use Rattle.bfd_script.specs.Secrets.{chain_of, fitting, key_of, kind_by, kind_of, one_key, secret_of}
 use Rattle.bfd_script.specs.Sound.{Each, IsAsked, IsEvent, IsKey, IsPairRow, IsReceived, IsRow}
 use Rattle.bfd_script.specs.Spelling.{hex_field, spaced}
-use Rattle.bfd_script.specs.Verbs.{command, number_of, verb_of}
-use Rattle.bfd_script.specs.Written.{address_field, event_fields, key_fields, kind_number, mode_field, port_field, role_field, row_fields, verb_fields}
+use Rattle.bfd_script.specs.Verbs.{command, fits, number_of, verb_of}
+use Rattle.bfd_script.specs.Written.{address_field, auth_fields, event_fields, is_new_line, key_fields, kind_number, mode_field, port_field, role_field, row_fields, verb_fields}
 use Rattle.bfd_script.proofs.Numerals.{number_again, number_field, number_short}
 use Rattle.bfd_script.proofs.Rereading.{address_again, address_is_field, address_short, bytes_again, hex_is_field, hex_short, payload_again}
 use Rattle.bfd_script.proofs.Elements.{IsField, both, word}
 use Rattle.bfd_script.proofs.Splitting.{entry_again, total}
+
+-- ---- versions
+
+-- a version has lines for what is new in version 2, or for what isn't
+abbrev pub Speaks : Version → Bool → Type 0
+Speaks One new = new ≡ false
+Speaks Two new = Unit {0}
 
 -- ---- words
 
@@ -199,11 +208,11 @@ echo_most roles.Single n h = grind (arith, nat_tests)
 echo_most roles.Multi n h = grind (arith, nat_tests)
 
 -- the row has no keys
-pub row_again : (live : Bool) (c : Config) → IsFit (Pair c) → IsRow (Pair c)
-    → entry_of places.Table live (spaced (row_fields (Pair c)) []) ≡ Ok (entries.Row (Pair (record c { keys = None })))
-row_again live c fit row =
+pub row_again : (version : Version) (live : Bool) (c : Config) → IsFit (Pair c) → IsRow (Pair c)
+    → entry_of version places.Table live (spaced (row_fields (Pair c)) []) ≡ Ok (entries.Row (Pair (record c { keys = None })))
+row_again version live c fit row =
     let high = echo_most c.role c.echo fit.echo_range in
-    entry_again places.Table live (codes "p2p") (decimal c.discr ∷ role_field c.role ∷ decimal c.iface ∷ address_field c.local ∷ address_field c.remote ∷ mode_field c.active ∷ decimal c.tx ∷ decimal c.rx ∷ decimal c.mult ∷ decimal c.echo ∷ decimal c.seed ∷ [])
+    entry_again version places.Table live (codes "p2p") (decimal c.discr ∷ role_field c.role ∷ decimal c.iface ∷ address_field c.local ∷ address_field c.remote ∷ mode_field c.active ∷ decimal c.tx ∷ decimal c.rx ∷ decimal c.mult ∷ decimal c.echo ∷ decimal c.seed ∷ [])
     (row_is_fields c fit row high) (row_short c fit row high)
     ∙ ap (λ r. r >>= λ config. Ok (entries.Row config)) (pair_again c fit row high)
 
@@ -249,17 +258,17 @@ secret_again : (kind : AuthType) (secret : List ℕ) → IsBytes secret → fits
 secret_again kind secret h fits =
     ap (λ r. r >>= λ bytes. fitting kind bytes) (bytes_again secret h) ∙ fit_step (fits_kind kind secret) secret fits
 
-chain_again : (kind : AuthType) (key : Key) → IsKey kind key
+chain_again : (kind : AuthType) (key : Key) → IsKey key → fits_kind kind key.secret ≡ true
     → chain_of (decimal (kind_number kind)) (decimal key.id) (hex_field key.secret) ≡ Ok (one_key kind key.id key.secret)
 unfolding chain_of
-chain_again kind key h = rw (
+chain_again kind key h fits = rw (
   kind_again kind,
   number_again 0 255 key.id (omega arith) (let k = h.id in omega arith) (let k = h.id in omega arith),
-  secret_again kind key.secret h.bytes h.fits,
+  secret_again kind key.secret h.bytes fits,
 ) refl
 
-pub key_fields_fit : (d : ℕ) (kind : AuthType) (key : Key) → d < 2 ^ 32 → IsKey kind key → Each IsField (key_fields d kind key)
-key_fields_fit d kind key below h = (
+pub auth_fields_fit : (d : ℕ) (kind : AuthType) (key : Key) → d < 2 ^ 32 → IsKey key → Each IsField (auth_fields d kind key)
+auth_fields_fit d kind key below h = (
   word (codes "auth") refl,
   (
     number_field d (omega arith),
@@ -270,23 +279,61 @@ key_fields_fit d kind key below h = (
   ),
 )
 
-key_short : (d : ℕ) (kind : AuthType) (key : Key) → d < 2 ^ 32 → IsKey kind key → total (key_fields d kind key) ≤ 4096
-key_short d kind key below h =
-    let few = secret_few kind key.secret h.fits in
+auth_short : (d : ℕ) (kind : AuthType) (key : Key) → d < 2 ^ 32 → IsKey key → length key.secret ≤ 20 → total (auth_fields d kind key) ≤ 4096
+auth_short d kind key below h few =
     let l1 = number_short d (omega arith) in
     let l2 = number_short (kind_number kind) (kind_small kind) in
     let l3 = number_short key.id (let k = h.id in omega arith) in
     let l4 = hex_short key.secret (omega arith) in
     omega arith
 
-pub key_again : (live : Bool) (d : ℕ) (kind : AuthType) (key : Key) → 0 < d → d < 2 ^ 32 → IsKey kind key
-    → entry_of places.Table live (spaced (key_fields d kind key) []) ≡ Ok (entries.Auth d (one_key kind key.id key.secret))
-key_again live d kind key some below h =
-    entry_again places.Table live (codes "auth") (decimal d ∷ decimal (kind_number kind) ∷ decimal key.id ∷ hex_field key.secret ∷ [])
-    (key_fields_fit d kind key below h) (key_short d kind key below h)
+pub auth_again : (version : Version) (live : Bool) (d : ℕ) (kind : AuthType) (key : Key) → 0 < d → d < 2 ^ 32 → IsKey key → fits_kind kind key.secret ≡ true
+    → entry_of version places.Table live (spaced (auth_fields d kind key) []) ≡ Ok (entries.Auth d (one_key kind key.id key.secret))
+auth_again version live d kind key some below h fits =
+    entry_again version places.Table live (codes "auth") (decimal d ∷ decimal (kind_number kind) ∷ decimal key.id ∷ hex_field key.secret ∷ [])
+    (auth_fields_fit d kind key below h) (auth_short d kind key below h (secret_few kind key.secret fits))
     ∙ ap (λ r. r >>= λ discr. chain_of (decimal (kind_number kind)) (decimal key.id) (hex_field key.secret) >>= λ keys. Ok (entries.Auth discr keys))
     (number_again 1 4294967295 d some (omega arith) (omega arith))
-    ∙ ap (λ r. r >>= λ keys. Ok (entries.Auth d keys)) (chain_again kind key h)
+    ∙ ap (λ r. r >>= λ keys. Ok (entries.Auth d keys)) (chain_again kind key h fits)
+
+pub key_fields_fit : (d : ℕ) (key : Key) → d < 2 ^ 32 → IsKey key → Each IsField (key_fields d key)
+key_fields_fit d key below h = (
+  word (codes "key") refl,
+  (number_field d (omega arith), (number_field key.id (let k = h.id in omega arith), (hex_is_field key.secret h.bytes, tt))),
+)
+
+key_short : (d : ℕ) (key : Key) → d < 2 ^ 32 → IsKey key → length key.secret ≤ 20 → total (key_fields d key) ≤ 4096
+key_short d key below h few =
+    let l1 = number_short d (omega arith) in
+    let l2 = number_short key.id (let k = h.id in omega arith) in
+    let l3 = hex_short key.secret (omega arith) in
+    omega arith
+
+-- a secret that has room in a type has room in the one with the most
+room_step : (some : Bool) (n : ℕ) → n ≤ 20 → (some && nat_le n 20) ≡ some
+room_step true n h = grind (arith, nat_tests)
+room_step false n h = refl
+
+widest : (kind : AuthType) (secret : List ℕ) → fits_kind kind secret ≡ true → fits_kind kinds.KeyedSha1 secret ≡ true
+widest kind secret fits =
+    room_step (nat_le 1 (length secret)) (length secret) (secret_few kind secret fits)
+    ∙ (both (nat_le 1 (length secret)) (nat_le (length secret) (digest_size kind)) fits).0
+
+key_read : (kind : AuthType) (key : Key) → IsKey key → fits_kind kind key.secret ≡ true → key_of (decimal key.id) (hex_field key.secret) ≡ Ok key
+unfolding key_of
+key_read kind key h fits = rw (
+  number_again 0 255 key.id (omega arith) (let k = h.id in omega arith) (let k = h.id in omega arith),
+  secret_again kinds.KeyedSha1 key.secret h.bytes (widest kind key.secret fits),
+) refl
+
+pub key_again : (live : Bool) (d : ℕ) (kind : AuthType) (key : Key) → 0 < d → d < 2 ^ 32 → IsKey key → fits_kind kind key.secret ≡ true
+    → entry_of Two places.Table live (spaced (key_fields d key) []) ≡ Ok (entries.Key d key)
+key_again live d kind key some below h fits =
+    entry_again Two places.Table live (codes "key") (decimal d ∷ decimal key.id ∷ hex_field key.secret ∷ [])
+    (key_fields_fit d key below h) (key_short d key below h (secret_few kind key.secret fits))
+    ∙ ap (λ r. r >>= λ discr. key_of (decimal key.id) (hex_field key.secret) >>= λ read. Ok (entries.Key discr read))
+    (number_again 1 4294967295 d some (omega arith) (omega arith))
+    ∙ ap (λ r. r >>= λ read. Ok (entries.Key d read)) (key_read kind key h fits)
 
 -- ---- an event
 
@@ -376,29 +423,37 @@ asked_again : (m d : ℕ) → IsAsked m d → number_in 1 4294967295 (decimal d)
 asked_again m d h =
     number_again 1 4294967295 d h.some_discr (let k = h.discr_below in omega arith) (let k = h.discr_below in omega arith)
 
-plain_again : (m d : ℕ) (field : List ℕ) (verb : Verb) → IsAsked m d → verb_of field ≡ Some verb
-    → plain_of (decimal m) (decimal d) field ≡ Ok (entries.Event (events.Cmd m d (command verb 0)))
+plain_again : (version : Version) (m d : ℕ) (field : List ℕ) (verb : Verb) → IsAsked m d → verb_of version field ≡ Some verb
+    → plain_of version (decimal m) (decimal d) field ≡ Ok (entries.Event (events.Cmd m d (command verb 0)))
 unfolding plain_of
-plain_again m d field verb h e = rw (moment_again m d h, asked_again m d h, e) refl
+plain_again version m d field verb h e = rw (moment_again m d h, asked_again m d h, e) refl
 
-numbered_again : (m d n : ℕ) (field : List ℕ) (verb : Verb) → IsAsked m d → n < 2 ^ 64 → verb_of field ≡ Some verb
-    → numbered_of (decimal m) (decimal d) field (decimal n) ≡ Ok (entries.Event (events.Cmd m d (command verb n)))
+numbered_again : (version : Version) (m d n : ℕ) (field : List ℕ) (verb : Verb) → IsAsked m d → n < 2 ^ 64 → verb_of version field ≡ Some verb
+    → numbered_of version (decimal m) (decimal d) field (decimal n) ≡ Ok (entries.Event (events.Cmd m d (command verb n)))
 unfolding numbered_of
-numbered_again m d n field verb h below e =
+numbered_again version m d n field verb h below e =
     rw (moment_again m d h, asked_again m d h, e, number_again 0 (2 ^ 64 - 1) n (omega arith) (omega arith) below) refl
 
-command_again : (m d : ℕ) (cmd : Cmd) → IsAsked m d → number_of cmd < 2 ^ 64 → is_built_command cmd ≡ true
-    → commanded (decimal m ∷ decimal d ∷ verb_fields cmd) ≡ Ok (entries.Event (events.Cmd m d cmd))
-command_again m d commands.Disable h n built = plain_again m d (codes "disable") verbs.Disable h refl
-command_again m d commands.Enable h n built = plain_again m d (codes "enable") verbs.Enable h refl
-command_again m d commands.Reset h n built = plain_again m d (codes "reset") verbs.Reset h refl
-command_again m d (commands.Path n) h below built = numbered_again m d n (codes "path") verbs.Path h below refl
-command_again m d (commands.Tx n) h below built = numbered_again m d n (codes "tx") verbs.Tx h below refl
-command_again m d (commands.Rx n) h below built = numbered_again m d n (codes "rx") verbs.Rx h below refl
-command_again m d (commands.Mult n) h below built = numbered_again m d n (codes "mult") verbs.Mult h below refl
-command_again m d (commands.Demand n) h below built = numbered_again m d n (codes "demand") verbs.Demand h below refl
-command_again m d (commands.EchoEvery n) h below built = cc
-command_again m d (commands.Key n) h below built = cc
+-- the key command is of version 2
+key_verb : (version : Version) → Speaks version true → verb_of version (codes "key") ≡ Some verbs.Key
+key_verb One h = cc
+key_verb Two h = refl
+
+command_again : (version : Version) (m d : ℕ) (cmd : Cmd) → IsAsked m d → number_of cmd < 2 ^ 64 → is_built_command cmd ≡ true
+    → Speaks version (is_new_line (events.Cmd m d cmd))
+    → commanded version (decimal m ∷ decimal d ∷ verb_fields cmd) ≡ Ok (entries.Event (events.Cmd m d cmd))
+command_again version m d commands.Disable h n built new = plain_again version m d (codes "disable") verbs.Disable h refl
+command_again version m d commands.Enable h n built new = plain_again version m d (codes "enable") verbs.Enable h refl
+command_again version m d commands.Reset h n built new = plain_again version m d (codes "reset") verbs.Reset h refl
+command_again version m d (commands.Path n) h below built new = numbered_again version m d n (codes "path") verbs.Path h below refl
+command_again version m d (commands.Tx n) h below built new = numbered_again version m d n (codes "tx") verbs.Tx h below refl
+command_again version m d (commands.Rx n) h below built new = numbered_again version m d n (codes "rx") verbs.Rx h below refl
+command_again version m d (commands.Mult n) h below built new = numbered_again version m d n (codes "mult") verbs.Mult h below refl
+command_again version m d (commands.Demand n) h below built new = numbered_again version m d n (codes "demand") verbs.Demand h below refl
+command_again version m d (commands.EchoEvery n) h below built new = cc
+command_again version m d (commands.Key n) h below built new =
+    ap (λ o. cond (fits o true) (numbered_of version (decimal m) (decimal d) (codes "key") (decimal n)) (Err FieldCount)) (key_verb version new)
+    ∙ numbered_again version m d n (codes "key") verbs.Key h below (key_verb version new)
 
 cmd_is_fields : (m d : ℕ) (cmd : Cmd) → IsAsked m d → number_of cmd < 2 ^ 64 → Each IsField (event_fields (events.Cmd m d cmd))
 cmd_is_fields m d cmd h below = (
@@ -439,16 +494,16 @@ event_fields_fit (events.Tick tick) h built = (tick_is_field, (number_field tick
 event_fields_fit (events.Cmd m d cmd) h built = cmd_is_fields m d cmd h.0 h.1
 event_fields_fit (events.Show m d) h built = show_is_fields m d h
 
-pub event_again : (event : Line) → IsEvent event → is_built_line event ≡ true
-    → entry_of places.Events false (spaced (event_fields event) []) ≡ Ok (entries.Event event)
-event_again (events.Rx m a) h built =
-    entry_again places.Events false (codes "rx") (decimal m ∷ port_field a.port ∷ decimal a.iface ∷ address_field a.src ∷ address_field a.dst ∷ decimal a.ttl ∷ hex_field a.payload ∷ [])
+pub event_again : (version : Version) (event : Line) → IsEvent event → is_built_line event ≡ true → Speaks version (is_new_line event)
+    → entry_of version places.Events false (spaced (event_fields event) []) ≡ Ok (entries.Event event)
+event_again version (events.Rx m a) h built new =
+    entry_again version places.Events false (codes "rx") (decimal m ∷ port_field a.port ∷ decimal a.iface ∷ address_field a.src ∷ address_field a.dst ∷ decimal a.ttl ∷ hex_field a.payload ∷ [])
     (rx_is_fields m a h) (rx_short m a h) ∙ received_again m a h
-event_again (events.Tick tick) h built =
-    entry_again places.Events false (codes "tick") (decimal tick ∷ []) (event_fields_fit (events.Tick tick) h built) (tick_short tick h)
+event_again version (events.Tick tick) h built new =
+    entry_again version places.Events false (codes "tick") (decimal tick ∷ []) (event_fields_fit (events.Tick tick) h built) (tick_short tick h)
     ∙ ap (λ r. r >>= λ t. Ok (entries.Event (events.Tick t))) (number_again 0 greatest_tick tick (omega arith) h (omega arith))
-event_again (events.Cmd m d cmd) h built =
-    entry_again places.Events false (codes "cmd") (decimal m ∷ decimal d ∷ verb_fields cmd) (cmd_is_fields m d cmd h.0 h.1) (cmd_short m d cmd h.0 h.1)
-    ∙ command_again m d cmd h.0 h.1 built
-event_again (events.Show m d) h built =
-    entry_again places.Events false (codes "show") (decimal m ∷ decimal d ∷ []) (show_is_fields m d h) (show_short m d h) ∙ shown_again m d h
+event_again version (events.Cmd m d cmd) h built new =
+    entry_again version places.Events false (codes "cmd") (decimal m ∷ decimal d ∷ verb_fields cmd) (cmd_is_fields m d cmd h.0 h.1) (cmd_short m d cmd h.0 h.1)
+    ∙ command_again version m d cmd h.0 h.1 built new
+event_again version (events.Show m d) h built new =
+    entry_again version places.Events false (codes "show") (decimal m ∷ decimal d ∷ []) (show_is_fields m d h) (show_short m d h) ∙ shown_again m d h

@@ -3,6 +3,7 @@ use Rattle.std.proofs.Common.{◌≡◌, ℕ, ◌+◌, ◌≤◌, ◌==◌, Bool
 use Rattle.std.proofs.lemmas.Bool.Decides.{nat_tests}
 use Rattle.std.specs.List.{list_all, slice_split}
 use Rattle.bfd_script.specs.declared.words.Place.{Place}
+use Rattle.bfd_script.specs.declared.words.Version.{Version}
 use Rattle.bfd_script.specs.Entries.{entry_of, placed, worded}
 use Rattle.bfd_script.specs.Fields.{fields_of, is_printable, lines_of, onto_line, text_of}
 use Rattle.bfd_script.specs.Gives.{◌>>=◌}
@@ -91,8 +92,8 @@ text_again fields all few =
     rw (short, line_prints fields all) refl
 
 -- what a line of fields says
-pub entry_again : (place : Place) (live : Bool) (field : List ℕ) (fields : List (List ℕ)) → Each IsField (field ∷ fields) → total (field ∷ fields) ≤ 4096
-    → entry_of place live (spaced (field ∷ fields) []) ≡ placed place live (word_of field) fields
-entry_again place live field fields all few =
-    ap (λ r. r >>= λ text. worded place live (fields_of text)) (text_again (field ∷ fields) all few)
-    ∙ ap (worded place live) (fields_again field fields all)
+pub entry_again : (version : Version) (place : Place) (live : Bool) (field : List ℕ) (fields : List (List ℕ)) → Each IsField (field ∷ fields) → total (field ∷ fields) ≤ 4096
+    → entry_of version place live (spaced (field ∷ fields) []) ≡ placed version place live (word_of version field) fields
+entry_again version place live field fields all few =
+    ap (λ r. r >>= λ text. worded version place live (fields_of text)) (text_again (field ∷ fields) all few)
+    ∙ ap (worded version place live) (fields_again field fields all)

@@ -6,6 +6,8 @@ use Rattle.bfd_script.specs.declared.fault.LineFault.TheVariants.{UnknownWord, F
 use Rattle.bfd_script.specs.declared.words.Word.{Word}
 use Rattle.bfd_script.specs.declared.words.Word.TheVariants as words
 use Rattle.bfd_script.specs.declared.words.Place.{Place}
+use Rattle.bfd_script.specs.declared.words.Version.{Version}
+use Rattle.bfd_script.specs.declared.words.Version.TheVariants.{One, Two}
 use Rattle.bfd_script.specs.declared.entries.Entry.{Entry}
 use Rattle.bfd_script.specs.declared.entries.Entry.TheVariants as entries
 use Rattle.bfd_script.specs.declared.entries.Line.TheVariants as events
@@ -13,7 +15,7 @@ use Rattle.bfd_script.specs.Arrivals.{port_of, arrival_fields}
 use Rattle.bfd_script.specs.Fields.{text_of, fields_of, number_in}
 use Rattle.bfd_script.specs.Gives.{◌>>=◌}
 use Rattle.bfd_script.specs.Pairs.{pair_of}
-use Rattle.bfd_script.specs.Secrets.{chain_of}
+use Rattle.bfd_script.specs.Secrets.{chain_of, key_of}
 use Rattle.bfd_script.specs.Verbs.{verb_of, fits, known, command}
 use Rattle.bfd_script.specs.Words.{word_of, stands}
 
@@ -22,10 +24,14 @@ abbrev pub alone : Entry → List (List ℕ) → Result Entry LineFault
 alone entry [] = Ok entry
 alone entry (value ∷ values) = Err FieldCount
 
+-- the version of a number 1 or 2
+abbrev pub version_by : ℕ → Version
+version_by n = if n == 1 then One else Two
+
 -- `bfd VERSION`
-abbrev pub version : List (List ℕ) → Result Entry LineFault
-version (number ∷ []) = number_in 1 1 number >>= λ _. Ok entries.Version
-version values = Err FieldCount
+abbrev pub versioned : List (List ℕ) → Result Entry LineFault
+versioned (number ∷ []) = number_in 1 2 number >>= λ n. Ok (entries.Version (version_by n))
+versioned values = Err FieldCount
 
 -- `tick T`
 abbrev pub ticked : List (List ℕ) → Result Entry LineFault
@@ -46,6 +52,16 @@ abbrev pub keyed : List (List ℕ) → Result Entry LineFault
 keyed (discr ∷ kind ∷ id ∷ secret ∷ []) = keyed_of discr kind id secret
 keyed values = Err FieldCount
 
+-- a `key` line of these values
+abbrev pub added_of : List ℕ → List ℕ → List ℕ → Result Entry LineFault
+added_of discr id secret =
+    number_in 1 4294967295 discr >>= λ discr. key_of id secret >>= λ key. Ok (entries.Key discr key)
+
+-- `key DISCR KEYID SECRET`
+abbrev pub added : List (List ℕ) → Result Entry LineFault
+added (discr ∷ id ∷ secret ∷ []) = added_of discr id secret
+added values = Err FieldCount
+
 -- an `rx` line of these values
 unfoldable pub received_of : List ℕ → List ℕ → List ℕ → List (List ℕ) → Result Entry LineFault
 received_of moment port iface rest = do
@@ -65,27 +81,29 @@ abbrev pub received : List (List ℕ) → Result Entry LineFault
 received values = if length values == 7 then received_fields values else Err FieldCount
 
 -- a `cmd` line of these values, without number
-unfoldable pub plain_of : List ℕ → List ℕ → List ℕ → Result Entry LineFault
-plain_of moment discr verb = do
+unfoldable pub plain_of : Version → List ℕ → List ℕ → List ℕ → Result Entry LineFault
+plain_of version moment discr verb = do
   moment ← number_in 0 (moment_bound - 1) moment
   discr ← number_in 1 4294967295 discr
-  verb ← known (verb_of verb)
+  verb ← known (verb_of version verb)
   Ok (entries.Event (events.Cmd moment discr (command verb 0)))
 
 -- a `cmd` line of these values; the number has the range of its type, and the session tests its own
-unfoldable pub numbered_of : List ℕ → List ℕ → List ℕ → List ℕ → Result Entry LineFault
-numbered_of moment discr verb number = do
+unfoldable pub numbered_of : Version → List ℕ → List ℕ → List ℕ → List ℕ → Result Entry LineFault
+numbered_of version moment discr verb number = do
   moment ← number_in 0 (moment_bound - 1) moment
   discr ← number_in 1 4294967295 discr
-  verb ← known (verb_of verb)
+  verb ← known (verb_of version verb)
   number ← number_in 0 (2 ^ 64 - 1) number
   Ok (entries.Event (events.Cmd moment discr (command verb number)))
 
 -- `cmd MOMENT DISCR VERB` or `cmd MOMENT DISCR VERB N`
-abbrev pub commanded : List (List ℕ) → Result Entry LineFault
-commanded (moment ∷ discr ∷ verb ∷ []) = if fits (verb_of verb) false then plain_of moment discr verb else Err FieldCount
-commanded (moment ∷ discr ∷ verb ∷ number ∷ []) = if fits (verb_of verb) true then numbered_of moment discr verb number else Err FieldCount
-commanded values = Err FieldCount
+abbrev pub commanded : Version → List (List ℕ) → Result Entry LineFault
+commanded version (moment ∷ discr ∷ verb ∷ []) =
+    if fits (verb_of version verb) false then plain_of version moment discr verb else Err FieldCount
+commanded version (moment ∷ discr ∷ verb ∷ number ∷ []) =
+    if fits (verb_of version verb) true then numbered_of version moment discr verb number else Err FieldCount
+commanded version values = Err FieldCount
 
 -- a `show` line of these values
 unfoldable pub shown_of : List ℕ → List ℕ → Result Entry LineFault
@@ -100,28 +118,29 @@ shown (moment ∷ discr ∷ []) = shown_of moment discr
 shown values = Err FieldCount
 
 -- what the values of a word say
-abbrev pub valued : Word → List (List ℕ) → Result Entry LineFault
-valued words.Bfd values = version values
-valued words.P2p values = row_of values
-valued words.Auth values = keyed values
-valued words.Run values = alone entries.Run values
-valued words.Rx values = received values
-valued words.Tick values = ticked values
-valued words.Cmd values = commanded values
-valued words.Show values = shown values
-valued words.End values = alone entries.End values
-valued word values = Err NotBuilt
+abbrev pub valued : Version → Word → List (List ℕ) → Result Entry LineFault
+valued version words.Bfd values = versioned values
+valued version words.P2p values = row_of values
+valued version words.Auth values = keyed values
+valued version words.Key values = added values
+valued version words.Run values = alone entries.Run values
+valued version words.Rx values = received values
+valued version words.Tick values = ticked values
+valued version words.Cmd values = commanded version values
+valued version words.Show values = shown values
+valued version words.End values = alone entries.End values
+valued version word values = Err NotBuilt
 
 -- a line of this word, with these values
-abbrev pub placed : Place → Bool → Option Word → List (List ℕ) → Result Entry LineFault
-placed place live None values = Err UnknownWord
-placed place live (Some word) values = if stands place live word then valued word values else Err Order
+abbrev pub placed : Version → Place → Bool → Option Word → List (List ℕ) → Result Entry LineFault
+placed version place live None values = Err UnknownWord
+placed version place live (Some word) values = if stands place live word then valued version word values else Err Order
 
 -- a line of these fields
-abbrev pub worded : Place → Bool → List (List ℕ) → Result Entry LineFault
-worded place live [] = Err UnknownWord
-worded place live (name ∷ values) = placed place live (word_of name) values
+abbrev pub worded : Version → Place → Bool → List (List ℕ) → Result Entry LineFault
+worded version place live [] = Err UnknownWord
+worded version place live (name ∷ values) = placed version place live (word_of version name) values
 
 -- what a line says by itself; the order of its tests is the order of the cases
-abbrev pub entry_of : Place → Bool → List ℕ → Result Entry LineFault
-entry_of place live line = text_of line >>= λ text. worded place live (fields_of text)
+abbrev pub entry_of : Version → Place → Bool → List ℕ → Result Entry LineFault
+entry_of version place live line = text_of line >>= λ text. worded version place live (fields_of text)

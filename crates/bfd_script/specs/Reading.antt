@@ -1,9 +1,10 @@
 -- A whole text: the script that it spells, or its first faulty line with that line's first fault.
-use Rattle.std.specs.Prelude.{ℕ, ◌+◌, ◌++◌, ◌==◌, Bool, true, false, not, List, [], ◌∷◌, length, nat_le, Result, Ok, Err, if◌then◌else◌}
+use Rattle.std.specs.Prelude.{ℕ, ◌+◌, ◌++◌, ◌==◌, Bool, true, false, not, List, [], ◌∷◌, length, nat_le, Option, Some, None, Result, Ok, Err, if◌then◌else◌}
 use Rattle.bfd_script.specs.declared.fault.LineFault.{LineFault}
 use Rattle.bfd_script.specs.declared.fault.LineFault.TheVariants.{SameDiscr, SameAddresses, NoSuchSession, MissingEnd, TooMany, NotBuilt}
 use Rattle.bfd_script.specs.declared.fault.BadLine.{BadLine}
 use Rattle.bfd_packet.specs.KeyChain.{KeyChain}
+use Rattle.bfd_packet.specs.declared.keys.Key.{Key}
 use Rattle.bfd_packet.specs.declared.arrival.Port.{Port}
 use Rattle.bfd_packet.specs.declared.arrival.Port.TheVariants as ports
 use Rattle.bfd_rules.specs.declared.commands.Cmd.{Cmd}
@@ -13,6 +14,8 @@ use Rattle.bfd_session.specs.declared.event.SessionConfig.TheVariants.{Pair}
 use Rattle.bfd_session.specs.Kinds.{discr_of}
 use Rattle.bfd_script.specs.declared.words.Place.{Place}
 use Rattle.bfd_script.specs.declared.words.Place.TheVariants as places
+use Rattle.bfd_script.specs.declared.words.Version.{Version}
+use Rattle.bfd_script.specs.declared.words.Version.TheVariants.{One}
 use Rattle.bfd_script.specs.declared.entries.Line.{Line}
 use Rattle.bfd_script.specs.declared.entries.Line.TheVariants as events
 use Rattle.bfd_script.specs.declared.entries.Entry.{Entry}
@@ -20,7 +23,8 @@ use Rattle.bfd_script.specs.declared.entries.Entry.TheVariants as entries
 use Rattle.bfd_script.specs.Entries.{entry_of}
 use Rattle.bfd_script.specs.Fields.{lines_of}
 use Rattle.bfd_script.specs.Gives.{◌>>=◌}
-use Rattle.bfd_script.specs.Rows.{given, has_discr, has_keys, has_place, inserted}
+use Rattle.bfd_script.specs.Rows.{given, given_more, has_discr, has_keys, has_place, inserted, keys_of}
+use Rattle.bfd_script.specs.Secrets.{key_fault}
 
 -- a script, as contracts see it
 pub record Lists : Type 0 where
@@ -31,6 +35,8 @@ pub record Lists : Type 0 where
 
 -- what is kept from line to line
 pub record State : Type 0 where
+  -- the version of the text; before its first line the words of version 1 are known
+  pub version : Version
   -- what may come next
   pub place : Place
   -- the sessions so far, ascending by discriminator
@@ -40,7 +46,7 @@ pub record State : Type 0 where
 
 -- before the first line
 abbrev pub start : State
-start = record { place = places.Version; configs = []; events = [] }
+start = record { version = One; place = places.Version; configs = []; events = [] }
 
 -- a session that this program serves: the Echo function isn't built
 abbrev pub is_built : SessionConfig → Bool
@@ -55,7 +61,6 @@ is_built_port port = false
 -- a command that this program serves
 abbrev pub is_built_command : Cmd → Bool
 is_built_command (commands.EchoEvery n) = false
-is_built_command (commands.Key n) = false
 is_built_command cmd = true
 
 -- an event that this program serves
@@ -87,6 +92,15 @@ with_keys discr keys s =
     else if not (has_discr discr s.configs) then Err NoSuchSession
     else Ok (record s { configs = given discr keys s.configs })
 
+-- a refusal, where there is one
+abbrev pub unless : Option LineFault → State → Result State LineFault
+unless None s = Ok s
+unless (Some fault) s = Err fault
+
+-- one more key for a session: it has some, with room for this one
+abbrev pub with_key : ℕ → Key → State → Result State LineFault
+with_key discr key s = unless (key_fault (keys_of discr s.configs) key) (record s { configs = given_more discr key s.configs })
+
 -- one more event line: the session that it names is there, and there are at most 200,000
 abbrev pub with_event : Line → State → Result State LineFault
 with_event event s =
@@ -97,16 +111,17 @@ with_event event s =
 
 -- a line is taken after those before it, or has a fault because of them
 abbrev pub accepted : Entry → State → Result State LineFault
-accepted entries.Version s = Ok (record s { place = places.Table })
+accepted (entries.Version version) s = Ok (record s { version = version; place = places.Table })
 accepted entries.Run s = Ok (record s { place = places.Events })
 accepted (entries.Row config) s = with_config config s
 accepted (entries.Auth discr keys) s = with_keys discr keys s
+accepted (entries.Key discr key) s = with_key discr key s
 accepted (entries.Event event) s = with_event event s
 accepted entries.End s = Ok (record s { place = places.Over })
 
 -- one line
 abbrev pub step : Bool → State → List ℕ → Result State LineFault
-step live s line = entry_of s.place live line >>= λ entry. accepted entry s
+step live s line = entry_of s.version s.place live line >>= λ entry. accepted entry s
 
 -- the text ended with this place, where the next line would have had this number
 abbrev pub finished_at : Place → ℕ → Lists → Result Lists BadLine

@@ -1,7 +1,8 @@
 -- The table of sessions, ascending by discriminator.
-use Rattle.std.specs.Prelude.{ℕ, Bool, false, ◌==◌, nat_lt, List, [], ◌∷◌, map, find, Option, Some, None, is_some, if◌then◌else◌}
+use Rattle.std.specs.Prelude.{ℕ, Bool, ◌==◌, nat_lt, List, [], ◌∷◌, ◌++◌, map, find, Option, Some, None, is_some, if◌then◌else◌}
 use Rattle.std.specs.List.{list_any}
 use Rattle.bfd_packet.specs.KeyChain.{KeyChain}
+use Rattle.bfd_packet.specs.declared.keys.Key.{Key}
 use Rattle.bfd_session.specs.declared.event.SessionConfig.{SessionConfig}
 use Rattle.bfd_session.specs.declared.event.SessionConfig.TheVariants.{Pair}
 use Rattle.bfd_session.specs.Kinds.{discr_of}
@@ -25,14 +26,23 @@ abbrev pub inserted : SessionConfig → List SessionConfig → List SessionConfi
 inserted config [] = config ∷ []
 inserted config (other ∷ configs) = if nat_lt (discr_of config) (discr_of other) then config ∷ other ∷ configs else other ∷ inserted config configs
 
--- this session has keys
-abbrev pub is_keyed : Option SessionConfig → Bool
-is_keyed None = false
-is_keyed (Some (Pair c)) = is_some c.keys
+-- the keys of this session
+abbrev pub keys_in : Option SessionConfig → Option KeyChain
+keys_in None = None
+keys_in (Some (Pair c)) = c.keys
+
+-- the keys of the session of this discriminator
+abbrev pub keys_of : ℕ → List SessionConfig → Option KeyChain
+keys_of discr configs = keys_in (find (λ c. discr == discr_of c) configs)
 
 -- the session of this discriminator has keys
 abbrev pub has_keys : ℕ → List SessionConfig → Bool
-has_keys discr configs = is_keyed (find (λ c. discr == discr_of c) configs)
+has_keys discr configs = is_some (keys_of discr configs)
+
+-- the session of this discriminator becomes another
+abbrev pub changed : ℕ → (SessionConfig → SessionConfig) → List SessionConfig → List SessionConfig
+changed discr f [] = []
+changed discr f (c ∷ configs) = if discr == discr_of c then f c ∷ configs else c ∷ changed discr f configs
 
 -- a session with these keys
 abbrev pub keyed_with : KeyChain → SessionConfig → SessionConfig
@@ -40,8 +50,20 @@ keyed_with keys (Pair c) = Pair (record c { keys = Some keys })
 
 -- the session of this discriminator gets these keys
 abbrev pub given : ℕ → KeyChain → List SessionConfig → List SessionConfig
-given discr keys [] = []
-given discr keys (c ∷ configs) = if discr == discr_of c then keyed_with keys c ∷ configs else c ∷ given discr keys configs
+given discr keys configs = changed discr (keyed_with keys) configs
+
+-- one more key behind these, where there are some
+abbrev pub one_more : Key → Option KeyChain → Option KeyChain
+one_more key None = None
+one_more key (Some keys) = Some (record keys { list = keys.list ++ key ∷ [] })
+
+-- a session with one more key
+abbrev pub keyed_more : Key → SessionConfig → SessionConfig
+keyed_more key (Pair c) = Pair (record c { keys = one_more key c.keys })
+
+-- the session of this discriminator gets one more key
+abbrev pub given_more : ℕ → Key → List SessionConfig → List SessionConfig
+given_more discr key configs = changed discr (keyed_more key) configs
 
 -- sessions, each with its discriminator
 abbrev pub by_discr : List SessionConfig → List (ℕ × SessionConfig)

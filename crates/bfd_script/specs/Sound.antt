@@ -1,8 +1,8 @@
 -- What is true of each script that the grammar gives.
-use Rattle.std.specs.Prelude.{◌≡◌, ◌<◌, ◌≤◌, ◌^◌, ℕ, true, false, Option, Some, None, List, [], ◌∷◌, length, IsTrue}
+use Rattle.std.specs.Prelude.{◌≡◌, ◌<◌, ◌≤◌, ◌^◌, ℕ, true, false, Option, Some, None, List, [], ◌∷◌, ◌++◌, length}
 use Rattle.hex.specs.Hex.{IsBytes}
 use Rattle.bfd_num.specs.Numbers.{moment_bound, greatest_tick}
-use Rattle.bfd_packet.specs.KeyChain.{KeyChain, fits_kind}
+use Rattle.bfd_packet.specs.KeyChain.{KeyChain}
 use Rattle.bfd_packet.specs.declared.arrival.Arrival.{Arrival}
 use Rattle.bfd_packet.specs.declared.keys.AuthType.{AuthType}
 use Rattle.bfd_packet.specs.declared.keys.Key.{Key}
@@ -16,6 +16,7 @@ use Rattle.bfd_script.specs.declared.entries.Entry.TheVariants as entries
 use Rattle.bfd_script.specs.declared.entries.Line.{Line}
 use Rattle.bfd_script.specs.declared.entries.Line.TheVariants as events
 use Rattle.bfd_script.specs.Reading.{Lists, is_built, is_built_line, is_named}
+use Rattle.bfd_script.specs.Secrets.{key_fault}
 use Rattle.bfd_script.specs.Selecting.{same_selector}
 use Rattle.bfd_script.specs.Values.{IsAddress}
 use Rattle.bfd_script.specs.Verbs.{number_of}
@@ -35,23 +36,32 @@ abbrev pub Differs : List SessionConfig → Type 0
 Differs [] = Unit {0}
 Differs (config ∷ configs) = Each (λ later. same_selector config later ≡ false) configs × Differs configs
 
--- a key as an `auth` line gives it: its secret has bytes, as many as its type has room for
-pub record IsKey (kind : AuthType) (key : Key) : Type 0 where
+-- a key as a line gives it: its number and the bytes of its secret fit their fields
+pub record IsKey (key : Key) : Type 0 where
   pub id : key.id < 256
   pub bytes : IsBytes key.secret
-  pub fits : IsTrue (fits_kind kind key.secret)
 
--- one key
-abbrev pub IsOneKey : AuthType → List Key → Type 0
-IsOneKey kind (key ∷ []) = IsKey kind key
-IsOneKey kind keys = ⊥
+-- a key that may come behind these of its session
+pub record IsNext (kind : AuthType) (before : List Key) (key : Key) : Type 0 where
+  pub fits : IsKey key
+  pub free : key_fault (Some (record { kind = kind; list = before })) key ≡ None
 
--- no keys, or those of one `auth` line
+-- keys that may come behind these, one after another
+abbrev pub AreNext : AuthType → List Key → List Key → Type 0
+AreNext kind before [] = Unit {0}
+AreNext kind before (key ∷ keys) = IsNext kind before key × AreNext kind (before ++ key ∷ []) keys
+
+-- the keys of an `auth` line and of the `key` lines after it
+pub record IsChain (keys : KeyChain) : Type 0 where
+  pub some : 0 < length keys.list
+  pub list : AreNext keys.kind [] keys.list
+
+-- no keys, or those of such lines
 abbrev pub AreKeys : Option KeyChain → Type 0
 AreKeys None = Unit {0}
-AreKeys (Some keys) = IsOneKey keys.kind keys.list
+AreKeys (Some keys) = IsChain keys
 
--- the numbers of a `p2p` line fit their fields, and its keys are none or those of one `auth` line
+-- the numbers of a `p2p` line fit their fields, and its keys are none or those of such lines
 pub record IsPairRow (c : Config) : Type 0 where
   pub discr : c.discr < 2 ^ 32
   pub local : IsAddress c.local
@@ -91,7 +101,8 @@ IsEvent (events.Show moment discr) = IsAsked moment discr
 -- what a line says, as the line gives it
 abbrev pub IsEntry : Entry → Type 0
 IsEntry (entries.Row config) = IsFit config × IsRow config
-IsEntry (entries.Auth discr keys) = (discr < 2 ^ 32) × IsOneKey keys.kind keys.list
+IsEntry (entries.Auth discr keys) = (discr < 2 ^ 32) × IsChain keys
+IsEntry (entries.Key discr key) = (discr < 2 ^ 32) × IsKey key
 IsEntry (entries.Event event) = IsEvent event
 IsEntry entry = Unit {0}
 

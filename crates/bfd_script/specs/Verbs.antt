@@ -1,16 +1,18 @@
 -- The verbs of a command line.
-use Rattle.std.specs.Prelude.{ℕ, Bool, true, false, not, List, Option, Some, None, codes, Result, Ok, Err, if◌then◌else◌}
+use Rattle.std.specs.Prelude.{ℕ, Bool, true, false, not, ◌&&◌, List, Option, Some, None, codes, Result, Ok, Err, if◌then◌else◌}
 use Rattle.std.specs.Str.{bytes_eq}
 use Rattle.bfd_rules.specs.declared.commands.Cmd.{Cmd}
 use Rattle.bfd_rules.specs.declared.commands.Cmd.TheVariants as commands
 use Rattle.bfd_script.specs.declared.fault.LineFault.{LineFault}
 use Rattle.bfd_script.specs.declared.fault.LineFault.TheVariants.{UnknownWord}
 use Rattle.bfd_script.specs.declared.verbs.Verb.{Verb}
-use Rattle.bfd_script.specs.declared.verbs.Verb.TheVariants.{Disable, Enable, Reset, Path, Tx, Rx, Mult, Demand, Echo}
+use Rattle.bfd_script.specs.declared.verbs.Verb.TheVariants.{Disable, Enable, Reset, Path, Tx, Rx, Mult, Demand, Echo, Key}
+use Rattle.bfd_script.specs.declared.words.Version.{Version}
+use Rattle.bfd_script.specs.Words.{is_second}
 
--- the verb that a field spells; version 1 has no `key`
-abbrev pub verb_of : List ℕ → Option Verb
-verb_of field =
+-- the verb that a field spells; `key` is one of version 2 alone
+abbrev pub verb_of : Version → List ℕ → Option Verb
+verb_of version field =
     if bytes_eq field (codes "disable") then Some Disable
     else if bytes_eq field (codes "enable") then Some Enable
     else if bytes_eq field (codes "reset") then Some Reset
@@ -20,6 +22,7 @@ verb_of field =
     else if bytes_eq field (codes "mult") then Some Mult
     else if bytes_eq field (codes "demand") then Some Demand
     else if bytes_eq field (codes "echo") then Some Echo
+    else if bytes_eq field (codes "key") && is_second version then Some Key
     else None
 
 -- the verb has a number
@@ -50,6 +53,7 @@ command Rx n = commands.Rx n
 command Mult n = commands.Mult n
 command Demand n = commands.Demand n
 command Echo n = commands.EchoEvery n
+command Key n = commands.Key n
 
 -- the number of a command, 0 where it has none
 abbrev pub number_of : Cmd → ℕ

@@ -1,14 +1,21 @@
--- The words that begin a line, and where they may stand.
-use Rattle.std.specs.Prelude.{ℕ, Bool, true, false, not, List, Option, Some, None, codes, if◌then◌else◌}
+-- The versions, the words that begin a line, and where they may stand.
+use Rattle.std.specs.Prelude.{ℕ, Bool, true, false, not, ◌&&◌, List, Option, Some, None, codes, if◌then◌else◌}
 use Rattle.std.specs.Str.{bytes_eq}
 use Rattle.bfd_script.specs.declared.words.Word.{Word}
-use Rattle.bfd_script.specs.declared.words.Word.TheVariants.{Bfd, P2p, Auth, Sbfd, Reflector, Head, Tail, Run, Rx, Tick, Cmd, Show, End}
+use Rattle.bfd_script.specs.declared.words.Word.TheVariants.{Bfd, P2p, Auth, Key, Sbfd, Reflector, Head, Tail, Run, Rx, Tick, Cmd, Show, End}
 use Rattle.bfd_script.specs.declared.words.Place.{Place}
+use Rattle.bfd_script.specs.declared.words.Version.{Version as Edition}
+use Rattle.bfd_script.specs.declared.words.Version.TheVariants.{One, Two}
 use Rattle.bfd_script.specs.declared.words.Place.TheVariants.{Version, Table, Events}
 
--- the word that a field spells
-abbrev pub word_of : List ℕ → Option Word
-word_of field =
+-- version 2
+abbrev pub is_second : Edition → Bool
+is_second One = false
+is_second Two = true
+
+-- the word that a field spells; `key` is one of version 2 alone
+abbrev pub word_of : Edition → List ℕ → Option Word
+word_of version field =
     if bytes_eq field (codes "bfd") then Some Bfd
     else if bytes_eq field (codes "p2p") then Some P2p
     else if bytes_eq field (codes "auth") then Some Auth
@@ -22,6 +29,7 @@ word_of field =
     else if bytes_eq field (codes "cmd") then Some Cmd
     else if bytes_eq field (codes "show") then Some Show
     else if bytes_eq field (codes "end") then Some End
+    else if bytes_eq field (codes "key") && is_second version then Some Key
     else None
 
 -- the place of each word: the version first, then the table and `run`, then events and `end`, then nothing
@@ -29,6 +37,7 @@ abbrev pub stands : Place → Bool → Word → Bool
 stands Version live Bfd = true
 stands Table live P2p = true
 stands Table live Auth = true
+stands Table live Key = true
 stands Table live Sbfd = true
 stands Table live Reflector = true
 stands Table live Head = true

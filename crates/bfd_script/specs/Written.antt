@@ -1,6 +1,6 @@
 -- The one spelling of a script.
-use Rattle.std.specs.Prelude.{ℕ, ◌/◌, ◌%◌, Bool, true, false, List, [], ◌∷◌, ◌++◌, Option, Some, None, codes}
-use Rattle.std.specs.List.{flat_map}
+use Rattle.std.specs.Prelude.{ℕ, ◌/◌, ◌%◌, Bool, true, false, ◌||◌, nat_lt, List, [], ◌∷◌, ◌++◌, length, Option, Some, None, codes, if◌then◌else◌}
+use Rattle.std.specs.List.{flat_map, list_any}
 use Rattle.std.specs.Fmt.{decimal}
 use Rattle.byteorder.specs.Endian.{big_bytes}
 use Rattle.hex.specs.Hex.{encode_lower}
@@ -20,6 +20,8 @@ use Rattle.bfd_session.specs.declared.event.SessionConfig.{SessionConfig}
 use Rattle.bfd_session.specs.declared.event.SessionConfig.TheVariants.{Pair}
 use Rattle.bfd_script.specs.declared.entries.Line.{Line}
 use Rattle.bfd_script.specs.declared.entries.Line.TheVariants as events
+use Rattle.bfd_script.specs.declared.words.Version.{Version}
+use Rattle.bfd_script.specs.declared.words.Version.TheVariants.{One, Two}
 use Rattle.bfd_script.specs.Reading.{Lists}
 use Rattle.bfd_script.specs.Spelling.{line, hex_field}
 
@@ -78,15 +80,23 @@ kind_number kinds.KeyedSha1 = 4
 kind_number kinds.MeticulousSha1 = 5
 
 -- the fields of an `auth` line
-abbrev pub key_fields : ℕ → AuthType → Key → List (List ℕ)
-key_fields discr kind key = codes "auth" ∷ decimal discr ∷ decimal (kind_number kind) ∷ decimal key.id ∷ hex_field key.secret ∷ []
+abbrev pub auth_fields : ℕ → AuthType → Key → List (List ℕ)
+auth_fields discr kind key = codes "auth" ∷ decimal discr ∷ decimal (kind_number kind) ∷ decimal key.id ∷ hex_field key.secret ∷ []
 
--- the line of the first of these keys
+-- the fields of a `key` line
+abbrev pub key_fields : ℕ → Key → List (List ℕ)
+key_fields discr key = codes "key" ∷ decimal discr ∷ decimal key.id ∷ hex_field key.secret ∷ []
+
+-- the `key` lines of these keys
+abbrev pub more_text : ℕ → List Key → List ℕ
+more_text discr keys = flat_map (λ key. line (key_fields discr key)) keys
+
+-- the lines of these keys: an `auth` line for the first, and `key` lines for the others
 abbrev pub list_text : ℕ → AuthType → List Key → List ℕ
 list_text discr kind [] = []
-list_text discr kind (key ∷ keys) = line (key_fields discr kind key)
+list_text discr kind (key ∷ keys) = line (auth_fields discr kind key) ++ more_text discr keys
 
--- the line of a session's keys, where it has some
+-- the lines of a session's keys, where it has some
 abbrev pub keys_text : ℕ → Option KeyChain → List ℕ
 keys_text discr None = []
 keys_text discr (Some keys) = list_text discr keys.kind keys.list
@@ -112,8 +122,31 @@ rows_text configs = flat_map config_text configs
 abbrev pub events_text : List Line → List ℕ
 events_text events = flat_map (λ event. line (event_fields event)) events
 
+-- a session with a second key
+abbrev pub has_second : Option KeyChain → Bool
+has_second None = false
+has_second (Some keys) = nat_lt 1 (length keys.list)
+
+-- a session that version 1 has no lines for
+abbrev pub is_new_row : SessionConfig → Bool
+is_new_row (Pair c) = has_second c.keys
+
+-- an event that version 1 has no line for
+abbrev pub is_new_line : Line → Bool
+is_new_line (events.Cmd moment discr (commands.Key n)) = true
+is_new_line event = false
+
+-- the version that a script is spelled in: the first that has lines for all of it
+abbrev pub version_of : Lists → Version
+version_of script = if list_any is_new_row script.configs || list_any is_new_line script.events then Two else One
+
+-- the number of a version
+abbrev pub version_field : Version → List ℕ
+version_field One = codes "1"
+version_field Two = codes "2"
+
 -- the text of a script: the version, the table, `run`, the events and `end`
 abbrev pub spelling : Lists → List ℕ
 spelling script =
-    line (codes "bfd" ∷ codes "1" ∷ []) ++ (rows_text script.configs
+    line (codes "bfd" ∷ version_field (version_of script) ∷ []) ++ (rows_text script.configs
     ++ (line (codes "run" ∷ []) ++ (events_text script.events ++ line (codes "end" ∷ []))))

@@ -1,6 +1,6 @@
 // What one line says.
 ghost use Rattle.std.specs.Prelude.{◌≡◌, Err, IfOk, false, if◌then◌else◌, map, true};
-ghost use Rattle.bfd_script.specs.Entries.{alone, commanded, entry_of, keyed, keyed_of, numbered_of, plain_of, received, received_fields, received_of, row_of, shown, shown_of, ticked, valued, version, worded};
+ghost use Rattle.bfd_script.specs.Entries.{added, added_of, alone, commanded, entry_of, keyed, keyed_of, numbered_of, plain_of, received, received_fields, received_of, row_of, shown, shown_of, ticked, valued, version_by, versioned, worded};
 ghost use Rattle.bfd_script.specs.Gives.{Gives};
 ghost use Rattle.bfd_script.specs.Sound.{IsEntry};
 ghost use Rattle.bfd_script.specs.Verbs.{fits, verb_of};
@@ -10,11 +10,11 @@ use crate::arrivals::{port_named, read_arrival};
 use crate::fault::{LineFault, ReadFault};
 use crate::fields::{line_text, number, split_fields};
 use crate::pairs::read_pair;
-use crate::secrets::read_chain;
+use crate::secrets::{read_chain, read_key};
 use crate::verbs::{commanding, known_verb, may_fit, verb_named};
-use crate::words::{Place, Word, word_named};
+use crate::words::{Place, Version, Word, word_named};
 use bfd_num::{GREATEST_TICK, MOMENT_BOUND, Moment, Tick};
-use bfd_packet::{Arrival, Keys};
+use bfd_packet::{Arrival, Key, Keys};
 use bfd_rules::Cmd;
 use bfd_session::SessionConfig;
 use std::alloc::Global;
@@ -48,9 +48,10 @@ pub enum Line {
 /// What one line says.
 #[derive(Drop)]
 pub(crate) enum Entry {
-    Version,
+    Version(Version),
     Row(SessionConfig),
     Auth { discr: u32, keys: Keys },
+    Key { discr: u32, key: Key },
     Run,
     Event(Line),
     End,
@@ -68,15 +69,22 @@ fn read_alone(entry: Entry, values: &[&str]) -> Result<Entry, LineFault>
     }
 }
 
+/// The version of a number 1 or 2.
+fn version_by(n: u64) -> Version
+    ensures { result ≡ version_by n }
+{
+    if n == 1 { Version::One } else { Version::Two }
+}
+
 /// `bfd VERSION`
 fn read_version(values: &[&str]) -> Result<Entry, LineFault>
-    ensures value { result ≡ version (map (λ value. value.now) values.now) }
+    ensures value { result ≡ versioned (map (λ value. value.now) values.now) }
     ensures sound { IfOk result IsEntry }
 {
     match values {
         [value] => {
-            number(value, 1, 1)?;
-            Ok(Entry::Version)
+            let n = number(value, 1, 2)?;
+            Ok(Entry::Version(version_by(n)))
         }
         _ => Err(LineFault::FieldCount),
     }
@@ -142,13 +150,13 @@ fn read_received(alloc: Global, values: &[&str]) -> Result<Entry, ReadFault>
 
 /// A `cmd` line of these values, without number.
 #[tactic(auto, unfolding(crate::specs::Entries::plain_of))]
-fn plain(moment: &str, discr: &str, verb: &str) -> Result<Entry, LineFault>
-    ensures value { result ≡ plain_of moment.now discr.now verb.now }
+fn plain(version: Version, moment: &str, discr: &str, verb: &str) -> Result<Entry, LineFault>
+    ensures value { result ≡ plain_of version moment.now discr.now verb.now }
     ensures sound { IfOk result IsEntry }
 {
     let moment = number(moment, 0, MOMENT_BOUND - 1)?;
     let discr = number(discr, 1, 4_294_967_295)? as u32;
-    let verb = known_verb(verb_named(verb))?;
+    let verb = known_verb(verb_named(version, verb))?;
     Ok(Entry::Event(Line::Cmd {
         moment: Moment::new(moment).unwrap(),
         discr,
@@ -158,13 +166,19 @@ fn plain(moment: &str, discr: &str, verb: &str) -> Result<Entry, LineFault>
 
 /// A `cmd` line of these values.
 #[tactic(auto, unfolding(crate::specs::Entries::numbered_of))]
-fn numbered(moment: &str, discr: &str, verb: &str, n: &str) -> Result<Entry, LineFault>
-    ensures value { result ≡ numbered_of moment.now discr.now verb.now n.now }
+fn numbered(
+    version: Version,
+    moment: &str,
+    discr: &str,
+    verb: &str,
+    n: &str,
+) -> Result<Entry, LineFault>
+    ensures value { result ≡ numbered_of version moment.now discr.now verb.now n.now }
     ensures sound { IfOk result IsEntry }
 {
     let moment = number(moment, 0, MOMENT_BOUND - 1)?;
     let discr = number(discr, 1, 4_294_967_295)? as u32;
-    let verb = known_verb(verb_named(verb))?;
+    let verb = known_verb(verb_named(version, verb))?;
     let n = number(n, 0, u64::MAX)?;
     Ok(Entry::Event(Line::Cmd {
         moment: Moment::new(moment).unwrap(),
@@ -174,35 +188,46 @@ fn numbered(moment: &str, discr: &str, verb: &str, n: &str) -> Result<Entry, Lin
 }
 
 /// A `cmd` line of these values, without number, where the verb has none.
-fn read_plain(moment: &str, discr: &str, verb: &str) -> Result<Entry, LineFault>
-    ensures value { result ≡ (if fits (verb_of verb.now) false then plain_of moment.now discr.now verb.now else Err FieldCount) }
+fn read_plain(
+    version: Version,
+    moment: &str,
+    discr: &str,
+    verb: &str,
+) -> Result<Entry, LineFault>
+    ensures value { result ≡ (if fits (verb_of version verb.now) false then plain_of version moment.now discr.now verb.now else Err FieldCount) }
     ensures sound { IfOk result IsEntry }
 {
-    if !may_fit(verb_named(verb), false) {
+    if !may_fit(verb_named(version, verb), false) {
         return Err(LineFault::FieldCount);
     }
-    plain(moment, discr, verb)
+    plain(version, moment, discr, verb)
 }
 
 /// A `cmd` line of these values, where the verb has a number.
-fn read_numbered(moment: &str, discr: &str, verb: &str, n: &str) -> Result<Entry, LineFault>
-    ensures value { result ≡ (if fits (verb_of verb.now) true then numbered_of moment.now discr.now verb.now n.now else Err FieldCount) }
+fn read_numbered(
+    version: Version,
+    moment: &str,
+    discr: &str,
+    verb: &str,
+    n: &str,
+) -> Result<Entry, LineFault>
+    ensures value { result ≡ (if fits (verb_of version verb.now) true then numbered_of version moment.now discr.now verb.now n.now else Err FieldCount) }
     ensures sound { IfOk result IsEntry }
 {
-    if !may_fit(verb_named(verb), true) {
+    if !may_fit(verb_named(version, verb), true) {
         return Err(LineFault::FieldCount);
     }
-    numbered(moment, discr, verb, n)
+    numbered(version, moment, discr, verb, n)
 }
 
 /// `cmd MOMENT DISCR VERB` or `cmd MOMENT DISCR VERB N`
-fn read_command(values: &[&str]) -> Result<Entry, LineFault>
-    ensures value { result ≡ commanded (map (λ value. value.now) values.now) }
+fn read_command(version: Version, values: &[&str]) -> Result<Entry, LineFault>
+    ensures value { result ≡ commanded version (map (λ value. value.now) values.now) }
     ensures sound { IfOk result IsEntry }
 {
     match values {
-        [moment, discr, verb] => read_plain(moment, discr, verb),
-        [moment, discr, verb, n] => read_numbered(moment, discr, verb, n),
+        [moment, discr, verb] => read_plain(version, moment, discr, verb),
+        [moment, discr, verb, n] => read_numbered(version, moment, discr, verb, n),
         _ => Err(LineFault::FieldCount),
     }
 }
@@ -262,19 +287,46 @@ fn read_auth(alloc: Global, values: &[&str]) -> Result<Entry, ReadFault>
     }
 }
 
+/// A `key` line of these values.
+fn added(alloc: Global, discr: &str, id: &str, secret: &str) -> Result<Entry, ReadFault>
+    ensures value { Gives (λ entry. entry) result (added_of discr.now id.now secret.now) }
+    ensures sound { IfOk result IsEntry }
+{
+    let discr = number(discr, 1, 4_294_967_295)? as u32;
+    let key = read_key(alloc, id, secret)?;
+    Ok(Entry::Key { discr, key })
+}
+
+/// `key DISCR KEYID SECRET`
+fn read_added(alloc: Global, values: &[&str]) -> Result<Entry, ReadFault>
+    ensures value { Gives (λ entry. entry) result (added (map (λ value. value.now) values.now)) }
+    ensures sound { IfOk result IsEntry }
+{
+    match values {
+        [discr, id, secret] => added(alloc, discr, id, secret),
+        _ => Err(ReadFault::Fault(LineFault::FieldCount)),
+    }
+}
+
 /// What the values of a word say.
-fn read_values(alloc: Global, word: Word, values: &[&str]) -> Result<Entry, ReadFault>
-    ensures value { Gives (λ entry. entry) result (valued word (map (λ value. value.now) values.now)) }
+fn read_values(
+    alloc: Global,
+    version: Version,
+    word: Word,
+    values: &[&str],
+) -> Result<Entry, ReadFault>
+    ensures value { Gives (λ entry. entry) result (valued version word (map (λ value. value.now) values.now)) }
     ensures sound { IfOk result IsEntry }
 {
     match word {
         Word::Bfd => Ok(read_version(values)?),
         Word::P2p => read_row(alloc, values),
         Word::Auth => read_auth(alloc, values),
+        Word::Key => read_added(alloc, values),
         Word::Run => Ok(read_alone(Entry::Run, values)?),
         Word::Rx => read_received(alloc, values),
         Word::Tick => Ok(read_tick(values)?),
-        Word::Cmd => Ok(read_command(values)?),
+        Word::Cmd => Ok(read_command(version, values)?),
         Word::Show => Ok(read_show(values)?),
         Word::End => Ok(read_alone(Entry::End, values)?),
         _ => Err(ReadFault::Fault(LineFault::NotBuilt)),
@@ -282,33 +334,40 @@ fn read_values(alloc: Global, word: Word, values: &[&str]) -> Result<Entry, Read
 }
 
 /// What the fields of a line say.
-fn read_fields(alloc: Global, place: Place, live: bool, fields: &[&str]) -> Result<Entry, ReadFault>
-    ensures value { Gives (λ entry. entry) result (worded place live (map (λ field. field.now) fields.now)) }
+fn read_fields(
+    alloc: Global,
+    version: Version,
+    place: Place,
+    live: bool,
+    fields: &[&str],
+) -> Result<Entry, ReadFault>
+    ensures value { Gives (λ entry. entry) result (worded version place live (map (λ field. field.now) fields.now)) }
     ensures sound { IfOk result IsEntry }
 {
     let Some((name, values)) = fields.split_first() else {
         return Err(ReadFault::Fault(LineFault::UnknownWord));
     };
-    let Some(word) = word_named(name) else {
+    let Some(word) = word_named(version, name) else {
         return Err(ReadFault::Fault(LineFault::UnknownWord));
     };
     if !place.takes(live, word) {
         return Err(ReadFault::Fault(LineFault::Order));
     }
-    read_values(alloc, word, values)
+    read_values(alloc, version, word, values)
 }
 
 /// What a line says by itself, or the first of its faults that it has by itself.
 pub(crate) fn read_line(
     alloc: Global,
+    version: Version,
     place: Place,
     live: bool,
     line: &[u8],
 ) -> Result<Entry, ReadFault>
-    ensures value { Gives (λ entry. entry) result (entry_of place live line.now) }
+    ensures value { Gives (λ entry. entry) result (entry_of version place live line.now) }
     ensures sound { IfOk result IsEntry }
 {
     let text = line_text(line)?;
     let fields = split_fields(alloc, text)?;
-    read_fields(alloc, place, live, &fields)
+    read_fields(alloc, version, place, live, &fields)
 }

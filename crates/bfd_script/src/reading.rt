@@ -15,7 +15,7 @@ use std::alloc::Global;
 fn read_step(alloc: Global, live: bool, reading: Reading, line: &[u8]) -> Result<Reading, ReadFault>
     ensures { Gives (λ s. s) result (step live reading line.now) }
 {
-    let entry = read_line(alloc, reading.place(), live, line)?;
+    let entry = read_line(alloc, reading.version(), reading.place(), live, line)?;
     reading.accept(entry)
 }
 

@@ -3,14 +3,17 @@ ghost use Rattle.std.specs.Prelude.{◌≡◌, ◌<◌, IfOk, IsTrue};
 ghost use Rattle.hex.specs.Hex.{IsBytes};
 ghost use Rattle.bfd_packet.specs.KeyChain.{fits_kind};
 ghost use Rattle.bfd_script.specs.Gives.{Gives};
-ghost use Rattle.bfd_script.specs.Secrets.{chain_of, fitting, kind_by, kind_of, one_key, secret_of};
-ghost use Rattle.bfd_script.specs.Sound.{IsOneKey};
+ghost use Rattle.bfd_script.specs.Secrets.{chain_of, fitting, key_fault, key_of, kind_by, kind_of, one_key, secret_of};
+ghost use Rattle.bfd_script.specs.Sound.{IsChain, IsKey};
 
 use crate::fault::{LineFault, ReadFault};
 use crate::fields::number;
+use crate::values::bytes_read;
 use bfd_packet::{AuthType, Key, Keys, Secret};
-use hex::FromHexError;
 use std::alloc::Global;
+
+/// The most keys of a session.
+const MOST_KEYS: usize = 4;
 
 /// The Auth Type of a number 1 to 5.
 fn kind_by(n: u64) -> AuthType
@@ -45,24 +48,14 @@ fn fit(kind: AuthType, bytes: &[u8]) -> Result<Secret, LineFault>
     Ok(Secret::of(bytes))
 }
 
-/// A field that is a secret: an even number of hexadecimal digits of both cases. BadHex where it is something else; `-`
-/// has no bytes.
+/// A field that is a secret: bytes of a number that the type has room for.
 fn secret_read(alloc: Global, kind: AuthType, field: &str) -> Result<Secret, ReadFault>
     ensures value { Gives (λ s. s) result (secret_of kind field.now) }
     ensures bytes { IfOk result (λ secret. IsBytes secret) }
     ensures fits { IfOk result (λ secret. IsTrue (fits_kind kind secret)) }
 {
-    if field == "-" {
-        return Ok(fit(kind, &[])?);
-    }
-    if field.is_empty() {
-        return Err(ReadFault::Fault(LineFault::BadHex));
-    }
-    match hex::decode(alloc, field) {
-        Ok(bytes) => Ok(fit(kind, bytes.as_slice())?),
-        Err(FromHexError::OutOfMemory) => Err(ReadFault::Memory),
-        Err(_) => Err(ReadFault::Fault(LineFault::BadHex)),
-    }
+    let bytes = bytes_read(alloc, field)?;
+    Ok(fit(kind, &bytes)?)
 }
 
 /// One key of this type.
@@ -70,7 +63,7 @@ fn one(kind: AuthType, id: u8, secret: Secret) -> Keys
     requires bytes { IsBytes secret }
     requires fits { IsTrue (fits_kind kind secret) }
     ensures value { result ≡ one_key kind id secret }
-    ensures sound { IsOneKey result.kind result.list }
+    ensures sound { IsChain result }
 {
     Keys::one(kind, Key { id, secret })
 }
@@ -84,10 +77,45 @@ pub(crate) fn read_chain(
     secret: &str,
 ) -> Result<Keys, ReadFault>
     ensures value { Gives (λ k. k) result (chain_of kind.now id.now secret.now) }
-    ensures sound { IfOk result (λ k. IsOneKey k.kind k.list) }
+    ensures sound { IfOk result IsChain }
 {
     let kind = kind_read(kind)?;
     let id = number(id, 0, 255)? as u8;
     let secret = secret_read(alloc, kind, secret)?;
     Ok(one(kind, id, secret))
+}
+
+/// The last two values of a `key` line. The type with the most room is asked of the secret here: which type the session
+/// has stands in the table.
+#[tactic(auto, unfolding(crate::specs::Secrets::key_of))]
+pub(crate) fn read_key(alloc: Global, id: &str, secret: &str) -> Result<Key, ReadFault>
+    ensures value { Gives (λ k. k) result (key_of id.now secret.now) }
+    ensures sound { IfOk result IsKey }
+{
+    let id = number(id, 0, 255)? as u8;
+    let secret = secret_read(alloc, AuthType::KeyedSha1, secret)?;
+    Ok(Key { id, secret })
+}
+
+/// What is wrong with one more key for a session with these keys.
+pub(crate) fn key_fault(keys: &Option<Keys>, key: &Key) -> Option<LineFault>
+    ensures { result ≡ key_fault keys.now key.now }
+{
+    let Some(keys) = keys else {
+        return Some(if key.secret.fits(AuthType::Password) {
+            LineFault::NoSuchSession
+        } else {
+            LineFault::OutOfRange
+        });
+    };
+    if !key.secret.fits(keys.kind) {
+        return Some(LineFault::OutOfRange);
+    }
+    if keys.has_id(key.id) {
+        return Some(LineFault::SameKey);
+    }
+    if keys.len() >= MOST_KEYS {
+        return Some(LineFault::TooMany);
+    }
+    None
 }

@@ -3,15 +3,15 @@ ghost use Rattle.std.specs.Prelude.{◌≡◌, IfOk};
 ghost use Rattle.bfd_session.specs.Step.{IsFit};
 ghost use Rattle.bfd_script.specs.Gives.{Gives, GivesScript};
 ghost use Rattle.bfd_script.specs.Reading as reading;
-ghost use Rattle.bfd_script.specs.Reading.{accepted, finished, start, with_config, with_event, with_keys};
-ghost use Rattle.bfd_script.specs.Sound.{IsEntry, IsEvent, IsOneKey, IsRow, IsScript};
+ghost use Rattle.bfd_script.specs.Reading.{accepted, finished, start, with_config, with_event, with_key, with_keys};
+ghost use Rattle.bfd_script.specs.Sound.{IsChain, IsEntry, IsEvent, IsKey, IsRow, IsScript};
 
 use crate::entries::{Entry, Line};
 use crate::fault::{BadLine, LineFault, ReadFault, ScriptFault};
 use crate::script::Script;
 use crate::table::Table;
-use crate::words::Place;
-use bfd_packet::{Keys, Port};
+use crate::words::{Place, Version};
+use bfd_packet::{Key, Keys, Port};
 use bfd_rules::Cmd;
 use bfd_session::SessionConfig;
 use std::alloc::Global;
@@ -26,6 +26,7 @@ const MOST_EVENTS: usize = 200_000;
 /// What is kept from line to line. Contracts see it as the record `State`.
 #[derive(Drop)]
 pub(crate) struct Reading {
+    version: Version,
     place: Place,
     table: Table,
     events: Vec<Line>,
@@ -37,7 +38,7 @@ impl Model for Reading {
 
     ghost Value = { State };
 
-    ghost view = { λ r. record { place = r.place; configs = r.table; events = r.events.items } };
+    ghost view = { λ r. record { version = r.version; place = r.place; configs = r.table; events = r.events.items } };
 
     ghost invariant = { λ r. AreEvents r.events.items × AreNamed r.table r.events.items };
 }
@@ -54,7 +55,7 @@ fn is_built(config: &SessionConfig) -> bool
 fn is_built_command(cmd: Cmd) -> bool
     ensures { result ≡ reading.is_built_command cmd }
 {
-    !matches!(cmd, Cmd::EchoEvery(_) | Cmd::Key(_))
+    !matches!(cmd, Cmd::EchoEvery(_))
 }
 
 /// Whether this program serves the event.
@@ -94,10 +95,18 @@ impl Reading {
         ensures { result ≡ start }
     {
         Reading {
+            version: Version::One,
             place: Place::Version,
             table: Table::new(alloc),
             events: Vec::new(alloc),
         }
+    }
+
+    /// The version of the text; before its first line version 1.
+    pub(crate) fn version(&self) -> Version
+        ensures { result ≡ self.now.version }
+    {
+        self.version
     }
 
     /// What may come next.
@@ -115,6 +124,7 @@ impl Reading {
         ensures { Gives (λ s. s) result (with_config config self) }
     {
         let Reading {
+            version,
             place,
             table,
             events,
@@ -133,6 +143,7 @@ impl Reading {
         }
         let table = table.with(config)?;
         Ok(Reading {
+            version,
             place,
             table,
             events,
@@ -141,10 +152,11 @@ impl Reading {
 
     /// Keys for a session: refused where it has some, and where it isn't there.
     fn with_keys(self, discr: u32, keys: Keys) -> Result<Reading, ReadFault>
-        requires { IsOneKey keys.kind keys.list }
+        requires { IsChain keys }
         ensures { Gives (λ s. s) result (with_keys discr keys self) }
     {
         let Reading {
+            version,
             place,
             table,
             events,
@@ -157,6 +169,31 @@ impl Reading {
         }
         let table = table.with_keys(discr, keys);
         Ok(Reading {
+            version,
+            place,
+            table,
+            events,
+        })
+    }
+
+    /// One more key for a session: refused where the session's type has no room for its secret, where the session has no
+    /// keys, where it has one of this number, and where it has four.
+    fn with_key(self, discr: u32, key: Key) -> Result<Reading, ReadFault>
+        requires { IsKey key }
+        ensures { Gives (λ s. s) result (with_key discr key self) }
+    {
+        let Reading {
+            version,
+            place,
+            table,
+            events,
+        } = self;
+        if let Some(fault) = table.key_fault(discr, &key) {
+            return Err(ReadFault::Fault(fault));
+        }
+        let table = table.with_key(discr, key);
+        Ok(Reading {
+            version,
             place,
             table,
             events,
@@ -170,6 +207,7 @@ impl Reading {
         ensures { Gives (λ s. s) result (with_event line self) }
     {
         let Reading {
+            version,
             place,
             table,
             mut events,
@@ -185,6 +223,7 @@ impl Reading {
         }
         events.push(line)?;
         Ok(Reading {
+            version,
             place,
             table,
             events,
@@ -197,12 +236,31 @@ impl Reading {
         ensures { Gives (λ s. s) result (accepted entry self) }
     {
         match entry {
-            Entry::Version => Ok(self.at(Place::Table)),
+            Entry::Version(version) => Ok(self.begun(version)),
             Entry::Row(config) => self.with_row(config),
             Entry::Auth { discr, keys } => self.with_keys(discr, keys),
+            Entry::Key { discr, key } => self.with_key(discr, key),
             Entry::Run => Ok(self.at(Place::Events)),
             Entry::Event(line) => self.with_line(line),
             Entry::End => Ok(self.at(Place::Over)),
+        }
+    }
+
+    /// The table may come, in this version.
+    fn begun(self, version: Version) -> Reading
+        ensures { result ≡ record self { version = version; place = Place.Table } }
+    {
+        let Reading {
+            version: _,
+            place: _,
+            table,
+            events,
+        } = self;
+        Reading {
+            version,
+            place: Place::Table,
+            table,
+            events,
         }
     }
 
@@ -211,11 +269,13 @@ impl Reading {
         ensures { result ≡ record self { place = place } }
     {
         let Reading {
+            version,
             place: _,
             table,
             events,
         } = self;
         Reading {
+            version,
             place,
             table,
             events,
@@ -228,6 +288,7 @@ impl Reading {
         ensures sound { IfOk result IsScript }
     {
         let Reading {
+            version: _,
             place,
             table,
             events,

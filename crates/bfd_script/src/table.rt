@@ -1,14 +1,17 @@
 // The table of sessions: unique by discriminator and by selecting addresses.
-ghost use Rattle.std.specs.Prelude.{◌≡◌, ◌<◌, [], false, true, length, IfOk, Some};
+ghost use Rattle.std.specs.Prelude.{◌≡◌, ◌<◌, [], false, true, length, IfOk, None, Some};
 ghost use Rattle.bfd_session.specs.Kinds.{discr_of};
 ghost use Rattle.bfd_session.specs.Step.{IsFit};
 ghost use Rattle.bfd_script.specs.Reading.{is_built};
 ghost use Rattle.std.specs.Map.{values_of};
-ghost use Rattle.bfd_script.specs.Rows.{by_discr, given, has_discr, has_keys, has_place, inserted, is_keyed, keyed_with};
-ghost use Rattle.bfd_script.specs.Sound.{AreConfigs, IsOneKey, IsRow};
+ghost use Rattle.bfd_script.specs.Rows.{by_discr, changed, given, given_more, has_discr, has_keys, has_place, inserted, keyed_more, keyed_with, keys_in, keys_of};
+ghost use Rattle.bfd_script.specs.Secrets.{key_fault};
+ghost use Rattle.bfd_script.specs.Sound.{AreConfigs, IsChain, IsKey, IsRow};
 
+use crate::fault::LineFault;
+use crate::secrets::key_fault;
 use crate::selecting::{Selector, selecting};
-use bfd_packet::Keys;
+use bfd_packet::{Key, Keys};
 use bfd_session::SessionConfig;
 use std::alloc::{AllocError, Global};
 use std::collections::{BTreeMap, BTreeSet};
@@ -35,12 +38,12 @@ impl Model for Table {
     ghost invariant = { λ t. IsTable t.rows.entries (contains (⟦<Selector as Ord>⟧.cmp) t.places) };
 }
 
-/// Whether a session has keys.
-fn is_keyed(config: &SessionConfig) -> bool
-    ensures { result ≡ is_keyed (Some config.now) }
+/// The keys of a session.
+fn keys_in(config: &SessionConfig) -> &Option<Keys>
+    ensures { result.now ≡ keys_in (Some config.now) }
 {
     let SessionConfig::Pair(pair) = config;
-    pair.keys.is_some()
+    &pair.keys
 }
 
 /// A session gets these keys.
@@ -49,6 +52,17 @@ fn set_keys(config: &mut SessionConfig, keys: Keys)
 {
     let SessionConfig::Pair(pair) = config;
     pair.keys = Some(keys);
+}
+
+/// A session gets one more key, where it has some with room for it.
+fn add_key(config: &mut SessionConfig, key: Key)
+    requires { key_fault (keys_in (Some config.old)) key ≡ None }
+    ensures { config.new ≡ keyed_more key config.old }
+{
+    let SessionConfig::Pair(pair) = config;
+    if let Some(keys) = &mut pair.keys {
+        keys.add(key);
+    }
 }
 
 /// The session of this discriminator gets these keys.
@@ -60,6 +74,18 @@ fn give(rows: &mut BTreeMap<u32, SessionConfig>, discr: u32, keys: Keys)
         return;
     };
     set_keys(config, keys);
+}
+
+/// The session of this discriminator gets one more key, where it has some with room for it.
+fn give_more(rows: &mut BTreeMap<u32, SessionConfig>, discr: u32, key: Key)
+    requires entries { rows.old.entries ≡ by_discr (values_of rows.old.entries) }
+    requires room { key_fault (keys_of discr (values_of rows.old.entries)) key ≡ None }
+    ensures { rows.new.entries ≡ by_discr (given_more discr key (values_of rows.old.entries)) }
+{
+    let Some(config) = rows.get_mut(&discr) else {
+        return;
+    };
+    add_key(config, key);
 }
 
 impl Table {
@@ -94,8 +120,19 @@ impl Table {
         ensures { result ≡ has_keys discr self.now }
     {
         match self.rows.get(&discr) {
-            Some(config) => is_keyed(config),
+            Some(config) => keys_in(config).is_some(),
             None => false,
+        }
+    }
+
+    /// What is wrong with one more key for the session of this discriminator.
+    #[tactic(auto, using(crate::proofs::Giving::found_at))]
+    pub(crate) fn key_fault(&self, discr: u32, key: &Key) -> Option<LineFault>
+        ensures { result ≡ key_fault (keys_of discr self.now) key.now }
+    {
+        match self.rows.get(&discr) {
+            Some(config) => key_fault(keys_in(config), key),
+            None => key_fault(&None, key),
         }
     }
 
@@ -127,11 +164,22 @@ impl Table {
 
     /// The session of this discriminator gets these keys; its selecting addresses stay.
     pub(crate) fn with_keys(self, discr: u32, keys: Keys) -> Table
-        requires { IsOneKey keys.kind keys.list }
+        requires { IsChain keys }
         ensures { result ≡ given discr keys self }
     {
         let Table { mut rows, places } = self;
         give(&mut rows, discr, keys);
+        Table { rows, places }
+    }
+
+    /// The session of this discriminator gets one more key, which it has room for.
+    pub(crate) fn with_key(self, discr: u32, key: Key) -> Table
+        requires key { IsKey key }
+        requires room { key_fault (keys_of discr self) key ≡ None }
+        ensures { result ≡ given_more discr key self }
+    {
+        let Table { mut rows, places } = self;
+        give_more(&mut rows, discr, key);
         Table { rows, places }
     }
 

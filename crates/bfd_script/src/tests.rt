@@ -27,7 +27,8 @@ fn small_files(rt: HostRuntime) -> Result<(), Fail> {
         ("run\n", bad(1, LineFault::Order)),
         ("bfd 1\nrun\n", bad(3, LineFault::MissingEnd)),
         ("bfd 1\n\n", bad(2, LineFault::UnknownWord)),
-        ("bfd 2\nrun\nend\n", bad(1, LineFault::OutOfRange)),
+        ("bfd 2\nrun\nend\n", Ok(0)),
+        ("bfd 3\nrun\nend\n", bad(1, LineFault::OutOfRange)),
         ("bfd 1\nrun\ntick 01\nend\n", bad(3, LineFault::BadNumber)),
         ("bfd 1\nrun\ntick\nend\n", bad(3, LineFault::FieldCount)),
         (

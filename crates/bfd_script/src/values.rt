@@ -3,7 +3,7 @@ ghost use Rattle.std.specs.Prelude.{◌≡◌, ◌<◌, ◌≤◌, ◌==◌, IfO
 ghost use Rattle.std.specs.List.{slice_split};
 ghost use Rattle.hex.specs.Hex.{IsBytes};
 ghost use Rattle.bfd_script.specs.Gives.{Gives};
-ghost use Rattle.bfd_script.specs.Values.{IsAddress, address_of, dotted_of, octet_of, payload_of, quad_of};
+ghost use Rattle.bfd_script.specs.Values.{IsAddress, address_of, bytes_of, dotted_of, octet_of, payload_of, quad_of};
 
 use crate::fault::{LineFault, ReadFault};
 use crate::fields::number;
@@ -79,22 +79,30 @@ fn keep(alloc: Global, bytes: &[u8]) -> Result<Payload, ReadFault>
     Ok(Payload::keep(alloc, bytes)?)
 }
 
-/// A field that is a payload: an even number of hexadecimal digits of both cases, or `-` for none. The first 256 bytes are
-/// kept. BadHex where it is something else.
-pub(crate) fn payload_read(alloc: Global, field: &str) -> Result<Payload, ReadFault>
-    ensures value { Gives (λ p. p) result (payload_of field.now) }
-    ensures bytes { IfOk result (λ payload. IsBytes payload) }
-    ensures short { IfOk result (λ payload. length payload ≤ 256) }
+/// A field that is bytes: an even number of hexadecimal digits of both cases, or `-` for none. BadHex where it is something
+/// else.
+pub(crate) fn bytes_read(alloc: Global, field: &str) -> Result<Vec<u8>, ReadFault>
+    ensures { Gives (λ bytes. bytes.items) result (bytes_of field.now) }
 {
     if field == "-" {
-        return keep(alloc, &[]);
+        return Ok(Vec::new(alloc));
     }
     if field.is_empty() {
         return Err(ReadFault::Fault(LineFault::BadHex));
     }
     match hex::decode(alloc, field) {
-        Ok(bytes) => keep(alloc, bytes.as_slice()),
+        Ok(bytes) => Ok(bytes),
         Err(FromHexError::OutOfMemory) => Err(ReadFault::Memory),
         Err(_) => Err(ReadFault::Fault(LineFault::BadHex)),
     }
+}
+
+/// A field that is a payload: bytes, of which the first 256 are kept.
+pub(crate) fn payload_read(alloc: Global, field: &str) -> Result<Payload, ReadFault>
+    ensures value { Gives (λ p. p) result (payload_of field.now) }
+    ensures bytes { IfOk result (λ payload. IsBytes payload) }
+    ensures short { IfOk result (λ payload. length payload ≤ 256) }
+{
+    let bytes = bytes_read(alloc, field)?;
+    keep(alloc, &bytes)
 }

@@ -3,9 +3,10 @@ ghost use Rattle.std.specs.Prelude.{◌≡◌, ◌<◌, ◌^◌};
 ghost use Rattle.bfd_script.specs.Verbs.{command, fits, known, number_of, takes_number, verb_of};
 
 use crate::fault::LineFault;
+use crate::words::Version;
 use bfd_rules::Cmd;
 
-/// What a session is told to do. The verb `key` isn't of version 1.
+/// What a session is told to do.
 #[derive(Clone, Copy, Debug, PartialEq, Eq)]
 pub(crate) enum Verb {
     Disable,
@@ -17,11 +18,12 @@ pub(crate) enum Verb {
     Mult,
     Demand,
     Echo,
+    Key,
 }
 
-/// The verb that a field spells.
-pub(crate) fn verb_named(field: &str) -> Option<Verb>
-    ensures { result ≡ verb_of field.now }
+/// The verb that a field spells; `key` is one of version 2 alone.
+pub(crate) fn verb_named(version: Version, field: &str) -> Option<Verb>
+    ensures { result ≡ verb_of version field.now }
 {
     match field {
         "disable" => Some(Verb::Disable),
@@ -33,6 +35,7 @@ pub(crate) fn verb_named(field: &str) -> Option<Verb>
         "mult" => Some(Verb::Mult),
         "demand" => Some(Verb::Demand),
         "echo" => Some(Verb::Echo),
+        "key" if version == Version::Two => Some(Verb::Key),
         _ => None,
     }
 }
@@ -86,5 +89,6 @@ pub(crate) fn commanding(verb: Verb, number: u64) -> Cmd
         Verb::Mult => Cmd::Mult(number),
         Verb::Demand => Cmd::Demand(number),
         Verb::Echo => Cmd::EchoEvery(number),
+        Verb::Key => Cmd::Key(number),
     }
 }

@@ -1,6 +1,16 @@
-// The words that begin a line, and where they may stand.
+// The versions, the words that begin a line, and where they may stand.
 ghost use Rattle.std.specs.Prelude.{◌≡◌};
 ghost use Rattle.bfd_script.specs.Words.{word_of, stands};
+
+/// The version of a packet file. Before its first line the words of version 1 are known.
+#[derive(Clone, Copy, Debug, PartialEq, Eq)]
+pub(crate) enum Version {
+    /// A session has one key at most.
+    One,
+
+    /// A session may have up to four keys, and a command chooses the one that it sends with.
+    Two,
+}
 
 /// The word that begins a line.
 #[derive(Clone, Copy, Debug, PartialEq, Eq)]
@@ -8,6 +18,7 @@ pub(crate) enum Word {
     Bfd,
     P2p,
     Auth,
+    Key,
     Sbfd,
     Reflector,
     Head,
@@ -36,9 +47,9 @@ pub(crate) enum Place {
     Over,
 }
 
-/// The word that a field spells.
-pub(crate) fn word_named(field: &str) -> Option<Word>
-    ensures { result ≡ word_of field.now }
+/// The word that a field spells; `key` is one of version 2 alone.
+pub(crate) fn word_named(version: Version, field: &str) -> Option<Word>
+    ensures { result ≡ word_of version field.now }
 {
     match field {
         "bfd" => Some(Word::Bfd),
@@ -54,6 +65,7 @@ pub(crate) fn word_named(field: &str) -> Option<Word>
         "cmd" => Some(Word::Cmd),
         "show" => Some(Word::Show),
         "end" => Some(Word::End),
+        "key" if version == Version::Two => Some(Word::Key),
         _ => None,
     }
 }
@@ -68,6 +80,7 @@ impl Place {
             Word::Bfd => self == Place::Version,
             Word::P2p
             | Word::Auth
+            | Word::Key
             | Word::Sbfd
             | Word::Reflector
             | Word::Head

@@ -1,14 +1,16 @@
 // The one spelling of a script.
 ghost use Rattle.std.specs.Prelude.{◌≡◌, [], ◌∷◌, IfOk, Ok, codes, false, string_bytes};
 ghost use Rattle.std.specs.Fmt.{decimal};
+ghost use Rattle.std.specs.List.{list_any};
 ghost use Rattle.bfd_script.specs.Reading.{script_of};
 ghost use Rattle.bfd_script.specs.Sound.{IsScript};
 ghost use Rattle.bfd_script.specs.Spelling.{line};
-ghost use Rattle.bfd_script.specs.Written.{address_field, config_text, event_fields, events_text, keys_text, kind_number, key_fields, list_text, mode_field, port_field, role_field, row_fields, rows_text, spelling};
+ghost use Rattle.bfd_script.specs.Written.{address_field, auth_fields, config_text, event_fields, events_text, has_second, is_new_line, is_new_row, key_fields, keys_text, kind_number, list_text, mode_field, more_text, port_field, role_field, row_fields, rows_text, spelling, version_field, version_of};
 
 use crate::entries::Line;
 use crate::names::hex_text;
 use crate::script::Script;
+use crate::words::Version;
 use bfd_packet::{Addr, Arrival, AuthType, Key, Keys, Port};
 use bfd_rules::{Cmd, Role};
 use bfd_session::SessionConfig;
@@ -100,8 +102,8 @@ fn kind_number(kind: AuthType) -> u8
 }
 
 /// The `auth` line of a key.
-fn key_text(alloc: Global, discr: u32, kind: AuthType, key: &Key) -> Result<String, AllocError>
-    ensures { IfOk result (λ text. string_bytes text ≡ line (key_fields discr kind key.now)) }
+fn auth_text(alloc: Global, discr: u32, kind: AuthType, key: &Key) -> Result<String, AllocError>
+    ensures { IfOk result (λ text. string_bytes text ≡ line (auth_fields discr kind key.now)) }
 {
     let kind = kind_number(kind);
     let id = key.id;
@@ -109,17 +111,42 @@ fn key_text(alloc: Global, discr: u32, kind: AuthType, key: &Key) -> Result<Stri
     format!(in alloc; "auth {discr} {kind} {id} {secret}\n")
 }
 
-/// The line of the first of these keys.
+/// The `key` line of a key.
+fn key_text(alloc: Global, discr: u32, key: &Key) -> Result<String, AllocError>
+    ensures { IfOk result (λ text. string_bytes text ≡ line (key_fields discr key.now)) }
+{
+    let id = key.id;
+    let secret = hex_text(alloc, key.secret.as_slice())?;
+    format!(in alloc; "key {discr} {id} {secret}\n")
+}
+
+/// The `key` lines of these keys.
+fn more_text(alloc: Global, discr: u32, keys: &[Key]) -> Result<String, AllocError>
+    ensures { IfOk result (λ text. string_bytes text ≡ more_text discr keys.now) }
+{
+    let mut text = String::new(alloc);
+    for key in keys {
+        let line = key_text(alloc, discr, key)?;
+        text.push_str(line.as_str())?;
+    }
+    Ok(text)
+}
+
+/// The lines of these keys.
 fn list_text(alloc: Global, discr: u32, kind: AuthType, keys: &[Key]) -> Result<String, AllocError>
     ensures { IfOk result (λ text. string_bytes text ≡ list_text discr kind keys.now) }
 {
     match keys {
         [] => Ok(String::new(alloc)),
-        [key, ..] => key_text(alloc, discr, kind, key),
+        [key, keys @ ..] => {
+            let first = auth_text(alloc, discr, kind, key)?;
+            let others = more_text(alloc, discr, keys)?;
+            format!(in alloc; "{first}{others}")
+        }
     }
 }
 
-/// The line of a session's keys, where it has some.
+/// The lines of a session's keys, where it has some.
 fn keys_text(alloc: Global, discr: u32, keys: &Option<Keys>) -> Result<String, AllocError>
     ensures { IfOk result (λ text. string_bytes text ≡ keys_text discr keys.now) }
 {
@@ -237,18 +264,86 @@ fn events_text(alloc: Global, events: &[Line]) -> Result<String, AllocError>
     Ok(text)
 }
 
+/// Whether a session has a second key.
+fn has_second(keys: &Option<Keys>) -> bool
+    ensures { result ≡ has_second keys.now }
+{
+    match keys {
+        None => false,
+        Some(keys) => keys.len() > 1,
+    }
+}
+
+/// Whether version 1 has no lines for the session.
+fn is_new_row(config: &SessionConfig) -> bool
+    ensures { result ≡ is_new_row config.now }
+{
+    let SessionConfig::Pair(pair) = config;
+    has_second(&pair.keys)
+}
+
+/// Whether version 1 has no line for the event.
+fn is_new_line(event: &Line) -> bool
+    ensures { result ≡ is_new_line event.now }
+{
+    match event {
+        Line::Cmd {
+            moment: _,
+            discr: _,
+            cmd,
+        } => matches!(cmd, Cmd::Key(_)),
+        _ => false,
+    }
+}
+
+/// Whether version 1 has no lines for one of these sessions.
+fn any_new_row(configs: &[SessionConfig]) -> bool
+    ensures { result ≡ list_any is_new_row configs.now }
+{
+    configs.iter().any(|config| is_new_row(config))
+}
+
+/// Whether version 1 has no line for one of these events.
+fn any_new_line(events: &[Line]) -> bool
+    ensures { result ≡ list_any is_new_line events.now }
+{
+    events.iter().any(|event| is_new_line(event))
+}
+
+/// The first version that has lines for all of a script.
+fn version_of(script: &Script) -> Version
+    ensures { result ≡ version_of script.now }
+{
+    if any_new_row(&script.configs) || any_new_line(&script.events) {
+        return Version::Two;
+    }
+    Version::One
+}
+
+/// The number of a version.
+fn version_text(version: Version) -> &'static str
+    ensures { result.now ≡ version_field version }
+{
+    match version {
+        Version::One => "1",
+        Version::Two => "2",
+    }
+}
+
 /// The text of a script.
 fn script_text(alloc: Global, script: &Script) -> Result<String, AllocError>
     ensures { IfOk result (λ text. string_bytes text ≡ spelling script.now) }
 {
+    let version = version_text(version_of(script));
     let rows = rows_text(alloc, &script.configs)?;
     let events = events_text(alloc, &script.events)?;
-    format!(in alloc; "bfd 1\n{rows}run\n{events}end\n")
+    format!(in alloc; "bfd {version}\n{rows}run\n{events}end\n")
 }
 
-/// The one spelling of a script, as bytes: the sessions as they stand, each with its keys after it, with decimal numbers without leading zeros
-/// and hexadecimal digits in lower case. `read` of it gives a script that `read` gave. The one refusal is want of memory.
-/// Of several keys of a session the first alone is written.
+/// The one spelling of a script, as bytes: the sessions as they stand, each with its keys after it, with decimal numbers
+/// without leading zeros and hexadecimal digits in lower case. It is of version 1 where no session has a second key and no
+/// event is a command `key`, and else of version 2. `read` of it gives a script that `read` gave. The one refusal is want of
+/// memory.
 #[tactic(auto, using(crate::proofs::ScriptAgain::text_again))]
 pub fn write(alloc: Global, script: &Script) -> Result<Vec<u8>, AllocError>
     ensures text { IfOk result (λ bytes. bytes.items ≡ spelling script.now) }

@@ -1,4 +1,5 @@
-use Rattle.bfd_script.proofs.Giving.{rows_given, table_given}
+use Rattle.bfd_script.specs.Rows.{keyed_with}
+use Rattle.bfd_script.proofs.Giving.{rows_changed, table_given}
 use Rattle.bfd_script.proofs.table.Table.with_keys.Goals as goal
 
 -- the discriminators and the places are as they were
@@ -7,4 +8,4 @@ invariant_of-result c = table_given c.args.discr c.args.keys _ _ _ c.self.invari
 
 -- and the sessions are the definition's
 pub returns : goal.returns
-returns c = rows_given c.args.discr c.args.keys c.args.self _ _ c.self.view_is c.give.ensures
+returns c = rows_changed (keyed_with c.args.keys) c.args.discr c.args.self _ _ c.self.view_is c.give.ensures
