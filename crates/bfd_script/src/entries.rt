@@ -188,12 +188,7 @@ fn numbered(
 }
 
 /// A `cmd` line of these values, without number, where the verb has none.
-fn read_plain(
-    version: Version,
-    moment: &str,
-    discr: &str,
-    verb: &str,
-) -> Result<Entry, LineFault>
+fn read_plain(version: Version, moment: &str, discr: &str, verb: &str) -> Result<Entry, LineFault>
     ensures value { result ≡ (if fits (verb_of version verb.now) false then plain_of version moment.now discr.now verb.now else Err FieldCount) }
     ensures sound { IfOk result IsEntry }
 {

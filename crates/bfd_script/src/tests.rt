@@ -158,6 +158,41 @@ fn keys_of_a_session(rt: HostRuntime) -> Result<(), Fail> {
     Ok(())
 }
 
+/// What a text of version 2 says that has one session, 5, with a password, 5, and then these lines.
+fn added(rt: &HostRuntime, lines: &str) -> Result<Result<usize, BadLine>, Fail> {
+    let text = format!(in rt.alloc();
+        "bfd 2\np2p 5 single 1 192.0.2.1 192.0.2.254 passive 1000000 50000 3 0 0\nauth 5 1 5 00\n{lines}\nend\n"
+    )?;
+    Ok(told(rt, text.as_str(), false))
+}
+
+#[test]
+fn more_keys_of_a_session(rt: HostRuntime) -> Result<(), Fail> {
+    let bad = |line: u64, fault: LineFault| -> Result<usize, BadLine> {
+        Err(BadLine { line, fault })
+    };
+    let cases = [
+        ("key 5 6 00\nrun\ncmd 7 5 key 256", Ok(1)),
+        ("key 5 5 00\nrun", bad(4, LineFault::SameKey)),
+        ("key 6 6 00\nrun", bad(4, LineFault::NoSuchSession)),
+        (
+            "key 6 6 000102030405060708090a0b0c0d0e0f10\nrun",
+            bad(4, LineFault::OutOfRange),
+        ),
+        ("key 5 6 00 \nrun", bad(4, LineFault::FieldCount)),
+        (
+            "key 5 6 00\nkey 5 7 00\nkey 5 8 00\nkey 5 9 00\nrun",
+            bad(7, LineFault::TooMany),
+        ),
+        ("run\nkey 5 6 00", bad(5, LineFault::Order)),
+        ("run\ncmd 7 5 key", bad(5, LineFault::FieldCount)),
+    ];
+    for (lines, want) in cases {
+        assert_eq!(rt; added(&rt, lines)?, want, "{lines}");
+    }
+    Ok(())
+}
+
 #[test]
 fn complaints(rt: HostRuntime) -> Result<(), Fail> {
     let bad = BadLine {
@@ -170,36 +205,63 @@ fn complaints(rt: HostRuntime) -> Result<(), Fail> {
 
 #[test]
 fn one_spelling(rt: HostRuntime) -> Result<(), Fail> {
-    let text = "bfd 1\n\
-        p2p 9 multi 65535 20010DB800000000000000000000000a 20010db8000000000000000000000001 active 10000 60000000 255 0 4294967295\n\
-        p2p 5 single 1 192.0.2.1 192.0.2.254 passive 1000000 50000 3 0 0\n\
-        auth 5 4 7 0AfF\n\
-        auth 9 1 255 70617373\n\
-        run\n\
-        rx 1500 single 1 192.0.2.254 192.0.2.1 255 20C0\n\
-        tick 3002\n\
-        cmd 3002000 9 disable\n\
-        cmd 3002000 5 rx 250000\n\
-        show 3002001 5\n\
-        end";
-    let want = "bfd 1\n\
-        p2p 5 single 1 192.0.2.1 192.0.2.254 passive 1000000 50000 3 0 0\n\
-        auth 5 4 7 0aff\n\
-        p2p 9 multi 65535 20010db800000000000000000000000a 20010db8000000000000000000000001 active 10000 60000000 255 0 4294967295\n\
-        auth 9 1 255 70617373\n\
-        run\n\
-        rx 1500 single 1 192.0.2.254 192.0.2.1 255 20c0\n\
-        tick 3002\n\
-        cmd 3002000 9 disable\n\
-        cmd 3002000 5 rx 250000\n\
-        show 3002001 5\n\
-        end\n";
-    match read(rt.alloc(), text.as_bytes(), false) {
-        Ok(script) => {
-            let bytes = write(rt.alloc(), &script)?;
-            assert!(rt; bytes.as_slice() == want.as_bytes(), "the one spelling");
+    let cases = [
+        (
+            "bfd 1\n\
+            p2p 9 multi 65535 20010DB800000000000000000000000a 20010db8000000000000000000000001 active 10000 60000000 255 0 4294967295\n\
+            p2p 5 single 1 192.0.2.1 192.0.2.254 passive 1000000 50000 3 0 0\n\
+            auth 5 4 7 0AfF\n\
+            auth 9 1 255 70617373\n\
+            run\n\
+            rx 1500 single 1 192.0.2.254 192.0.2.1 255 20C0\n\
+            tick 3002\n\
+            cmd 3002000 9 disable\n\
+            cmd 3002000 5 rx 250000\n\
+            show 3002001 5\n\
+            end",
+            "bfd 1\n\
+            p2p 5 single 1 192.0.2.1 192.0.2.254 passive 1000000 50000 3 0 0\n\
+            auth 5 4 7 0aff\n\
+            p2p 9 multi 65535 20010db800000000000000000000000a 20010db8000000000000000000000001 active 10000 60000000 255 0 4294967295\n\
+            auth 9 1 255 70617373\n\
+            run\n\
+            rx 1500 single 1 192.0.2.254 192.0.2.1 255 20c0\n\
+            tick 3002\n\
+            cmd 3002000 9 disable\n\
+            cmd 3002000 5 rx 250000\n\
+            show 3002001 5\n\
+            end\n",
+        ),
+        (
+            "bfd 2\n\
+            p2p 9 single 1 192.0.2.1 192.0.2.9 active 10000 10000 3 0 0\n\
+            auth 9 1 8 61\n\
+            p2p 5 single 1 192.0.2.1 192.0.2.5 active 10000 10000 3 0 0\n\
+            auth 5 5 8 62\n\
+            key 9 7 6A\n\
+            key 5 9 64\n\
+            key 5 7 65\n\
+            run\nend\n",
+            "bfd 2\n\
+            p2p 5 single 1 192.0.2.1 192.0.2.5 active 10000 10000 3 0 0\n\
+            auth 5 5 8 62\n\
+            key 5 9 64\n\
+            key 5 7 65\n\
+            p2p 9 single 1 192.0.2.1 192.0.2.9 active 10000 10000 3 0 0\n\
+            auth 9 1 8 61\n\
+            key 9 7 6a\n\
+            run\nend\n",
+        ),
+        ("bfd 2\nrun\nend\n", "bfd 1\nrun\nend\n"),
+    ];
+    for (text, want) in cases {
+        match read(rt.alloc(), text.as_bytes(), false) {
+            Ok(script) => {
+                let bytes = write(rt.alloc(), &script)?;
+                assert!(rt; bytes.as_slice() == want.as_bytes(), "the one spelling");
+            }
+            Err(_) => assert!(rt; false, "the text is a script"),
         }
-        Err(_) => assert!(rt; false, "the text is a script"),
     }
     Ok(())
 }
