@@ -67,12 +67,13 @@ refusal c v cmd = find (is_refused_by c v cmd) (WrongKind ∷ OutOfRange ∷ Wro
 abbrev pub path_done : ℕ → Vars → Vars
 path_done n v = record v { diag = n; poll = if demand_there v then Wanted else v.poll }
 
--- Demand mode is turned on or off; in Up a Poll Sequence confirms a change (sections 6.6 and 6.8.10)
+-- Demand mode is turned on or off; in Up a Poll Sequence confirms a change (sections 6.6 and 6.8.14)
 abbrev pub demand_done : Bool → Vars → Vars
 demand_done on v =
     record v { demand = on; poll = if is_up v.state && (if v.demand then not on else on) then Wanted else v.poll }
 
--- what each command makes of the variables (sections 6.8.16, 6.8.15, 6.8.17, 6.8.3, 6.8.12, 6.8.10, 6.8.9 and 6.7.1)
+-- what each command makes of the variables (in this order: sections 6.8.16, 6.8.15, 6.8.17, 6.8.11, 6.8.10, 6.8.12,
+-- 6.8.14, 6.8.13, and 6.7.2 to 6.7.4)
 abbrev pub done : Config → Cmd → Vars → Vars
 done c Disable v = enters AdminDown 7 v
 done c Enable v = enters Down v.diag v

@@ -16,7 +16,7 @@ abbrev pub is_settled_tx : Vars → Bool
 is_settled_tx v = not (is_up v.state) || is_idle v.poll
 
 -- a longer Desired Min TX in Up, and a shorter Required Min RX, are used only when the poll has ended; a shorter
--- Desired Min TX and a longer Required Min RX at once (section 6.8.3)
+-- Desired Min TX and a longer Required Min RX at once (section 6.8.3, which says it of a shorter Required Min RX in Up alone)
 unfoldable pub used_renewed : Vars → Vars
 used_renewed v =
     record v {

@@ -11,17 +11,17 @@ pub enum Cmd {
     Reset,
     /// A concatenated path: 0 for none, 6 down, 8 down in reverse (section 6.8.17).
     Path(u64),
-    /// Desired Min TX Interval, in microseconds (section 6.8.3).
+    /// Desired Min TX Interval, in microseconds (sections 6.8.3 and 6.8.11).
     Tx(u64),
-    /// Required Min RX Interval, in microseconds (section 6.8.3).
+    /// Required Min RX Interval, in microseconds (sections 6.8.3 and 6.8.10).
     Rx(u64),
     /// Detect Mult (section 6.8.12).
     Mult(u64),
-    /// Demand mode: 1 on, 0 off (sections 6.6 and 6.8.10).
+    /// Demand mode: 1 on, 0 off (sections 6.6 and 6.8.14).
     Demand(u64),
     /// The interval of the Echo function, in microseconds, or 0 for none (sections 6.4, 6.8.9 and 6.8.13).
     EchoEvery(u64),
-    /// The id of the key to send with (section 6.7.1).
+    /// The id of the key to send with (sections 6.7.2 to 6.7.4).
     Key(u64),
 }
 
