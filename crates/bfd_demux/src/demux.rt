@@ -1,6 +1,6 @@
 //! The table: rows behind two sorted indices.
 
-ghost use Rattle.std.specs.Prelude.{false, ◌≡◌, ◌≢◌, ◌+◌, ◌==◌, ◌≤◌, ◌&&◌, ◌||◌, if◌then◌else◌, position, true, not, None, Some, is_some, IfSome, IfOk, OnErr, MatchResult, ◌⊎◌};
+ghost use Rattle.std.specs.Prelude.{[], false, ◌≡◌, ◌≢◌, ◌+◌, ◌==◌, ◌≤◌, ◌&&◌, ◌||◌, if◌then◌else◌, position, true, not, None, Some, is_some, IfSome, IfOk, OnErr, MatchResult, ◌⊎◌};
 ghost use Rattle.std.specs.List.{list_any};
 ghost use Rattle.std.specs.Option.{option_map};
 ghost use Rattle.std.specs.Result.{result_err};
@@ -61,15 +61,32 @@ impl Demux {
     /// the first row with the discriminator 0 (ZeroDiscr), the least row with the discriminator of an
     /// earlier one (SameDiscr; RFC 5880 section 6.8.1), the least row of the kind and addresses of an
     /// earlier one (SameAddresses). These two name the least earlier row first. Memory comes only
-    /// where no memory is left, and never in place of TooMany or ZeroDiscr.
+    /// where no memory is left, and never in place of TooMany or ZeroDiscr. No rows are no fault, and take no
+    /// memory.
     #[tactic(auto, using(crate::proofs::Once::no_early_fault))]
     pub fn build(alloc: Global, rows: &[Row]) -> Result<Demux, BuildFault>
-        ensures { MatchResult result (λ demux. (demux ≡ rows.now) × (build_fault rows.now ≡ None)) (λ fault. ((fault ≡ BuildFault.Memory) × (early_fault rows.now ≡ None)) ⊎ (build_fault rows.now ≡ Some fault)) }
+        ensures table { MatchResult result (λ demux. (demux ≡ rows.now) × (build_fault rows.now ≡ None)) (λ fault. ((fault ≡ BuildFault.Memory) × (early_fault rows.now ≡ None)) ⊎ (build_fault rows.now ≡ Some fault)) }
+        ensures empty { OnErr result (rows.now ≢ []) }
     {
+        if rows.is_empty() {
+            return Ok(Demux::empty(alloc));
+        }
         match fault_of(alloc, rows) {
             Ok(None) => Demux::index(alloc, rows).map_err(|_| BuildFault::Memory),
             Ok(Some(fault)) => Err(fault),
             Err(_) => Err(BuildFault::Memory),
+        }
+    }
+
+    // The table of no rows.
+    fn empty(alloc: Global) -> Demux
+        ensures { result ≡ [] }
+    {
+        Demux {
+            rows: Vec::new(alloc),
+            names: Vec::new(alloc),
+            addresses: Vec::new(alloc),
+            sessions: 0,
         }
     }
 

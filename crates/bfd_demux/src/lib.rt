@@ -6,8 +6,9 @@
 //!
 //! It stands on `bfd_packet` for arrivals and the tests on their headers, on `bfd_num` for the counter of
 //! steps, and on `byteorder` and `thiserror`. It promises that `build` refuses exactly the rows that make no
-//! table and names the first fault, that `select` is the standard's choice for every table and arrival, that
-//! it takes no memory, and that a lookup looks at 17 entries at most.
+//! table, but for want of memory, and names the first fault; that no rows are no fault and take no memory;
+//! that `select` is the standard's choice for every table and arrival; that it takes no memory; and that a
+//! lookup looks at 17 entries at most.
 #![tactic(auto)]
 
 mod demux;
