@@ -21,7 +21,7 @@ use Rattle.bfd_demux.specs.Rows.{same_selector}
 use Rattle.bfd_demux.specs.Table.{how_many}
 
 -- the row is of the port's kind; heads and tails are of no port's kind (RFC 5881 section 4, RFC 5883 section 5,
--- RFC 7881 section 3)
+-- RFC 7881 section 2)
 abbrev pub is_of_kind : Port → RowKind → Bool
 is_of_kind SinglePort (Single _ _ _) = true
 is_of_kind EchoPort (Single _ _ _) = true

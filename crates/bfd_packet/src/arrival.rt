@@ -11,9 +11,9 @@ pub enum Port {
     Multi,
     /// UDP 3785: returned echo packets (RFC 5881 section 4).
     Echo,
-    /// UDP 7784: packets for a reflector (RFC 7881 section 3).
+    /// UDP 7784: packets for a reflector (RFC 7881 section 2).
     Sbfd,
-    /// The source port of an initiator: answers of a reflector (RFC 7881 section 3).
+    /// The source port of an initiator: answers of a reflector (RFC 7881 section 2).
     Answer,
 }
 
