@@ -8,15 +8,15 @@ use Rattle.bfd_packet.specs.declared.arrival.Arrival.{Arrival}
 use Rattle.bfd_packet.specs.declared.arrival.Port.{Port}
 use Rattle.bfd_packet.specs.declared.arrival.Port.TheVariants.{Single as SinglePort, Multi as MultiPort, Echo as EchoPort, Sbfd as SbfdPort, Answer as AnswerPort}
 use Rattle.bfd_packet.specs.declared.control.Control.{Control}
-use Rattle.bfd_packet.specs.declared.discard.Test.TheVariants.{YourUnknown, NoSession, MultipointYour, NoTail}
+use Rattle.bfd_packet.specs.declared.discard.Test.TheVariants.{YourUnknown, YourZeroState, NoSession, MultipointYour, NoTail}
 use Rattle.bfd_packet.specs.Layout.{fields_of, word_at}
 use Rattle.bfd_packet.specs.HeaderTests.{header_fails, read_of, unless}
 use Rattle.bfd_demux.specs.declared.row.Row.{Row}
 use Rattle.bfd_demux.specs.declared.row.RowKind.{RowKind}
 use Rattle.bfd_demux.specs.declared.target.Target.TheVariants.{Session, Reflector}
-use Rattle.bfd_demux.specs.Rows.{has_addresses}
+use Rattle.bfd_demux.specs.Rows.{has_addresses, same_selector}
 use Rattle.bfd_demux.specs.Selection.{only, the_one, names_on, has_discr, has_selector, selector_on, tail_selector, is_multipoint, is_by_addresses, knows, is_init_or_up, session_index, reflector_index, table_fails, tests_on_header, tests_on_table, first_failing_on}
-use Rattle.bfd_demux.specs.Parts.{names_session, target_named, echo_target, first_past_header, first_echo_failing, first_session_failing}
+use Rattle.bfd_demux.specs.Parts.{names_session, index_on, target_named, echo_target, first_past_header, first_echo_failing, first_session_failing}
 
 -- tests that agree name the same row
 the_one_agree : (test other : Row → Bool) → ((row : Row) → test row ≡ other row) → (rows : List Row) → the_one test rows ≡ the_one other rows
@@ -164,3 +164,62 @@ session_by_discr SbfdPort arrival packet is no_echo no_sbfd other = absurd (no_s
 session_by_discr SinglePort arrival packet is no_echo no_sbfd other = rw is (by_your (is_multipoint SinglePort arrival) (fields_of arrival.payload).your other)
 session_by_discr MultiPort arrival packet is no_echo no_sbfd other = rw is (by_your (is_multipoint MultiPort arrival) (fields_of arrival.payload).your other)
 session_by_discr AnswerPort arrival packet is no_echo no_sbfd other = rw is (by_your (is_multipoint AnswerPort arrival) (fields_of arrival.payload).your other)
+
+-- a packet with a Your Discriminator, which is known or isn't
+pub your_known : (port : Port) (packet : Control) (selector : Option RowKind) (rows : List Row) → packet.your ≢ 0 → knows rows port packet.your ≡ true →
+    None ≡ first_session_failing port packet selector rows
+your_known port packet selector rows some known = rw (unequal packet.your some, known) refl
+
+pub your_unknown : (port : Port) (packet : Control) (selector : Option RowKind) (rows : List Row) → packet.your ≢ 0 → knows rows port packet.your ≡ false →
+    Some YourUnknown ≡ first_session_failing port packet selector rows
+your_unknown port packet selector rows some unknown = rw (unequal packet.your some, unknown) refl
+
+-- no Your Discriminator, in a state that says that the sender has heard this system
+pub heard_without_your : (port : Port) (packet : Control) (selector : Option RowKind) (rows : List Row) → packet.your ≡ 0 → is_init_or_up packet.state ≡ true →
+    Some YourZeroState ≡ first_session_failing port packet selector rows
+heard_without_your port packet selector rows zero heard = rw (zero, heard) refl
+
+-- no Your Discriminator, and addresses that a row has or none has
+pub addresses_known : (port : Port) (packet : Control) (selector : Option RowKind) (kind : RowKind) (rows : List Row) → packet.your ≡ 0 → is_init_or_up packet.state ≡ false →
+    selector ≡ Some kind → list_any (λ row. same_selector kind row.kind) rows ≡ true → None ≡ first_session_failing port packet selector rows
+addresses_known port packet selector kind rows zero down is known = rw (zero, down, is, known) refl
+
+pub addresses_unknown : (port : Port) (packet : Control) (selector : Option RowKind) (kind : RowKind) (rows : List Row) → packet.your ≡ 0 → is_init_or_up packet.state ≡ false →
+    selector ≡ Some kind → list_any (λ row. same_selector kind row.kind) rows ≡ false → Some NoSession ≡ first_session_failing port packet selector rows
+addresses_unknown port packet selector kind rows zero down is unknown = rw (zero, down, is, unknown) refl
+
+to_session : (rows : List Row) (found : Option Row) (index : ℕ) → Some index ≡ option_map (λ (row : Row). session_index rows row.discr) found →
+    Some (Session index) ≡ option_map (λ (row : Row). Session (session_index rows row.discr)) found
+to_session rows None index is = ap (option_map Session) is
+to_session rows (Some row) index is = ap (option_map Session) is
+
+by_your_named : (port : Port) (packet : Control) (selector : Option RowKind) (rows : List Row) (index : ℕ) → packet.your ≢ 0 →
+    Some index ≡ option_map (λ (row : Row). session_index rows row.discr) (the_one (has_discr port packet.your) rows) →
+    Some (Session index) ≡ option_map (λ (row : Row). Session (session_index rows row.discr)) (the_one (names_session port packet selector) rows)
+by_your_named port packet selector rows index some is =
+    to_session rows (the_one (has_discr port packet.your) rows) index is
+    ∙ ap (option_map (λ (row : Row). Session (session_index rows row.discr)))
+    (sym (the_one_agree (names_session port packet selector) (has_discr port packet.your) (λ row. rw (unequal packet.your some) refl) rows))
+
+-- the session of a Your Discriminator
+pub your_named : (port : Port) (packet : Control) (selector : Option RowKind) (rows : List Row) (index : ℕ) → port ≢ SbfdPort → packet.your ≢ 0 →
+    Some index ≡ option_map (λ (row : Row). index_on port rows row.discr) (the_one (has_discr port packet.your) rows) →
+    Some (Session index) ≡ option_map (λ (row : Row). Session (session_index rows row.discr)) (the_one (names_session port packet selector) rows)
+your_named SbfdPort packet selector rows index no_sbfd some is = absurd (no_sbfd refl)
+your_named SinglePort packet selector rows index no_sbfd some is = by_your_named SinglePort packet selector rows index some is
+your_named MultiPort packet selector rows index no_sbfd some is = by_your_named MultiPort packet selector rows index some is
+your_named EchoPort packet selector rows index no_sbfd some is = by_your_named EchoPort packet selector rows index some is
+your_named AnswerPort packet selector rows index no_sbfd some is = by_your_named AnswerPort packet selector rows index some is
+
+-- the session of addresses
+pub addresses_named : (port : Port) (packet : Control) (selector : Option RowKind) (kind : RowKind) (rows : List Row) (index : ℕ) → packet.your ≡ 0 → selector ≡ Some kind →
+    Some index ≡ option_map (λ (row : Row). session_index rows row.discr) (the_one (λ row. same_selector kind row.kind) rows) →
+    Some (Session index) ≡ option_map (λ (row : Row). Session (session_index rows row.discr)) (the_one (names_session port packet selector) rows)
+addresses_named port packet selector kind rows index zero is found =
+    to_session rows (the_one (λ row. same_selector kind row.kind) rows) index found
+    ∙ ap (option_map (λ (row : Row). Session (session_index rows row.discr)))
+    (sym (the_one_agree (names_session port packet selector) (λ row. same_selector kind row.kind) (λ row. rw (zero, is) refl) rows))
+
+-- addresses to look for are those of a kind that has addresses
+pub addressed_kind : (selector : Option RowKind) (kind : RowKind) → selector ≡ Some kind → IfSome selector (λ kind. has_addresses kind ≡ true) → has_addresses kind ≡ true
+addressed_kind selector kind is addressed = rw is at addressed

@@ -246,7 +246,7 @@ impl Demux {
     }
 
     // What any other packet is for, where a packet without Your Discriminator names a session by `selector`.
-    #[tactic(auto, using(crate::proofs::Selecting::no_session))]
+    #[tactic(none)]
     fn select_session<L: Ledger>(
         &self,
         port: Port,

@@ -7,7 +7,7 @@ use crate::row::{Row, RowKind};
 use bfd_packet::Port;
 
 /// A discriminator, and whether a session or a reflector has it: sessions come first in the order.
-#[derive(Clone, Copy, Debug, PartialEq, Eq, PartialOrd, Ord)]
+#[derive(Clone, Copy, PartialEq, Eq, PartialOrd, Ord)]
 pub enum Name {
     Session(u32),
     Reflector(u32),
