@@ -1,5 +1,6 @@
 pub mod Ticks
 pub mod Places
+pub mod Searches
 pub mod Loops
 pub mod Ports
 pub mod Tables

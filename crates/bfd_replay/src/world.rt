@@ -193,12 +193,15 @@ fn arrive(
     }
 }
 
-/// The place of the session with this discriminator.
+/// The place of the session with this discriminator, by a binary search: the sessions stand by ascending discriminator.
 fn place_of(sessions: &[Session], discr: u32) -> Option<usize>
+    requires ascends { Ascends (world.configs_of sessions.now) }
     ensures value { result ≡ world.place_of discr sessions.now }
     ensures within { IfSome result (λ place. place < length sessions.now) }
 {
-    sessions.iter().position(|session| discr == session.discr())
+    sessions
+        .binary_search_by_key(&discr, |session| session.discr())
+        .ok()
 }
 
 /// A command or a question to the session with this discriminator.
@@ -212,6 +215,7 @@ fn ask(
     outs: &mut Outs,
 ) -> Answer
     requires free { (config : SessionConfig) → CanTake config event.now }
+    requires ascends { Ascends (world.configs_of sessions.old.items) }
     requires last { last ≤ greatest_tick }
     requires moment { moment < moment_bound }
     requires room { 5 ≤ outs.old.spare }
