@@ -123,31 +123,20 @@ impl Reading {
         requires row { IsRow config }
         ensures { Gives (λ s. s) result (with_config config self) }
     {
-        let Reading {
-            version,
-            place,
-            table,
-            events,
-        } = self;
-        if table.has_discr(config.discr()) {
+        if self.table.has_discr(config.discr()) {
             return Err(ReadFault::Fault(LineFault::SameDiscr));
         }
-        if table.has_place(&config) {
+        if self.table.has_place(&config) {
             return Err(ReadFault::Fault(LineFault::SameAddresses));
         }
-        if table.len() >= MOST_ROWS {
+        if self.table.len() >= MOST_ROWS {
             return Err(ReadFault::Fault(LineFault::TooMany));
         }
         if !is_built(&config) {
             return Err(ReadFault::Fault(LineFault::NotBuilt));
         }
-        let table = table.with(config)?;
-        Ok(Reading {
-            version,
-            place,
-            table,
-            events,
-        })
+        let table = self.table.with(config)?;
+        Ok(Reading { table, ..self })
     }
 
     /// Keys for a session: refused where it has some, and where it isn't there.
@@ -155,25 +144,14 @@ impl Reading {
         requires { IsChain keys }
         ensures { Gives (λ s. s) result (with_keys discr keys self) }
     {
-        let Reading {
-            version,
-            place,
-            table,
-            events,
-        } = self;
-        if table.has_keys(discr) {
+        if self.table.has_keys(discr) {
             return Err(ReadFault::Fault(LineFault::SameDiscr));
         }
-        if !table.has_discr(discr) {
+        if !self.table.has_discr(discr) {
             return Err(ReadFault::Fault(LineFault::NoSuchSession));
         }
-        let table = table.with_keys(discr, keys);
-        Ok(Reading {
-            version,
-            place,
-            table,
-            events,
-        })
+        let table = self.table.with_keys(discr, keys);
+        Ok(Reading { table, ..self })
     }
 
     /// One more key for a session: refused where the session's type has no room for its secret, where the session has no
@@ -182,22 +160,11 @@ impl Reading {
         requires { IsKey key }
         ensures { Gives (λ s. s) result (with_key discr key self) }
     {
-        let Reading {
-            version,
-            place,
-            table,
-            events,
-        } = self;
-        if let Some(fault) = table.key_fault(discr, &key) {
+        if let Some(fault) = self.table.key_fault(discr, &key) {
             return Err(ReadFault::Fault(fault));
         }
-        let table = table.with_key(discr, key);
-        Ok(Reading {
-            version,
-            place,
-            table,
-            events,
-        })
+        let table = self.table.with_key(discr, key);
+        Ok(Reading { table, ..self })
     }
 
     /// One more event line: refused where the session that it names isn't there, where there are 200,000, and where this
@@ -206,28 +173,18 @@ impl Reading {
         requires { IsEvent line }
         ensures { Gives (λ s. s) result (with_event line self) }
     {
-        let Reading {
-            version,
-            place,
-            table,
-            mut events,
-        } = self;
-        if !is_named(&line, &table) {
+        if !is_named(&line, &self.table) {
             return Err(ReadFault::Fault(LineFault::NoSuchSession));
         }
-        if events.len() >= MOST_EVENTS {
+        if self.events.len() >= MOST_EVENTS {
             return Err(ReadFault::Fault(LineFault::TooMany));
         }
         if !is_built_line(&line) {
             return Err(ReadFault::Fault(LineFault::NotBuilt));
         }
+        let mut events = self.events;
         events.push(line)?;
-        Ok(Reading {
-            version,
-            place,
-            table,
-            events,
-        })
+        Ok(Reading { events, ..self })
     }
 
     /// The state after a line that says this, or the fault that it has because of the lines before it.
@@ -250,17 +207,10 @@ impl Reading {
     fn begun(self, version: Version) -> Reading
         ensures { result ≡ record self { version = version; place = Place.Table } }
     {
-        let Reading {
-            version: _,
-            place: _,
-            table,
-            events,
-        } = self;
         Reading {
             version,
             place: Place::Table,
-            table,
-            events,
+            ..self
         }
     }
 
@@ -268,18 +218,7 @@ impl Reading {
     fn at(self, place: Place) -> Reading
         ensures { result ≡ record self { place = place } }
     {
-        let Reading {
-            version,
-            place: _,
-            table,
-            events,
-        } = self;
-        Reading {
-            version,
-            place,
-            table,
-            events,
-        }
+        Reading { place, ..self }
     }
 
     /// The script, where the text ended after `end`; `number` is that of the line that would come next.
@@ -287,15 +226,12 @@ impl Reading {
         ensures script { GivesScript result (finished number self) }
         ensures sound { IfOk result IsScript }
     {
-        let Reading {
-            version: _,
-            place,
-            table,
-            events,
-        } = self;
-        match place {
-            Place::Over => match table.into_rows(alloc) {
-                Ok(configs) => Ok(Script { configs, events }),
+        match self.place {
+            Place::Over => match self.table.into_rows(alloc) {
+                Ok(configs) => Ok(Script {
+                    configs,
+                    events: self.events,
+                }),
                 Err(_) => Err(ScriptFault::Memory),
             },
             _ => Err(ScriptFault::Bad(BadLine {
