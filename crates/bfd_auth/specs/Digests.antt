@@ -3,17 +3,9 @@ use Rattle.std.specs.Prelude.{◌+◌, ◌-◌, ◌++◌, if◌then◌else◌, �
 use Rattle.md5.specs.Md5.{md5}
 use Rattle.sha1.specs.Sha1.{sha1}
 use Rattle.bfd_packet.specs.declared.keys.AuthType.{AuthType}
-use Rattle.bfd_packet.specs.declared.keys.AuthType.TheVariants.{Password, KeyedMd5, MeticulousMd5, KeyedSha1, MeticulousSha1}
+use Rattle.bfd_packet.specs.declared.keys.AuthType.TheVariants.{Password, MeticulousMd5, KeyedSha1, MeticulousSha1}
 use Rattle.bfd_packet.specs.declared.keys.Key.{Key}
 use Rattle.bfd_packet.specs.KeyChain.{digest_size}
-
--- the type's number in a section (RFC 5880 section 4.1)
-abbrev pub type_number : AuthType → ℕ
-type_number Password = 1
-type_number KeyedMd5 = 2
-type_number MeticulousMd5 = 3
-type_number KeyedSha1 = 4
-type_number MeticulousSha1 = 5
 
 -- the type carries a password in place of a sequence number and a digest
 abbrev pub is_password : AuthType → Bool

@@ -3,10 +3,10 @@
 ghost use Rattle.std.specs.Prelude.{◌≡◌, ◌+◌, ◌-◌, ◌*◌, ◌^◌, ◌<◌, ◌≤◌, length, slice_index, slice_range, IsTrue, IfNone, IfSome, Some, find, false};
 ghost use Rattle.std.specs.Option.{option_copied};
 ghost use Rattle.bfd_packet.specs.KeyChain.{fits_kind};
-ghost use Rattle.bfd_auth.specs.Digests.{digest_of, is_meticulous, is_password, section_length, type_number, uses_sha1};
+ghost use Rattle.bfd_auth.specs.Digests.{digest_of, is_meticulous, is_password, section_length, uses_sha1};
 ghost use Rattle.bfd_auth.specs.Verdict.{has_section_length, heard, in_window, is_genuine, may_hear, packet_key, right_digest, section_fails, section_tests, sequence_of, verdict, window};
 
-use crate::digests::{carries_password, digest, has_to_rise, length_of_section, number_of};
+use crate::digests::{carries_password, digest, has_to_rise, length_of_section};
 use bfd_packet::{AuthType, Key, Keys, SeqState, Test};
 use byteorder::{BigEndian, ByteOrder};
 
@@ -32,7 +32,7 @@ fn first_failing(keys: &Keys, seq: &SeqState, raw: &[u8]) -> Option<Test>
     ensures whole { IfNone result (is_password keys.now.kind ≡ false → 32 ≤ length raw.now) }
 {
     let kind = keys.kind;
-    if byte_at(raw, 24) != number_of(kind) {
+    if byte_at(raw, 24) != kind.number() {
         return Some(Test::AuthType);
     }
     let Some(key) = named_key(keys, raw) else {

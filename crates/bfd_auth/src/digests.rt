@@ -4,7 +4,7 @@ ghost use Rattle.std.specs.Prelude.{◌≡◌, ◌+◌, ◌-◌, ◌++◌, ◌�
 ghost use Rattle.md5.specs.Md5.{md5};
 ghost use Rattle.sha1.specs.Sha1.{sha1};
 ghost use Rattle.bfd_packet.specs.KeyChain.{digest_size, fits_kind};
-ghost use Rattle.bfd_auth.specs.Digests.{digest_of, in_digest_place, is_meticulous, is_password, padded, section_length, type_number, uses_sha1};
+ghost use Rattle.bfd_auth.specs.Digests.{digest_of, in_digest_place, is_meticulous, is_password, padded, section_length, uses_sha1};
 ghost use Rattle.bfd_auth.specs.Verdict.{right_digest};
 
 use bfd_packet::{AuthBytes, AuthType, Key};
@@ -64,19 +64,6 @@ fn md5_of(front: &[u8], secret: &[u8], zeros: &[u8], rest: &[u8]) -> [u8; 16]
     hasher.update(zeros);
     hasher.update(rest);
     hasher.finalize()
-}
-
-/// The type's number in a section, 1 to 5.
-pub fn number_of(kind: AuthType) -> u8
-    ensures { result ≡ type_number kind }
-{
-    match kind {
-        AuthType::Password => 1,
-        AuthType::KeyedMd5 => 2,
-        AuthType::MeticulousMd5 => 3,
-        AuthType::KeyedSha1 => 4,
-        AuthType::MeticulousSha1 => 5,
-    }
 }
 
 /// Whether the type carries a password.

@@ -8,7 +8,7 @@ ghost use Rattle.bfd_auth.specs.Digests.{is_password, padded};
 ghost use Rattle.bfd_auth.specs.Sealed.{digest_section, password_section, sealed, sealed_seq, section_of, section_start};
 ghost use Rattle.bfd_auth.specs.Verdict.{heard, may_hear, verdict};
 
-use crate::digests::{carries_password, digest, length_of_section, number_of, zeros};
+use crate::digests::{carries_password, digest, length_of_section, zeros};
 use arrayvec::ArrayVec;
 use bfd_packet::{AuthBytes, AuthType, Control, Key, Keys, SeqState, Wire, write};
 use byteorder::{BigEndian, ByteOrder};
@@ -68,7 +68,7 @@ fn section(kind: AuthType, key: &Key, sequence: u32, c: &Control) -> AuthBytes
     ensures { result ≡ section_of kind key.now sequence c.now }
 {
     if carries_password(kind) {
-        let start = [number_of(kind), length_of_section(kind, key) as u8, key.id];
+        let start = [kind.number(), length_of_section(kind, key) as u8, key.id];
         joined(&start, key.secret.as_slice())
     } else {
         let blank = with_digest(kind, key, sequence, zeros(kind.digest_size()));
@@ -84,7 +84,7 @@ fn with_digest(kind: AuthType, key: &Key, sequence: u32, bytes: &[u8]) -> AuthBy
     ensures { result ≡ digest_section kind key.now sequence bytes.now }
 {
     let length = length_of_section(kind, key) as u8;
-    let mut start = [number_of(kind), length, key.id, 0, 0, 0, 0, 0];
+    let mut start = [kind.number(), length, key.id, 0, 0, 0, 0, 0];
     BigEndian::write_u32(&mut start[4..], sequence);
     joined(&start, bytes)
 }

@@ -2,13 +2,21 @@
 use Rattle.std.specs.Prelude.{◌≤◌, ◌<◌, ◌&&◌, ◌==◌, ℕ, Bool, true, not, nat_le, List, [], ◌∷◌, length, position, find, slice_index_or, Option, IsTrue}
 use Rattle.std.specs.List.{list_all, list_any}
 use Rattle.bfd_packet.specs.declared.keys.AuthType.{AuthType}
-use Rattle.bfd_packet.specs.declared.keys.AuthType.TheVariants.{KeyedSha1, MeticulousSha1}
+use Rattle.bfd_packet.specs.declared.keys.AuthType.TheVariants.{Password, KeyedMd5, MeticulousMd5, KeyedSha1, MeticulousSha1}
 use Rattle.bfd_packet.specs.declared.keys.Key.{Key}
 
 -- the Auth Type of a session and its keys, in the order in which they were given
 pub record KeyChain : Type 0 where
   pub kind : AuthType
   pub list : List Key
+
+-- the type's number in a section (RFC 5880 section 4.1)
+abbrev pub type_number : AuthType → ℕ
+type_number Password = 1
+type_number KeyedMd5 = 2
+type_number MeticulousMd5 = 3
+type_number KeyedSha1 = 4
+type_number MeticulousSha1 = 5
 
 -- the digest's bytes: 20 of SHA1, 16 of MD5 (RFC 5880 sections 4.3 and 4.4)
 abbrev pub digest_size : AuthType → ℕ

@@ -17,7 +17,14 @@ pub enum AuthType {
 }
 
 impl AuthType {
-    ghost use Rattle.bfd_packet.specs.KeyChain.{digest_size};
+    ghost use Rattle.bfd_packet.specs.KeyChain.{digest_size, type_number};
+
+    /// The type's number in a section, 1 to 5.
+    pub fn number(self) -> u8
+        ensures { result ≡ type_number self }
+    {
+        self as u8
+    }
 
     /// The length of the type's digest in bytes: 20 of SHA1, else 16. It's also the most bytes of a secret.
     pub fn digest_size(self) -> usize

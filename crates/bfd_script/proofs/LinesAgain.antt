@@ -5,7 +5,7 @@ use Rattle.std.specs.Prelude.{codes}
 use Rattle.std.specs.Fmt.{decimal}
 use Rattle.bfd_num.specs.Numbers.{moment_bound, greatest_tick}
 use Rattle.hex.specs.Hex.{IsBytes}
-use Rattle.bfd_packet.specs.KeyChain.{digest_size, fits_kind}
+use Rattle.bfd_packet.specs.KeyChain.{digest_size, fits_kind, type_number}
 use Rattle.bfd_packet.specs.declared.arrival.Arrival.{Arrival}
 use Rattle.bfd_packet.specs.declared.arrival.Port.{Port}
 use Rattle.bfd_packet.specs.declared.arrival.Port.TheVariants as ports
@@ -40,7 +40,7 @@ use Rattle.bfd_script.specs.Secrets.{chain_of, fitting, key_of, kind_by, kind_of
 use Rattle.bfd_script.specs.Sound.{Each, IsAsked, IsEvent, IsKey, IsPairRow, IsReceived, IsRow}
 use Rattle.bfd_script.specs.Spelling.{hex_field, spaced}
 use Rattle.bfd_script.specs.Verbs.{command, fits, number_of, verb_of}
-use Rattle.bfd_script.specs.Written.{address_field, auth_fields, event_fields, is_new_line, key_fields, kind_number, mode_field, port_field, role_field, row_fields, verb_fields}
+use Rattle.bfd_script.specs.Written.{address_field, auth_fields, event_fields, is_new_line, key_fields, mode_field, port_field, role_field, row_fields, verb_fields}
 use Rattle.bfd_script.proofs.Numerals.{number_again, number_field, number_short}
 use Rattle.bfd_script.proofs.Rereading.{address_again, address_is_field, address_short, bytes_again, hex_is_field, hex_short, payload_again}
 use Rattle.bfd_script.proofs.Elements.{IsField, both, word}
@@ -221,14 +221,14 @@ row_fields_fit (Pair c) fit row = row_is_fields c fit row (echo_most c.role c.ec
 
 -- ---- the keys of a session
 
-kind_again : (kind : AuthType) → kind_of (decimal (kind_number kind)) ≡ Ok kind
+kind_again : (kind : AuthType) → kind_of (decimal (type_number kind)) ≡ Ok kind
 kind_again kinds.Password = ap (λ r. r >>= λ n. Ok (kind_by n)) (number_again 1 5 1 (omega arith) (omega arith) (omega arith))
 kind_again kinds.KeyedMd5 = ap (λ r. r >>= λ n. Ok (kind_by n)) (number_again 1 5 2 (omega arith) (omega arith) (omega arith))
 kind_again kinds.MeticulousMd5 = ap (λ r. r >>= λ n. Ok (kind_by n)) (number_again 1 5 3 (omega arith) (omega arith) (omega arith))
 kind_again kinds.KeyedSha1 = ap (λ r. r >>= λ n. Ok (kind_by n)) (number_again 1 5 4 (omega arith) (omega arith) (omega arith))
 kind_again kinds.MeticulousSha1 = ap (λ r. r >>= λ n. Ok (kind_by n)) (number_again 1 5 5 (omega arith) (omega arith) (omega arith))
 
-kind_small : (kind : AuthType) → kind_number kind < 2 ^ 64
+kind_small : (kind : AuthType) → type_number kind < 2 ^ 64
 kind_small kinds.Password = omega arith
 kind_small kinds.KeyedMd5 = omega arith
 kind_small kinds.MeticulousMd5 = omega arith
@@ -259,7 +259,7 @@ secret_again kind secret h fits =
     ap (λ r. r >>= λ bytes. fitting kind bytes) (bytes_again secret h) ∙ fit_step (fits_kind kind secret) secret fits
 
 chain_again : (kind : AuthType) (key : Key) → IsKey key → fits_kind kind key.secret ≡ true
-    → chain_of (decimal (kind_number kind)) (decimal key.id) (hex_field key.secret) ≡ Ok (one_key kind key.id key.secret)
+    → chain_of (decimal (type_number kind)) (decimal key.id) (hex_field key.secret) ≡ Ok (one_key kind key.id key.secret)
 unfolding chain_of
 chain_again kind key h fits = rw (
   kind_again kind,
@@ -273,7 +273,7 @@ auth_fields_fit d kind key below h = (
   (
     number_field d (omega arith),
     (
-      number_field (kind_number kind) (kind_small kind),
+      number_field (type_number kind) (kind_small kind),
       (number_field key.id (let k = h.id in omega arith), (hex_is_field key.secret h.bytes, tt)),
     ),
   ),
@@ -282,7 +282,7 @@ auth_fields_fit d kind key below h = (
 auth_short : (d : ℕ) (kind : AuthType) (key : Key) → d < 2 ^ 32 → IsKey key → length key.secret ≤ 20 → total (auth_fields d kind key) ≤ 4096
 auth_short d kind key below h few =
     let l1 = number_short d (omega arith) in
-    let l2 = number_short (kind_number kind) (kind_small kind) in
+    let l2 = number_short (type_number kind) (kind_small kind) in
     let l3 = number_short key.id (let k = h.id in omega arith) in
     let l4 = hex_short key.secret (omega arith) in
     omega arith
@@ -290,9 +290,9 @@ auth_short d kind key below h few =
 pub auth_again : (version : Version) (live : Bool) (d : ℕ) (kind : AuthType) (key : Key) → 0 < d → d < 2 ^ 32 → IsKey key → fits_kind kind key.secret ≡ true
     → entry_of version places.Table live (spaced (auth_fields d kind key) []) ≡ Ok (entries.Auth d (one_key kind key.id key.secret))
 auth_again version live d kind key some below h fits =
-    entry_again version places.Table live (codes "auth") (decimal d ∷ decimal (kind_number kind) ∷ decimal key.id ∷ hex_field key.secret ∷ [])
+    entry_again version places.Table live (codes "auth") (decimal d ∷ decimal (type_number kind) ∷ decimal key.id ∷ hex_field key.secret ∷ [])
     (auth_fields_fit d kind key below h) (auth_short d kind key below h (secret_few kind key.secret fits))
-    ∙ ap (λ r. r >>= λ discr. chain_of (decimal (kind_number kind)) (decimal key.id) (hex_field key.secret) >>= λ keys. Ok (entries.Auth discr keys))
+    ∙ ap (λ r. r >>= λ discr. chain_of (decimal (type_number kind)) (decimal key.id) (hex_field key.secret) >>= λ keys. Ok (entries.Auth discr keys))
     (number_again 1 4294967295 d some (omega arith) (omega arith))
     ∙ ap (λ r. r >>= λ keys. Ok (entries.Auth d keys)) (chain_again kind key h fits)
 

@@ -4,13 +4,12 @@ use Rattle.std.specs.List.{flat_map, list_any}
 use Rattle.std.specs.Fmt.{decimal}
 use Rattle.byteorder.specs.Endian.{big_bytes}
 use Rattle.hex.specs.Hex.{encode_lower}
-use Rattle.bfd_packet.specs.KeyChain.{KeyChain}
+use Rattle.bfd_packet.specs.KeyChain.{KeyChain, type_number}
 use Rattle.bfd_packet.specs.declared.arrival.Addr.{Addr}
 use Rattle.bfd_packet.specs.declared.arrival.Addr.TheVariants.{V4, V6}
 use Rattle.bfd_packet.specs.declared.arrival.Port.{Port}
 use Rattle.bfd_packet.specs.declared.arrival.Port.TheVariants as ports
 use Rattle.bfd_packet.specs.declared.keys.AuthType.{AuthType}
-use Rattle.bfd_packet.specs.declared.keys.AuthType.TheVariants as kinds
 use Rattle.bfd_packet.specs.declared.keys.Key.{Key}
 use Rattle.bfd_rules.specs.declared.commands.Cmd.{Cmd}
 use Rattle.bfd_rules.specs.declared.commands.Cmd.TheVariants as commands
@@ -71,17 +70,9 @@ row_fields (Pair c) =
     codes "p2p" ∷ decimal c.discr ∷ role_field c.role ∷ decimal c.iface ∷ address_field c.local ∷ address_field c.remote
     ∷ mode_field c.active ∷ decimal c.tx ∷ decimal c.rx ∷ decimal c.mult ∷ decimal c.echo ∷ decimal c.seed ∷ []
 
--- the number of an Auth Type (RFC 5880 section 4.1)
-abbrev pub kind_number : AuthType → ℕ
-kind_number kinds.Password = 1
-kind_number kinds.KeyedMd5 = 2
-kind_number kinds.MeticulousMd5 = 3
-kind_number kinds.KeyedSha1 = 4
-kind_number kinds.MeticulousSha1 = 5
-
 -- the fields of an `auth` line
 abbrev pub auth_fields : ℕ → AuthType → Key → List (List ℕ)
-auth_fields discr kind key = codes "auth" ∷ decimal discr ∷ decimal (kind_number kind) ∷ decimal key.id ∷ hex_field key.secret ∷ []
+auth_fields discr kind key = codes "auth" ∷ decimal discr ∷ decimal (type_number kind) ∷ decimal key.id ∷ hex_field key.secret ∷ []
 
 -- the fields of a `key` line
 abbrev pub key_fields : ℕ → Key → List (List ℕ)

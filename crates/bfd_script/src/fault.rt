@@ -111,7 +111,7 @@ pub enum ScriptFault {
 }
 
 /// Why a line was not taken.
-#[derive(Clone, Copy, Debug, PartialEq, Eq)]
+#[derive(Clone, Copy)]
 pub(crate) enum ReadFault {
     Fault(LineFault),
     Memory,

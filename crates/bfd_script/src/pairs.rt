@@ -23,7 +23,7 @@ const LEAST_INTERVAL: u64 = 10_000;
 const MOST_INTERVAL: u64 = 60_000_000;
 
 /// Which session it is, and between which addresses.
-#[derive(Clone, Copy, Debug, PartialEq, Eq)]
+#[derive(Clone, Copy)]
 pub(crate) struct Ends {
     discr: u32,
     role: Role,
@@ -33,7 +33,7 @@ pub(crate) struct Ends {
 }
 
 /// Who begins, and the intervals in microseconds.
-#[derive(Clone, Copy, Debug, PartialEq, Eq)]
+#[derive(Clone, Copy)]
 pub(crate) struct Timing {
     active: bool,
     tx: u32,

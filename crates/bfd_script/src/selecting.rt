@@ -7,7 +7,7 @@ use bfd_rules::Role;
 use bfd_session::SessionConfig;
 
 /// Selecting addresses, local before remote. Over a single hop the interface belongs to them.
-#[derive(Clone, Copy, Debug, PartialEq, Eq, PartialOrd, Ord)]
+#[derive(Clone, Copy, PartialEq, Eq, PartialOrd, Ord)]
 pub(crate) enum Selector {
     Single(u32, Addr, Addr),
     Multi(Addr, Addr),

@@ -7,7 +7,7 @@ use crate::words::Version;
 use bfd_rules::Cmd;
 
 /// What a session is told to do.
-#[derive(Clone, Copy, Debug, PartialEq, Eq)]
+#[derive(Clone, Copy)]
 pub(crate) enum Verb {
     Disable,
     Enable,

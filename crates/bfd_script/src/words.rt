@@ -3,7 +3,7 @@ ghost use Rattle.std.specs.Prelude.{◌≡◌};
 ghost use Rattle.bfd_script.specs.Words.{word_of, stands};
 
 /// The version of a packet file. Before its first line the words of version 1 are known.
-#[derive(Clone, Copy, Debug, PartialEq, Eq)]
+#[derive(Clone, Copy, PartialEq, Eq)]
 pub(crate) enum Version {
     /// A session has one key at most.
     One,
@@ -13,7 +13,7 @@ pub(crate) enum Version {
 }
 
 /// The word that begins a line.
-#[derive(Clone, Copy, Debug, PartialEq, Eq)]
+#[derive(Clone, Copy)]
 pub(crate) enum Word {
     Bfd,
     P2p,
@@ -32,7 +32,7 @@ pub(crate) enum Word {
 }
 
 /// How far the text is read: what may come next.
-#[derive(Clone, Copy, Debug, PartialEq, Eq)]
+#[derive(Clone, Copy, PartialEq, Eq)]
 pub(crate) enum Place {
     /// The line with the version.
     Version,

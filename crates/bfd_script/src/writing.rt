@@ -5,7 +5,7 @@ ghost use Rattle.std.specs.List.{list_any};
 ghost use Rattle.bfd_script.specs.Reading.{script_of};
 ghost use Rattle.bfd_script.specs.Sound.{IsScript};
 ghost use Rattle.bfd_script.specs.Spelling.{line};
-ghost use Rattle.bfd_script.specs.Written.{address_field, auth_fields, config_text, event_fields, events_text, has_second, is_new_line, is_new_row, key_fields, keys_text, kind_number, list_text, mode_field, more_text, port_field, role_field, row_fields, rows_text, spelling, version_field, version_of};
+ghost use Rattle.bfd_script.specs.Written.{address_field, auth_fields, config_text, event_fields, events_text, has_second, is_new_line, is_new_row, key_fields, keys_text, list_text, mode_field, more_text, port_field, role_field, row_fields, rows_text, spelling, version_field, version_of};
 
 use crate::entries::Line;
 use crate::names::hex_text;
@@ -88,24 +88,11 @@ fn row_text(alloc: Global, config: &SessionConfig) -> Result<String, AllocError>
     Ok(text)
 }
 
-/// The number of an Auth Type.
-fn kind_number(kind: AuthType) -> u8
-    ensures { result ≡ kind_number kind }
-{
-    match kind {
-        AuthType::Password => 1,
-        AuthType::KeyedMd5 => 2,
-        AuthType::MeticulousMd5 => 3,
-        AuthType::KeyedSha1 => 4,
-        AuthType::MeticulousSha1 => 5,
-    }
-}
-
 /// The `auth` line of a key.
 fn auth_text(alloc: Global, discr: u32, kind: AuthType, key: &Key) -> Result<String, AllocError>
     ensures { IfOk result (λ text. string_bytes text ≡ line (auth_fields discr kind key.now)) }
 {
-    let kind = kind_number(kind);
+    let kind = kind.number();
     let id = key.id;
     let secret = hex_text(alloc, key.secret.as_slice())?;
     format!(in alloc; "auth {discr} {kind} {id} {secret}\n")

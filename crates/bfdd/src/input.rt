@@ -15,7 +15,7 @@ const MOST_BYTES: usize = 67_108_864;
 const PIECE: usize = 65_536;
 
 /// Why a text wasn't read.
-#[derive(Clone, Copy, Debug, PartialEq, Eq)]
+#[derive(Clone, Copy)]
 pub(crate) enum InputFault {
     /// The source failed.
     Failed,
