@@ -14,6 +14,3 @@ mod screen;
 mod world;
 
 pub use replaying::replay;
-
-#[cfg(test)]
-mod tests;

@@ -46,6 +46,3 @@ pub use reading::read;
 pub use report::lines;
 pub use script::Script;
 pub use writing::write;
-
-#[cfg(test)]
-mod tests;
