@@ -12,6 +12,8 @@
 //! It stands on `bfd_edge`, `bfd_script` and `bfd_replay`.
 #![tactic(auto)]
 
+ghost use Rattle.std.specs.Prelude.{◌≡◌, ◌⊎◌, IfErr};
+
 mod input;
 mod output;
 mod status;
@@ -21,19 +23,28 @@ mod words;
 use bfd_edge::{StdSink, StdSource};
 pub use status::Status;
 use std::env;
+use std::io::ErrorKind;
 use std::process::ExitCode;
 pub use top::run;
 
-/// The words after the program's name: None where they can't be had, as where one isn't UTF-8.
-fn words_after_name(rt: &HostRuntime) -> Option<Vec<String>> {
-    let mut words = env::args(rt).ok()?;
+/// The words after the program's name: Memory where there is no memory for them, and Usage where they can't be had
+/// otherwise, as where one isn't UTF-8.
+fn words_after_name(rt: &HostRuntime) -> Result<Vec<String>, Status>
+    ensures { IfErr result (λ status. (status ≡ Status.Memory) ⊎ (status ≡ Status.Usage)) }
+{
+    let mut words = match env::args(rt) {
+        Ok(words) => words,
+        Err(error) if error.kind() == ErrorKind::OutOfMemory => return Err(Status::Memory),
+        Err(_) => return Err(Status::Usage),
+    };
     let _name = words.next();
-    words.collect(rt.alloc()).ok()
+    words.collect(rt.alloc()).map_err(|_| Status::Memory)
 }
 
 fn main(rt: HostRuntime) -> ExitCode {
-    let Some(words) = words_after_name(&rt) else {
-        return ExitCode::from(Status::Usage.code());
+    let words = match words_after_name(&rt) {
+        Ok(words) => words,
+        Err(status) => return ExitCode::from(status.code()),
     };
     let mut source = StdSource::make(rt.stdin());
     let mut sink = StdSink::make(rt.stdout());
