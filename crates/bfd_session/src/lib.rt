@@ -18,6 +18,3 @@ mod session;
 pub use event::{Answer, Event, SessionConfig, Shown};
 pub use law::tick_laws;
 pub use session::Session;
-
-#[cfg(test)]
-mod tests;
