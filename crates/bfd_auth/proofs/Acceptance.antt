@@ -13,9 +13,9 @@ use Rattle.bfd_packet.specs.declared.keys.AuthType.{AuthType}
 use Rattle.bfd_packet.specs.declared.keys.AuthType.TheVariants.{Password, KeyedMd5, MeticulousMd5, KeyedSha1, MeticulousSha1}
 use Rattle.bfd_packet.specs.declared.keys.Key.{Key}
 use Rattle.bfd_packet.specs.declared.keys.SeqState.{SeqState}
-use Rattle.bfd_packet.specs.KeyChain.{KeyChain, digest_size, fits_kind, key_named, type_number}
+use Rattle.bfd_packet.specs.KeyChain.{KeyChain, digest_size, fits_kind, is_password, key_named, type_number}
 use Rattle.bfd_packet.specs.Layout.{text_of}
-use Rattle.bfd_auth.specs.Digests.{is_password, digest_of, section_length, padded, in_digest_place}
+use Rattle.bfd_auth.specs.Digests.{digest_of, section_length, padded, in_digest_place}
 use Rattle.bfd_auth.specs.Sealed.{digest_section, keyed_text, password_section, section_of}
 use Rattle.bfd_auth.specs.Verdict.{has_section_length, heard, is_genuine, may_hear, packet_key, right_digest, sequence_of, verdict}
 

@@ -3,14 +3,9 @@ use Rattle.std.specs.Prelude.{◌+◌, ◌-◌, ◌++◌, if◌then◌else◌, �
 use Rattle.md5.specs.Md5.{md5}
 use Rattle.sha1.specs.Sha1.{sha1}
 use Rattle.bfd_packet.specs.declared.keys.AuthType.{AuthType}
-use Rattle.bfd_packet.specs.declared.keys.AuthType.TheVariants.{Password, MeticulousMd5, KeyedSha1, MeticulousSha1}
+use Rattle.bfd_packet.specs.declared.keys.AuthType.TheVariants.{MeticulousMd5, KeyedSha1, MeticulousSha1}
 use Rattle.bfd_packet.specs.declared.keys.Key.{Key}
-use Rattle.bfd_packet.specs.KeyChain.{digest_size}
-
--- the type carries a password in place of a sequence number and a digest
-abbrev pub is_password : AuthType → Bool
-is_password Password = true
-is_password _ = false
+use Rattle.bfd_packet.specs.KeyChain.{digest_size, is_password}
 
 -- the sequence number has to rise with each packet
 abbrev pub is_meticulous : AuthType → Bool

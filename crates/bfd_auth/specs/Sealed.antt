@@ -5,9 +5,9 @@ use Rattle.bfd_packet.specs.declared.control.Control.{Control}
 use Rattle.bfd_packet.specs.declared.keys.AuthType.{AuthType}
 use Rattle.bfd_packet.specs.declared.keys.Key.{Key}
 use Rattle.bfd_packet.specs.declared.keys.SeqState.{SeqState}
-use Rattle.bfd_packet.specs.KeyChain.{KeyChain, key_at, type_number}
+use Rattle.bfd_packet.specs.KeyChain.{KeyChain, is_password, key_at, type_number}
 use Rattle.bfd_packet.specs.Layout.{text_of}
-use Rattle.bfd_auth.specs.Digests.{is_password, digest_of, section_length, padded}
+use Rattle.bfd_auth.specs.Digests.{digest_of, section_length, padded}
 
 -- what each section begins with: Auth Type, Auth Len, Key ID
 abbrev pub section_start : AuthType → Key → List ℕ

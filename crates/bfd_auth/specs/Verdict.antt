@@ -6,10 +6,10 @@ use Rattle.bfd_packet.specs.declared.discard.Test.TheVariants.{AuthType, AuthKey
 use Rattle.bfd_packet.specs.declared.keys.AuthType.{AuthType as Kind}
 use Rattle.bfd_packet.specs.declared.keys.Key.{Key}
 use Rattle.bfd_packet.specs.declared.keys.SeqState.{SeqState}
-use Rattle.bfd_packet.specs.KeyChain.{KeyChain, digest_size, key_named, no_key, type_number}
+use Rattle.bfd_packet.specs.KeyChain.{KeyChain, digest_size, is_password, key_named, no_key, type_number}
 use Rattle.bfd_packet.specs.HeaderTests.{unless}
 use Rattle.bfd_packet.specs.Layout.{word_at}
-use Rattle.bfd_auth.specs.Digests.{is_password, is_meticulous, digest_of, section_length, padded, in_digest_place}
+use Rattle.bfd_auth.specs.Digests.{is_meticulous, digest_of, section_length, padded, in_digest_place}
 
 -- the key that the packet's Key ID names; a packet of 26 bytes has no Key ID
 abbrev pub packet_key : List Key → List ℕ → Option Key

@@ -2,11 +2,11 @@
 
 ghost use Rattle.std.specs.Prelude.{◌≡◌, ◌+◌, ◌-◌, ◌*◌, ◌^◌, ◌<◌, ◌≤◌, length, slice_index, slice_range, IsTrue, IfNone, IfSome, Some, find, false};
 ghost use Rattle.std.specs.Option.{option_copied};
-ghost use Rattle.bfd_packet.specs.KeyChain.{fits_kind};
-ghost use Rattle.bfd_auth.specs.Digests.{digest_of, is_meticulous, is_password, section_length, uses_sha1};
+ghost use Rattle.bfd_packet.specs.KeyChain.{fits_kind, is_password};
+ghost use Rattle.bfd_auth.specs.Digests.{digest_of, is_meticulous, section_length, uses_sha1};
 ghost use Rattle.bfd_auth.specs.Verdict.{has_section_length, heard, in_window, is_genuine, may_hear, packet_key, right_digest, section_fails, section_tests, sequence_of, verdict, window};
 
-use crate::digests::{carries_password, digest, has_to_rise, length_of_section};
+use crate::digests::{digest, has_to_rise, length_of_section};
 use bfd_packet::{AuthType, Key, Keys, SeqState, Test};
 use byteorder::{BigEndian, ByteOrder};
 
@@ -84,7 +84,7 @@ fn is_timely(kind: AuthType, seq: &SeqState, raw: &[u8]) -> bool
     requires { is_password kind ≡ false → 32 ≤ length raw.now }
     ensures { result ≡ may_hear kind seq.now (slice_index raw.now 2) (sequence_of raw.now) }
 {
-    carries_password(kind) || !seq.known || follows(kind, seq.rcv, raw[2], sequence(raw))
+    kind.carries_password() || !seq.known || follows(kind, seq.rcv, raw[2], sequence(raw))
 }
 
 // The packet's sequence number.
@@ -120,7 +120,7 @@ fn shows_key(kind: AuthType, key: &Key, raw: &[u8]) -> bool
     requires whole { IsTrue (has_section_length kind key.now raw.now) }
     ensures { result ≡ is_genuine kind key.now raw.now }
 {
-    if carries_password(kind) {
+    if kind.carries_password() {
         let end = 24 + usize::from(raw[25]);
         &raw[27..end] == key.secret.as_slice()
     } else {
@@ -134,7 +134,7 @@ fn after(kind: AuthType, seq: &SeqState, raw: &[u8]) -> SeqState
     requires { is_password kind ≡ false → 32 ≤ length raw.now }
     ensures { result ≡ heard kind seq.now (sequence_of raw.now) }
 {
-    if carries_password(kind) {
+    if kind.carries_password() {
         *seq
     } else {
         SeqState {

@@ -4,7 +4,7 @@ ghost use Rattle.std.specs.Prelude.{◌≡◌, ◌+◌, ◌-◌, ◌++◌, ◌�
 ghost use Rattle.md5.specs.Md5.{md5};
 ghost use Rattle.sha1.specs.Sha1.{sha1};
 ghost use Rattle.bfd_packet.specs.KeyChain.{digest_size, fits_kind};
-ghost use Rattle.bfd_auth.specs.Digests.{digest_of, in_digest_place, is_meticulous, is_password, padded, section_length, uses_sha1};
+ghost use Rattle.bfd_auth.specs.Digests.{digest_of, in_digest_place, is_meticulous, padded, section_length, uses_sha1};
 ghost use Rattle.bfd_auth.specs.Verdict.{right_digest};
 
 use bfd_packet::{AuthBytes, AuthType, Key};
@@ -66,13 +66,6 @@ fn md5_of(front: &[u8], secret: &[u8], zeros: &[u8], rest: &[u8]) -> [u8; 16]
     hasher.finalize()
 }
 
-/// Whether the type carries a password.
-pub fn carries_password(kind: AuthType) -> bool
-    ensures { result ≡ is_password kind }
-{
-    matches!(kind, AuthType::Password)
-}
-
 /// Whether the sequence number has to rise with each packet.
 pub fn has_to_rise(kind: AuthType) -> bool
     ensures { result ≡ is_meticulous kind }
@@ -93,7 +86,7 @@ pub fn length_of_section(kind: AuthType, key: &Key) -> usize
     ensures value { result ≡ section_length kind key.now }
     ensures few { result ≤ 28 }
 {
-    if carries_password(kind) {
+    if kind.carries_password() {
         key.secret.as_slice().len() + 3
     } else {
         kind.digest_size() + 8

@@ -2,13 +2,13 @@
 
 ghost use Rattle.std.specs.Prelude.{◌≡◌, ◌+◌, ◌%◌, ◌++◌, ◌^◌, if◌then◌else◌, ◌<◌, ◌≤◌, length, IsTrue, Ok, Some};
 ghost use Rattle.bfd_packet.specs.declared.keys.SeqState.{SeqState};
-ghost use Rattle.bfd_packet.specs.KeyChain.{digest_size, fits_kind, key_at, key_named};
+ghost use Rattle.bfd_packet.specs.KeyChain.{digest_size, fits_kind, is_password, key_at, key_named};
 ghost use Rattle.bfd_packet.specs.Layout.{text_of};
-ghost use Rattle.bfd_auth.specs.Digests.{is_password, padded};
+ghost use Rattle.bfd_auth.specs.Digests.{padded};
 ghost use Rattle.bfd_auth.specs.Sealed.{digest_section, password_section, sealed, sealed_seq, section_of, section_start};
 ghost use Rattle.bfd_auth.specs.Verdict.{heard, may_hear, verdict};
 
-use crate::digests::{carries_password, digest, length_of_section, zeros};
+use crate::digests::{digest, length_of_section, zeros};
 use arrayvec::ArrayVec;
 use bfd_packet::{AuthBytes, AuthType, Control, Key, Keys, SeqState, Wire, write};
 use byteorder::{BigEndian, ByteOrder};
@@ -48,7 +48,7 @@ fn packet(keys: &Keys, sending: u8, sequence: u32, c: &Control) -> Wire
 fn next(kind: AuthType, seq: &SeqState) -> SeqState
     ensures { result ≡ (if is_password kind then seq.now else record seq.now { xmit = (seq.now.xmit + 1) % 2 ^ 32 }) }
 {
-    if carries_password(kind) {
+    if kind.carries_password() {
         *seq
     } else {
         SeqState {
@@ -67,7 +67,7 @@ fn section(kind: AuthType, key: &Key, sequence: u32, c: &Control) -> AuthBytes
     requires diag { c.now.diag < 32 }
     ensures { result ≡ section_of kind key.now sequence c.now }
 {
-    if carries_password(kind) {
+    if kind.carries_password() {
         let start = [kind.number(), length_of_section(kind, key) as u8, key.id];
         joined(&start, key.secret.as_slice())
     } else {

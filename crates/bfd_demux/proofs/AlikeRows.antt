@@ -11,13 +11,14 @@ use Rattle.std.specs.declared.cmp.Ordering.TheVariants.{Less, Equal, Greater}
 use Rattle.bfd_packet.specs.declared.arrival.Addr.{Addr}
 use Rattle.bfd_packet.specs.declared.arrival.Addr.TheVariants.{V4, V6}
 use Rattle.bfd_packet.specs.contracts.arrival.AddrOrd.TheImpl as addrs
+use Rattle.bfd_packet.specs.Addresses.{same_addr}
 use Rattle.bfd_demux.specs.declared.row.Row.{Row}
 use Rattle.bfd_demux.specs.declared.row.RowKind.{RowKind}
 use Rattle.bfd_demux.specs.declared.row.RowKind.TheVariants.{Single, Multi, Seek, Reflect, Head, Tail}
 use Rattle.bfd_demux.specs.contracts.row.RowKindOrd.TheImpl as kinds
 use Rattle.bfd_demux.specs.contracts.row.RowKindOrd.TheImpl.Laws.{total-law}
 use Rattle.std.specs.Cmp.{eq_by_cmp_equiv}
-use Rattle.bfd_demux.specs.Rows.{repeat_after, same_addr, same_selector, has_addresses}
+use Rattle.bfd_demux.specs.Rows.{repeat_after, same_selector, has_addresses}
 
 -- one more element at the end is found where none before it is
 pub position_from-push : {X : Type 0} (p : X → Bool) (n : ℕ) (xs : List X) (x : X) → position_from p n (xs ++ x ∷ []) ≡ option_or (position_from p n xs) (cond (p x) (Some (n + length xs)) None)

@@ -11,11 +11,12 @@ use Rattle.bfd_packet.specs.declared.control.Control.{Control}
 use Rattle.bfd_packet.specs.declared.discard.Test.TheVariants.{YourUnknown, YourZeroState, NoSession, MultipointYour, NoTail}
 use Rattle.bfd_packet.specs.Layout.{fields_of, word_at}
 use Rattle.bfd_packet.specs.HeaderTests.{header_fails, read_of, unless}
+use Rattle.bfd_packet.specs.States.{is_init_or_up}
 use Rattle.bfd_demux.specs.declared.row.Row.{Row}
 use Rattle.bfd_demux.specs.declared.row.RowKind.{RowKind}
 use Rattle.bfd_demux.specs.declared.target.Target.TheVariants.{Session, Reflector}
 use Rattle.bfd_demux.specs.Rows.{has_addresses, same_selector}
-use Rattle.bfd_demux.specs.Selection.{only, the_one, names_on, has_discr, has_selector, selector_on, tail_selector, is_multipoint, is_by_addresses, knows, is_init_or_up, session_index, reflector_index, table_fails, tests_on_header, tests_on_table, first_failing_on}
+use Rattle.bfd_demux.specs.Selection.{only, the_one, names_on, has_discr, has_selector, selector_on, tail_selector, is_multipoint, is_by_addresses, knows, session_index, reflector_index, table_fails, tests_on_header, tests_on_table, first_failing_on}
 use Rattle.bfd_demux.specs.Parts.{names_session, index_on, target_named, echo_target, first_past_header, first_echo_failing, first_session_failing}
 
 -- tests that agree name the same row

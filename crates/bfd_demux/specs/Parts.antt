@@ -9,11 +9,12 @@ use Rattle.bfd_packet.specs.declared.control.Control.{Control}
 use Rattle.bfd_packet.specs.declared.discard.Test.{Test}
 use Rattle.bfd_packet.specs.declared.discard.Test.TheVariants.{YourUnknown, YourZeroState, NoSession, EchoForm}
 use Rattle.bfd_packet.specs.Layout.{word_at}
+use Rattle.bfd_packet.specs.States.{is_init_or_up}
 use Rattle.bfd_demux.specs.declared.row.Row.{Row}
 use Rattle.bfd_demux.specs.declared.row.RowKind.{RowKind}
 use Rattle.bfd_demux.specs.declared.target.Target.{Target}
 use Rattle.bfd_demux.specs.declared.target.Target.TheVariants.{Echo}
-use Rattle.bfd_demux.specs.Selection.{has_discr, has_selector, is_echo_form, is_init_or_up, is_multipoint, knows, names_on, reflector_index, session_index, table_fails, target_on, tests_on_table, the_one}
+use Rattle.bfd_demux.specs.Selection.{has_discr, has_selector, is_echo_form, is_multipoint, knows, names_on, reflector_index, session_index, table_fails, target_on, tests_on_table, the_one}
 
 -- the first of the port's tests on the table that the arrival fails
 abbrev pub first_past_header : Port → List Row → Arrival → Option Test

@@ -2,19 +2,12 @@
 use Rattle.std.specs.Prelude.{ℕ, Bool, true, false, ◌==◌, ◌&&◌, nat_lt, Option, Some, None, List, [], ◌∷◌, ◌++◌, length, position, if◌then◌else◌}
 use Rattle.std.specs.List.{position_from}
 use Rattle.std.specs.Option.{option_map, option_or}
-use Rattle.bfd_packet.specs.declared.arrival.Addr.{Addr}
-use Rattle.bfd_packet.specs.declared.arrival.Addr.TheVariants.{V4, V6}
+use Rattle.bfd_packet.specs.Addresses.{same_addr}
 use Rattle.bfd_demux.specs.declared.row.Row.{Row}
 use Rattle.bfd_demux.specs.declared.row.RowKind.{RowKind}
 use Rattle.bfd_demux.specs.declared.row.RowKind.TheVariants.{Single, Multi, Tail}
 use Rattle.bfd_demux.specs.declared.fault.BuildFault.{BuildFault}
 use Rattle.bfd_demux.specs.declared.fault.BuildFault.TheVariants.{SameDiscr, SameAddresses, ZeroDiscr, TooMany}
-
--- one address is the other
-abbrev pub same_addr : Addr → Addr → Bool
-same_addr (V4 a) (V4 b) = a == b
-same_addr (V6 a) (V6 b) = a == b
-same_addr _ _ = false
 
 -- one kind, and the same addresses: a packet without Your Discriminator can't tell the two apart (RFC 5880
 -- section 6.3, RFC 8562 section 5.7)

@@ -6,8 +6,7 @@ use Rattle.std.specs.Option.{option_map}
 use Rattle.bfd_packet.specs.declared.arrival.Arrival.{Arrival}
 use Rattle.bfd_packet.specs.declared.arrival.Port.{Port}
 use Rattle.bfd_packet.specs.declared.arrival.Port.TheVariants.{Single as SinglePort, Multi as MultiPort, Echo as EchoPort, Sbfd as SbfdPort, Answer as AnswerPort}
-use Rattle.bfd_packet.specs.declared.control.State.{State}
-use Rattle.bfd_packet.specs.declared.control.State.TheVariants.{Init, Up}
+use Rattle.bfd_packet.specs.States.{is_init_or_up}
 use Rattle.bfd_packet.specs.declared.discard.Test.{Test}
 use Rattle.bfd_packet.specs.declared.discard.Test.TheVariants.{YourUnknown, YourZeroState, NoSession, MultipointYour, NoTail, EchoForm}
 use Rattle.bfd_packet.specs.Layout.{fields_of, word_at}
@@ -81,12 +80,6 @@ the_one test rows = only (filter test rows)
 -- the one row that the arrival names (RFC 5880 sections 6.3 and 6.8.6)
 abbrev pub selected : List Row → Arrival → Option Row
 selected rows arrival = the_one (names_on arrival.port arrival) rows
-
--- the state says that the sender has heard this system (RFC 5880 section 6.8.6)
-abbrev pub is_init_or_up : State → Bool
-is_init_or_up Init = true
-is_init_or_up Up = true
-is_init_or_up _ = false
 
 -- the payload has the form of this engine's echo packets: 16 bytes, the sign "BFDe", two words, and 0
 abbrev pub is_echo_form : List ℕ → Bool

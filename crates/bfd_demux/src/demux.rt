@@ -6,8 +6,9 @@ ghost use Rattle.std.specs.Option.{option_map};
 ghost use Rattle.std.specs.Result.{result_err};
 ghost use Rattle.bfd_packet.specs.Layout.{fields_of, word_at};
 ghost use Rattle.bfd_packet.specs.HeaderTests.{takes_multipoint_of};
+ghost use Rattle.bfd_packet.specs.States.{is_init_or_up};
 ghost use Rattle.bfd_demux.specs.Rows.{build_fault, early_fault, has_addresses, same_selector};
-ghost use Rattle.bfd_demux.specs.Selection.{first_header_failing, first_table_failing, has_discr, has_selector, is_by_addresses, is_echo_form, is_init_or_up, is_session, knows, reflector_index, selector_on, session_index, tail_selector, target_of, the_one};
+ghost use Rattle.bfd_demux.specs.Selection.{first_header_failing, first_table_failing, has_discr, has_selector, is_by_addresses, is_echo_form, is_session, knows, reflector_index, selector_on, session_index, tail_selector, target_of, the_one};
 ghost use Rattle.bfd_demux.specs.Parts.{echo_target, first_echo_failing, first_past_header, first_session_failing, index_on, names_session, target_named};
 ghost use Rattle.bfd_demux.specs.Index.{names_of, addresses_of};
 ghost use Rattle.bfd_demux.specs.Table.{how_many};
@@ -19,7 +20,7 @@ use crate::row::{Row, RowKind};
 use crate::table::{place_of, sort_by_key};
 use crate::target::Target;
 use bfd_num::Steps;
-use bfd_packet::{Arrival, Control, Port, State, Test, read};
+use bfd_packet::{Arrival, Control, Port, Test, read};
 use byteorder::{BigEndian, ByteOrder};
 use std::alloc::{AllocError, Global};
 use std::marker::Model;
@@ -267,7 +268,7 @@ impl Demux {
                 None => Err(Test::YourUnknown),
             };
         }
-        if is_init_or_up(packet.state) {
+        if packet.state.is_init_or_up() {
             return Err(Test::YourZeroState);
         }
         let Some(kind) = selector else {
@@ -293,13 +294,6 @@ fn echo_words(payload: &[u8]) -> Option<(u32, u32)>
         return Some((discr, sequence));
     }
     None
-}
-
-// Whether the state says that the sender has heard this system.
-fn is_init_or_up(state: State) -> bool
-    ensures { result ≡ is_init_or_up state }
-{
-    matches!(state, State::Init | State::Up)
 }
 
 // Whether M is set on the port that takes multipoint packets.

@@ -6,10 +6,8 @@ use Rattle.bfd_packet.specs.declared.control.State.TheVariants.{AdminDown, Down,
 use Rattle.bfd_packet.specs.declared.control.Control.{Control}
 use Rattle.bfd_packet.specs.declared.discard.Test.{Test}
 use Rattle.bfd_packet.specs.declared.discard.Test.TheVariants.{Ttl, AuthUnexpected, AuthMissing, AdminDown as DiscardAdminDown}
-use Rattle.bfd_packet.specs.declared.keys.AuthType.{AuthType}
-use Rattle.bfd_packet.specs.declared.keys.AuthType.TheVariants.{Password, KeyedMd5, MeticulousMd5, KeyedSha1, MeticulousSha1}
 use Rattle.bfd_packet.specs.declared.keys.SeqState.{SeqState}
-use Rattle.bfd_packet.specs.KeyChain.{KeyChain}
+use Rattle.bfd_packet.specs.KeyChain.{KeyChain, is_password}
 use Rattle.bfd_packet.specs.Layout.{fields_of}
 use Rattle.bfd_auth.specs.Verdict.{verdict}
 use Rattle.bfd_rules.specs.declared.config.Role.{Role}
@@ -54,18 +52,10 @@ abbrev pub judged : Config → Vars → ℕ → List ℕ → Result SeqState Tes
 judged c v ttl raw =
     judged_by (find (session_fails c ttl (fields_of raw)) session_tests) (authenticated c.keys v.seq (fields_of raw) raw)
 
--- packets of every type but Simple Password carry a sequence number (section 4.2)
-abbrev pub is_sequenced : AuthType → Bool
-is_sequenced Password = false
-is_sequenced KeyedMd5 = true
-is_sequenced MeticulousMd5 = true
-is_sequenced KeyedSha1 = true
-is_sequenced MeticulousSha1 = true
-
--- the session's packets do
+-- the session's packets carry a sequence number: those of every type but Simple Password do (section 4.2)
 abbrev pub has_sequence : Option KeyChain → Bool
 has_sequence None = false
-has_sequence (Some keys) = is_sequenced keys.kind
+has_sequence (Some keys) = not (is_password keys.kind)
 
 -- 1. The sequence state is kept (section 6.7)
 unfoldable pub keeps_sequence : Config → ℕ → SeqState → Course → Course

@@ -1,8 +1,8 @@
 -- What has come due by an event is done first: three rules, each at most once, in this order. The limit is the moment
 -- by which something is due, and eff the effective moment of the event, both in microseconds.
-use Rattle.std.specs.Prelude.{ℕ, ◌&&◌, not, Bool, true, false, if◌then◌else◌, None}
-use Rattle.bfd_packet.specs.declared.control.State.{State}
-use Rattle.bfd_packet.specs.declared.control.State.TheVariants.{AdminDown, Down, Init, Up}
+use Rattle.std.specs.Prelude.{ℕ, ◌&&◌, not, true, false, if◌then◌else◌, None}
+use Rattle.bfd_packet.specs.declared.control.State.TheVariants.{Down}
+use Rattle.bfd_packet.specs.States.{is_init_or_up}
 use Rattle.bfd_num.specs.Numbers.{floor_tick}
 use Rattle.bfd_num.specs.Due.{has_come}
 use Rattle.bfd_rules.specs.declared.config.Config.{Config}
@@ -14,13 +14,6 @@ use Rattle.bfd_rules.specs.Quantities.{deadline, seq_deadline, may_send, is_idle
 use Rattle.bfd_rules.specs.Course.{Course}
 use Rattle.bfd_p2p.specs.Frame.{renews, moves, enters}
 use Rattle.bfd_p2p.specs.Transmit.{transmits}
-
--- the session has heard its peer: it is in Init or Up
-abbrev pub is_init_or_up : State → Bool
-is_init_or_up AdminDown = false
-is_init_or_up Down = false
-is_init_or_up Init = true
-is_init_or_up Up = true
 
 -- a session in Init or Up that hears nothing goes Down with diagnostic 1, Control Detection Time Expired
 abbrev pub goes_silent : Vars → Vars

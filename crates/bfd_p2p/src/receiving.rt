@@ -15,7 +15,7 @@ ghost use Rattle.bfd_p2p.specs.Port.{port_of};
 use crate::frame::{enters, moves, renews};
 use crate::transmitting::transmits;
 use bfd_auth::verify;
-use bfd_packet::{AuthType, Control, Keys, Port, SeqState, State, Test, read};
+use bfd_packet::{Control, Keys, Port, SeqState, State, Test, read};
 use bfd_rules::{Config, Mark, Outs, Poll, Role, Vars};
 
 /// What became of a packet.
@@ -82,7 +82,7 @@ fn has_sequence(keys: &Option<Keys>) -> bool
     ensures { result ≡ receive.has_sequence keys.now }
 {
     match keys {
-        Some(keys) => !matches!(keys.kind, AuthType::Password),
+        Some(keys) => !keys.kind.carries_password(),
         None => false,
     }
 }

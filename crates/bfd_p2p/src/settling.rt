@@ -13,26 +13,9 @@ ghost use Rattle.bfd_p2p.specs.Over.{IsBegun, IsStill};
 
 use crate::frame::{enters, moves, renews};
 use crate::transmitting::transmits;
-use bfd_num::floor_tick;
+use bfd_num::{floor_tick, has_come};
 use bfd_packet::{SeqState, State};
 use bfd_rules::{Config, Mark, Outs, Poll, Vars, deadline, may_send, seq_deadline};
-
-/// A moment has come by the limit.
-fn has_come(limit: u64, moment: Option<u64>) -> bool
-    ensures { result ≡ due.has_come limit moment }
-{
-    match moment {
-        Some(moment) => moment <= limit,
-        None => false,
-    }
-}
-
-/// The session has heard its peer.
-fn is_init_or_up(state: State) -> bool
-    ensures { result ≡ settling.is_init_or_up state }
-{
-    matches!(state, State::Init | State::Up)
-}
 
 /// The peer is forgotten, and a session in Init or Up goes Down with diagnostic 1.
 fn silenced(v: &Vars) -> Vars
@@ -45,7 +28,7 @@ fn silenced(v: &Vars) -> Vars
         remote_discr: 0,
         ..*v
     };
-    if is_init_or_up(silent.state) {
+    if silent.state.is_init_or_up() {
         enters(State::Down, 1, silent)
     } else {
         silent

@@ -1,2 +1,3 @@
 pub mod KeyRules
 pub mod RoundTrip
+pub mod Turned

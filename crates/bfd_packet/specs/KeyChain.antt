@@ -1,5 +1,5 @@
 -- The keys of a session (RFC 5880 section 6.7).
-use Rattle.std.specs.Prelude.{◌≤◌, ◌<◌, ◌&&◌, ◌==◌, ℕ, Bool, true, not, nat_le, List, [], ◌∷◌, length, position, find, slice_index_or, Option, IsTrue}
+use Rattle.std.specs.Prelude.{◌≤◌, ◌<◌, ◌&&◌, ◌==◌, ℕ, Bool, true, false, not, nat_le, List, [], ◌∷◌, length, position, find, slice_index_or, Option, IsTrue}
 use Rattle.std.specs.List.{list_all, list_any}
 use Rattle.bfd_packet.specs.declared.keys.AuthType.{AuthType}
 use Rattle.bfd_packet.specs.declared.keys.AuthType.TheVariants.{Password, KeyedMd5, MeticulousMd5, KeyedSha1, MeticulousSha1}
@@ -17,6 +17,11 @@ type_number KeyedMd5 = 2
 type_number MeticulousMd5 = 3
 type_number KeyedSha1 = 4
 type_number MeticulousSha1 = 5
+
+-- the type carries a password in place of a sequence number and a digest (RFC 5880 section 4.2)
+abbrev pub is_password : AuthType → Bool
+is_password Password = true
+is_password _ = false
 
 -- the digest's bytes: 20 of SHA1, 16 of MD5 (RFC 5880 sections 4.3 and 4.4)
 abbrev pub digest_size : AuthType → ℕ

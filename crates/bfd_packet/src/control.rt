@@ -9,6 +9,18 @@ pub enum State {
     Up = 3,
 }
 
+impl State {
+    ghost use Rattle.std.specs.Prelude.{◌≡◌};
+    ghost use Rattle.bfd_packet.specs.States.{is_init_or_up};
+
+    /// Whether it is Init or Up: who is in one of them has heard the other side (RFC 5880 section 6.2).
+    pub fn is_init_or_up(self) -> bool
+        ensures { result ≡ is_init_or_up self }
+    {
+        matches!(self, State::Init | State::Up)
+    }
+}
+
 /// The mandatory section of a control packet, field by field (RFC 5880 section 4.1). Version is 1 and has
 /// no field here. Intervals are in microseconds.
 #[derive(Clone, Copy, Debug, PartialEq, Eq)]

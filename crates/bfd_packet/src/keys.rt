@@ -17,13 +17,20 @@ pub enum AuthType {
 }
 
 impl AuthType {
-    ghost use Rattle.bfd_packet.specs.KeyChain.{digest_size, type_number};
+    ghost use Rattle.bfd_packet.specs.KeyChain.{digest_size, is_password, type_number};
 
     /// The type's number in a section, 1 to 5.
     pub fn number(self) -> u8
         ensures { result ≡ type_number self }
     {
         self as u8
+    }
+
+    /// Whether the type carries a password, and no sequence number (RFC 5880 section 4.2).
+    pub fn carries_password(self) -> bool
+        ensures { result ≡ is_password self }
+    {
+        matches!(self, AuthType::Password)
     }
 
     /// The length of the type's digest in bytes: 20 of SHA1, else 16. It's also the most bytes of a secret.

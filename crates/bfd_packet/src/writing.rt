@@ -73,12 +73,7 @@ fn number_of(state: State) -> u8
     ensures number { result ≡ state_number state }
     ensures small { result < 4 }
 {
-    match state {
-        State::AdminDown => 0,
-        State::Down => 1,
-        State::Init => 2,
-        State::Up => 3,
-    }
+    state as u8
 }
 
 // A flag as the bit at this place.

@@ -14,12 +14,14 @@ use Rattle.bfd_packet.specs.contracts.arrival.AddrOrd.TheImpl as addrs
 use Rattle.bfd_session.specs.declared.event.SessionConfig.{SessionConfig}
 use Rattle.bfd_session.specs.Kinds.{discr_of}
 use Rattle.bfd_session.specs.Step.{IsFit}
+use Rattle.bfd_packet.specs.Addresses.{same_addr}
+use Rattle.bfd_packet.proofs.Turned.{number_turned, addr_turned}
 use Rattle.bfd_script.specs.declared.selecting.Selector.{Selector}
 use Rattle.bfd_script.specs.declared.selecting.Selector.TheVariants.{Single, Multi}
 use Rattle.bfd_script.specs.contracts.selecting.SelectorOrd.TheImpl as selectors
 use Rattle.bfd_script.specs.Reading.{is_built}
 use Rattle.bfd_script.specs.Rows.{has_discr, has_place, has_selector, inserted, by_discr}
-use Rattle.bfd_script.specs.Selecting.{selector_of, same_addr, same_place, same_selector}
+use Rattle.bfd_script.specs.Selecting.{selector_of, same_place, same_selector}
 use Rattle.bfd_script.specs.Sound.{Each, Ascends, Differs, AreConfigs, IsRow}
 use Rattle.bfd_script.specs.Tables.{IsTable}
 use Rattle.bfd_script.proofs.Elements.{each_to}
@@ -164,17 +166,8 @@ ascends_inserted c (d ∷ ds) none all =
     ascends_cond (nat_lt (discr_of c) (discr_of d)) (discr_of c == discr_of d) (has_discr (discr_of c) ds) c d ds refl refl none all (λ h. ascends_inserted c ds h all.1)
 
 -- same places are the same either way round
-same_number : (a b : ℕ) → (a == b) ≡ (b == a)
-same_number a b = grind (arith, nat_tests)
-
-addr_turned : (a b : Addr) → same_addr a b ≡ same_addr b a
-addr_turned (V4 a) (V4 b) = same_number a b
-addr_turned (V4 a) (V6 b) = refl
-addr_turned (V6 a) (V4 b) = refl
-addr_turned (V6 a) (V6 b) = same_number a b
-
 pub place_turned : (a b : Selector) → same_place a b ≡ same_place b a
-place_turned (Single i l r) (Single i' l' r') = rw (same_number i i', addr_turned l l', addr_turned r r') refl
+place_turned (Single i l r) (Single i' l' r') = rw (number_turned i i', addr_turned l l', addr_turned r r') refl
 place_turned (Multi l r) (Multi l' r') = rw (addr_turned l l', addr_turned r r') refl
 place_turned (Single i l r) (Multi l' r') = refl
 place_turned (Multi l r) (Single i' l' r') = refl

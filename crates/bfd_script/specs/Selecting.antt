@@ -1,7 +1,6 @@
 -- The addresses by which a packet without Your Discriminator names a session (RFC 5881 section 3, RFC 5883 section 4).
 use Rattle.std.specs.Prelude.{Bool, false, ◌==◌, ◌&&◌}
-use Rattle.bfd_packet.specs.declared.arrival.Addr.{Addr}
-use Rattle.bfd_packet.specs.declared.arrival.Addr.TheVariants.{V4, V6}
+use Rattle.bfd_packet.specs.Addresses.{same_addr}
 use Rattle.bfd_rules.specs.declared.config.Role.{Role}
 use Rattle.bfd_rules.specs.declared.config.Role.TheVariants as roles
 use Rattle.bfd_rules.specs.declared.config.Config.{Config}
@@ -18,12 +17,6 @@ selector_by roles.Multi c = Multi c.local c.remote
 -- the selecting addresses of a session
 abbrev pub selector_of : SessionConfig → Selector
 selector_of (Pair c) = selector_by c.role c
-
--- one address is the other
-abbrev pub same_addr : Addr → Addr → Bool
-same_addr (V4 a) (V4 b) = a == b
-same_addr (V6 a) (V6 b) = a == b
-same_addr _ _ = false
 
 -- selecting addresses are the same
 abbrev pub same_place : Selector → Selector → Bool

@@ -1,7 +1,6 @@
 //! The events of a point-to-point session.
 ghost use Rattle.std.specs.Prelude.{◌≡◌, ◌<◌, ◌≤◌, ◌+◌, ◌*◌, ◌++◌, ℕ, None, Some, false, IfSome, IsTrue, ◌↔◌};
 ghost use Rattle.bfd_num.specs.Numbers.{moment_bound};
-ghost use Rattle.bfd_num.specs.Due.{has_come, sooner as sooner_of};
 ghost use Rattle.bfd_rules.specs.Course.{course};
 ghost use Rattle.bfd_rules.specs.Sound.{IsSound};
 ghost use Rattle.bfd_p2p.specs.Over.{IsOver};
@@ -12,7 +11,7 @@ ghost use Rattle.bfd_session.specs.Step.{CanTake, IsFor, begun};
 ghost use Rattle.bfd_p2p.specs.Port.{port_of as role_port};
 
 use crate::{Answer, Event, Shown};
-use bfd_num::ceil_tick;
+use bfd_num::{ceil_tick, sooner};
 use bfd_p2p::{P2p, Verdict};
 use bfd_packet::{Arrival, Port, Test, header_test};
 use bfd_rules::{
@@ -154,16 +153,6 @@ pub fn ticks(p: &mut P2p, limit: u64, eff: u64, outs: &mut Outs)
     let mut kept = p.begin(None);
     p.settle(limit, eff, &mut kept, outs);
     p.finish(eff, kept, outs);
-}
-
-/// The sooner of two due ticks.
-fn sooner(a: Option<u64>, b: Option<u64>) -> Option<u64>
-    ensures { result ≡ sooner_of a b }
-{
-    match (a, b) {
-        (Some(a), Some(b)) => Some(a.min(b)),
-        (None, other) | (other, None) => other,
-    }
 }
 
 /// The tick at which a moment has come.
