@@ -27,7 +27,7 @@ use bfd_packet::{Keys, SeqState, State};
 use bfd_rules::{Cmd, Config, Mark, Outs, Poll, Refusal, Vars, begins, drawn, stamped};
 use std::marker::Model;
 
-/// A point-to-point session: its configuration, and its variables, which stay sound.
+/// A point-to-point session: its configuration, and its variables, which are steady also between the parts of an event.
 #[derive(Drop)]
 pub struct P2p {
     config: Config,
@@ -237,8 +237,8 @@ impl P2p {
         fails(&self.config, eff, diag, &mut self.vars, outs);
     }
 
-    /// Ends an event: a state or diagnostic that the peer hasn't been told is told by one packet where one may be
-    /// sent, and the next due tick is drawn (RFC 5880 section 6.8.7). Adds at most one output.
+    /// Ends an event: a state or diagnostic that changed in it, and that no periodic packet of it told, is told by one
+    /// packet where one may be sent, and the next due tick is drawn (RFC 5880 section 6.8.7). Adds at most one output.
     pub fn finish(&mut self, eff: u64, mark: Mark, outs: &mut Outs)
         requires eff { eff < moment_bound }
         requires room { 1 ≤ outs.old.spare }

@@ -47,7 +47,7 @@ changes discr v s = record s { vars = v; outs = s.outs ++ told discr s.vars v }
 unfoldable pub sends : ℕ → Datagram → Course → Course
 sends discr datagram s = record s { outs = s.outs ++ Sent discr datagram ∷ [] }
 
--- the peer hasn't been told the present state and diagnostic
+-- the state or diagnostic isn't the one that the event began with, or that its periodic packet told
 abbrev pub is_news : Mark → Vars → Bool
 is_news m v = not (same_state v.state m.state && (v.diag == m.diag))
 

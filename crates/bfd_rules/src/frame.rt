@@ -75,7 +75,7 @@ pub fn sends(discr: u32, datagram: Datagram, outs: &mut Outs)
     outs.push(Out::Sent { discr, datagram });
 }
 
-/// The peer hasn't been told the present state and diagnostic.
+/// The state or diagnostic isn't the one that the event began with, or that its periodic packet told.
 pub fn is_news(mark: &Mark, v: &Vars) -> bool
     ensures { result ≡ frame.is_news mark.now v.now }
 {
