@@ -8,7 +8,7 @@
 //! steps, and on `byteorder` and `thiserror`. It promises that `build` refuses exactly the rows that make no
 //! table, but for want of memory, and names the first fault; that no rows are no fault and take no memory;
 //! that `select` is the standard's choice for every table and arrival; that it takes no memory; and that a
-//! lookup looks at 17 entries at most.
+//! lookup counts 17 steps at most, of which the search counts one for each entry that it looks at.
 #![tactic(auto)]
 
 mod demux;

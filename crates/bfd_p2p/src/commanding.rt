@@ -1,7 +1,6 @@
 //! Commands (RFC 5880 sections 6.8.10 to 6.8.17).
 ghost use Rattle.std.specs.Prelude.{◌≡◌, ◌<◌, ◌≤◌, ◌+◌, None, IfSome, length};
 ghost use Rattle.std.specs.Result.{result_err};
-ghost use Rattle.bfd_packet.specs.KeyChain.{place_of};
 ghost use Rattle.bfd_num.specs.Numbers.{moment_bound};
 ghost use Rattle.bfd_rules.specs.declared.config.Config.{Config as ConfigOf};
 ghost use Rattle.bfd_rules.specs.declared.variables.Mark.{Mark as MarkOf};
@@ -22,28 +21,13 @@ fn is_interval(n: u64) -> bool
     10_000 <= n && n <= 60_000_000
 }
 
-/// The place of the key with this id, as an index.
-fn position_of(keys: &Keys, id: u64) -> Option<usize>
-    ensures value { result ≡ place_of id keys.now.list }
-    ensures within { IfSome result (λ place. place < length keys.now.list) }
-    ensures few { length keys.now.list ≤ 4 }
-{
-    keys.list
-        .as_slice()
-        .iter()
-        .position(|key| id == u64::from(key.id))
-}
-
 /// The place of the key with this id, among the keys of a session that has some.
 fn key_place(keys: &Option<Keys>, id: u64) -> Option<u8>
     ensures value { result ≡ commands.key_place keys.now id }
     ensures place { IfSome result (IsPlace keys.now) }
 {
-    let Some(keys) = keys else {
-        return None;
-    };
-    match position_of(keys, id) {
-        Some(place) => Some(place as u8),
+    match keys {
+        Some(keys) => keys.place_of(id),
         None => None,
     }
 }

@@ -276,8 +276,8 @@ fn accepts(
     Verdict::Accepted
 }
 
-/// The port on which control packets of the role arrive.
-fn control_port(role: Role) -> Port
+/// The port on which control packets of a session over so many hops arrive (RFC 5881 section 4, RFC 5883 section 5).
+pub fn control_port(role: Role) -> Port
     ensures { result ≡ port_of role }
 {
     match role {

@@ -25,7 +25,7 @@ impl State {
 /// no field here. Intervals are in microseconds.
 #[derive(Clone, Copy, Debug, PartialEq, Eq)]
 pub struct Control {
-    /// Diagnostic, 0 to 31: why the sender's session last left Up.
+    /// Diagnostic, 0 to 31: why the sender's session last changed its state.
     pub diag: u8,
     /// Sta: the sender's session state.
     pub state: State,

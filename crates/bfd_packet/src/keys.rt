@@ -1,6 +1,6 @@
 //! What a session authenticates with (RFC 5880 section 6.7).
 
-ghost use Rattle.std.specs.Prelude.{◌≡◌, ◌≤◌, ◌<◌, ◌↔◌, ◌++◌, [], ◌∷◌, length, IsTrue, IfSome, Some, false};
+ghost use Rattle.std.specs.Prelude.{◌≡◌, ◌≤◌, ◌<◌, ◌++◌, [], ◌∷◌, length, nat_le, IsTrue, IfSome, Some, false};
 ghost use Rattle.std.specs.Option.{option_copied};
 
 use arrayvec::ArrayVec;
@@ -189,9 +189,9 @@ impl Keys {
 
     /// Whether there are four keys, so that no other can be added.
     pub fn is_full(&self) -> bool
-        ensures { IsTrue result ↔ (length self.now.list ≡ 4) }
+        ensures { result ≡ nat_le 4 (length self.now.list) }
     {
-        self.list.as_slice().len() == 4
+        self.list.as_slice().len() >= 4
     }
 
     /// Whether a key has this id.
@@ -201,8 +201,8 @@ impl Keys {
         self.list.as_slice().iter().any(|key| id == key.id)
     }
 
-    /// The place of the key with this id, 0 to 3, or None exactly where no key has it.
-    pub fn place_of(&self, id: u8) -> Option<u8>
+    /// The place of the key with this id, 0 to 3, or None exactly where no key has it, as where it is above 255.
+    pub fn place_of(&self, id: u64) -> Option<u8>
         ensures value { result ≡ place_of id self.now.list }
         ensures within { IfSome result (λ place. place < length self.now.list) }
     {
@@ -213,12 +213,15 @@ impl Keys {
     }
 
     // The same place, as an index.
-    fn position_of(&self, id: u8) -> Option<usize>
+    fn position_of(&self, id: u64) -> Option<usize>
         ensures value { result ≡ place_of id self.now.list }
         ensures within { IfSome result (λ place. place < length self.now.list) }
         ensures few { length self.now.list ≤ 4 }
     {
-        self.list.as_slice().iter().position(|key| id == key.id)
+        self.list
+            .as_slice()
+            .iter()
+            .position(|key| id == u64::from(key.id))
     }
 
     /// The key at this place of the list. Its secret has a length that the type allows, and its id names

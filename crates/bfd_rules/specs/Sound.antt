@@ -36,9 +36,8 @@ pub record IsConfig (c : Config) : Type 0 where
   pub some_mult : 0 < c.mult
   pub echo_range : IsTrue (is_echo_interval c.role c.echo)
 
--- what the raw variables of a rule meet: configured values in their ranges, moments below 2^60, 32 bits
--- of the peer's interval, and in Up a packet
--- was heard
+-- what the raw variables of a rule meet: configured values in their ranges, a diagnostic of 5 bits, an interval in use of
+-- 10,000 at least, 32 bits of the peer's interval, moments below 2^60, in Up a packet that was heard, and a key to send with
 pub record IsPlain (c : Config) (v : Vars) : Type 0 where
   pub tx_least : 10000 ≤ v.tx
   pub tx_most : v.tx ≤ 60000000

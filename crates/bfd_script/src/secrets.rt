@@ -12,9 +12,6 @@ use crate::values::bytes_read;
 use bfd_packet::{AuthType, Key, Keys, Secret};
 use std::alloc::Global;
 
-/// The most keys of a session.
-const MOST_KEYS: usize = 4;
-
 /// The Auth Type of a number 1 to 5.
 fn kind_by(n: u64) -> AuthType
     ensures { result ≡ kind_by n }
@@ -114,7 +111,7 @@ pub(crate) fn key_fault(keys: &Option<Keys>, key: &Key) -> Option<LineFault>
     if keys.has_id(key.id) {
         return Some(LineFault::SameKey);
     }
-    if keys.len() >= MOST_KEYS {
+    if keys.is_full() {
         return Some(LineFault::TooMany);
     }
     None

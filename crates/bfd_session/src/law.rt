@@ -15,4 +15,6 @@ pub fn tick_laws()
         → tick_next c (1000 * t) eff v ≡ v }
     ensures outs { (c : SessionConfig) (v : Vars) (t eff : ℕ) → IsSound c v → has_come t (due c v) ≡ false
         → tick_emits c (1000 * t) eff v ≡ [] }
+    ensures sound { (c : SessionConfig) (v : Vars) (limit eff : ℕ) → eff < moment_bound → IsSound c v
+        → IsSound c (tick_next c limit eff v) }
 {}
