@@ -1,5 +1,5 @@
 // The trusted edge over std's readers and writers.
-ghost use Rattle.std.specs.Prelude.{◌≡◌, ◌≢◌, Err, ℕ, ◌<◌, List, Option, length, Ok};
+ghost use Rattle.std.specs.Prelude.{◌≡◌, ◌≢◌, ◌⊎◌, Err, ℕ, ◌<◌, [], IfOk, List, Option, length, Ok};
 ghost use Rattle.std.specs.Io.{ReadsAtMost, WritesAtMost};
 ghost use Rattle.std.specs.Io.KnownBytes.{ReadConsumes, WriteAppends};
 ghost use Rattle.bfd_edge.specs.Faults.{HasCause, Rose};
@@ -34,6 +34,7 @@ impl<R: Read> Source for StdSource<R> {
         ensures bound { ReadsAtMost result buf.new }
         ensures bytes { ReadConsumes (R.remaining self.old.reader) (R.remaining self.new.reader) result buf.new }
         ensures cause { HasCause self.old.faults self.new.faults result }
+        ensures calm { IfOk result (λ count. self.new.faults ≡ self.old.faults) }
         ensures no_memory_taken { result ≢ Err Fault.Memory }
     {
         match self.reader.read(buf) {
@@ -73,6 +74,7 @@ impl<W: Write> Sink for StdSink<W> {
         ensures bytes { WriteAppends (W.contents self.old.writer) (W.contents self.new.writer) result piece.now }
         ensures cause { HasCause self.old.faults self.new.faults result }
         ensures none { 0 < length piece.now → result ≡ Ok 0 → Rose self.old.faults self.new.faults }
+        ensures calm { IfOk result (λ count. (0 < count) ⊎ (piece.now ≡ []) → self.new.faults ≡ self.old.faults) }
         ensures no_memory_taken { result ≢ Err Fault.Memory }
     {
         match self.writer.write(piece) {

@@ -1,5 +1,5 @@
 // The outside over memory.
-ghost use Rattle.std.specs.Prelude.{◌≡◌, ◌≢◌, ℕ, ◌<◌, ◌++◌, [], List, Option, Some, length, min, IfOk, IsErrOf, IsTrue, ◌↔◌, Ok, take, drop};
+ghost use Rattle.std.specs.Prelude.{◌≡◌, ◌≢◌, ◌⊎◌, ℕ, ◌<◌, ◌++◌, [], List, Option, Some, length, min, IfOk, IsErrOf, IsTrue, ◌↔◌, Ok, take, drop};
 ghost use Rattle.std.specs.Io.{ReadsAtMost, WritesAtMost};
 ghost use Rattle.std.specs.Io.KnownBytes.{ReadConsumes, WriteAppends};
 ghost use Rattle.bfd_edge.specs.Faults.{HasCause, Rose, raised};
@@ -81,6 +81,7 @@ impl Source for MemSource {
         ensures bound { ReadsAtMost result buf.new }
         ensures bytes { ReadConsumes (Some self.old.left) (Some self.new.left) result buf.new }
         ensures cause { HasCause self.old.faults self.new.faults result }
+        ensures calm { IfOk result (λ count. self.new.faults ≡ self.old.faults) }
     {
         let call = self.calls;
         self.calls = call.saturating_add(1);
@@ -151,6 +152,7 @@ impl Sink for MemSink {
         ensures bytes { WriteAppends (Some self.old.bytes) (Some self.new.bytes) result piece.now }
         ensures cause { HasCause self.old.faults self.new.faults result }
         ensures none { 0 < length piece.now → result ≡ Ok 0 → Rose self.old.faults self.new.faults }
+        ensures calm { IfOk result (λ count. (0 < count) ⊎ (piece.now ≡ []) → self.new.faults ≡ self.old.faults) }
     {
         let call = self.calls;
         self.calls = call.saturating_add(1);

@@ -1,5 +1,5 @@
 // The traits of the outside.
-ghost use Rattle.std.specs.Prelude.{◌≡◌, ℕ, ◌<◌, List, Option, length, Ok};
+ghost use Rattle.std.specs.Prelude.{◌≡◌, ◌⊎◌, ℕ, ◌<◌, [], IfOk, List, Option, length, Ok};
 ghost use Rattle.std.specs.Io.{ReadsAtMost, WritesAtMost};
 ghost use Rattle.std.specs.Io.KnownBytes.{ReadConsumes, WriteAppends};
 ghost use Rattle.bfd_edge.specs.Faults.{HasCause, Rose};
@@ -18,11 +18,13 @@ pub trait Source {
 
     /// Reads some bytes into `buf`, and answers how many. `Ok(0)` for a buffer that isn't empty is the end.
     ///
-    /// `Failed` comes only where the count of faults rose. After a refusal no byte of the source is used up.
+    /// `Failed` comes only where the count of faults rose, and an `Ok` leaves it as it was. After a refusal no byte of the
+    /// source is used up.
     fn read(&mut self, buf: &mut [u8]) -> Result<usize, Fault>
         ensures bound { ReadsAtMost result buf.new }
         ensures bytes { ReadConsumes (left self.old) (left self.new) result buf.new }
-        ensures cause { HasCause (faults self.old) (faults self.new) result };
+        ensures cause { HasCause (faults self.old) (faults self.new) result }
+        ensures calm { IfOk result (λ count. faults self.new ≡ faults self.old) };
 }
 
 /// Something that takes bytes, as standard output does.
@@ -38,10 +40,11 @@ pub trait Sink {
     /// Takes a front of `piece`, and answers how many bytes that is.
     ///
     /// `Failed` comes only where the count of faults rose, and an `Ok(0)` for a piece that isn't empty is a fault too.
-    /// After a refusal no byte was taken.
+    /// Any other `Ok` leaves the count as it was. After a refusal no byte was taken.
     fn write(&mut self, piece: &[u8]) -> Result<usize, Fault>
         ensures bound { WritesAtMost result piece.now }
         ensures bytes { WriteAppends (taken self.old) (taken self.new) result piece.now }
         ensures cause { HasCause (faults self.old) (faults self.new) result }
-        ensures none { 0 < length piece.now → result ≡ Ok 0 → Rose (faults self.old) (faults self.new) };
+        ensures none { 0 < length piece.now → result ≡ Ok 0 → Rose (faults self.old) (faults self.new) }
+        ensures calm { IfOk result (λ count. (0 < count) ⊎ (piece.now ≡ []) → faults self.new ≡ faults self.old) };
 }

@@ -36,6 +36,8 @@ pub(crate) fn read_all<S: Source>(alloc: Global, source: &mut S) -> Result<Vec<u
     ensures too_large { IsErrOf result InputFault.TooLarge → IfSome (S.left source.old) (λ bytes. most_bytes < length bytes) }
     ensures at_most { ConsumesAtMost (most_bytes + 1) (S.left source.old) (S.left source.new) }
     ensures later { S.faults source.old ≤ S.faults source.new }
+    ensures calm { IfOk result (λ bytes. S.faults source.new ≡ S.faults source.old) }
+    ensures calm_too_large { IsErrOf result InputFault.TooLarge → S.faults source.new ≡ S.faults source.old }
 {
     let mut bytes = Vec::new(alloc);
     let mut buf = [0u8; PIECE];

@@ -1,5 +1,5 @@
 // The top call.
-ghost use Rattle.std.specs.Prelude.{◌≡◌, ◌<◌, ◌≤◌, ◌+◌, ◌⊎◌, ◌↔◌, IfOk, IfSome, IsErrOf, OnOk, true, false, length, map, string_bytes, Ok, Err};
+ghost use Rattle.std.specs.Prelude.{◌≡◌, ◌≢◌, ◌<◌, ◌≤◌, ◌+◌, ◌⊎◌, ◌↔◌, IfOk, IfSome, IsErrOf, OnOk, true, false, length, map, string_bytes, Ok, Err};
 ghost use Rattle.std.specs.Io.KnownBytes.{Appends, IsAtEnd};
 ghost use Rattle.bfd_edge.specs.Faults.{Rose};
 ghost use Rattle.bfd_replay.specs.World.{replayed, world};
@@ -28,6 +28,7 @@ fn tell<K: Sink>(alloc: Global, script: Script, sink: &mut K) -> Result<(), Faul
     ensures failed { IsErrOf result Fault.Failed → Rose (K.faults sink.old) (K.faults sink.new) }
     ensures front { TookFront (K.taken sink.old) (K.taken sink.new) (replayed script) }
     ensures later { K.faults sink.old ≤ K.faults sink.new }
+    ensures calm { OnOk result (K.faults sink.new ≡ K.faults sink.old) }
 {
     match replay(alloc, script) {
         Ok(text) => write_all(sink, &text),
@@ -42,6 +43,7 @@ fn complain<K: Sink>(alloc: Global, bad: BadLine, sink: &mut K) -> Result<(), Fa
     ensures failed { IsErrOf result Fault.Failed → Rose (K.faults sink.old) (K.faults sink.new) }
     ensures front { TookFront (K.taken sink.old) (K.taken sink.new) (complaint_line bad) }
     ensures later { K.faults sink.old ≤ K.faults sink.new }
+    ensures calm { OnOk result (K.faults sink.new ≡ K.faults sink.old) }
 {
     match complaint(alloc, bad) {
         Ok(text) => write_all(sink, text.as_bytes()),
@@ -95,6 +97,12 @@ pub fn run<S: Source, K: Sink>(
     ensures memory { result ≡ Status.Memory → IfSome (S.left source.old) (λ bytes.
         TookFront (K.taken sink.old) (K.taken sink.new) (answer_to (script_of false bytes))) }
     ensures at_most { ConsumesAtMost (most_bytes + 1) (S.left source.old) (S.left source.new) }
+
+    // No fault is passed over: where the count of the source rose, the status is ReadFault or Memory.
+    ensures calm_source { result ≢ Status.ReadFault → result ≢ Status.Memory → S.faults source.new ≡ S.faults source.old }
+
+    // And a report is whole only where no write failed.
+    ensures calm_sink { result ≡ Status.Done → K.faults sink.new ≡ K.faults sink.old }
 
     // Where the source doesn't fail, the text alone decides; a sink that fails can only turn Done into WriteFault.
     ensures decided { is_replay (map (λ word. string_bytes word) words.now) ≡ true

@@ -1,4 +1,4 @@
-use Rattle.std.proofs.Common.{arith}
+use Rattle.std.proofs.Common.{arith, inl, ◌∙◌}
 use Rattle.bfdd.proofs.Taking.{took_more}
 use Rattle.bfdd.proofs.output.write_all.Goals as goal
 
@@ -6,4 +6,4 @@ use Rattle.bfdd.proofs.output.write_all.Goals as goal
 pub pieces-preserved : goal.pieces-preserved
 pieces-preserved g c =
     rw c.split_at.ensures.back
-    (took_more _ _ _ _ _ c.in-Ok.count c.pieces.invariant.0 c.in-Ok.ensures.bytes, omega (arith, c.pieces.invariant.1, c.in-Ok.ensures.cause.later))
+    (took_more _ _ _ _ _ c.in-Ok.count c.pieces.invariant.0 c.in-Ok.ensures.bytes, c.in-Ok.ensures.calm (inl (omega (arith))) ∙ c.pieces.invariant.1)
