@@ -1,7 +1,8 @@
 -- One event of a session: what has come due, the event's own rules, and the end of the event.
-use Rattle.std.specs.Prelude.{◌≡◌, ℕ, Option, None, Some, List, []}
+use Rattle.std.specs.Prelude.{◌≡◌, ℕ, false, Option, None, Some, List, []}
 use Rattle.bfd_packet.specs.declared.discard.Test.TheVariants.{EchoStale}
 use Rattle.bfd_packet.specs.declared.arrival.Arrival.{Arrival}
+use Rattle.bfd_packet.specs.Layout.{fields_of}
 use Rattle.bfd_packet.specs.HeaderTests.{first_failing}
 use Rattle.bfd_rules.specs.declared.commands.Refusal.{Refusal}
 use Rattle.bfd_rules.specs.declared.config.Config.{Config}
@@ -40,10 +41,12 @@ IsSound (Pair c) v = pair.IsSound c v
 abbrev pub made : SessionConfig → Vars
 made (Pair c) = pair_machine.made c
 
--- a packet for a session of this configuration: it came on the session's port and passes the port's header tests
+-- a packet for a session of this configuration: it came on the session's port, passes the port's header tests and
+-- has M clear; one with M set is for a tail (RFC 8562)
 pub record IsFor (c : Config) (arrival : Arrival) : Type 0 where
   pub port : arrival.port ≡ port_of c.role
   pub header : first_failing arrival.port arrival.payload ≡ None
+  pub plain : (fields_of arrival.payload).multi ≡ false
 
 -- an event that may be handed to a session: a packet is for it
 abbrev pub CanTake : SessionConfig → Event → Type 0

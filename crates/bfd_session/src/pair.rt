@@ -13,7 +13,7 @@ ghost use Rattle.bfd_p2p.specs.Port.{port_of as role_port};
 use crate::{Answer, Event, Shown};
 use bfd_num::{ceil_tick, sooner};
 use bfd_p2p::{P2p, Verdict};
-use bfd_packet::{Arrival, Port, Test, header_test};
+use bfd_packet::{Arrival, Port, Test, read};
 use bfd_rules::{
     Config, Mark, Outs, Poll, Role, Vars, adv_tx, deadline, detection_time, seq_deadline,
 };
@@ -57,12 +57,16 @@ fn port_of(role: Role) -> Port
     }
 }
 
-/// The packet is for a session of this configuration: it came on the session's port and passes the port's header tests.
+/// The packet is for a session of this configuration: it came on the session's port, passes the port's header tests
+/// and has M clear (one with M set is for a tail, RFC 8562).
 pub fn is_for(c: &Config, arrival: &Arrival) -> bool
     ensures { IsTrue result ↔ IsFor c.now arrival.now }
 {
     arrival.port == port_of(c.role)
-        && header_test(arrival.port, arrival.payload.as_slice()).is_none()
+        && match read(arrival.port, arrival.payload.as_slice()) {
+            Ok(packet) => !packet.multi,
+            Err(_) => false,
+        }
 }
 
 /// The event's own rules, after settling.

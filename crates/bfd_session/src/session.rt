@@ -106,8 +106,8 @@ impl Session {
         machine.vars()
     }
 
-    /// Whether the event may be handed to the session: a packet came on the session's port and passes the port's header
-    /// tests, and every other event may.
+    /// Whether the event may be handed to the session: a packet came on the session's port, passes the port's header
+    /// tests and has M clear, and every other event may.
     pub fn takes(&self, event: &Event) -> bool
         ensures { IsTrue result ↔ CanTake self.now.config event.now }
     {
@@ -119,8 +119,8 @@ impl Session {
     }
 
     /// An own event at its effective moment `eff`, in microseconds: what has come due by it is done, then the event's
-    /// own rules, then the event ends (RFC 5880 section 6.8). A packet came on the session's port and passes the port's
-    /// header tests; selection hands a session none with M set. Adds at most five outputs. Takes no memory.
+    /// own rules, then the event ends (RFC 5880 section 6.8). A packet came on the session's port, passes the port's
+    /// header tests and has M clear. Adds at most five outputs. Takes no memory.
     pub fn step(&mut self, eff: u64, event: &Event, outs: &mut Outs) -> Answer
         requires eff { eff < moment_bound }
         requires takes { CanTake self.old.config event.now }
