@@ -8,15 +8,12 @@ ghost use Rattle.bfd_session.specs.declared.event.SessionConfig.TheVariants.{Pai
 ghost use Rattle.bfd_session.specs.Due as due;
 ghost use Rattle.bfd_session.specs.Step as session;
 ghost use Rattle.bfd_session.specs.Step.{CanTake, IsFor, begun};
-ghost use Rattle.bfd_p2p.specs.Port.{port_of as role_port};
 
 use crate::{Answer, Event, Shown};
 use bfd_num::{ceil_tick, sooner};
-use bfd_p2p::{P2p, Verdict};
-use bfd_packet::{Arrival, Port, Test, read};
-use bfd_rules::{
-    Config, Mark, Outs, Poll, Role, Vars, adv_tx, deadline, detection_time, seq_deadline,
-};
+use bfd_p2p::{P2p, Verdict, control_port};
+use bfd_packet::{Arrival, Test, read};
+use bfd_rules::{Config, Mark, Outs, Poll, Vars, adv_tx, deadline, detection_time, seq_deadline};
 
 /// The number that shows a Poll Sequence.
 fn poll_number(poll: Poll) -> u8
@@ -47,22 +44,12 @@ fn shown(c: &Config, v: &Vars) -> Shown
     }
 }
 
-/// The port on which the session's packets arrive.
-fn port_of(role: Role) -> Port
-    ensures { result ≡ role_port role }
-{
-    match role {
-        Role::Single => Port::Single,
-        Role::Multi => Port::Multi,
-    }
-}
-
 /// The packet is for a session of this configuration: it came on the session's port, passes the port's header tests
 /// and has M clear (one with M set is for a tail, RFC 8562).
 pub fn is_for(c: &Config, arrival: &Arrival) -> bool
     ensures { IsTrue result ↔ IsFor c.now arrival.now }
 {
-    arrival.port == port_of(c.role)
+    arrival.port == control_port(c.role)
         && match read(arrival.port, arrival.payload.as_slice()) {
             Ok(packet) => !packet.multi,
             Err(_) => false,
