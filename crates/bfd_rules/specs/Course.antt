@@ -1,6 +1,7 @@
 -- The frame of an event: what a rule does to variables, mark and outputs.
-use Rattle.std.specs.Prelude.{ℕ, ◌==◌, Bool, false, not, ◌&&◌, ◌||◌, if◌then◌else◌, Option, None, Some, is_none, List, [], ◌∷◌, ◌++◌}
+use Rattle.std.specs.Prelude.{ℕ, ◌==◌, Bool, true, false, not, ◌&&◌, ◌||◌, if◌then◌else◌, Option, None, Some, is_none, List, [], ◌∷◌, ◌++◌}
 use Rattle.bfd_packet.specs.declared.arrival.Datagram.{Datagram}
+use Rattle.bfd_packet.specs.declared.control.State.{State}
 use Rattle.bfd_num.specs.Numbers.{next_j}
 use Rattle.bfd_rules.specs.declared.variables.Vars.{Vars}
 use Rattle.bfd_rules.specs.declared.variables.Mark.{Mark}
@@ -39,6 +40,10 @@ abbrev pub told : ℕ → Vars → Vars → List Out
 told discr before after =
     if same_state before.state after.state then [] else Changed discr before.state after.state after.diag ∷ []
 
+-- the session enters a state with this diagnostic
+abbrev pub enters : State → ℕ → Vars → Vars
+enters state diag v = record v { state = state; diag = diag }
+
 -- the variables become v, and a change of the state is told
 unfoldable pub changes : ℕ → Vars → Course → Course
 changes discr v s = record s { vars = v; outs = s.outs ++ told discr s.vars v }
@@ -50,6 +55,18 @@ sends discr datagram s = record s { outs = s.outs ++ Sent discr datagram ∷ [] 
 -- the state or diagnostic isn't the one that the event began with, or that its periodic packet told
 abbrev pub is_news : Mark → Vars → Bool
 is_news m v = not (same_state v.state m.state && (v.diag == m.diag))
+
+-- the peer is told the present state and diagnostic by a periodic packet
+abbrev pub tells : Vars → Mark → Mark
+tells v m = record m { moved = true; state = v.state; diag = v.diag }
+
+-- news that the peer is still to be told: no packet with F has told it, and a packet may be sent (section 6.8.7)
+abbrev pub is_untold : Bool → Mark → Vars → Bool
+is_untold active m v = is_news m v && not m.answered && may_send active v
+
+-- one packet outside the period was sent: it moves the base
+abbrev pub based : ℕ → Course → Course
+based eff s = record s { vars = record s.vars { base = eff }; mark = record s.mark { moved = true } }
 
 -- Detect Mult became 1 in this event, or stopped being 1
 abbrev pub one_changed : Mark → Vars → Bool
@@ -65,3 +82,7 @@ drawn active m v =
     if may_send active v
     then (if draws m v then record v { tx_due = Some (pick v.base (tx_interval v) v.mult v.j); j = next_j v.j } else v)
     else record v { tx_due = None }
+
+-- the same at the end of an event
+unfoldable pub redrawn : Bool → Course → Course
+redrawn active s = record s { vars = drawn active s.mark s.vars }

@@ -14,6 +14,13 @@ is_up Down = false
 is_up Init = false
 is_up Up = true
 
+-- the state is AdminDown
+abbrev pub is_admin_down : State → Bool
+is_admin_down AdminDown = true
+is_admin_down Down = false
+is_admin_down Init = false
+is_admin_down Up = false
+
 -- the states are the same
 abbrev pub same_state : State → State → Bool
 same_state AdminDown AdminDown = true

@@ -34,20 +34,24 @@ pub record IsConfig (c : Config) : Type 0 where
   pub rx_least : 10000 ≤ c.rx
   pub rx_most : c.rx ≤ 60000000
   pub some_mult : 0 < c.mult
+  pub most_mult : c.mult < 256
   pub echo_range : IsTrue (is_echo_interval c.role c.echo)
 
 -- what the raw variables of a rule meet: configured values in their ranges, a diagnostic of 5 bits, an interval in use of
--- 10,000 at least, 32 bits of the peer's interval, moments below 2^60, in Up a packet that was heard, and a key to send with
+-- 10,000 at least, 32 bits of the peer's interval and 8 of its Detect Mult, moments below 2^60, in Up a packet that was
+-- heard, and a key to send with
 pub record IsPlain (c : Config) (v : Vars) : Type 0 where
   pub tx_least : 10000 ≤ v.tx
   pub tx_most : v.tx ≤ 60000000
   pub rx_least : 10000 ≤ v.rx
   pub rx_most : v.rx ≤ 60000000
   pub some_mult : 0 < v.mult
+  pub most_mult : v.mult < 256
   pub echo_range : IsTrue (is_echo_interval c.role v.echo_every)
   pub diag_below : v.diag < 32
   pub used_least : 10000 ≤ v.used_tx
   pub peer_rx_below : v.remote_min_rx < 2 ^ 32
+  pub peer_mult_below : v.remote_mult < 256
   pub heard_below : IfSome v.heard (λ m. m < moment_bound)
   pub seq_below : IfSome v.seq_heard (λ m. m < moment_bound)
   pub poll_below : IfSome (poll_started v.poll) (λ m. m < moment_bound)

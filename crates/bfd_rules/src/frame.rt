@@ -44,6 +44,13 @@ pub fn begins(v: &Vars) -> Mark
     }
 }
 
+/// The session enters a state with this diagnostic.
+pub fn enters(state: State, diag: u8, v: Vars) -> Vars
+    ensures { result ≡ frame.enters state diag v }
+{
+    Vars { state, diag, ..v }
+}
+
 /// The variables become `after`; where the state differs, that is told with the new diagnostic.
 #[tactic(auto, unfolding(crate::specs::Course::changes))]
 pub fn changes(discr: u32, after: Vars, vars: &mut Vars, outs: &mut Outs)
@@ -75,11 +82,28 @@ pub fn sends(discr: u32, datagram: Datagram, outs: &mut Outs)
     outs.push(Out::Sent { discr, datagram });
 }
 
+/// The peer is told the present state and diagnostic by a periodic packet.
+pub fn tells(v: &Vars, mark: &mut Mark)
+    ensures { mark.new ≡ frame.tells v.now mark.old }
+{
+    mark.moved = true;
+    mark.state = v.state;
+    mark.diag = v.diag;
+}
+
 /// The state or diagnostic isn't the one that the event began with, or that its periodic packet told.
-pub fn is_news(mark: &Mark, v: &Vars) -> bool
+fn is_news(mark: &Mark, v: &Vars) -> bool
     ensures { result ≡ frame.is_news mark.now v.now }
 {
     !(is_same(v.state, mark.state) && v.diag == mark.diag)
+}
+
+/// A state or diagnostic that the peer hasn't been told is to be told now: no packet with F has told it, and a packet
+/// may be sent (section 6.8.7).
+pub fn is_untold(active: bool, mark: &Mark, v: &Vars) -> bool
+    ensures { result ≡ frame.is_untold active mark.now v.now }
+{
+    is_news(mark, v) && !mark.answered && may_send(active, v)
 }
 
 /// The due tick is to be drawn anew.

@@ -16,18 +16,20 @@ mod outputs;
 mod quantities;
 mod renewal;
 mod variables;
+mod verdict;
 
 pub use commands::{Cmd, Refusal};
 pub use config::{Config, Role};
-pub use frame::{begins, changes, drawn, is_news, sends, stamped};
+pub use frame::{begins, changes, drawn, enters, is_untold, sends, stamped, tells};
 pub use jitter::pick;
 pub use outputs::{Out, Outs};
 pub use quantities::{
-    adv_tx, deadline, demand_here, demand_there, detection_time, may_send, seq_deadline,
-    tx_interval,
+    adv_tx, deadline, demand_here, demand_there, detection_time, is_admin_down, may_send,
+    seq_deadline, tx_interval,
 };
 pub use renewal::renewed;
 pub use variables::{Mark, Poll, Vars};
+pub use verdict::Verdict;
 
 #[cfg(test)]
 mod tests;

@@ -1,5 +1,5 @@
 //! What an event puts out, in a list whose room is made before.
-ghost use Rattle.std.specs.Prelude.{◌≡◌, ◌≤◌, ◌<◌, ◌+◌, ◌++◌, [], ◌∷◌, IfOk, length};
+ghost use Rattle.std.specs.Prelude.{◌≡◌, ◌≤◌, ◌<◌, ◌+◌, ◌++◌, [], ◌∷◌, IfOk, OnOk, OnErr, length};
 
 use bfd_packet::{Datagram, State};
 use std::alloc::{AllocError, Global};
@@ -58,18 +58,30 @@ impl Outs {
         self.list.clear();
     }
 
-    /// The outputs so far.
+    /// The outputs so far. With the room that is left they make up the room of the making.
     pub fn items(&self) -> &[Out]
-        ensures { result.now ≡ self.now.items }
+        ensures items { result.now ≡ self.now.items }
+        ensures whole { length self.now.items + self.now.spare ≡ self.now.room }
     {
         self.list.as_slice()
     }
 
     /// The room that is left, in outputs.
     pub fn spare(&self) -> usize
-        ensures { result ≡ self.now.spare }
+        ensures spare { result ≡ self.now.spare }
+        ensures whole { length self.now.items + self.now.spare ≡ self.now.room }
     {
         self.room - self.list.len()
+    }
+
+    /// Hands the outputs over; then all the room is free again. The one refusal is want of memory, and then all is as it
+    /// was.
+    pub fn take(&mut self) -> Result<Vec<Out>, AllocError>
+        ensures taken { IfOk result (λ list. list.items ≡ self.old.items) }
+        ensures free { OnOk result (self.new ≡ record { items = []; spare = self.old.room; room = self.old.room }) }
+        ensures same { OnErr result (self.new ≡ self.old) }
+    {
+        self.list.split_off(0)
     }
 
     /// Appends one output. Takes no memory.

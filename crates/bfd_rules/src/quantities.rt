@@ -11,6 +11,13 @@ use bfd_packet::State;
 /// The least Desired Min TX Interval that is advertised outside Up, in microseconds (section 6.8.3).
 const SLOW_TX: u32 = 1_000_000;
 
+/// The state is AdminDown (section 6.8.16).
+pub fn is_admin_down(state: State) -> bool
+    ensures { result ≡ quantities.is_admin_down state }
+{
+    matches!(state, State::AdminDown)
+}
+
 /// This session and its peer are Up, as far as this session knows.
 fn both_up(v: &Vars) -> bool
     ensures { result ≡ quantities.both_up v.now }
