@@ -9,11 +9,11 @@ use Rattle.bfd_rules.specs.declared.commands.Refusal.{Refusal}
 use Rattle.bfd_rules.specs.declared.commands.Refusal.TheVariants.{PollBusy, WrongState, OutOfRange, WrongKind, UnknownSession}
 use Rattle.bfd_rules.specs.declared.variables.Poll.TheVariants.{Wanted}
 use Rattle.bfd_rules.specs.declared.variables.Vars.{Vars}
-use Rattle.bfd_rules.specs.Quantities.{is_up, is_idle, demand_there}
-use Rattle.bfd_rules.specs.Course.{Course}
+use Rattle.bfd_rules.specs.Quantities.{is_up, is_idle, is_admin_down, demand_there}
+use Rattle.bfd_rules.specs.Course.{Course, enters}
 use Rattle.bfd_rules.specs.Sound.{is_interval}
-use Rattle.bfd_p2p.specs.Frame.{moves, enters}
-use Rattle.bfd_p2p.specs.Receive.{is_single, is_admin_down}
+use Rattle.bfd_p2p.specs.Frame.{moves}
+use Rattle.bfd_p2p.specs.Receive.{is_single}
 
 -- the place of the key with this id, among the keys of a session that has some
 abbrev pub key_place : Option KeyChain → ℕ → Option ℕ

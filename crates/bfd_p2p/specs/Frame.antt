@@ -1,6 +1,5 @@
 -- How one rule changes a point-to-point session: what it makes of the variables is renewed, and a new state is told.
 use Rattle.std.specs.Prelude.{ℕ}
-use Rattle.bfd_packet.specs.declared.control.State.{State}
 use Rattle.bfd_rules.specs.declared.variables.Vars.{Vars}
 use Rattle.bfd_rules.specs.Course.{Course, changes}
 use Rattle.bfd_rules.specs.Renewal.{renewed}
@@ -12,7 +11,3 @@ renews eff v s = record s { vars = renewed eff s.vars v }
 -- a rule that may change the state makes v of the variables
 unfoldable pub moves : ℕ → ℕ → Vars → Course → Course
 moves discr eff v s = changes discr (renewed eff s.vars v) s
-
--- the session enters a state with this diagnostic
-abbrev pub enters : State → ℕ → Vars → Vars
-enters state diag v = record v { state = state; diag = diag }

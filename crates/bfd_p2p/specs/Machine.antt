@@ -4,9 +4,8 @@ use Rattle.bfd_packet.specs.declared.control.State.TheVariants.{Down}
 use Rattle.bfd_rules.specs.declared.config.Config.{Config}
 use Rattle.bfd_rules.specs.declared.variables.Poll.TheVariants.{Idle}
 use Rattle.bfd_rules.specs.declared.variables.Vars.{Vars}
-use Rattle.bfd_rules.specs.Course.{begins, drawn}
+use Rattle.bfd_rules.specs.Course.{begins, drawn, enters}
 use Rattle.bfd_rules.specs.Sound.{IsConfig, IsSteady}
-use Rattle.bfd_p2p.specs.Frame.{enters}
 
 -- the configuration and the variables of a session
 pub record Machine : Type 0 where

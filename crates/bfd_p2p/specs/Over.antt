@@ -1,6 +1,7 @@
 -- What a tick leaves: nothing that has come due by its limit.
 use Rattle.std.specs.Prelude.{◌≡◌, ◌≤◌, ℕ, Bool, true, false, IsSome}
 use Rattle.bfd_num.specs.Numbers.{floor_tick}
+use Rattle.bfd_packet.specs.declared.control.State.TheVariants.{Up}
 use Rattle.bfd_num.specs.Due.{has_come}
 use Rattle.bfd_rules.specs.declared.config.Config.{Config}
 use Rattle.bfd_rules.specs.declared.variables.Vars.{Vars}
@@ -29,10 +30,11 @@ pub record IsBegun (c : Config) (limit eff : ℕ) (m : Mark) (v : Vars) : Type 0
   pub made : m ≡ begins v
 
 -- what settling leaves for the end of the event: no deadline has come; and either a packet moved the base to this moment,
--- or the due tick stands as it was drawn, unless there is news to tell
+-- or the due tick stands as it was drawn, unless there is news to tell; a session that is Up was Up at the start
 pub record IsSettled (active : Bool) (limit eff : ℕ) (m : Mark) (v : Vars) : Type 0 where
   pub late : has_come limit (deadline v) ≡ false
   pub seq_late : has_come limit (seq_deadline v) ≡ false
   pub unanswered : m.answered ≡ false
   pub based : m.moved ≡ true → v.base ≡ eff
+  pub up_before : v.state ≡ Up → m.state ≡ Up
   pub still : m.moved ≡ false → is_news m v ≡ false → may_send active v ≡ true → IsStill limit m v

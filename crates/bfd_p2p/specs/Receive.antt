@@ -16,10 +16,11 @@ use Rattle.bfd_rules.specs.declared.config.Config.{Config}
 use Rattle.bfd_rules.specs.declared.variables.Poll.{Poll}
 use Rattle.bfd_rules.specs.declared.variables.Poll.TheVariants.{Idle, Wanted, Running}
 use Rattle.bfd_rules.specs.declared.variables.Vars.{Vars}
-use Rattle.bfd_rules.specs.Course.{Course}
-use Rattle.bfd_p2p.specs.declared.receiving.Verdict.{Verdict}
-use Rattle.bfd_p2p.specs.declared.receiving.Verdict.TheVariants.{Accepted, Dropped}
-use Rattle.bfd_p2p.specs.Frame.{renews, moves, enters}
+use Rattle.bfd_rules.specs.declared.verdict.Verdict.{Verdict}
+use Rattle.bfd_rules.specs.declared.verdict.Verdict.TheVariants.{Accepted, Dropped}
+use Rattle.bfd_rules.specs.Quantities.{is_admin_down}
+use Rattle.bfd_rules.specs.Course.{Course, enters}
+use Rattle.bfd_p2p.specs.Frame.{renews, moves}
 use Rattle.bfd_p2p.specs.Transmit.{transmits}
 
 -- the session runs over a single hop
@@ -114,12 +115,6 @@ unfoldable pub kept : Config → ℕ → Control → SeqState → Course → Cou
 kept c eff packet seq s = ends_poll eff packet (keeps_fields eff packet (keeps_sequence c eff seq s))
 
 -- in AdminDown nothing more is done
-abbrev pub is_admin_down : State → Bool
-is_admin_down AdminDown = true
-is_admin_down Down = false
-is_admin_down Init = false
-is_admin_down Up = false
-
 unfoldable pub accepted : Config → ℕ → Control → SeqState → Course → Course
 accepted c eff packet seq s =
     let t : Course = kept c eff packet seq s in

@@ -1,6 +1,6 @@
 -- What has come due by an event is done first: three rules, each at most once, in this order. The limit is the moment
 -- by which something is due, and eff the effective moment of the event, both in microseconds.
-use Rattle.std.specs.Prelude.{ℕ, ◌&&◌, not, true, false, if◌then◌else◌, None}
+use Rattle.std.specs.Prelude.{ℕ, ◌&&◌, not, false, if◌then◌else◌, None}
 use Rattle.bfd_packet.specs.declared.control.State.TheVariants.{Down}
 use Rattle.bfd_packet.specs.States.{is_init_or_up}
 use Rattle.bfd_num.specs.Numbers.{floor_tick}
@@ -9,10 +9,9 @@ use Rattle.bfd_rules.specs.declared.config.Config.{Config}
 use Rattle.bfd_rules.specs.declared.variables.Poll.{Poll}
 use Rattle.bfd_rules.specs.declared.variables.Poll.TheVariants.{Idle, Wanted, Running}
 use Rattle.bfd_rules.specs.declared.variables.Vars.{Vars}
-use Rattle.bfd_rules.specs.declared.variables.Mark.{Mark}
 use Rattle.bfd_rules.specs.Quantities.{deadline, seq_deadline, may_send, is_idle}
-use Rattle.bfd_rules.specs.Course.{Course}
-use Rattle.bfd_p2p.specs.Frame.{renews, moves, enters}
+use Rattle.bfd_rules.specs.Course.{Course, enters, tells}
+use Rattle.bfd_p2p.specs.Frame.{renews, moves}
 use Rattle.bfd_p2p.specs.Transmit.{transmits}
 
 -- a session in Init or Up that hears nothing goes Down with diagnostic 1, Control Detection Time Expired
@@ -43,10 +42,6 @@ abbrev pub poll_sent : ℕ → Poll → Poll
 poll_sent eff Idle = Idle
 poll_sent eff Wanted = Running eff
 poll_sent eff (Running first) = Running first
-
--- the peer is told the present state and diagnostic
-abbrev pub tells : Vars → Mark → Mark
-tells v m = record m { moved = true; state = v.state; diag = v.diag }
 
 -- a periodic packet, with P while a Poll Sequence is on (sections 6.5 and 6.8.7)
 unfoldable pub periodic_packet : Config → ℕ → Course → Course

@@ -9,10 +9,11 @@ ghost use Rattle.bfd_rules.specs.Sound.{IsPlain, HasPeerMult, IsSteady, IsPlace}
 ghost use Rattle.bfd_rules.specs.Sound as sound;
 ghost use Rattle.bfd_p2p.specs.Command as commands;
 
-use crate::frame::{enters, moves};
-use crate::receiving::is_admin_down;
+use crate::frame::moves;
 use bfd_packet::{Keys, State};
-use bfd_rules::{Cmd, Config, Outs, Poll, Refusal, Role, Vars, demand_there};
+use bfd_rules::{
+    Cmd, Config, Outs, Poll, Refusal, Role, Vars, demand_there, enters, is_admin_down,
+};
 
 /// An interval that may be configured, in microseconds.
 fn is_interval(n: u64) -> bool

@@ -9,29 +9,7 @@ ghost use Rattle.bfd_p2p.specs.Finish as finishing;
 ghost use Rattle.bfd_p2p.specs.Over.{IsSettled};
 
 use crate::transmitting::transmits;
-use bfd_rules::{Config, Mark, Outs, Vars, drawn, is_news, may_send};
-
-/// One packet outside the period, with P clear, moves the base.
-#[tactic(auto, unfolding(crate::specs::Finish::extra_packet))]
-fn extra_packet(config: &Config, eff: u64, vars: &mut Vars, mark: &mut Mark, outs: &mut Outs)
-    requires steady { IsSteady config.now vars.old }
-    requires eff { eff < moment_bound }
-    requires room { 0 < outs.old.spare }
-    ensures steady { IsSteady config.now vars.new }
-    ensures course { course vars.new mark.new outs.new.items ≡ finishing.extra_packet config.now eff (course vars.old mark.old outs.old.items) }
-    ensures same { vars.new ≡ record vars.old { seq = vars.new.seq; base = eff } }
-    ensures moved { mark.new ≡ record mark.old { moved = true } }
-    ensures spare { outs.old.spare ≤ outs.new.spare + 1 }
-    ensures room { outs.new.room ≡ outs.old.room }
-{
-    let seq = transmits(config, false, false, vars, outs);
-    *vars = Vars {
-        seq,
-        base: eff,
-        ..*vars
-    };
-    mark.moved = true;
-}
+use bfd_rules::{Config, Mark, Outs, Vars, drawn, is_untold};
 
 /// A changed state or diagnostic is told at once, unless a packet with F has told it or none may be sent.
 #[tactic(auto, unfolding(crate::specs::Finish::extra))]
@@ -46,16 +24,23 @@ fn extra(config: &Config, eff: u64, vars: &mut Vars, mark: &mut Mark, outs: &mut
     ensures rests { mark.new.moved ≡ false → mark.new ≡ mark.old }
     ensures no_news { mark.new.moved ≡ false → mark.old.answered ≡ false → may_send_of config.now.active vars.old ≡ true
         → is_news_of mark.old vars.old ≡ false }
+    ensures answered { mark.old.answered ≡ true → outs.new.spare ≡ outs.old.spare }
     ensures spare { outs.old.spare ≤ outs.new.spare + 1 }
     ensures room { outs.new.room ≡ outs.old.room }
 {
-    if is_news(mark, vars) && !mark.answered && may_send(config.active, vars) {
-        extra_packet(config, eff, vars, mark, outs);
+    if is_untold(config.active, mark, vars) {
+        let seq = transmits(config, false, false, vars, outs);
+        *vars = Vars {
+            seq,
+            base: eff,
+            ..*vars
+        };
+        mark.moved = true;
     }
 }
 
 /// Ends an event at the effective moment `eff`, in microseconds.
-#[tactic(auto, unfolding(crate::specs::Finish::finish, crate::specs::Finish::redrawn))]
+#[tactic(auto, unfolding(crate::specs::Finish::finish, bfd_rules::specs::Course::redrawn))]
 pub fn finish(config: &Config, eff: u64, vars: &mut Vars, mark: Mark, outs: &mut Outs)
     requires steady { IsSteady config.now vars.old }
     requires eff { eff < moment_bound }
@@ -67,6 +52,7 @@ pub fn finish(config: &Config, eff: u64, vars: &mut Vars, mark: Mark, outs: &mut
         → has_come (floor_tick limit) vars.new.tx_due ≡ false }
     ensures vars { vars.new ≡ (finishing.finish config.now eff (course vars.old mark outs.old.items)).vars }
     ensures outs { outs.new.items ≡ (finishing.finish config.now eff (course vars.old mark outs.old.items)).outs }
+    ensures answered { mark.answered ≡ true → outs.new.spare ≡ outs.old.spare }
     ensures spare { outs.old.spare ≤ outs.new.spare + 1 }
     ensures room { outs.new.room ≡ outs.old.room }
 {

@@ -7,10 +7,10 @@ ghost use Rattle.bfd_rules.specs.declared.outputs.Out.{Out};
 ghost use Rattle.std.specs.Prelude.{List};
 ghost use Rattle.bfd_rules.specs.Quantities.{adv_tx, demand_here};
 ghost use Rattle.bfd_rules.specs.Course.{course};
+ghost use Rattle.bfd_rules.specs.Renewal.{renewed as renewed_of};
 ghost use Rattle.bfd_rules.specs.Sound.{IsPlain, IsRenewed, HasPeerMult};
 ghost use Rattle.bfd_p2p.specs.Frame as frame;
 
-use bfd_packet::State;
 use bfd_rules::{Config, Outs, Vars, changes, renewed};
 
 /// A rule that leaves the state makes `after` of the variables.
@@ -37,6 +37,7 @@ pub fn moves(config: &Config, eff: u64, after: Vars, vars: &mut Vars, outs: &mut
     requires eff { eff < moment_bound }
     requires plain { IsPlain config.now after }
     requires room { 0 < outs.old.spare }
+    ensures vars { vars.new ≡ renewed_of eff vars.old after }
     ensures plain { IsPlain config.now vars.new }
     ensures renewed { IsRenewed vars.new }
     ensures peer { HasPeerMult after → HasPeerMult vars.new }
@@ -50,11 +51,4 @@ pub fn moves(config: &Config, eff: u64, after: Vars, vars: &mut Vars, outs: &mut
 {
     let after = renewed(eff, vars, after);
     changes(config.discr, after, vars, outs);
-}
-
-/// The session enters a state with this diagnostic.
-pub fn enters(state: State, diag: u8, v: Vars) -> Vars
-    ensures { result ≡ frame.enters state diag v }
-{
-    Vars { state, diag, ..v }
 }

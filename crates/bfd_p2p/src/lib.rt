@@ -41,4 +41,4 @@ mod settling;
 mod transmitting;
 
 pub use machine::P2p;
-pub use receiving::{Verdict, control_port};
+pub use receiving::control_port;

@@ -1,5 +1,5 @@
 //! A point-to-point session as its calls see it.
-ghost use Rattle.std.specs.Prelude.{◌≡◌, ◌<◌, ◌≤◌, ◌+◌, ◌*◌, None, ℕ};
+ghost use Rattle.std.specs.Prelude.{◌≡◌, ◌<◌, ◌≤◌, ◌+◌, ◌*◌, None, true, false, ℕ};
 ghost use Rattle.std.specs.Result.{result_err};
 ghost use Rattle.std.specs.Option.{ForSome};
 ghost use Rattle.bfd_num.specs.Numbers.{moment_bound};
@@ -7,6 +7,7 @@ ghost use Rattle.bfd_packet.specs.declared.control.State.TheVariants.{Up};
 ghost use Rattle.bfd_packet.specs.HeaderTests.{first_failing};
 ghost use Rattle.bfd_rules.specs.declared.config.Config.{Config as ConfigOf};
 ghost use Rattle.bfd_rules.specs.declared.variables.Mark.{Mark as MarkOf};
+ghost use Rattle.bfd_packet.specs.Layout.{fields_of};
 ghost use Rattle.bfd_rules.specs.Course.{course, begins as begins_of, stamped as stamped_of};
 ghost use Rattle.bfd_rules.specs.Sound.{IsConfig, IsPlace, IsSteady, IsSound};
 ghost use Rattle.bfd_p2p.specs.Settle as settling;
@@ -20,11 +21,13 @@ ghost use Rattle.bfd_p2p.specs.Machine as machine;
 
 use crate::commanding::commands;
 use crate::finishing::finish;
-use crate::frame::{enters, moves};
-use crate::receiving::{Verdict, receives};
+use crate::frame::moves;
+use crate::receiving::receives;
 use crate::settling::settle;
 use bfd_packet::{Keys, SeqState, State};
-use bfd_rules::{Cmd, Config, Mark, Outs, Poll, Refusal, Vars, begins, drawn, stamped};
+use bfd_rules::{
+    Cmd, Config, Mark, Outs, Poll, Refusal, Vars, Verdict, begins, drawn, enters, stamped,
+};
 use std::marker::Model;
 
 /// A point-to-point session: its configuration, and its variables, which are steady also between the parts of an event.
@@ -176,7 +179,7 @@ impl P2p {
     /// Receives a packet that came with this TTL (RFC 5880 section 6.8.6). `raw` passes the header tests of the
     /// session's port and has M clear. The verdict is the first of the tests Ttl to AdminDown that it fails; one of
     /// the tests Ttl to AuthDigest leaves all as it was, AdminDown comes after the packet's fields were kept. Adds at
-    /// most two outputs.
+    /// most two outputs, and one where no packet with F answers it.
     pub fn accept(
         &mut self,
         eff: u64,
@@ -187,11 +190,13 @@ impl P2p {
     ) -> Verdict
         requires eff { eff < moment_bound }
         requires header { first_failing (port_of self.old.config.role) raw.now ≡ None }
+        requires plain { (fields_of raw.now).multi ≡ false }
         requires room { 2 ≤ outs.old.spare }
         ensures config { self.new.config ≡ self.old.config }
         ensures course { course self.new.vars mark.new outs.new.items
             ≡ receive.received self.old.config eff ttl raw.now (course self.old.vars mark.old outs.old.items) }
         ensures verdict { result ≡ receive.verdict_on self.old.config ttl raw.now self.old.vars }
+        ensures unanswered { mark.new.answered ≡ false → outs.old.spare ≤ outs.new.spare + 1 }
         ensures spare { outs.old.spare ≤ outs.new.spare + 2 }
         ensures room { outs.new.room ≡ outs.old.room }
     {
@@ -221,7 +226,7 @@ impl P2p {
     }
 
     /// Enters Down with this diagnostic, below 32, from Up: for a failure that another function of BFD finds, as Echo
-    /// does (RFC 5880 section 6.8.5). Adds at most one output.
+    /// does (RFC 5880 section 6.8.5). What settling had done stays done: nothing comes due by it. Adds at most one output.
     pub fn fail(&mut self, eff: u64, diag: u8, mark: &mut Mark, outs: &mut Outs)
         requires eff { eff < moment_bound }
         requires up { self.old.vars.state ≡ Up }
@@ -230,6 +235,8 @@ impl P2p {
         ensures config { self.new.config ≡ self.old.config }
         ensures course { course self.new.vars mark.new outs.new.items
             ≡ moves_of self.old.config.discr eff (machine.failed diag self.old.vars) (course self.old.vars mark.old outs.old.items) }
+        ensures settled { (limit : ℕ) → limit ≤ eff → IsSettled self.old.config.active limit eff mark.old self.old.vars
+            → IsSettled self.old.config.active limit eff mark.new self.new.vars }
         ensures spare { outs.old.spare ≤ outs.new.spare + 1 }
         ensures room { outs.new.room ≡ outs.old.room }
     {
@@ -238,7 +245,8 @@ impl P2p {
     }
 
     /// Ends an event: a state or diagnostic that changed in it, and that no periodic packet of it told, is told by one
-    /// packet where one may be sent, and the next due tick is drawn (RFC 5880 section 6.8.7). Adds at most one output.
+    /// packet where one may be sent, and the next due tick is drawn (RFC 5880 section 6.8.7). Adds at most one output,
+    /// and none where a packet with F was sent in the event.
     pub fn finish(&mut self, eff: u64, mark: Mark, outs: &mut Outs)
         requires eff { eff < moment_bound }
         requires room { 1 ≤ outs.old.spare }
@@ -248,6 +256,7 @@ impl P2p {
         ensures sound { IsSound self.new.config self.new.vars }
         ensures over { (limit : ℕ) → limit ≤ eff → IsSettled self.old.config.active limit eff mark self.old.vars
             → IsOver limit self.new.vars }
+        ensures answered { mark.answered ≡ true → outs.new.spare ≡ outs.old.spare }
         ensures spare { outs.old.spare ≤ outs.new.spare + 1 }
         ensures room { outs.new.room ≡ outs.old.room }
     {
@@ -256,12 +265,16 @@ impl P2p {
 }
 
 /// Enters Down with this diagnostic.
+#[tactic(auto, using(crate::proofs::Failing::failed_settled))]
 fn fails(config: &Config, eff: u64, diag: u8, vars: &mut Vars, outs: &mut Outs)
     requires steady { IsSteady config.now vars.old }
     requires eff { eff < moment_bound }
+    requires up { vars.old.state ≡ Up }
     requires diag { diag < 32 }
     requires room { 0 < outs.old.spare }
     ensures steady { IsSteady config.now vars.new }
+    ensures settled { (limit : ℕ) (m : MarkOf) → limit ≤ eff → IsSettled config.now.active limit eff m vars.old
+        → IsSettled config.now.active limit eff m vars.new }
     ensures course { (m : MarkOf) → course vars.new m outs.new.items
         ≡ moves_of config.now.discr eff (machine.failed diag vars.old) (course vars.old m outs.old.items) }
     ensures spare { outs.old.spare ≤ outs.new.spare + 1 }

@@ -1,5 +1,5 @@
 //! The reception of a control packet after settling (RFC 5880 section 6.8.6).
-ghost use Rattle.std.specs.Prelude.{◌≡◌, ◌≢◌, ◌<◌, ◌≤◌, ◌+◌, ◌^◌, None, IsSome, List, length, find};
+ghost use Rattle.std.specs.Prelude.{◌≡◌, ◌≢◌, ◌<◌, ◌≤◌, ◌+◌, ◌^◌, false, None, IsSome, List, length, find};
 ghost use Rattle.bfd_num.specs.Numbers.{moment_bound};
 ghost use Rattle.bfd_packet.specs.declared.control.Control.{Control as ControlOf};
 ghost use Rattle.bfd_packet.specs.Layout.{fields_of};
@@ -12,20 +12,11 @@ ghost use Rattle.bfd_rules.specs.Sound.{IsPlain, HasPeerMult, IsSteady};
 ghost use Rattle.bfd_p2p.specs.Receive as receive;
 ghost use Rattle.bfd_p2p.specs.Port.{port_of};
 
-use crate::frame::{enters, moves, renews};
+use crate::frame::{moves, renews};
 use crate::transmitting::transmits;
 use bfd_auth::verify;
 use bfd_packet::{Control, Keys, Port, SeqState, State, Test, read};
-use bfd_rules::{Config, Mark, Outs, Poll, Role, Vars};
-
-/// What became of a packet.
-#[derive(Clone, Copy, Debug, PartialEq, Eq)]
-pub enum Verdict {
-    /// Every test let it pass.
-    Accepted,
-    /// This test refused it.
-    Dropped(Test),
-}
+use bfd_rules::{Config, Mark, Outs, Poll, Role, Vars, Verdict, enters, is_admin_down};
 
 /// The first of the session's tests on TTL and the A bit that the packet fails.
 fn session_test(config: &Config, ttl: u8, packet: &Control) -> Option<Test>
@@ -117,6 +108,14 @@ fn min_rx_of(packet: &Control) -> u32
     packet.min_rx
 }
 
+/// The peer's Detect Mult, which has 8 bits.
+fn mult_of(packet: &Control) -> u8
+    ensures value { result ≡ packet.now.mult }
+    ensures below { result < 256 }
+{
+    packet.mult
+}
+
 /// The peer's fields are kept (section 6.8.6).
 #[tactic(auto, unfolding(crate::specs::Receive::keeps_fields))]
 fn keeps_fields(config: &Config, eff: u64, packet: &Control, vars: &mut Vars)
@@ -129,13 +128,14 @@ fn keeps_fields(config: &Config, eff: u64, packet: &Control, vars: &mut Vars)
     ensures course { (m : MarkOf) (os : List Out) → course vars.new m os ≡ receive.keeps_fields eff packet.now (course vars.old m os) }
 {
     let min_rx = min_rx_of(packet);
+    let mult = mult_of(packet);
     let after = Vars {
         remote_discr: packet.my,
         remote_state: packet.state,
         remote_demand: packet.demand,
         remote_min_rx: min_rx,
         remote_min_echo: packet.min_echo,
-        remote_mult: packet.mult,
+        remote_mult: mult,
         remote_tx: packet.min_tx,
         heard: Some(eff),
         ..*vars
@@ -229,6 +229,7 @@ fn answers(config: &Config, packet: &Control, vars: &mut Vars, mark: &mut Mark, 
     requires room { 0 < outs.old.spare }
     ensures steady { IsSteady config.now vars.new }
     ensures course { course vars.new mark.new outs.new.items ≡ receive.answers config.now packet.now (course vars.old mark.old outs.old.items) }
+    ensures unanswered { mark.new.answered ≡ false → outs.new.spare ≡ outs.old.spare }
     ensures spare { outs.old.spare ≤ outs.new.spare + 1 }
     ensures room { outs.new.room ≡ outs.old.room }
 {
@@ -236,13 +237,6 @@ fn answers(config: &Config, packet: &Control, vars: &mut Vars, mark: &mut Mark, 
         vars.seq = transmits(config, false, true, vars, outs);
         mark.answered = true;
     }
-}
-
-/// The session is in AdminDown.
-pub fn is_admin_down(state: State) -> bool
-    ensures { result ≡ receive.is_admin_down state }
-{
-    matches!(state, State::AdminDown)
 }
 
 /// What a packet that passes the tests does; the test on AdminDown comes after its fields were kept.
@@ -264,6 +258,7 @@ fn accepts(
     ensures course { course vars.new mark.new outs.new.items
         ≡ receive.accepted config.now eff packet.now seq (course vars.old mark.old outs.old.items) }
     ensures verdict { result ≡ receive.verdict_by vars.old.state (Ok seq) }
+    ensures unanswered { mark.new.answered ≡ false → outs.old.spare ≤ outs.new.spare + 1 }
     ensures spare { outs.old.spare ≤ outs.new.spare + 2 }
     ensures room { outs.new.room ≡ outs.old.room }
 {
@@ -319,6 +314,7 @@ pub fn receives(
     ensures course { course vars.new mark.new outs.new.items
         ≡ receive.received config.now eff ttl raw.now (course vars.old mark.old outs.old.items) }
     ensures verdict { result ≡ receive.verdict_on config.now ttl raw.now vars.old }
+    ensures unanswered { mark.new.answered ≡ false → outs.old.spare ≤ outs.new.spare + 1 }
     ensures spare { outs.old.spare ≤ outs.new.spare + 2 }
     ensures room { outs.new.room ≡ outs.old.room }
 {

@@ -2,6 +2,7 @@
 ghost use Rattle.std.specs.Prelude.{◌≡◌, ◌<◌, ◌≤◌, ◌+◌, List, true, false, ℕ};
 ghost use Rattle.bfd_num.specs.Numbers.{moment_bound, floor_tick as tick_of};
 ghost use Rattle.bfd_num.specs.Due as due;
+ghost use Rattle.bfd_packet.specs.declared.control.State.TheVariants.{Up};
 ghost use Rattle.bfd_rules.specs.declared.config.Config.{Config as ConfigOf};
 ghost use Rattle.bfd_rules.specs.declared.variables.Mark.{Mark as MarkOf};
 ghost use Rattle.bfd_rules.specs.declared.outputs.Out.{Out};
@@ -11,11 +12,11 @@ ghost use Rattle.bfd_rules.specs.Sound.{IsPlain, IsRenewed, HasPeerMult, IsStead
 ghost use Rattle.bfd_p2p.specs.Settle as settling;
 ghost use Rattle.bfd_p2p.specs.Over.{IsBegun, IsStill};
 
-use crate::frame::{enters, moves, renews};
+use crate::frame::{moves, renews};
 use crate::transmitting::transmits;
 use bfd_num::{floor_tick, has_come};
 use bfd_packet::{SeqState, State};
-use bfd_rules::{Config, Mark, Outs, Poll, Vars, deadline, may_send, seq_deadline};
+use bfd_rules::{Config, Mark, Outs, Poll, Vars, deadline, enters, may_send, seq_deadline, tells};
 
 /// The peer is forgotten, and a session in Init or Up goes Down with diagnostic 1.
 fn silenced(v: &Vars) -> Vars
@@ -44,6 +45,7 @@ fn detection(config: &Config, limit: u64, eff: u64, vars: &mut Vars, outs: &mut 
     ensures steady { IsSteady config.now vars.new }
     ensures course { (m : MarkOf) → course vars.new m outs.new.items ≡ settling.detection config.now limit eff (course vars.old m outs.old.items) }
     ensures late { due.has_come limit (deadline_of vars.new) ≡ false }
+    ensures not_up { vars.new.state ≡ Up → vars.new.state ≡ vars.old.state }
     ensures calm { vars.new.state ≡ vars.old.state
         → vars.new ≡ record vars.old { heard = vars.new.heard; remote_discr = vars.new.remote_discr } }
     ensures sends { vars.new.state ≡ vars.old.state → may_send_of config.now.active vars.new ≡ true → may_send_of config.now.active vars.old ≡ true }
@@ -130,6 +132,8 @@ fn periodic_packet(config: &Config, eff: u64, vars: &mut Vars, mark: &mut Mark, 
     ensures moved { mark.new.moved ≡ true }
     ensures answered { mark.new.answered ≡ mark.old.answered }
     ensures base { vars.new.base ≡ eff }
+    ensures state { vars.new.state ≡ vars.old.state }
+    ensures told { mark.new.state ≡ vars.new.state }
     ensures late { (limit : ℕ) → limit ≤ eff → due.has_come limit (deadline_of vars.old) ≡ false → due.has_come limit (deadline_of vars.new) ≡ false }
     ensures seq_same { seq_deadline_of vars.new ≡ seq_deadline_of vars.old }
     ensures spare { outs.old.spare ≤ outs.new.spare + 1 }
@@ -138,9 +142,7 @@ fn periodic_packet(config: &Config, eff: u64, vars: &mut Vars, mark: &mut Mark, 
     let poll = !matches!(vars.poll, Poll::Idle);
     let seq = transmits(config, poll, false, vars, outs);
     let after = told(eff, seq, vars);
-    mark.moved = true;
-    mark.state = vars.state;
-    mark.diag = vars.diag;
+    tells(vars, mark);
     renews(config, eff, after, vars);
 }
 
@@ -163,6 +165,8 @@ fn periodic(
     ensures late { limit ≤ eff → due.has_come limit (deadline_of vars.old) ≡ false → due.has_come limit (deadline_of vars.new) ≡ false }
     ensures seq_same { seq_deadline_of vars.new ≡ seq_deadline_of vars.old }
     ensures based { mark.old.moved ≡ false → mark.new.moved ≡ true → vars.new.base ≡ eff }
+    ensures state { vars.new.state ≡ vars.old.state }
+    ensures told { mark.new.moved ≡ true → mark.old.moved ≡ false → mark.new.state ≡ vars.new.state }
     ensures vars_rest { mark.new.moved ≡ false → vars.new ≡ vars.old }
     ensures mark_rests { mark.new.moved ≡ false → mark.new ≡ mark.old }
     ensures due_later { mark.new.moved ≡ false → may_send_of config.now.active vars.old ≡ true
@@ -194,6 +198,7 @@ pub fn settle(
     ensures seq_late { due.has_come limit (seq_deadline_of vars.new) ≡ false }
     ensures answered { mark.new.answered ≡ mark.old.answered }
     ensures based { mark.old.moved ≡ false → mark.new.moved ≡ true → vars.new.base ≡ eff }
+    ensures up_before { IsBegun config.now limit eff mark.old vars.old → vars.new.state ≡ Up → mark.new.state ≡ Up }
     ensures still { IsBegun config.now limit eff mark.old vars.old → mark.new.moved ≡ false → is_news mark.new vars.new ≡ false
         → may_send_of config.now.active vars.new ≡ true → IsStill limit mark.new vars.new }
     ensures spare { outs.old.spare ≤ outs.new.spare + 2 }
