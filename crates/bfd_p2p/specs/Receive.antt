@@ -1,6 +1,6 @@
 -- The reception of a control packet after settling (RFC 5880 section 6.8.6): the session's discard tests, then its
 -- rules in order.
-use Rattle.std.specs.Prelude.{ℕ, ◌==◌, ◌&&◌, not, Bool, true, false, if◌then◌else◌, Option, None, Some, is_some, is_none, Result, Ok, Err, List, [], ◌∷◌, take, find}
+use Rattle.std.specs.Prelude.{ℕ, ◌<◌, ◌^◌, ◌==◌, ◌&&◌, not, Bool, true, false, if◌then◌else◌, Option, None, Some, is_some, is_none, Result, Ok, Err, List, [], ◌∷◌, take, find}
 use Rattle.bfd_packet.specs.declared.control.State.{State}
 use Rattle.bfd_packet.specs.declared.control.State.TheVariants.{AdminDown, Down, Init, Up}
 use Rattle.bfd_packet.specs.declared.control.Control.{Control}
@@ -22,6 +22,11 @@ use Rattle.bfd_rules.specs.Quantities.{is_admin_down}
 use Rattle.bfd_rules.specs.Course.{Course, enters}
 use Rattle.bfd_p2p.specs.Frame.{renews, moves}
 use Rattle.bfd_p2p.specs.Transmit.{transmits}
+
+-- the numbers of a packet that sessions keep fit their fields, as those of every packet of bytes do
+pub record IsSized (packet : Control) : Type 0 where
+  pub min_rx : packet.min_rx < 2 ^ 32
+  pub mult : packet.mult < 256
 
 -- the session runs over a single hop
 abbrev pub is_single : Role → Bool

@@ -12,6 +12,7 @@ ghost use Rattle.bfd_rules.specs.Course.{course, begins as begins_of, stamped as
 ghost use Rattle.bfd_rules.specs.Sound.{IsConfig, IsPlace, IsSteady, IsSound};
 ghost use Rattle.bfd_p2p.specs.Settle as settling;
 ghost use Rattle.bfd_p2p.specs.Receive as receive;
+ghost use Rattle.bfd_p2p.specs.Receive.{IsSized};
 ghost use Rattle.bfd_p2p.specs.Command as command;
 ghost use Rattle.bfd_p2p.specs.Finish as finishing;
 ghost use Rattle.bfd_p2p.specs.Frame.{moves as moves_of};
@@ -196,6 +197,7 @@ impl P2p {
         ensures course { course self.new.vars mark.new outs.new.items
             ≡ receive.received self.old.config eff ttl raw.now (course self.old.vars mark.old outs.old.items) }
         ensures verdict { result ≡ receive.verdict_on self.old.config ttl raw.now self.old.vars }
+        ensures sized { IsSized (fields_of raw.now) }
         ensures unanswered { mark.new.answered ≡ false → outs.old.spare ≤ outs.new.spare + 1 }
         ensures spare { outs.old.spare ≤ outs.new.spare + 2 }
         ensures room { outs.new.room ≡ outs.old.room }

@@ -10,6 +10,7 @@ ghost use Rattle.bfd_rules.specs.declared.outputs.Out.{Out};
 ghost use Rattle.bfd_rules.specs.Course.{course};
 ghost use Rattle.bfd_rules.specs.Sound.{IsPlain, HasPeerMult, IsSteady};
 ghost use Rattle.bfd_p2p.specs.Receive as receive;
+ghost use Rattle.bfd_p2p.specs.Receive.{IsSized};
 ghost use Rattle.bfd_p2p.specs.Port.{port_of};
 
 use crate::frame::{moves, renews};
@@ -100,42 +101,25 @@ fn keeps_sequence(config: &Config, eff: u64, seq: SeqState, vars: &mut Vars)
     renews(config, eff, after, vars);
 }
 
-/// The peer's Required Min RX Interval, which has 32 bits.
-fn min_rx_of(packet: &Control) -> u32
-    ensures value { result ≡ packet.now.min_rx }
-    ensures below { result < 2 ^ 32 }
-{
-    packet.min_rx
-}
-
-/// The peer's Detect Mult, which has 8 bits.
-fn mult_of(packet: &Control) -> u8
-    ensures value { result ≡ packet.now.mult }
-    ensures below { result < 256 }
-{
-    packet.mult
-}
-
 /// The peer's fields are kept (section 6.8.6).
 #[tactic(auto, unfolding(crate::specs::Receive::keeps_fields))]
 fn keeps_fields(config: &Config, eff: u64, packet: &Control, vars: &mut Vars)
     requires plain { IsPlain config.now vars.old }
     requires eff { eff < moment_bound }
     requires mult { packet.now.mult ≢ 0 }
+    requires sized { IsSized packet.now }
     ensures steady { IsSteady config.now vars.new }
     ensures state { vars.new.state ≡ vars.old.state }
     ensures heard { IsSome vars.new.heard }
     ensures course { (m : MarkOf) (os : List Out) → course vars.new m os ≡ receive.keeps_fields eff packet.now (course vars.old m os) }
 {
-    let min_rx = min_rx_of(packet);
-    let mult = mult_of(packet);
     let after = Vars {
         remote_discr: packet.my,
         remote_state: packet.state,
         remote_demand: packet.demand,
-        remote_min_rx: min_rx,
+        remote_min_rx: packet.min_rx,
         remote_min_echo: packet.min_echo,
-        remote_mult: mult,
+        remote_mult: packet.mult,
         remote_tx: packet.min_tx,
         heard: Some(eff),
         ..*vars
@@ -178,6 +162,7 @@ fn keeps(config: &Config, eff: u64, packet: &Control, seq: SeqState, vars: &mut 
     requires plain { IsPlain config.now vars.old }
     requires eff { eff < moment_bound }
     requires mult { packet.now.mult ≢ 0 }
+    requires sized { IsSized packet.now }
     ensures steady { IsSteady config.now vars.new }
     ensures state { vars.new.state ≡ vars.old.state }
     ensures heard { IsSome vars.new.heard }
@@ -253,6 +238,7 @@ fn accepts(
     requires steady { IsSteady config.now vars.old }
     requires eff { eff < moment_bound }
     requires mult { packet.now.mult ≢ 0 }
+    requires sized { IsSized packet.now }
     requires room { 1 < outs.old.spare }
     ensures steady { IsSteady config.now vars.new }
     ensures course { course vars.new mark.new outs.new.items
@@ -286,6 +272,7 @@ fn fields(role: Role, raw: &[u8]) -> Control
     requires { first_failing (port_of role) raw.now ≡ None }
     ensures fields { result ≡ fields_of raw.now }
     ensures mult { result.mult ≢ 0 }
+    ensures sized { IsSized result }
     ensures length { result.length ≤ length raw.now }
 {
     match read(control_port(role), raw) {
@@ -314,6 +301,7 @@ pub fn receives(
     ensures course { course vars.new mark.new outs.new.items
         ≡ receive.received config.now eff ttl raw.now (course vars.old mark.old outs.old.items) }
     ensures verdict { result ≡ receive.verdict_on config.now ttl raw.now vars.old }
+    ensures sized { IsSized (fields_of raw.now) }
     ensures unanswered { mark.new.answered ≡ false → outs.old.spare ≤ outs.new.spare + 1 }
     ensures spare { outs.old.spare ≤ outs.new.spare + 2 }
     ensures room { outs.new.room ≡ outs.old.room }

@@ -9,7 +9,8 @@ use Rattle.bfd_rules.specs.Quantities.{deadline, seq_deadline}
 use Rattle.bfd_p2p.specs.Over.{IsOver}
 use Rattle.bfd_session.specs.declared.event.SessionConfig.{SessionConfig}
 use Rattle.bfd_session.specs.declared.event.SessionConfig.TheVariants.{Pair}
-use Rattle.bfd_session.specs.Due.{due, tick_of}
+use Rattle.bfd_session.specs.Kinds.{Running}
+use Rattle.bfd_session.specs.Due.{due, due_by, tick_of}
 
 -- the sooner of two has come where one of them has
 pub has_come-sooner : (t : ℕ) (a b : Option ℕ) → has_come t (sooner a b) ≡ (has_come t a || has_come t b)
@@ -31,10 +32,14 @@ unfolding floor_tick
 floor-tick t = omega arith
 
 -- with no deadline and no due tick that has come, nothing is due
-pub due_over : (c : SessionConfig) (v : Vars) (limit t : ℕ) → limit ≡ 1000 * t → IsOver limit v → has_come t (due c v) ≡ false
-due_over (Pair c) v limit t at over =
-    let late : has_come (1000 * t) (deadline v) ≡ false = subst (λ (m : ℕ). has_come m (deadline v) ≡ false) at over.late in
-    let seq_late : has_come (1000 * t) (seq_deadline v) ≡ false = subst (λ (m : ℕ). has_come m (seq_deadline v) ≡ false) at over.seq_late in
-    let due_later : has_come t v.tx_due ≡ false =
-    subst (λ (k : ℕ). has_come k v.tx_due ≡ false) (floor-tick t) (subst (λ (m : ℕ). has_come (floor_tick m) v.tx_due ≡ false) at over.due_later) in
-    rw (has_come-sooner t (tick_of (deadline v)) (sooner (tick_of (seq_deadline v)) v.tx_due), has_come-sooner t (tick_of (seq_deadline v)) v.tx_due, has_come-ceil t (deadline v), has_come-ceil t (seq_deadline v), late, seq_late, due_later) refl
+pub due_over : (s : Running) (limit t : ℕ) → limit ≡ 1000 * t → IsOver limit s.vars → has_come t (due s) ≡ false
+due_over s limit t at over = over_by s.config s limit t at over
+  where
+    over_by : (c : SessionConfig) (s : Running) (limit t : ℕ) → limit ≡ 1000 * t → IsOver limit s.vars → has_come t (due_by c s) ≡ false
+    over_by (Pair c) s limit t at over =
+        let v : Vars = s.vars in
+        let late : has_come (1000 * t) (deadline v) ≡ false = subst (λ (m : ℕ). has_come m (deadline v) ≡ false) at over.late in
+        let seq_late : has_come (1000 * t) (seq_deadline v) ≡ false = subst (λ (m : ℕ). has_come m (seq_deadline v) ≡ false) at over.seq_late in
+        let due_later : has_come t v.tx_due ≡ false =
+        subst (λ (k : ℕ). has_come k v.tx_due ≡ false) (floor-tick t) (subst (λ (m : ℕ). has_come (floor_tick m) v.tx_due ≡ false) at over.due_later) in
+        rw (has_come-sooner t (tick_of (deadline v)) (sooner (tick_of (seq_deadline v)) v.tx_due), has_come-sooner t (tick_of (seq_deadline v)) v.tx_due, has_come-ceil t (deadline v), has_come-ceil t (seq_deadline v), late, seq_late, due_later) refl

@@ -1,5 +1,5 @@
 -- What was put out before an event stays in front of what the event puts out.
-use Rattle.std.proofs.Common.{◌≡◌, ◌++◌, ◌&&◌, not, ℕ, Bool, true, false, List, [], refl, sym, ap, ◌∙◌, append_assoc, append-nil, Option, None, Some, is_some, Result, Ok, Err, if◌then◌else◌}
+use Rattle.std.proofs.Common.{◌≡◌, ◌++◌, ◌&&◌, ℕ, Bool, true, false, List, [], refl, sym, ap, ◌∙◌, append_assoc, append-nil, Option, None, Some, is_some, Result, Ok, Err, if◌then◌else◌}
 use Rattle.bfd_packet.specs.declared.arrival.Datagram.{Datagram}
 use Rattle.bfd_packet.specs.declared.control.Control.{Control}
 use Rattle.bfd_packet.specs.declared.discard.Test.{Test}
@@ -10,8 +10,8 @@ use Rattle.bfd_rules.specs.declared.outputs.Out.{Out}
 use Rattle.bfd_rules.specs.declared.variables.Vars.{Vars}
 use Rattle.bfd_num.specs.Numbers.{floor_tick}
 use Rattle.bfd_num.specs.Due.{has_come}
-use Rattle.bfd_rules.specs.Quantities.{may_send, deadline, seq_deadline}
-use Rattle.bfd_rules.specs.Course.{Course, changes, sends, is_news}
+use Rattle.bfd_rules.specs.Quantities.{may_send, deadline, seq_deadline, is_admin_down}
+use Rattle.bfd_rules.specs.Course.{Course, changes, sends, is_untold, based, redrawn}
 use Rattle.bfd_p2p.specs.Frame.{renews, moves}
 use Rattle.bfd_p2p.specs.Transmit.{transmits}
 use Rattle.bfd_p2p.specs.Settle as settling
@@ -22,7 +22,8 @@ use Rattle.bfd_session.specs.declared.event.SessionConfig.{SessionConfig}
 use Rattle.bfd_session.specs.declared.event.SessionConfig.TheVariants.{Pair}
 use Rattle.bfd_session.specs.declared.event.Event.{Event}
 use Rattle.bfd_session.specs.declared.event.Event.TheVariants.{Packet, Returned, Command, Show}
-use Rattle.bfd_session.specs.Step.{step, tick, settled, acted, finished, begun, next, emits, answer_of, reply, tick_next, tick_emits}
+use Rattle.bfd_session.specs.Kinds.{Running}
+use Rattle.bfd_session.specs.Step.{step, tick, settled, acted, finished, begun, next_vars, emits, answer_of, reply, ticked_vars, tick_emits}
 
 -- the course with these outputs in front
 abbrev pub after : List Out → Course → Course
@@ -107,7 +108,7 @@ accepted-after : (c : Config) (eff : ℕ) (packet : Control) (seq : SeqState) (o
 unfolding receiving.accepted
 accepted-after c eff packet seq os s =
     let t : Course = receiving.kept c eff packet seq s in
-    rw kept-after (either os (receiving.is_admin_down t.vars.state) t _ _ _ refl (machine-after c eff packet os t))
+    rw kept-after (either os (is_admin_down t.vars.state) t _ _ _ refl (machine-after c eff packet os t))
 
 received_on-after : (c : Config) (eff : ℕ) (packet : Control) (judgement : Result SeqState Test) (os : List Out) (s : Course) →
     receiving.received_on c eff packet judgement (after os s) ≡ after os (receiving.received_on c eff packet judgement s)
@@ -125,16 +126,15 @@ commanded-after : (c : Config) (eff : ℕ) (cmd : Cmd) (os : List Out) (s : Cour
 unfolding commanded
 commanded-after c eff cmd os s = either os (is_some (refusal c s.vars cmd)) s _ _ _ refl (moves-after c.discr eff (done c cmd s.vars) os s)
 
-extra_packet-after : (c : Config) (eff : ℕ) (os : List Out) (s : Course) → finishing.extra_packet c eff (after os s) ≡ after os (finishing.extra_packet c eff s)
-unfolding finishing.extra_packet
+extra_packet-after : (c : Config) (eff : ℕ) (os : List Out) (s : Course) → based eff (transmits c false false (after os s)) ≡ after os (based eff (transmits c false false s))
 extra_packet-after c eff os s = rw transmits-after refl
 
 extra-after : (c : Config) (eff : ℕ) (os : List Out) (s : Course) → finishing.extra c eff (after os s) ≡ after os (finishing.extra c eff s)
 unfolding finishing.extra
-extra-after c eff os s = either os (is_news s.mark s.vars && not s.mark.answered && may_send c.active s.vars) _ s _ _ (extra_packet-after c eff os s) refl
+extra-after c eff os s = either os (is_untold c.active s.mark s.vars) _ s _ _ (extra_packet-after c eff os s) refl
 
 finish-after : (c : Config) (eff : ℕ) (os : List Out) (s : Course) → finishing.finish c eff (after os s) ≡ after os (finishing.finish c eff s)
-unfolding finishing.finish finishing.redrawn
+unfolding finishing.finish redrawn
 finish-after c eff os s = rw extra-after refl
 
 -- a whole event
@@ -169,30 +169,30 @@ step-from : (c : SessionConfig) (eff : ℕ) (event : Event) (v : Vars) (os : Lis
 step-from c eff event v os =
     ap (λ (s : Course). step c eff event s) (begun-after (Some eff) v os) ∙ step-after c eff event os (begun (Some eff) v [])
 
-pub step_next : (c : SessionConfig) (eff : ℕ) (event : Event) (v : Vars) (os : List Out)
-    → (step c eff event (begun (Some eff) v os)).vars ≡ next c eff event v
-unfolding next
-step_next c eff event v os = ap (λ (s : Course). s.vars) (step-from c eff event v os)
+pub step_vars : (s : Running) (eff : ℕ) (event : Event) (os : List Out)
+    → (step s.config eff event (begun (Some eff) s.vars os)).vars ≡ next_vars eff event s
+unfolding next_vars
+step_vars s eff event os = ap (λ (t : Course). t.vars) (step-from s.config eff event s.vars os)
 
-pub step_emits : (c : SessionConfig) (eff : ℕ) (event : Event) (v : Vars) (os : List Out)
-    → (step c eff event (begun (Some eff) v os)).outs ≡ os ++ emits c eff event v
+pub step_emits : (s : Running) (eff : ℕ) (event : Event) (os : List Out)
+    → (step s.config eff event (begun (Some eff) s.vars os)).outs ≡ os ++ emits eff event s
 unfolding emits
-step_emits c eff event v os = ap (λ (s : Course). s.outs) (step-from c eff event v os)
+step_emits s eff event os = ap (λ (t : Course). t.outs) (step-from s.config eff event s.vars os)
 
 tick-from : (c : SessionConfig) (limit eff : ℕ) (v : Vars) (os : List Out)
     → tick c limit eff (begun None v os) ≡ after os (tick c limit eff (begun None v []))
 tick-from c limit eff v os =
     ap (λ (s : Course). tick c limit eff s) (begun-after None v os) ∙ tick-after c limit eff os (begun None v [])
 
-pub tick_next_law : (c : SessionConfig) (limit eff : ℕ) (v : Vars) (os : List Out)
-    → (tick c limit eff (begun None v os)).vars ≡ tick_next c limit eff v
-unfolding tick_next
-tick_next_law c limit eff v os = ap (λ (s : Course). s.vars) (tick-from c limit eff v os)
+pub tick_vars : (s : Running) (limit eff : ℕ) (os : List Out)
+    → (tick s.config limit eff (begun None s.vars os)).vars ≡ ticked_vars limit eff s
+unfolding ticked_vars
+tick_vars s limit eff os = ap (λ (t : Course). t.vars) (tick-from s.config limit eff s.vars os)
 
-pub tick_emits_law : (c : SessionConfig) (limit eff : ℕ) (v : Vars) (os : List Out)
-    → (tick c limit eff (begun None v os)).outs ≡ os ++ tick_emits c limit eff v
+pub tick_emits_law : (s : Running) (limit eff : ℕ) (os : List Out)
+    → (tick s.config limit eff (begun None s.vars os)).outs ≡ os ++ tick_emits limit eff s
 unfolding tick_emits
-tick_emits_law c limit eff v os = ap (λ (s : Course). s.outs) (tick-from c limit eff v os)
+tick_emits_law s limit eff os = ap (λ (t : Course). t.outs) (tick-from s.config limit eff s.vars os)
 
 -- the reply is that of the variables after settling, whatever was put out before
 
@@ -202,7 +202,7 @@ settled_vars c limit eff own v os =
     ap (λ (s : Course). (settled c limit eff s).vars) (begun-after own v os)
     ∙ ap (λ (s : Course). s.vars) (settled-after c limit eff os (begun own v []))
 
-pub reply_law : (c : SessionConfig) (eff : ℕ) (event : Event) (v : Vars) (os : List Out)
-    → answer_of c event (settled c eff eff (begun (Some eff) v os)).vars ≡ reply c eff event v
+pub reply_law : (s : Running) (eff : ℕ) (event : Event) (os : List Out)
+    → answer_of s.config event (settled s.config eff eff (begun (Some eff) s.vars os)).vars ≡ reply eff event s
 unfolding reply
-reply_law c eff event v os = ap (λ (w : Vars). answer_of c event w) (settled_vars c eff eff (Some eff) v os)
+reply_law s eff event os = ap (λ (w : Vars). answer_of s.config event w) (settled_vars s.config eff eff (Some eff) s.vars os)

@@ -2,3 +2,4 @@ pub mod Front
 pub mod DueTick
 pub mod Rest
 pub mod Soundness
+pub mod Machines

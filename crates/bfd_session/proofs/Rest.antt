@@ -10,14 +10,15 @@ use Rattle.bfd_rules.specs.declared.config.Config.{Config}
 use Rattle.bfd_rules.specs.declared.outputs.Out.{Out}
 use Rattle.bfd_rules.specs.declared.variables.Vars.{Vars}
 use Rattle.bfd_rules.specs.Quantities.{deadline, seq_deadline, may_send, same_state, tx_interval}
-use Rattle.bfd_rules.specs.Course.{Course, course, begins, is_news, draws, drawn}
+use Rattle.bfd_rules.specs.Course.{Course, course, begins, is_news, draws, drawn, redrawn}
 use Rattle.bfd_rules.specs.Sound as pair
 use Rattle.bfd_p2p.specs.Settle as settling
 use Rattle.bfd_p2p.specs.Finish as finishing
 use Rattle.bfd_session.specs.declared.event.SessionConfig.{SessionConfig}
 use Rattle.bfd_session.specs.declared.event.SessionConfig.TheVariants.{Pair}
-use Rattle.bfd_session.specs.Due.{due, tick_of}
-use Rattle.bfd_session.specs.Step.{IsSound, tick, tick_next, tick_emits, begun}
+use Rattle.bfd_session.specs.Kinds.{Running}
+use Rattle.bfd_session.specs.Due.{due, due_by, tick_of}
+use Rattle.bfd_session.specs.Step.{IsSound, sound_by, tick, tick_next, ticked_vars, tick_emits, begun}
 use Rattle.bfd_session.proofs.DueTick.{has_come-sooner, has_come-ceil, floor-tick}
 
 -- settling with nothing due
@@ -69,15 +70,16 @@ drawn_by c v false is sound =
 
 finish_rests : (c : Config) (eff : ℕ) (v : Vars) (os : List Out) → pair.IsSound c v
     → finishing.finish c eff (course v (begins v) os) ≡ course v (begins v) os
-unfolding finishing.finish finishing.extra finishing.redrawn
+unfolding finishing.finish finishing.extra redrawn
 finish_rests c eff v os sound = rw (no_news v, drawn_by c v (may_send c.active v) refl sound) refl
 
 -- the whole tick
 
-tick_rests : (c : SessionConfig) (v : Vars) (t eff : ℕ) → IsSound c v → has_come t (due c v) ≡ false
-    → tick c (1000 * t) eff (begun None v []) ≡ begun None v []
+tick_rests : (c : SessionConfig) (s : Running) (t eff : ℕ) → sound_by c s → has_come t (due_by c s) ≡ false
+    → tick c (1000 * t) eff (begun None s.vars []) ≡ begun None s.vars []
 unfolding tick
-tick_rests (Pair c) v t eff sound nothing =
+tick_rests (Pair c) s t eff sound nothing =
+    let v : Vars = s.vars in
     let outer = or_parts (has_come t (tick_of (deadline v))) (has_come t (sooner (tick_of (seq_deadline v)) v.tx_due))
     (sym (has_come-sooner t (tick_of (deadline v)) (sooner (tick_of (seq_deadline v)) v.tx_due)) ∙ nothing) in
     let inner = or_parts (has_come t (tick_of (seq_deadline v))) (has_come t v.tx_due)
@@ -87,26 +89,25 @@ tick_rests (Pair c) v t eff sound nothing =
     let due_later : has_come (floor_tick (1000 * t)) v.tx_due ≡ false =
     ap (λ (k : ℕ). has_come k v.tx_due) (floor-tick t) ∙ inner.1 in
     ap (finishing.finish c eff) (settle_rests c (1000 * t) eff (begun None v []) late seq_late due_later)
-    ∙ finish_rests c eff v [] sound
+    ∙ finish_rests c eff v [] sound.vars
 
-pub rest_vars : (c : SessionConfig) (v : Vars) (t eff : ℕ) → IsSound c v → has_come t (due c v) ≡ false
-    → tick_next c (1000 * t) eff v ≡ v
-unfolding tick_next
-rest_vars c v t eff sound nothing = ap (λ (s : Course). s.vars) (tick_rests c v t eff sound nothing)
+pub rest_session : (s : Running) (t eff : ℕ) → IsSound s → has_come t (due s) ≡ false → tick_next (1000 * t) eff s ≡ s
+unfolding ticked_vars
+rest_session s t eff sound nothing =
+    ap (λ (p : Course). record s { vars = p.vars }) (tick_rests s.config s t eff sound nothing)
 
-pub rest_outs : (c : SessionConfig) (v : Vars) (t eff : ℕ) → IsSound c v → has_come t (due c v) ≡ false
-    → tick_emits c (1000 * t) eff v ≡ []
+pub rest_outs : (s : Running) (t eff : ℕ) → IsSound s → has_come t (due s) ≡ false → tick_emits (1000 * t) eff s ≡ []
 unfolding tick_emits
-rest_outs c v t eff sound nothing = ap (λ (s : Course). s.outs) (tick_rests c v t eff sound nothing)
+rest_outs s t eff sound nothing = ap (λ (p : Course). p.outs) (tick_rests s.config s t eff sound nothing)
 
 -- the same with the limit as a number
 
-pub limit_vars : (c : SessionConfig) (v : Vars) (limit t eff : ℕ) → limit ≡ 1000 * t → IsSound c v → has_come t (due c v) ≡ false
-    → tick_next c limit eff v ≡ v
-limit_vars c v limit t eff at sound nothing =
-    ap (λ (l : ℕ). tick_next c l eff v) at ∙ rest_vars c v t eff sound nothing
+pub limit_session : (s : Running) (limit t eff : ℕ) → limit ≡ 1000 * t → IsSound s → has_come t (due s) ≡ false
+    → tick_next limit eff s ≡ s
+limit_session s limit t eff at sound nothing =
+    ap (λ (l : ℕ). tick_next l eff s) at ∙ rest_session s t eff sound nothing
 
-pub limit_outs : (c : SessionConfig) (v : Vars) (limit t eff : ℕ) (os : List Out) → limit ≡ 1000 * t → IsSound c v → has_come t (due c v) ≡ false
-    → os ++ tick_emits c limit eff v ≡ os
-limit_outs c v limit t eff os at sound nothing =
-    ap (λ (l : ℕ). os ++ tick_emits c l eff v) at ∙ (ap (λ (xs : List Out). os ++ xs) (rest_outs c v t eff sound nothing) ∙ append-nil os)
+pub limit_outs : (s : Running) (limit t eff : ℕ) (os : List Out) → limit ≡ 1000 * t → IsSound s → has_come t (due s) ≡ false
+    → os ++ tick_emits limit eff s ≡ os
+limit_outs s limit t eff os at sound nothing =
+    ap (λ (l : ℕ). os ++ tick_emits l eff s) at ∙ (ap (λ (xs : List Out). os ++ xs) (rest_outs s t eff sound nothing) ∙ append-nil os)

@@ -7,13 +7,13 @@ use Rattle.bfd_num.specs.Numbers.{moment_bound, floor_tick, ceil_tick, next_j}
 use Rattle.bfd_num.specs.Due.{has_come}
 use Rattle.bfd_rules.specs.declared.config.Config.{Config}
 use Rattle.bfd_rules.specs.declared.variables.Poll.{Poll}
-use Rattle.bfd_rules.specs.declared.variables.Poll.TheVariants.{Idle, Wanted, Running}
+use Rattle.bfd_rules.specs.declared.variables.Poll.TheVariants.{Idle, Wanted, Running as UnderWay}
 use Rattle.bfd_rules.specs.declared.variables.Mark.{Mark}
 use Rattle.bfd_rules.specs.declared.variables.Vars.{Vars}
 use Rattle.bfd_rules.specs.Quantities.{deadline, seq_deadline, demand_here, may_send, tx_interval, is_idle}
 use Rattle.bfd_rules.specs.Jitter.{pick}
 use Rattle.bfd_rules.specs.Renewal.{poll_again, poll_renewed, used_renewed, demand_renewed, renewed}
-use Rattle.bfd_rules.specs.Course.{Course, changes, sends, is_news, draws, one_changed, drawn}
+use Rattle.bfd_rules.specs.Course.{Course, changes, sends, draws, one_changed, drawn, is_untold, based, redrawn}
 use Rattle.bfd_rules.specs.Sound.{IsPlain, IsRenewed, HasPeerMult, IsSteady, IsSound}
 use Rattle.bfd_p2p.specs.Frame.{renews, moves}
 use Rattle.bfd_p2p.specs.Transmit.{transmits}
@@ -22,7 +22,8 @@ use Rattle.bfd_p2p.specs.Finish as finishing
 use Rattle.bfd_session.specs.declared.event.SessionConfig.{SessionConfig}
 use Rattle.bfd_session.specs.declared.event.SessionConfig.TheVariants.{Pair}
 use Rattle.bfd_session.specs.Step as session
-use Rattle.bfd_session.specs.Step.{tick, tick_next, begun}
+use Rattle.bfd_session.specs.Kinds.{Running}
+use Rattle.bfd_session.specs.Step.{tick, tick_next, ticked_vars, begun}
 
 -- Renewal
 
@@ -73,7 +74,7 @@ demand_peer eff before v h = grind (arith, common_steps)
 again_idle : (poll : Poll) → is_idle (poll_again poll) ≡ is_idle poll
 again_idle Idle = refl
 again_idle Wanted = refl
-again_idle (Running first) = refl
+again_idle (UnderWay first) = refl
 
 again_renews : (v : Vars) → IsRenewed v → IsRenewed (record v { poll = poll_again v.poll })
 again_renews v h = record {
@@ -176,9 +177,9 @@ based_steady : (c : Config) (eff : ℕ) (seq : SeqState) (v : Vars) → eff < mo
 based_steady c eff seq v h steady = grind (arith, common_steps)
 
 extra_steady : (c : Config) (eff : ℕ) (s : Course) → eff < moment_bound → IsSteady c s.vars → IsSteady c (finishing.extra c eff s).vars
-unfolding finishing.extra finishing.extra_packet transmits sends
+unfolding finishing.extra transmits sends
 extra_steady c eff s h steady =
-    choice_steady c (is_news s.mark s.vars && not s.mark.answered && may_send c.active s.vars) (finishing.extra_packet c eff s) s
+    choice_steady c (is_untold c.active s.mark s.vars) (based eff (transmits c false false s)) s
     (based_steady c eff _ s.vars h steady) steady
 
 share_most : (one : Bool) (interval : ℕ) → (if one then 9 * interval / 10 else interval) ≤ interval
@@ -243,15 +244,22 @@ unfolding drawn
 drawn_sound c m v steady = drawn_by c m v (may_send c.active v) (draws m v) refl refl steady
 
 finish_sound : (c : Config) (eff : ℕ) (s : Course) → eff < moment_bound → IsSteady c s.vars → IsSound c (finishing.finish c eff s).vars
-unfolding finishing.finish finishing.redrawn
+unfolding finishing.finish redrawn
 finish_sound c eff s h steady =
     let t : Course = finishing.extra c eff s in drawn_sound c t.mark t.vars (extra_steady c eff s h steady)
 
 -- the whole tick
 
-pub tick_sound : (c : SessionConfig) (v : Vars) (limit eff : ℕ) → eff < moment_bound → session.IsSound c v
-    → session.IsSound c (tick_next c limit eff v)
-unfolding tick_next tick
-tick_sound (Pair c) v limit eff h sound =
-    finish_sound c eff (settling.settle c limit eff (begun None v [])) h
-    (settle_steady c limit eff (begun None v []) h sound.steady)
+sound_after : (c : SessionConfig) (s : Running) (limit eff : ℕ) → eff < moment_bound → session.sound_by c s
+    → session.sound_by c (record s { vars = (tick c limit eff (begun None s.vars [])).vars })
+unfolding tick
+sound_after (Pair c) s limit eff h sound = record {
+  vars = finish_sound c eff (settling.settle c limit eff (begun None s.vars [])) h
+      (settle_steady c limit eff (begun None s.vars []) h sound.vars.steady);
+  no_echo = sound.no_echo;
+  none_sent = sound.none_sent;
+}
+
+pub tick_sound : (s : Running) (limit eff : ℕ) → eff < moment_bound → session.IsSound s → session.IsSound (tick_next limit eff s)
+unfolding ticked_vars
+tick_sound s limit eff h sound = sound_after s.config s limit eff h sound

@@ -1,23 +1,25 @@
 -- One event of a session: what has come due, the event's own rules, and the end of the event.
-use Rattle.std.specs.Prelude.{◌≡◌, ℕ, false, Option, None, Some, List, []}
+use Rattle.std.specs.Prelude.{◌≡◌, ℕ, Bool, true, false, Option, None, Some, List, []}
 use Rattle.bfd_packet.specs.declared.discard.Test.TheVariants.{EchoStale}
 use Rattle.bfd_packet.specs.declared.arrival.Arrival.{Arrival}
 use Rattle.bfd_packet.specs.Layout.{fields_of}
 use Rattle.bfd_packet.specs.HeaderTests.{first_failing}
+use Rattle.bfd_rules.specs.declared.commands.Cmd.{Cmd}
+use Rattle.bfd_rules.specs.declared.commands.Cmd.TheVariants.{EchoEvery}
 use Rattle.bfd_rules.specs.declared.commands.Refusal.{Refusal}
 use Rattle.bfd_rules.specs.declared.config.Config.{Config}
 use Rattle.bfd_rules.specs.declared.outputs.Out.{Out}
 use Rattle.bfd_rules.specs.declared.variables.Poll.{Poll}
-use Rattle.bfd_rules.specs.declared.variables.Poll.TheVariants.{Idle, Wanted, Running}
+use Rattle.bfd_rules.specs.declared.variables.Poll.TheVariants.{Idle, Wanted, Running as UnderWay}
 use Rattle.bfd_rules.specs.declared.variables.Vars.{Vars}
 use Rattle.bfd_rules.specs.Quantities.{adv_tx, detection_time}
 use Rattle.bfd_rules.specs.Course.{Course, course, begins, stamped}
 use Rattle.bfd_rules.specs.Sound as pair
-use Rattle.bfd_p2p.specs.declared.receiving.Verdict.{Verdict}
-use Rattle.bfd_p2p.specs.declared.receiving.Verdict.TheVariants.{Accepted, Dropped as Discarded}
+use Rattle.bfd_rules.specs.declared.verdict.Verdict.{Verdict}
+use Rattle.bfd_rules.specs.declared.verdict.Verdict.TheVariants.{Accepted, Dropped as Discarded}
 use Rattle.bfd_p2p.specs.Port.{port_of}
 use Rattle.bfd_p2p.specs.Settle as pair_settle
-use Rattle.bfd_p2p.specs.Receive.{received, verdict_on}
+use Rattle.bfd_p2p.specs.Receive.{IsSized, received, verdict_on}
 use Rattle.bfd_p2p.specs.Command.{commanded, refusal}
 use Rattle.bfd_p2p.specs.Finish as pair_finish
 use Rattle.bfd_p2p.specs.Machine as pair_machine
@@ -28,18 +30,37 @@ use Rattle.bfd_session.specs.declared.event.Event.TheVariants.{Packet, Returned,
 use Rattle.bfd_session.specs.declared.event.Answer.{Answer}
 use Rattle.bfd_session.specs.declared.event.Answer.TheVariants.{Handled, Dropped, Refused, Shown as Showing}
 use Rattle.bfd_session.specs.declared.event.Shown.{Shown}
+use Rattle.bfd_session.specs.Kinds.{Running}
 
--- a configuration within its ranges
+-- a configuration of a point-to-point session within its ranges, with no Echo function, which isn't built
+pub record IsPairFit (c : Config) : Type 0 where
+  pub config : pair.IsConfig c
+  pub no_echo : c.echo ≡ 0
+
+-- a configuration that a session may have
 abbrev pub IsFit : SessionConfig → Type 0
-IsFit (Pair c) = pair.IsConfig c
+IsFit (Pair c) = IsPairFit c
 
--- the variables between events
-abbrev pub IsSound : SessionConfig → Vars → Type 0
-IsSound (Pair c) v = pair.IsSound c v
+-- a point-to-point session between events: sound variables, and no Echo function
+pub record IsPairSound (c : Config) (s : Running) : Type 0 where
+  pub vars : pair.IsSound c s.vars
+  pub no_echo : s.echo ≡ None
+  pub none_sent : s.echo_next ≡ 0
+
+-- a session between events
+abbrev pub sound_by : SessionConfig → Running → Type 0
+sound_by (Pair c) s = IsPairSound c s
+
+abbrev pub IsSound : Running → Type 0
+IsSound s = sound_by s.config s
 
 -- the variables at the start
 abbrev pub made : SessionConfig → Vars
 made (Pair c) = pair_machine.made c
+
+-- a session at the start
+abbrev pub started : SessionConfig → Running
+started c = record { config = c; vars = made c; echo = None; echo_next = 0 }
 
 -- a packet for a session of this configuration: it came on the session's port, passes the port's header tests and
 -- has M clear; one with M set is for a tail (RFC 8562)
@@ -48,12 +69,23 @@ pub record IsFor (c : Config) (arrival : Arrival) : Type 0 where
   pub header : first_failing arrival.port arrival.payload ≡ None
   pub plain : (fields_of arrival.payload).multi ≡ false
 
--- an event that may be handed to a session: a packet is for it
+-- a command of the Echo function
+abbrev pub is_echo_command : Cmd → Bool
+is_echo_command (EchoEvery n) = true
+is_echo_command cmd = false
+
+-- an event that may be handed to a session: a packet is for it, and a command isn't one of the Echo function, which isn't
+-- built
 abbrev pub CanTake : SessionConfig → Event → Type 0
 CanTake (Pair c) (Packet arrival) = IsFor c arrival
 CanTake (Pair c) (Returned sequence) = Unit {0}
-CanTake (Pair c) (Command cmd) = Unit {0}
+CanTake (Pair c) (Command cmd) = is_echo_command cmd ≡ false
 CanTake (Pair c) Show = Unit {0}
+
+-- the numbers of a packet fit their fields; every packet of bytes is such
+abbrev pub HasSize : Event → Type 0
+HasSize (Packet arrival) = IsSized (fields_of arrival.payload)
+HasSize event = Unit {0}
 
 -- what has come due by the limit is done: detection, sequence, periodic
 -- (the Echo function's failure and sending follow here, with it)
@@ -84,25 +116,33 @@ step c eff event s = finished c eff (acted c eff event (settled c eff eff s))
 unfoldable pub tick : SessionConfig → ℕ → ℕ → Course → Course
 tick c limit eff s = finished c eff (settled c limit eff s)
 
--- the variables after an own event, and its outputs
-unfoldable pub next : SessionConfig → ℕ → Event → Vars → Vars
-next c eff event v = (step c eff event (begun (Some eff) v [])).vars
+-- the variables after an own event
+unfoldable pub next_vars : ℕ → Event → Running → Vars
+next_vars eff event s = (step s.config eff event (begun (Some eff) s.vars [])).vars
 
-unfoldable pub emits : SessionConfig → ℕ → Event → Vars → List Out
-emits c eff event v = (step c eff event (begun (Some eff) v [])).outs
+-- the session after an own event, and the event's outputs
+abbrev pub next : ℕ → Event → Running → Running
+next eff event s = record s { vars = next_vars eff event s }
 
--- the variables after a tick, and its outputs
-unfoldable pub tick_next : SessionConfig → ℕ → ℕ → Vars → Vars
-tick_next c limit eff v = (tick c limit eff (begun None v [])).vars
+unfoldable pub emits : ℕ → Event → Running → List Out
+emits eff event s = (step s.config eff event (begun (Some eff) s.vars [])).outs
 
-unfoldable pub tick_emits : SessionConfig → ℕ → ℕ → Vars → List Out
-tick_emits c limit eff v = (tick c limit eff (begun None v [])).outs
+-- the variables after a tick
+unfoldable pub ticked_vars : ℕ → ℕ → Running → Vars
+ticked_vars limit eff s = (tick s.config limit eff (begun None s.vars [])).vars
+
+-- the session after a tick, and the tick's outputs
+abbrev pub tick_next : ℕ → ℕ → Running → Running
+tick_next limit eff s = record s { vars = ticked_vars limit eff s }
+
+unfoldable pub tick_emits : ℕ → ℕ → Running → List Out
+tick_emits limit eff s = (tick s.config limit eff (begun None s.vars [])).outs
 
 -- the number that shows a Poll Sequence
 abbrev pub poll_number : Poll → ℕ
 poll_number Idle = 0
 poll_number Wanted = 1
-poll_number (Running first) = 2
+poll_number (UnderWay first) = 2
 
 -- what a session shows
 abbrev pub shown : Config → Vars → Shown
@@ -137,5 +177,5 @@ answer_of (Pair c) (Command cmd) v = answer_to_command (refusal c v cmd)
 answer_of (Pair c) Show v = Showing (shown c v)
 
 -- the answer of an own event
-unfoldable pub reply : SessionConfig → ℕ → Event → Vars → Answer
-reply c eff event v = answer_of c event (settled c eff eff (begun (Some eff) v [])).vars
+unfoldable pub reply : ℕ → Event → Running → Answer
+reply eff event s = answer_of s.config event (settled s.config eff eff (begun (Some eff) s.vars [])).vars

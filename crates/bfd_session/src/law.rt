@@ -1,20 +1,16 @@
-//! What the definitions of a tick promise by themselves, for callers that skip ticks.
+//! What the definitions promise by themselves, for callers that skip ticks or speak of whole histories.
 ghost use Rattle.std.specs.Prelude.{◌≡◌, ◌*◌, ◌<◌, ℕ, [], false};
 ghost use Rattle.bfd_num.specs.Numbers.{moment_bound};
 ghost use Rattle.bfd_num.specs.Due.{has_come};
-ghost use Rattle.bfd_rules.specs.declared.variables.Vars.{Vars};
-ghost use Rattle.bfd_session.specs.declared.event.SessionConfig.{SessionConfig};
+ghost use Rattle.bfd_session.specs.Kinds.{Running};
 ghost use Rattle.bfd_session.specs.Due.{due};
 ghost use Rattle.bfd_session.specs.Step.{IsSound, tick_next, tick_emits};
 
-/// Laws, and no work: for all sound variables, a tick by which nothing is due leaves the variables as they are and puts
-/// nothing out, so a caller may hand a tick to the due sessions alone; and every tick keeps variables sound.
-#[tactic(auto, using(crate::proofs::Rest::rest_vars, crate::proofs::Rest::rest_outs, crate::proofs::Soundness::tick_sound))]
+/// Laws, and no work: for every sound session, a tick by which nothing is due leaves it as it is and puts nothing out, so
+/// a caller may hand a tick to the due sessions alone; and every tick keeps a session sound.
+#[tactic(auto, using(crate::proofs::Rest::rest_session, crate::proofs::Rest::rest_outs, crate::proofs::Soundness::tick_sound))]
 pub fn tick_laws()
-    ensures vars { (c : SessionConfig) (v : Vars) (t eff : ℕ) → IsSound c v → has_come t (due c v) ≡ false
-        → tick_next c (1000 * t) eff v ≡ v }
-    ensures outs { (c : SessionConfig) (v : Vars) (t eff : ℕ) → IsSound c v → has_come t (due c v) ≡ false
-        → tick_emits c (1000 * t) eff v ≡ [] }
-    ensures sound { (c : SessionConfig) (v : Vars) (limit eff : ℕ) → eff < moment_bound → IsSound c v
-        → IsSound c (tick_next c limit eff v) }
+    ensures session { (s : Running) (t eff : ℕ) → IsSound s → has_come t (due s) ≡ false → tick_next (1000 * t) eff s ≡ s }
+    ensures outs { (s : Running) (t eff : ℕ) → IsSound s → has_come t (due s) ≡ false → tick_emits (1000 * t) eff s ≡ [] }
+    ensures sound { (s : Running) (limit eff : ℕ) → eff < moment_bound → IsSound s → IsSound (tick_next limit eff s) }
 {}

@@ -1,19 +1,23 @@
 //! The events of a point-to-point session.
 ghost use Rattle.std.specs.Prelude.{◌≡◌, ◌<◌, ◌≤◌, ◌+◌, ◌*◌, ◌++◌, ℕ, None, Some, false, IfSome, IsTrue, ◌↔◌};
 ghost use Rattle.bfd_num.specs.Numbers.{moment_bound};
+ghost use Rattle.bfd_num.specs.Due.{has_come};
 ghost use Rattle.bfd_rules.specs.Course.{course};
 ghost use Rattle.bfd_rules.specs.Sound.{IsSound};
 ghost use Rattle.bfd_p2p.specs.Over.{IsOver};
 ghost use Rattle.bfd_session.specs.declared.event.SessionConfig.TheVariants.{Pair};
 ghost use Rattle.bfd_session.specs.Due as due;
 ghost use Rattle.bfd_session.specs.Step as session;
-ghost use Rattle.bfd_session.specs.Step.{CanTake, IsFor, begun};
+ghost use Rattle.bfd_session.specs.Inside.{pair_of};
+ghost use Rattle.bfd_session.specs.Step.{CanTake, HasSize, IsFor, begun};
 
 use crate::{Answer, Event, Shown};
 use bfd_num::{ceil_tick, sooner};
-use bfd_p2p::{P2p, Verdict, control_port};
+use bfd_p2p::{P2p, control_port};
 use bfd_packet::{Arrival, Test, read};
-use bfd_rules::{Config, Mark, Outs, Poll, Vars, adv_tx, deadline, detection_time, seq_deadline};
+use bfd_rules::{
+    Config, Mark, Outs, Poll, Vars, Verdict, adv_tx, deadline, detection_time, seq_deadline,
+};
 
 /// The number that shows a Poll Sequence.
 fn poll_number(poll: Poll) -> u8
@@ -65,6 +69,8 @@ fn acts(p: &mut P2p, eff: u64, event: &Event, mark: &mut Mark, outs: &mut Outs) 
     ensures course { course p.new.vars mark.new outs.new.items
         ≡ session.acted (Pair p.old.config) eff event.now (course p.old.vars mark.old outs.old.items) }
     ensures answer { result ≡ session.answer_of (Pair p.old.config) event.now p.old.vars }
+    ensures size { HasSize event.now }
+    ensures unanswered { mark.new.answered ≡ false → outs.old.spare ≤ outs.new.spare + 1 }
     ensures spare { outs.old.spare ≤ outs.new.spare + 2 }
     ensures room { outs.new.room ≡ outs.old.room }
 {
@@ -95,6 +101,7 @@ fn runs(p: &mut P2p, eff: u64, event: &Event, outs: &mut Outs) -> Answer
     requires takes { CanTake (Pair p.old.config) event.now }
     requires room { 5 ≤ outs.old.spare }
     ensures config { p.new.config ≡ p.old.config }
+    ensures size { HasSize event.now }
     ensures vars { p.new.vars ≡ (session.step (Pair p.old.config) eff event.now (begun (Some eff) p.old.vars outs.old.items)).vars }
     ensures outs { outs.new.items ≡ (session.step (Pair p.old.config) eff event.now (begun (Some eff) p.old.vars outs.old.items)).outs }
     ensures answer { result ≡ session.answer_of (Pair p.old.config) event.now
@@ -111,15 +118,14 @@ fn runs(p: &mut P2p, eff: u64, event: &Event, outs: &mut Outs) -> Answer
 }
 
 /// An own event at its effective moment.
-#[tactic(auto, using(crate::proofs::Front::step_next, crate::proofs::Front::step_emits))]
 pub fn steps(p: &mut P2p, eff: u64, event: &Event, outs: &mut Outs) -> Answer
     requires eff { eff < moment_bound }
     requires takes { CanTake (Pair p.old.config) event.now }
     requires room { 5 ≤ outs.old.spare }
-    ensures config { p.new.config ≡ p.old.config }
-    ensures vars { p.new.vars ≡ session.next (Pair p.old.config) eff event.now p.old.vars }
-    ensures outs { outs.new.items ≡ outs.old.items ++ session.emits (Pair p.old.config) eff event.now p.old.vars }
-    ensures answer { result ≡ session.reply (Pair p.old.config) eff event.now p.old.vars }
+    ensures session { pair_of p.new ≡ session.next eff event.now (pair_of p.old) }
+    ensures size { HasSize event.now }
+    ensures outs { outs.new.items ≡ outs.old.items ++ session.emits eff event.now (pair_of p.old) }
+    ensures answer { result ≡ session.reply eff event.now (pair_of p.old) }
     ensures sound { IsSound p.new.config p.new.vars }
     ensures spare { outs.old.spare ≤ outs.new.spare + 5 }
     ensures room { outs.new.room ≡ outs.old.room }
@@ -127,9 +133,9 @@ pub fn steps(p: &mut P2p, eff: u64, event: &Event, outs: &mut Outs) -> Answer
     runs(p, eff, event, outs)
 }
 
-/// A tick with this limit, at the effective moment `eff`.
+/// A tick with this limit, from what was put out before it.
 #[tactic(auto, unfolding(crate::specs::Step::tick))]
-pub fn ticks(p: &mut P2p, limit: u64, eff: u64, outs: &mut Outs)
+fn passes(p: &mut P2p, limit: u64, eff: u64, outs: &mut Outs)
     requires sound { IsSound p.old.config p.old.vars }
     requires eff { eff < moment_bound }
     requires room { 5 ≤ outs.old.spare }
@@ -146,6 +152,21 @@ pub fn ticks(p: &mut P2p, limit: u64, eff: u64, outs: &mut Outs)
     p.finish(eff, kept, outs);
 }
 
+/// A tick with this limit, at the effective moment `eff`.
+pub fn ticks(p: &mut P2p, limit: u64, eff: u64, outs: &mut Outs)
+    requires sound { IsSound p.old.config p.old.vars }
+    requires eff { eff < moment_bound }
+    requires room { 5 ≤ outs.old.spare }
+    ensures session { pair_of p.new ≡ session.tick_next limit eff (pair_of p.old) }
+    ensures outs { outs.new.items ≡ outs.old.items ++ session.tick_emits limit eff (pair_of p.old) }
+    ensures over { (t : ℕ) → limit ≡ 1000 * t → limit ≤ eff → has_come t (due.due (pair_of p.new)) ≡ false }
+    ensures sound { IsSound p.new.config p.new.vars }
+    ensures spare { outs.old.spare ≤ outs.new.spare + 5 }
+    ensures room { outs.new.room ≡ outs.old.room }
+{
+    passes(p, limit, eff, outs);
+}
+
 /// The tick at which a moment has come.
 #[tactic(auto, unfolding(bfd_num::specs::Numbers::ceil_tick))]
 fn tick_of(moment: Option<u64>) -> Option<u64>
@@ -160,7 +181,7 @@ fn tick_of(moment: Option<u64>) -> Option<u64>
 
 /// The least due tick.
 pub fn due_tick(p: &P2p) -> Option<u64>
-    ensures value { result ≡ due.due (Pair p.now.config) p.now.vars }
+    ensures value { result ≡ due.due (pair_of p.now) }
     ensures below { IfSome result (λ t. t < moment_bound) }
 {
     let v = p.vars();

@@ -5,13 +5,12 @@ ghost use Rattle.bfd_num.specs.Due.{has_come};
 ghost use Rattle.bfd_rules.specs.declared.outputs.Out.{Out};
 ghost use Rattle.bfd_session.specs.Kinds.{discr_of};
 ghost use Rattle.bfd_session.specs.Due as due;
-ghost use Rattle.bfd_session.specs.Inside.{running_of, IsRunning};
-ghost use Rattle.bfd_session.specs.Step.{IsFit, IsSound, CanTake, made, next, emits, reply, tick_next, tick_emits};
+ghost use Rattle.bfd_session.specs.Step.{IsFit, IsSound, CanTake, HasSize, started, next, emits, reply, tick_next, tick_emits};
 
 use crate::pair::{due_tick, is_for, steps, ticks};
 use crate::{Answer, Event, SessionConfig};
 use bfd_p2p::P2p;
-use bfd_rules::{Outs, Vars};
+use bfd_rules::{Cmd, Outs, Vars};
 use std::marker::Model;
 
 /// The machine of a session, by its kind.
@@ -20,7 +19,7 @@ enum Machine {
     Pair(P2p),
 }
 
-/// A session: its configuration, and its variables, which stay sound.
+/// A session: its configuration, and its variables, which stay sound between events.
 #[derive(Drop)]
 pub struct Session {
     machine: Machine,
@@ -38,50 +37,12 @@ impl Model for Session {
     ghost invariant = { λ s. IsRunning s.machine };
 }
 
-/// An own event of the machine.
-fn step_machine(machine: &mut Machine, eff: u64, event: &Event, outs: &mut Outs) -> Answer
-    requires running { IsRunning machine.old }
-    requires eff { eff < moment_bound }
-    requires takes { CanTake (running_of machine.old).config event.now }
-    requires room { 5 ≤ outs.old.spare }
-    ensures running { IsRunning machine.new }
-    ensures config { (running_of machine.new).config ≡ (running_of machine.old).config }
-    ensures vars { (running_of machine.new).vars ≡ next (running_of machine.old).config eff event.now (running_of machine.old).vars }
-    ensures outs { outs.new.items ≡ outs.old.items ++ emits (running_of machine.old).config eff event.now (running_of machine.old).vars }
-    ensures answer { result ≡ reply (running_of machine.old).config eff event.now (running_of machine.old).vars }
-    ensures spare { outs.old.spare ≤ outs.new.spare + 5 }
-    ensures room { outs.new.room ≡ outs.old.room }
-{
-    let Machine::Pair(machine) = machine;
-    steps(machine, eff, event, outs)
-}
-
-/// A tick of the machine.
-#[tactic(auto, using(crate::proofs::Front::tick_next_law, crate::proofs::Front::tick_emits_law, crate::proofs::DueTick::due_over))]
-fn tick_machine(machine: &mut Machine, limit: u64, eff: u64, outs: &mut Outs)
-    requires running { IsRunning machine.old }
-    requires eff { eff < moment_bound }
-    requires room { 5 ≤ outs.old.spare }
-    ensures running { IsRunning machine.new }
-    ensures config { (running_of machine.new).config ≡ (running_of machine.old).config }
-    ensures vars { (running_of machine.new).vars ≡ tick_next (running_of machine.old).config limit eff (running_of machine.old).vars }
-    ensures outs { outs.new.items ≡ outs.old.items ++ tick_emits (running_of machine.old).config limit eff (running_of machine.old).vars }
-    ensures over { (t : ℕ) → limit ≡ 1000 * t → limit ≤ eff
-        → has_come t (due.due (running_of machine.new).config (running_of machine.new).vars) ≡ false }
-    ensures spare { outs.old.spare ≤ outs.new.spare + 5 }
-    ensures room { outs.new.room ≡ outs.old.room }
-{
-    let Machine::Pair(machine) = machine;
-    ticks(machine, limit, eff, outs);
-}
-
 impl Session {
     /// A session with the variables of the start. The configuration is within its ranges.
     pub fn make(config: SessionConfig) -> Session
         requires { IsFit config }
-        ensures config { result.config ≡ config }
-        ensures vars { result.vars ≡ made config }
-        ensures sound { IsSound result.config result.vars }
+        ensures session { result ≡ started config }
+        ensures sound { IsSound result }
     {
         let SessionConfig::Pair(config) = config;
         Session {
@@ -100,68 +61,70 @@ impl Session {
     /// The variables.
     pub fn vars(&self) -> &Vars
         ensures value { result.now ≡ self.now.vars }
-        ensures sound { IsSound self.now.config self.now.vars }
+        ensures fit { IsFit self.now.config }
+        ensures sound { IsSound self.now }
     {
         let Machine::Pair(machine) = &self.machine;
         machine.vars()
     }
 
     /// Whether the event may be handed to the session: a packet came on the session's port, passes the port's header
-    /// tests and has M clear, and every other event may.
+    /// tests and has M clear; a command isn't one of the Echo function, which isn't built; and every other event may.
     pub fn takes(&self, event: &Event) -> bool
         ensures { IsTrue result ↔ CanTake self.now.config event.now }
     {
         let Machine::Pair(machine) = &self.machine;
         match event {
             Event::Packet(arrival) => is_for(machine.config(), arrival),
-            Event::Returned(_) | Event::Command(_) | Event::Show => true,
+            Event::Command(cmd) => !matches!(cmd, Cmd::EchoEvery(_)),
+            Event::Returned(_) | Event::Show => true,
         }
     }
 
     /// An own event at its effective moment `eff`, in microseconds: what has come due by it is done, then the event's
-    /// own rules, then the event ends (RFC 5880 section 6.8). A packet came on the session's port, passes the port's
-    /// header tests and has M clear. Adds at most five outputs. Takes no memory.
+    /// own rules, then the event ends (RFC 5880 section 6.8). The event is one that `takes` says yes to. Adds at most
+    /// five outputs. Takes no memory.
     pub fn step(&mut self, eff: u64, event: &Event, outs: &mut Outs) -> Answer
         requires eff { eff < moment_bound }
         requires takes { CanTake self.old.config event.now }
         requires room { 5 ≤ outs.old.spare }
-        ensures config { self.new.config ≡ self.old.config }
-        ensures vars { self.new.vars ≡ next self.old.config eff event.now self.old.vars }
-        ensures outs { outs.new.items ≡ outs.old.items ++ emits self.old.config eff event.now self.old.vars }
-        ensures answer { result ≡ reply self.old.config eff event.now self.old.vars }
-        ensures sound { IsSound self.new.config self.new.vars }
+        ensures session { self.new ≡ next eff event.now self.old }
+        ensures outs { outs.new.items ≡ outs.old.items ++ emits eff event.now self.old }
+        ensures answer { result ≡ reply eff event.now self.old }
+        ensures size { HasSize event.now }
+        ensures sound { IsSound self.new }
         ensures spare { outs.old.spare ≤ outs.new.spare + 5 }
         ensures room { outs.new.room ≡ outs.old.room }
     {
-        step_machine(&mut self.machine, eff, event, outs)
+        let Machine::Pair(machine) = &mut self.machine;
+        steps(machine, eff, event, outs)
     }
 
     /// A tick: what has come due by `limit`, in microseconds, is done at the effective moment `eff`. A tick before
     /// `due` changes and adds nothing; after one with the limit of tick t nothing that is due by t is left. Adds at
     /// most five outputs. Takes no memory.
-    #[tactic(auto, using(crate::proofs::Rest::limit_vars, crate::proofs::Rest::limit_outs))]
+    #[tactic(auto, using(crate::proofs::Rest::limit_session, crate::proofs::Rest::limit_outs))]
     pub fn tick(&mut self, limit: u64, eff: u64, outs: &mut Outs)
         requires eff { eff < moment_bound }
         requires room { 5 ≤ outs.old.spare }
-        ensures config { self.new.config ≡ self.old.config }
-        ensures vars { self.new.vars ≡ tick_next self.old.config limit eff self.old.vars }
-        ensures outs { outs.new.items ≡ outs.old.items ++ tick_emits self.old.config limit eff self.old.vars }
-        ensures over { (t : ℕ) → limit ≡ 1000 * t → limit ≤ eff → has_come t (due.due self.new.config self.new.vars) ≡ false }
-        ensures rests_vars { (t : ℕ) → limit ≡ 1000 * t → has_come t (due.due self.old.config self.old.vars) ≡ false
-            → self.new.vars ≡ self.old.vars }
-        ensures rests_outs { (t : ℕ) → limit ≡ 1000 * t → has_come t (due.due self.old.config self.old.vars) ≡ false
+        ensures session { self.new ≡ tick_next limit eff self.old }
+        ensures outs { outs.new.items ≡ outs.old.items ++ tick_emits limit eff self.old }
+        ensures over { (t : ℕ) → limit ≡ 1000 * t → limit ≤ eff → has_come t (due.due self.new) ≡ false }
+        ensures rests { (t : ℕ) → limit ≡ 1000 * t → has_come t (due.due self.old) ≡ false → self.new ≡ self.old }
+        ensures rests_outs { (t : ℕ) → limit ≡ 1000 * t → has_come t (due.due self.old) ≡ false
             → outs.new.items ≡ outs.old.items }
-        ensures sound { IsSound self.new.config self.new.vars }
+        ensures sound { IsSound self.new }
         ensures spare { outs.old.spare ≤ outs.new.spare + 5 }
         ensures room { outs.new.room ≡ outs.old.room }
     {
-        tick_machine(&mut self.machine, limit, eff, outs);
+        let Machine::Pair(machine) = &mut self.machine;
+        ticks(machine, limit, eff, outs);
     }
 
     /// The tick that the session needs next: the least of its due ticks, or None where it has none (RFC 5880 sections
     /// 6.8.1, 6.8.4 and 6.8.7). It may lie at or below the last tick; the next tick then does it. Takes no memory.
     pub fn due(&self) -> Option<u64>
-        ensures value { result ≡ due.due self.now.config self.now.vars }
+        ensures value { result ≡ due.due self.now }
         ensures below { IfSome result (λ t. t < moment_bound) }
     {
         let Machine::Pair(machine) = &self.machine;

@@ -1,0 +1,65 @@
+-- All tests that may discard an arrival which names a session, in their one order (RFC 5880 section 6.8.6): those on the
+-- header and on the table, and then those of the session. Its variables are the ones after settling.
+use Rattle.std.specs.Prelude.{ℕ, ◌||◌, Bool, false, Option, None, Some, List, [], ◌∷◌, ◌++◌, take, find}
+use Rattle.bfd_packet.specs.declared.arrival.Arrival.{Arrival}
+use Rattle.bfd_packet.specs.declared.discard.Test.{Test}
+use Rattle.bfd_packet.specs.declared.discard.Test.TheVariants.{AdminDown}
+use Rattle.bfd_packet.specs.declared.keys.SeqState.{SeqState}
+use Rattle.bfd_packet.specs.KeyChain.{KeyChain}
+use Rattle.bfd_packet.specs.Layout.{fields_of}
+use Rattle.bfd_auth.specs.Verdict.{section_fails, section_tests}
+use Rattle.bfd_rules.specs.declared.config.Config.{Config}
+use Rattle.bfd_rules.specs.declared.variables.Vars.{Vars}
+use Rattle.bfd_rules.specs.declared.verdict.Verdict.{Verdict}
+use Rattle.bfd_rules.specs.declared.verdict.Verdict.TheVariants.{Accepted, Dropped}
+use Rattle.bfd_rules.specs.Quantities.{is_admin_down}
+use Rattle.bfd_p2p.specs.Receive as receive
+use Rattle.bfd_demux.specs.declared.row.Row.{Row}
+use Rattle.bfd_demux.specs.Selection.{is_multipoint, table_fails, tests_on_header, tests_on_table}
+use Rattle.bfd_session.specs.declared.event.SessionConfig.{SessionConfig}
+use Rattle.bfd_session.specs.declared.event.SessionConfig.TheVariants.{Pair}
+
+-- the sentence of each test on the authentication section
+abbrev pub unauthentic : Option KeyChain → SeqState → List ℕ → Test → Bool
+unauthentic None seq raw test = false
+unauthentic (Some keys) seq raw test = section_fails keys seq raw test
+
+-- the sentence of each test of a point-to-point session
+abbrev pub pair_fails : Config → Vars → ℕ → List ℕ → Test → Bool
+pair_fails c v ttl raw AdminDown = is_admin_down v.state
+pair_fails c v ttl raw test =
+    receive.session_fails c ttl (fields_of raw) test || unauthentic c.keys v.seq (take (fields_of raw).length raw) test
+
+-- those tests in their order: TTL and the A bit, the authentication section, AdminDown
+abbrev pub pair_tests : List Test
+pair_tests = receive.session_tests ++ (section_tests ++ AdminDown ∷ [])
+
+-- the sentence of each test of a session
+abbrev pub own_fails : SessionConfig → Vars → Arrival → Test → Bool
+own_fails (Pair c) v arrival test = pair_fails c v arrival.ttl arrival.payload test
+
+-- the tests of a session
+abbrev pub own_tests : SessionConfig → List Test
+own_tests (Pair c) = pair_tests
+
+-- the first of them that fails
+abbrev pub first_own_failing : SessionConfig → Vars → Arrival → Option Test
+first_own_failing c v arrival = find (own_fails c v arrival) (own_tests c)
+
+-- the sentence of each test on an arrival that names this session
+abbrev pub discards : List Row → SessionConfig → Vars → Arrival → Test → Bool
+discards rows c v arrival test = table_fails arrival.port test rows arrival || own_fails c v arrival test
+
+-- all tests in their order
+abbrev pub all_tests : SessionConfig → Arrival → List Test
+all_tests c arrival =
+    (tests_on_header arrival.port ++ tests_on_table arrival.port (is_multipoint arrival.port arrival)) ++ own_tests c
+
+-- the first test that fails, and so discards the arrival; with none it is handled
+abbrev pub first_discarding : List Row → SessionConfig → Vars → Arrival → Option Test
+first_discarding rows c v arrival = find (discards rows c v arrival) (all_tests c arrival)
+
+-- the test that a verdict tells of
+abbrev pub test_of : Verdict → Option Test
+test_of Accepted = None
+test_of (Dropped test) = Some test

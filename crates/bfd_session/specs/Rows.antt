@@ -1,0 +1,41 @@
+-- The rows by which arrivals are told, one for each session.
+use Rattle.std.specs.Prelude.{◌<◌, ℕ, Bool, List, [], ◌∷◌, map}
+use Rattle.std.specs.List.{AllByRecursion}
+use Rattle.bfd_packet.specs.declared.arrival.Addr.{Addr}
+use Rattle.bfd_rules.specs.declared.config.Role.{Role}
+use Rattle.bfd_rules.specs.declared.config.Role.TheVariants.{Single, Multi}
+use Rattle.bfd_demux.specs.declared.row.Row.{Row}
+use Rattle.bfd_demux.specs.declared.row.RowKind.{RowKind}
+use Rattle.bfd_demux.specs.declared.row.RowKind.TheVariants.{Single as SingleRow, Multi as MultiRow}
+use Rattle.bfd_demux.specs.Rows.{same_addresses}
+use Rattle.bfd_session.specs.declared.event.SessionConfig.{SessionConfig}
+use Rattle.bfd_session.specs.declared.event.SessionConfig.TheVariants.{Pair}
+use Rattle.bfd_session.specs.Kinds.{discr_of}
+use Rattle.bfd_session.specs.Step.{IsFit}
+
+-- a session's addresses: over a single hop its interface counts, over several it doesn't (RFC 5881, RFC 5883)
+abbrev pub kind_of : Role → ℕ → Addr → Addr → RowKind
+kind_of Single iface local remote = SingleRow iface local remote
+kind_of Multi iface local remote = MultiRow local remote
+
+-- the row of a session
+abbrev pub row_of : SessionConfig → Row
+row_of (Pair c) = record { discr = c.discr; kind = kind_of c.role c.iface c.local c.remote }
+
+-- the rows of sessions, in their order
+abbrev pub rows_of : List SessionConfig → List Row
+rows_of configs = map row_of configs
+
+-- two sessions have the same selecting addresses: a packet without Your Discriminator can't tell them apart (RFC 5881
+-- section 3, RFC 5883 section 4)
+abbrev pub same_selector : SessionConfig → SessionConfig → Bool
+same_selector c d = same_addresses (row_of c) (row_of d)
+
+-- sessions stand strictly ascending by discriminator
+abbrev pub Ascends : List SessionConfig → Type 0
+Ascends [] = Unit {0}
+Ascends (config ∷ configs) = AllByRecursion (λ later. discr_of config < discr_of later) configs × Ascends configs
+
+-- each configuration is one that a session may have
+abbrev pub AreFit : List SessionConfig → Type 0
+AreFit configs = AllByRecursion IsFit configs
