@@ -1,4 +1,2 @@
-pub mod Rows
 pub mod World
-pub mod Reaching
 pub mod Stage

@@ -9,8 +9,6 @@
 #![tactic(auto)]
 
 mod replaying;
-mod rows;
-mod screen;
 mod world;
 
 pub use replaying::replay;

@@ -1,19 +1,20 @@
 //! A world of sessions, and the replay of a script.
-ghost use Rattle.std.specs.Prelude.{◌≡◌, ◌<◌, ◌≤◌, ◌+◌, ◌*◌, ◌++◌, ℕ, IfOk, length, map, string_bytes, sum_by};
-ghost use Rattle.bfd_session.specs.Step.{IsFit};
+ghost use Rattle.std.specs.Prelude.{◌≡◌, ◌<◌, ◌≤◌, ◌+◌, ◌*◌, ◌++◌, ℕ, true, IfOk, length, map, string_bytes, sum_by};
+ghost use Rattle.std.specs.List.{AllByRecursion};
+ghost use Rattle.bfd_session.specs.Rows.{AreFit, rows_of as rows_list};
+ghost use Rattle.bfd_session.specs.Step.{started as started_of};
+ghost use Rattle.bfd_script.specs.Reading.{is_built_line};
 ghost use Rattle.bfd_script.specs.Report.{sent_by, dropped_by, done_line, report};
-ghost use Rattle.bfd_script.specs.Sound.{Each, AreConfigs, IsScript};
-ghost use Rattle.bfd_replay.specs.Rows.{rows_of as rows_list};
+ghost use Rattle.bfd_script.specs.Sound.{AreConfigs, IsScript};
 ghost use Rattle.bfd_replay.specs.Stage.{IsStage};
 ghost use Rattle.bfd_replay.specs.World.{turned};
 ghost use Rattle.bfd_replay.specs.World as world;
 
-use crate::rows::rows_of;
 use crate::world::happen;
 use bfd_demux::{BuildFault, Demux};
 use bfd_rules::{Out, Outs};
 use bfd_script::{Line, Script, lines};
-use bfd_session::{Answer, Session, SessionConfig};
+use bfd_session::{Answer, Session, SessionConfig, rows_of};
 use std::alloc::{AllocError, Global};
 use std::marker::Model;
 
@@ -73,6 +74,7 @@ fn turn(
     outs: &mut Outs,
 ) -> (u64, Answer)
     requires stage { IsStage sessions.old.items demux.now last outs.old }
+    requires built { is_built_line line ≡ true }
     ensures turn { turned sessions.new.items result.0 outs.new.items result.1
         ≡ world.happens line (record { sessions = sessions.old.items; last = last }) }
     ensures stage { IsStage sessions.new.items demux.now result.0 outs.new }
@@ -100,6 +102,7 @@ impl Progress {
 
     /// One event: what it gave is in the outputs and the answer.
     fn happen(&mut self, line: Line) -> Answer
+        requires { is_built_line line ≡ true }
         ensures { turned self.new.world.sessions self.new.world.last self.new.items result ≡ world.happens line self.old.world }
     {
         let (last, answer) = turn(
@@ -164,7 +167,8 @@ fn done_text(alloc: Global, events: u64, txs: u64, drops: u64) -> Result<String,
 
 /// The report of the events that are left.
 fn tell(alloc: Global, replay: Progress, events: Vec<Line>) -> Result<Vec<u8>, AllocError>
-    requires { length events.items ≤ 200000 }
+    requires few { length events.items ≤ 200000 }
+    requires built { AllByRecursion (λ e. is_built_line e ≡ true) events.items }
     ensures { IfOk result (λ text. text.items ≡ report (world.outcomes events.items replay.world)) }
 {
     let mut replay = replay;

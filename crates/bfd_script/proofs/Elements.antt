@@ -1,8 +1,7 @@
 -- What is true of each element, and the bytes that a field may have.
 use Rattle.std.proofs.Common.{◌≡◌, ℕ, ◌≤◌, Bool, true, false, ◌&&◌, List, [], ◌∷◌, ◌++◌, refl, arith, nat_lt}
 use Rattle.std.proofs.lemmas.Bool.Decides.{nat_tests}
-use Rattle.std.specs.List.{list_all}
-use Rattle.bfd_script.specs.Sound.{Each}
+use Rattle.std.specs.List.{list_all, AllByRecursion}
 
 -- a byte that a field may have
 pub record IsVisible (byte : ℕ) : Type 0 where
@@ -11,13 +10,13 @@ pub record IsVisible (byte : ℕ) : Type 0 where
 
 -- the bytes of a field
 abbrev pub IsField : List ℕ → Type 0
-IsField field = Each IsVisible field
+IsField field = AllByRecursion IsVisible field
 
-pub each_more : {X : Type 0} (P : X → Type 0) (xs ys : List X) → Each P xs → Each P ys → Each P (xs ++ ys)
+pub each_more : {X : Type 0} (P : X → Type 0) (xs ys : List X) → AllByRecursion P xs → AllByRecursion P ys → AllByRecursion P (xs ++ ys)
 each_more P [] ys a b = b
 each_more P (x ∷ xs) ys a b = (a.0, each_more P xs ys a.1 b)
 
-pub each_to : {X : Type 0} {P Q : X → Type 0} (xs : List X) → ((x : X) → P x → Q x) → Each P xs → Each Q xs
+pub each_to : {X : Type 0} {P Q : X → Type 0} (xs : List X) → ((x : X) → P x → Q x) → AllByRecursion P xs → AllByRecursion Q xs
 each_to [] f all = tt
 each_to (x ∷ xs) f all = (f x all.0, each_to xs f all.1)
 

@@ -1,16 +1,16 @@
 -- A table that ascends and differs, seen from its front: each session against those before it.
 use Rattle.std.proofs.Common.{◌≡◌, ◌<◌, false, List, [], ◌∷◌, ◌++◌, ◌∙◌}
+use Rattle.std.specs.List.{AllByRecursion}
+use Rattle.bfd_session.specs.Rows.{Ascends, row_of, same_selector, Differs}
 use Rattle.bfd_session.specs.declared.event.SessionConfig.{SessionConfig}
 use Rattle.bfd_session.specs.Kinds.{discr_of}
-use Rattle.bfd_script.specs.Selecting.{selector_of, same_selector}
-use Rattle.bfd_script.specs.Sound.{Ascends, Differs, Each}
 use Rattle.bfd_script.proofs.Elements.{each_more, each_to}
-use Rattle.bfd_script.proofs.Inserting.{place_turned}
+use Rattle.bfd_script.proofs.Inserting.{kind_turned}
 
 -- each session before is below this one, and has other selecting addresses
 pub record Follows (done : List SessionConfig) (c : SessionConfig) : Type 0 where
-  pub above : Each (λ d. discr_of d < discr_of c) done
-  pub apart : Each (λ d. same_selector c d ≡ false) done
+  pub above : AllByRecursion (λ d. discr_of d < discr_of c) done
+  pub apart : AllByRecursion (λ d. same_selector c d ≡ false) done
 
 -- each session is after those before it
 abbrev pub Ready : List SessionConfig → List SessionConfig → Type 0
@@ -19,8 +19,8 @@ Ready done (c ∷ cs) = Follows done c × Ready (done ++ c ∷ []) cs
 
 -- all sessions before are below these, and have other selecting addresses
 pub record AllBefore (d : SessionConfig) (cs : List SessionConfig) : Type 0 where
-  pub below : Each (λ c. discr_of d < discr_of c) cs
-  pub apart : Each (λ c. same_selector d c ≡ false) cs
+  pub below : AllByRecursion (λ c. discr_of d < discr_of c) cs
+  pub apart : AllByRecursion (λ c. same_selector d c ≡ false) cs
 
 before_tail : (c : SessionConfig) (cs : List SessionConfig) (d : SessionConfig) → AllBefore d (c ∷ cs) → AllBefore d cs
 before_tail c cs d h = record { below = h.below.1; apart = h.apart.1 }
@@ -29,10 +29,10 @@ before_above : (c : SessionConfig) (cs : List SessionConfig) (d : SessionConfig)
 before_above c cs d h = h.below.0
 
 before_apart : (c : SessionConfig) (cs : List SessionConfig) (d : SessionConfig) → AllBefore d (c ∷ cs) → same_selector c d ≡ false
-before_apart c cs d h = place_turned (selector_of c) (selector_of d) ∙ h.apart.0
+before_apart c cs d h = kind_turned (row_of c).kind (row_of d).kind ∙ h.apart.0
 
 -- so it is in a table that ascends and differs
-pub ready : (done cs : List SessionConfig) → Each (λ d. AllBefore d cs) done → Ascends cs → Differs cs → Ready done cs
+pub ready : (done cs : List SessionConfig) → AllByRecursion (λ d. AllBefore d cs) done → Ascends cs → Differs cs → Ready done cs
 ready done [] before up apart = tt
 ready done (c ∷ cs) before up apart = (
   record { above = each_to done (before_above c cs) before; apart = each_to done (before_apart c cs) before },

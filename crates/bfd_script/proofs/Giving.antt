@@ -1,26 +1,25 @@
 -- A session of a table becomes another: the entries, the places, and what stays true of the sessions.
 use Rattle.std.proofs.Common.{◌≡◌, ℕ, ◌<◌, ◌==◌, Bool, true, false, cond, List, [], ◌∷◌, ◌++◌, length, Option, Some, None, refl, sym, ap, ◌∙◌, arith, subst, append_assoc, append-nil, length-append}
 use Rattle.std.specs.Prelude.{find}
-use Rattle.std.specs.List.{list_any}
+use Rattle.std.specs.List.{list_any, AllByRecursion}
 use Rattle.std.specs.Map.{values_of, lookup, set_value}
 use Rattle.std.specs.BTreeMap.{is_at}
 use Rattle.std.specs.Ordering.{nat_cmp, is_eq}
+use Rattle.bfd_session.specs.Rows.{Ascends, row_of, same_selector, Differs}
 use Rattle.bfd_packet.specs.KeyChain.{KeyChain}
 use Rattle.bfd_packet.specs.declared.keys.AuthType.{AuthType}
 use Rattle.bfd_packet.specs.declared.keys.Key.{Key}
 use Rattle.bfd_rules.specs.declared.config.Config.{Config}
-use Rattle.bfd_rules.specs.declared.config.Role.{Role}
-use Rattle.bfd_rules.specs.declared.config.Role.TheVariants as roles
 use Rattle.bfd_session.specs.declared.event.SessionConfig.{SessionConfig}
 use Rattle.bfd_session.specs.declared.event.SessionConfig.TheVariants.{Pair}
 use Rattle.bfd_session.specs.Kinds.{discr_of}
 use Rattle.bfd_session.specs.Step.{IsFit}
-use Rattle.bfd_script.specs.declared.selecting.Selector.{Selector}
+use Rattle.bfd_demux.specs.declared.row.RowKind.{RowKind}
+use Rattle.bfd_demux.specs.Rows.{same_selector as same_kind}
 use Rattle.bfd_script.specs.Reading.{is_built}
 use Rattle.bfd_script.specs.Rows.{by_discr, changed, has_selector, keyed_more, keyed_with, keys_in, keys_of, one_more}
 use Rattle.bfd_script.specs.Secrets.{key_fault}
-use Rattle.bfd_script.specs.Selecting.{same_place, same_selector, selector_by, selector_of}
-use Rattle.bfd_script.specs.Sound.{AreConfigs, AreKeys, AreNext, Ascends, Differs, Each, IsChain, IsKey, IsNext, IsRow}
+use Rattle.bfd_script.specs.Sound.{AreConfigs, AreKeys, AreNext, IsChain, IsKey, IsNext, IsRow}
 use Rattle.bfd_script.specs.Tables.{IsTable}
 use Rattle.bfd_script.proofs.Elements.{each_to}
 use Rattle.bfd_script.proofs.Inserting.{level, values_by}
@@ -28,7 +27,7 @@ use Rattle.bfd_script.proofs.Inserting.{level, values_by}
 -- what a change of a session leaves: all but its keys
 pub record Keeps (f : SessionConfig → SessionConfig) : Type 0 where
   pub discr : (c : SessionConfig) → discr_of (f c) ≡ discr_of c
-  pub place : (c : SessionConfig) → selector_of (f c) ≡ selector_of c
+  pub place : (c : SessionConfig) → (row_of (f c)).kind ≡ (row_of c).kind
   pub fit : (c : SessionConfig) → IsFit c → IsFit (f c)
   pub built : (c : SessionConfig) → is_built c ≡ true → is_built (f c) ≡ true
 
@@ -88,13 +87,13 @@ entries_kept f k entries keyed here =
 
 -- a fact that the change keeps for the session that it changes
 each_cond : (P : SessionConfig → Type 0) (f : SessionConfig → SessionConfig) (same : Bool) (x : SessionConfig) (cs rest : List SessionConfig) (o : Option SessionConfig)
-    → ((c : SessionConfig) → Some c ≡ cond same (Some x) o → P c → P (f c)) → P x → Each P cs
-    → (((c : SessionConfig) → Some c ≡ o → P c → P (f c)) → Each P rest) → Each P (cond same (f x ∷ cs) (x ∷ rest))
+    → ((c : SessionConfig) → Some c ≡ cond same (Some x) o → P c → P (f c)) → P x → AllByRecursion P cs
+    → (((c : SessionConfig) → Some c ≡ o → P c → P (f c)) → AllByRecursion P rest) → AllByRecursion P (cond same (f x ∷ cs) (x ∷ rest))
 each_cond P f true x cs rest o g here all more = (g x refl here, all)
 each_cond P f false x cs rest o g here all more = (here, more g)
 
 each_changed : (P : SessionConfig → Type 0) (f : SessionConfig → SessionConfig) (k : ℕ) (cs : List SessionConfig)
-    → ((c : SessionConfig) → Some c ≡ find (λ d. k == discr_of d) cs → P c → P (f c)) → Each P cs → Each P (changed k f cs)
+    → ((c : SessionConfig) → Some c ≡ find (λ d. k == discr_of d) cs → P c → P (f c)) → AllByRecursion P cs → AllByRecursion P (changed k f cs)
 each_changed P f k [] g all = tt
 each_changed P f k (x ∷ cs) g all =
     each_cond P f (k == discr_of x) x cs (changed k f cs) (find (λ d. k == discr_of d) cs) g all.0 all.1 (λ h. each_changed P f k cs h all.1)
@@ -119,11 +118,11 @@ length_changed f k [] = refl
 length_changed f k (c ∷ cs) = length_cond (k == discr_of c) c (f c) cs (changed k f cs) (length_changed f k cs)
 
 apart_kept : (d : SessionConfig) (f : SessionConfig → SessionConfig) → Keeps f → (c : SessionConfig) → same_selector d c ≡ false → same_selector d (f c) ≡ false
-apart_kept d f kept c h = ap (same_place (selector_of d)) (kept.place c) ∙ h
+apart_kept d f kept c h = ap (same_kind (row_of d).kind) (kept.place c) ∙ h
 
 ascends_cond : (f : SessionConfig → SessionConfig) → Keeps f → (same : Bool) (x : SessionConfig) (cs rest : List SessionConfig) → Ascends (x ∷ cs)
-    → Each (λ d. discr_of x < discr_of d) rest → Ascends rest → Ascends (cond same (f x ∷ cs) (x ∷ rest))
-ascends_cond f kept true x cs rest all above more = (subst (λ k. Each (λ d. k < discr_of d) cs) (sym (kept.discr x)) all.0, all.1)
+    → AllByRecursion (λ d. discr_of x < discr_of d) rest → Ascends rest → Ascends (cond same (f x ∷ cs) (x ∷ rest))
+ascends_cond f kept true x cs rest all above more = (subst (λ k. AllByRecursion (λ d. k < discr_of d) cs) (sym (kept.discr x)) all.0, all.1)
 ascends_cond f kept false x cs rest all above more = (above, more)
 
 ascends_changed : (f : SessionConfig → SessionConfig) → Keeps f → (k : ℕ) (cs : List SessionConfig) → Ascends cs → Ascends (changed k f cs)
@@ -134,8 +133,8 @@ ascends_changed f kept k (c ∷ cs) all =
     (ascends_changed f kept k cs all.1)
 
 differs_cond : (f : SessionConfig → SessionConfig) → Keeps f → (same : Bool) (x : SessionConfig) (cs rest : List SessionConfig) → Differs (x ∷ cs)
-    → Each (λ d. same_selector x d ≡ false) rest → Differs rest → Differs (cond same (f x ∷ cs) (x ∷ rest))
-differs_cond f kept true x cs rest all apart more = (each_to cs (λ d h. ap (λ s. same_place s (selector_of d)) (kept.place x) ∙ h) all.0, all.1)
+    → AllByRecursion (λ d. same_selector x d ≡ false) rest → Differs rest → Differs (cond same (f x ∷ cs) (x ∷ rest))
+differs_cond f kept true x cs rest all apart more = (each_to cs (λ d h. ap (λ s. same_kind s (row_of d).kind) (kept.place x) ∙ h) all.0, all.1)
 differs_cond f kept false x cs rest all apart more = (apart, more)
 
 differs_changed : (f : SessionConfig → SessionConfig) → Keeps f → (k : ℕ) (cs : List SessionConfig) → Differs cs → Differs (changed k f cs)
@@ -161,34 +160,34 @@ pub rows_changed : (f : SessionConfig → SessionConfig) (k : ℕ) (cs : List Se
 rows_changed f k cs entries more view e = ap (λ es. values_of es) e ∙ values_by (changed k f (values_of entries)) ∙ ap (changed k f) view
 
 -- the whole table
-table_changed : (f : SessionConfig → SessionConfig) → Keeps f → (k : ℕ) (entries more : List (ℕ × SessionConfig)) (has : Selector → Bool) → IsTable entries has
+table_changed : (f : SessionConfig → SessionConfig) → Keeps f → (k : ℕ) (entries more : List (ℕ × SessionConfig)) (has : RowKind → Bool) → IsTable entries has
     → ((c : SessionConfig) → Some c ≡ find (λ d. k == discr_of d) (values_of entries) → IsRow c → IsRow (f c))
     → more ≡ by_discr (changed k f (values_of entries)) → IsTable more has
 table_changed f kept k entries more has were row e =
     let are : values_of more ≡ changed k f (values_of entries) = rows_changed f k (values_of entries) entries more refl e in
     record {
       keyed = e ∙ ap by_discr (sym are);
-      places = λ q. were.places q ∙ sym (any_changed (λ d. same_place q (selector_of d)) f k (values_of entries) (λ c. ap (same_place q) (kept.place c)))
+      places = λ q. were.places q ∙ sym (any_changed (λ d. same_kind q (row_of d).kind) f k (values_of entries) (λ c. ap (same_kind q) (kept.place c)))
           ∙ ap (has_selector q) (sym are);
       configs = subst (λ xs. AreConfigs xs) (sym are) (configs_changed f kept k (values_of entries) row were.configs);
     }
 
 -- ---- keys for a session
 
-by_role : (role : Role) (keys : Option KeyChain) (c : Config) → selector_by role (record c { keys = keys }) ≡ selector_by role c
-by_role roles.Single keys c = refl
-by_role roles.Multi keys c = refl
-
 fit_keyed : (keys : Option KeyChain) (c : Config) → IsFit (Pair c) → IsFit (Pair (record c { keys = keys }))
 fit_keyed keys c h = record {
-  discr = h.discr;
-  iface = h.iface;
-  tx_least = h.tx_least;
-  tx_most = h.tx_most;
-  rx_least = h.rx_least;
-  rx_most = h.rx_most;
-  some_mult = h.some_mult;
-  echo_range = h.echo_range;
+  config = record {
+    discr = h.config.discr;
+    iface = h.config.iface;
+    tx_least = h.config.tx_least;
+    tx_most = h.config.tx_most;
+    rx_least = h.config.rx_least;
+    rx_most = h.config.rx_most;
+    some_mult = h.config.some_mult;
+    most_mult = h.config.most_mult;
+    echo_range = h.config.echo_range;
+  };
+  no_echo = h.no_echo;
 }
 
 row_keyed : (keys : Option KeyChain) (c : Config) → AreKeys keys → IsRow (Pair c) → IsRow (Pair (record c { keys = keys }))
@@ -197,8 +196,8 @@ row_keyed keys c are h = record { discr = h.discr; local = h.local; remote = h.r
 with_discr : (keys : KeyChain) (c : SessionConfig) → discr_of (keyed_with keys c) ≡ discr_of c
 with_discr keys (Pair c) = refl
 
-with_place : (keys : KeyChain) (c : SessionConfig) → selector_of (keyed_with keys c) ≡ selector_of c
-with_place keys (Pair c) = by_role c.role (Some keys) c
+with_place : (keys : KeyChain) (c : SessionConfig) → (row_of (keyed_with keys c)).kind ≡ (row_of c).kind
+with_place keys (Pair c) = refl
 
 with_fit : (keys : KeyChain) (c : SessionConfig) → IsFit c → IsFit (keyed_with keys c)
 with_fit keys (Pair c) h = fit_keyed (Some keys) c h
@@ -212,7 +211,7 @@ with_row keys are (Pair c) h = row_keyed (Some keys) c are h
 pub with_keeps : (keys : KeyChain) → Keeps (keyed_with keys)
 with_keeps keys = record { discr = with_discr keys; place = with_place keys; fit = with_fit keys; built = with_built keys }
 
-pub table_given : (k : ℕ) (keys : KeyChain) (entries more : List (ℕ × SessionConfig)) (has : Selector → Bool) → IsTable entries has
+pub table_given : (k : ℕ) (keys : KeyChain) (entries more : List (ℕ × SessionConfig)) (has : RowKind → Bool) → IsTable entries has
     → IsChain keys → more ≡ by_discr (changed k (keyed_with keys) (values_of entries)) → IsTable more has
 table_given k keys entries more has were are e =
     table_changed (keyed_with keys) (with_keeps keys) k entries more has were (λ c here h. with_row keys are c h) e
@@ -222,8 +221,8 @@ table_given k keys entries more has were are e =
 more_discr : (key : Key) (c : SessionConfig) → discr_of (keyed_more key c) ≡ discr_of c
 more_discr key (Pair c) = refl
 
-more_place : (key : Key) (c : SessionConfig) → selector_of (keyed_more key c) ≡ selector_of c
-more_place key (Pair c) = by_role c.role (one_more key c.keys) c
+more_place : (key : Key) (c : SessionConfig) → (row_of (keyed_more key c)).kind ≡ (row_of c).kind
+more_place key (Pair c) = refl
 
 more_fit : (key : Key) (c : SessionConfig) → IsFit c → IsFit (keyed_more key c)
 more_fit key (Pair c) h = fit_keyed (one_more key c.keys) c h
@@ -255,7 +254,7 @@ more_keys (Some keys) key free is all = record {
 more_row : (key : Key) (c : SessionConfig) → key_fault (keys_in (Some c)) key ≡ None → IsKey key → IsRow c → IsRow (keyed_more key c)
 more_row key (Pair c) free is h = row_keyed (one_more key c.keys) c (more_keys c.keys key free is h.keys) h
 
-pub table_more_keys : (k : ℕ) (key : Key) (cs : List SessionConfig) (entries more : List (ℕ × SessionConfig)) (has : Selector → Bool) → IsTable entries has
+pub table_more_keys : (k : ℕ) (key : Key) (cs : List SessionConfig) (entries more : List (ℕ × SessionConfig)) (has : RowKind → Bool) → IsTable entries has
     → values_of entries ≡ cs → key_fault (keys_of k cs) key ≡ None → IsKey key
     → more ≡ by_discr (changed k (keyed_more key) (values_of entries)) → IsTable more has
 table_more_keys k key cs entries more has were view free is e =

@@ -2,12 +2,13 @@
 use Rattle.std.proofs.Common.{◌≡◌, ℕ, ◌+◌, ◌<◌, ◌==◌, Bool, true, false, ◌||◌, ◌&&◌, cond, List, [], ◌∷◌, length, Option, Some, refl, sym, ap, ◌∙◌, arith, nat_lt, subst}
 use Rattle.std.proofs.lemmas.Bool.Decides.{nat_tests}
 use Rattle.std.specs.Prelude.{is_some}
-use Rattle.std.specs.List.{list_any}
+use Rattle.std.specs.List.{list_any, AllByRecursion}
 use Rattle.std.specs.Map.{values_of, lookup}
 use Rattle.std.specs.BTreeMap.{is_at, insert_entry}
 use Rattle.std.specs.Ordering.{nat_cmp, is_eq, ordering_then, match_ordering}
 use Rattle.std.specs.declared.cmp.Ordering.{Ordering}
 use Rattle.std.specs.declared.cmp.Ordering.TheVariants.{Less, Equal, Greater}
+use Rattle.bfd_session.specs.Rows.{Ascends, kind_of, row_of, same_selector, Differs}
 use Rattle.bfd_packet.specs.declared.arrival.Addr.{Addr}
 use Rattle.bfd_packet.specs.declared.arrival.Addr.TheVariants.{V4, V6}
 use Rattle.bfd_packet.specs.contracts.arrival.AddrOrd.TheImpl as addrs
@@ -16,13 +17,17 @@ use Rattle.bfd_session.specs.Kinds.{discr_of}
 use Rattle.bfd_session.specs.Step.{IsFit}
 use Rattle.bfd_packet.specs.Addresses.{same_addr}
 use Rattle.bfd_packet.proofs.Turned.{number_turned, addr_turned}
-use Rattle.bfd_script.specs.declared.selecting.Selector.{Selector}
-use Rattle.bfd_script.specs.declared.selecting.Selector.TheVariants.{Single, Multi}
-use Rattle.bfd_script.specs.contracts.selecting.SelectorOrd.TheImpl as selectors
+use Rattle.bfd_rules.specs.declared.config.Role.{Role}
+use Rattle.bfd_rules.specs.declared.config.Role.TheVariants as roles
+use Rattle.bfd_demux.specs.declared.row.RowKind.{RowKind}
+use Rattle.bfd_demux.specs.declared.row.RowKind.TheVariants.{Single, Multi, Seek, Reflect, Head, Tail}
+use Rattle.bfd_demux.specs.contracts.row.RowKindOrd.TheImpl as kinds
+use Rattle.bfd_demux.specs.Rows.{has_addresses, same_selector as same_kind}
+use Rattle.bfd_demux.proofs.AlikeRows.{selector_level}
+use Rattle.bfd_session.specs.declared.event.SessionConfig.TheVariants.{Pair}
 use Rattle.bfd_script.specs.Reading.{is_built}
 use Rattle.bfd_script.specs.Rows.{has_discr, has_place, has_selector, inserted, by_discr}
-use Rattle.bfd_script.specs.Selecting.{selector_of, same_place, same_selector}
-use Rattle.bfd_script.specs.Sound.{Each, Ascends, Differs, AreConfigs, IsRow}
+use Rattle.bfd_script.specs.Sound.{AreConfigs, IsRow, IsRanged}
 use Rattle.bfd_script.specs.Tables.{IsTable}
 use Rattle.bfd_script.proofs.Elements.{each_to}
 
@@ -94,49 +99,47 @@ pub any_inserted : (test : SessionConfig → Bool) (c : SessionConfig) (cs : Lis
 any_inserted test c [] = refl
 any_inserted test c (d ∷ ds) = any_cond test (nat_lt (discr_of c) (discr_of d)) c d ds (inserted c ds) (any_inserted test c ds)
 
-then_level : (a b : Ordering) (p q : Bool) → is_eq a ≡ p → is_eq b ≡ q → is_eq (ordering_then a b) ≡ (p && q)
-then_level Less b p q e f = rw (← e) refl
-then_level Equal b p q e f = rw (← e) f
-then_level Greater b p q e f = rw (← e) refl
+-- the same selecting addresses are the same either way round
+pub kind_turned : (a b : RowKind) → same_kind a b ≡ same_kind b a
+kind_turned (Single i l r) (Single i' l' r') = rw (number_turned i i', addr_turned l l', addr_turned r r') refl
+kind_turned (Multi l r) (Multi l' r') = rw (addr_turned l l', addr_turned r r') refl
+kind_turned (Tail d i g s) (Tail d' i' g' s') = rw (number_turned d d', number_turned i i', addr_turned g g', addr_turned s s') refl
+kind_turned Seek (Single i l r) = refl
+kind_turned Reflect (Single i l r) = refl
+kind_turned Head (Single i l r) = refl
+kind_turned a b = refl
 
-and_assoc : (p q r : Bool) → (p && (q && r)) ≡ ((p && q) && r)
-and_assoc true q r = refl
-and_assoc false q r = refl
+-- a session's kind compares Equal where it has the same selecting addresses
+kind_addressed : (role : Role) (iface : ℕ) (local remote : Addr) → has_addresses (kind_of role iface local remote) ≡ true
+kind_addressed roles.Single iface local remote = refl
+kind_addressed roles.Multi iface local remote = refl
 
--- addresses and places compare Equal where they are the same
-addr_level_back : (a b : Addr) → is_eq (addrs.ghosts.cmp a b) ≡ same_addr b a
-addr_level_back (V4 a) (V4 b) = level_back a b
-addr_level_back (V4 a) (V6 b) = refl
-addr_level_back (V6 a) (V4 b) = refl
-addr_level_back (V6 a) (V6 b) = level_back a b
+row_addressed : (c : SessionConfig) → has_addresses (row_of c).kind ≡ true
+row_addressed (Pair c) = kind_addressed c.role c.iface c.local c.remote
 
-place_level_back : (a b : Selector) → is_eq (selectors.ghosts.cmp a b) ≡ same_place b a
-place_level_back (Single i l r) (Single i' l' r') =
-    then_level _ _ _ _ (level_back i i') (then_level _ _ _ _ (addr_level_back l l') (addr_level_back r r')) ∙ and_assoc (i' == i) (same_addr l' l) (same_addr r' r)
-place_level_back (Multi l r) (Multi l' r') = then_level _ _ _ _ (addr_level_back l l') (addr_level_back r r')
-place_level_back (Single i l r) (Multi l' r') = refl
-place_level_back (Multi l r) (Single i' l' r') = refl
+kind_level : (c : SessionConfig) (q : RowKind) → is_eq (kinds.ghosts.cmp (row_of c).kind q) ≡ same_kind q (row_of c).kind
+kind_level c q = selector_level (row_of c).kind q (row_addressed c) ∙ kind_turned (row_of c).kind q
 
 or_step : (at same old has : Bool) → at ≡ same → old ≡ has → cond at true old ≡ (same || has)
 or_step at true old has e f = rw e refl
 or_step at false old has e f = rw e f
 
-pub places_more : (old new : Selector → Bool) (c : SessionConfig) (cs : List SessionConfig)
-    → ((q : Selector) → old q ≡ has_selector q cs)
-    → ((q : Selector) → new q ≡ cond (is_eq (selectors.ghosts.cmp (selector_of c) q)) true (old q))
-    → (q : Selector) → new q ≡ has_selector q (inserted c cs)
+pub places_more : (old new : RowKind → Bool) (c : SessionConfig) (cs : List SessionConfig)
+    → ((q : RowKind) → old q ≡ has_selector q cs)
+    → ((q : RowKind) → new q ≡ cond (is_eq (kinds.ghosts.cmp (row_of c).kind q)) true (old q))
+    → (q : RowKind) → new q ≡ has_selector q (inserted c cs)
 places_more old new c cs were are q =
-    are q ∙ or_step _ (same_place q (selector_of c)) (old q) (has_selector q cs) (place_level_back (selector_of c) q) (were q)
-    ∙ sym (any_inserted (λ d. same_place q (selector_of d)) c cs)
+    are q ∙ or_step _ (same_kind q (row_of c).kind) (old q) (has_selector q cs) (kind_level c q) (were q)
+    ∙ sym (any_inserted (λ d. same_kind q (row_of d).kind) c cs)
 
 -- ---- what stays true
 
-each_cond : {X : Type 0} (P : X → Type 0) (b : Bool) (c d : X) (ds rest : List X) → P c → P d → Each P ds → Each P rest
-    → Each P (cond b (c ∷ d ∷ ds) (d ∷ rest))
+each_cond : {X : Type 0} (P : X → Type 0) (b : Bool) (c d : X) (ds rest : List X) → P c → P d → AllByRecursion P ds → AllByRecursion P rest
+    → AllByRecursion P (cond b (c ∷ d ∷ ds) (d ∷ rest))
 each_cond P true c d ds rest new here all more = (new, (here, all))
 each_cond P false c d ds rest new here all more = (here, more)
 
-each_inserted : (P : SessionConfig → Type 0) (c : SessionConfig) (cs : List SessionConfig) → P c → Each P cs → Each P (inserted c cs)
+each_inserted : (P : SessionConfig → Type 0) (c : SessionConfig) (cs : List SessionConfig) → P c → AllByRecursion P cs → AllByRecursion P (inserted c cs)
 each_inserted P c [] new all = (new, tt)
 each_inserted P c (d ∷ ds) new all =
     each_cond P (nat_lt (discr_of c) (discr_of d)) c d ds (inserted c ds) new all.0 all.1 (each_inserted P c ds new all.1)
@@ -165,38 +168,35 @@ ascends_inserted c [] none all = (tt, tt)
 ascends_inserted c (d ∷ ds) none all =
     ascends_cond (nat_lt (discr_of c) (discr_of d)) (discr_of c == discr_of d) (has_discr (discr_of c) ds) c d ds refl refl none all (λ h. ascends_inserted c ds h all.1)
 
--- same places are the same either way round
-pub place_turned : (a b : Selector) → same_place a b ≡ same_place b a
-place_turned (Single i l r) (Single i' l' r') = rw (number_turned i i', addr_turned l l', addr_turned r r') refl
-place_turned (Multi l r) (Multi l' r') = rw (addr_turned l l', addr_turned r r') refl
-place_turned (Single i l r) (Multi l' r') = refl
-place_turned (Multi l r) (Single i' l' r') = refl
-
 or_false : (p q : Bool) → (p || q) ≡ false → (p ≡ false) × (q ≡ false)
 or_false true q h = cc
 or_false false q h = (refl, h)
 
 -- no session passes the test
-none_any : {X : Type 0} (test : X → Bool) (xs : List X) → list_any test xs ≡ false → Each (λ x. test x ≡ false) xs
+none_any : {X : Type 0} (test : X → Bool) (xs : List X) → list_any test xs ≡ false → AllByRecursion (λ x. test x ≡ false) xs
 none_any test [] h = tt
 none_any test (x ∷ xs) h = let e = or_false (test x) (list_any test xs) h in (e.0, none_any test xs e.1)
 
 differs_cond : (less : Bool) (c d : SessionConfig) (ds : List SessionConfig)
-    → Each (λ x. same_selector c x ≡ false) (d ∷ ds) → Differs (d ∷ ds) → Differs (inserted c ds) → Differs (cond less (c ∷ d ∷ ds) (d ∷ inserted c ds))
+    → AllByRecursion (λ x. same_selector c x ≡ false) (d ∷ ds) → Differs (d ∷ ds) → Differs (inserted c ds) → Differs (cond less (c ∷ d ∷ ds) (d ∷ inserted c ds))
 differs_cond true c d ds new all more = (new, all)
 differs_cond false c d ds new all more =
-    (each_inserted (λ x. same_selector d x ≡ false) c ds (place_turned (selector_of d) (selector_of c) ∙ new.0) all.0, more)
+    (each_inserted (λ x. same_selector d x ≡ false) c ds (kind_turned (row_of d).kind (row_of c).kind ∙ new.0) all.0, more)
 
-differs_inserted : (c : SessionConfig) (cs : List SessionConfig) → Each (λ x. same_selector c x ≡ false) cs → Differs cs → Differs (inserted c cs)
+differs_inserted : (c : SessionConfig) (cs : List SessionConfig) → AllByRecursion (λ x. same_selector c x ≡ false) cs → Differs cs → Differs (inserted c cs)
 differs_inserted c [] new all = (tt, tt)
 differs_inserted c (d ∷ ds) new all = differs_cond (nat_lt (discr_of c) (discr_of d)) c d ds new all (differs_inserted c ds new.1 all.1)
 
+-- a session within its ranges that is built
+fit_of : (c : SessionConfig) → IsRanged c → is_built c ≡ true → IsFit c
+fit_of (Pair c) ranged built = record { config = ranged; no_echo = grind (arith, nat_tests) }
+
 configs_more : (c : SessionConfig) (cs : List SessionConfig) → has_discr (discr_of c) cs ≡ false → has_place c cs ≡ false
-    → length cs < 65536 → IsFit c → IsRow c → is_built c ≡ true → AreConfigs cs → AreConfigs (inserted c cs)
-configs_more c cs discr place room fit row built were = record {
+    → length cs < 65536 → IsRanged c → IsRow c → is_built c ≡ true → AreConfigs cs → AreConfigs (inserted c cs)
+configs_more c cs discr place room ranged row built were = record {
   ascends = ascends_inserted c cs discr were.ascends;
   differs = differs_inserted c cs (none_any (same_selector c) cs place) were.differs;
-  fit = each_inserted IsFit c cs fit were.fit;
+  fit = each_inserted IsFit c cs (fit_of c ranged built) were.fit;
   rows = each_inserted IsRow c cs row were.rows;
   built = each_inserted (λ x. is_built x ≡ true) c cs built were.built;
   few = let e = length_inserted c cs in omega arith;
@@ -211,18 +211,18 @@ rows_more c k cs entries more keyed view key none e =
     ∙ ap (inserted c) view
 
 -- the whole table
-pub table_more : (c : SessionConfig) (k : ℕ) (s : Selector) (cs : List SessionConfig) (entries more : List (ℕ × SessionConfig)) (old new : Selector → Bool)
-    → IsTable entries old → values_of entries ≡ cs → k ≡ discr_of c → s ≡ selector_of c
-    → has_discr (discr_of c) cs ≡ false → has_place c cs ≡ false → length cs < 65536 → IsFit c → IsRow c → is_built c ≡ true
-    → more ≡ insert_entry nat_cmp entries k c → ((q : Selector) → new q ≡ cond (is_eq (selectors.ghosts.cmp s q)) true (old q))
+pub table_more : (c : SessionConfig) (k : ℕ) (s : RowKind) (cs : List SessionConfig) (entries more : List (ℕ × SessionConfig)) (old new : RowKind → Bool)
+    → IsTable entries old → values_of entries ≡ cs → k ≡ discr_of c → s ≡ (row_of c).kind
+    → has_discr (discr_of c) cs ≡ false → has_place c cs ≡ false → length cs < 65536 → IsRanged c → IsRow c → is_built c ≡ true
+    → more ≡ insert_entry nat_cmp entries k c → ((q : RowKind) → new q ≡ cond (is_eq (kinds.ghosts.cmp s q)) true (old q))
     → IsTable more new
 table_more c k s cs entries more old new were view key place_is discr place room fit row built e places =
     let same : k ≡ discr_of c = key in
     let none : has_discr (discr_of c) (values_of entries) ≡ false = ap (has_discr (discr_of c)) view ∙ discr in
     let m = entries_more c entries more were.keyed none (e ∙ ap (λ j. insert_entry nat_cmp entries j c) key) in
     let Are : List SessionConfig → Type 0 = λ xs. AreConfigs xs in
-    let at_place : (q : Selector) → new q ≡ cond (is_eq (selectors.ghosts.cmp (selector_of c) q)) true (old q) =
-    λ q. places q ∙ ap (λ t. cond (is_eq (selectors.ghosts.cmp t q)) true (old q)) place_is in
+    let at_place : (q : RowKind) → new q ≡ cond (is_eq (kinds.ghosts.cmp (row_of c).kind q)) true (old q) =
+    λ q. places q ∙ ap (λ t. cond (is_eq (kinds.ghosts.cmp t q)) true (old q)) place_is in
     let now = configs_more c cs discr place room fit row built (subst Are view were.configs) in
     record {
       keyed = m.0 ∙ ap by_discr (sym m.1);

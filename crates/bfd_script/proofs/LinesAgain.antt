@@ -3,6 +3,7 @@ use Rattle.std.proofs.Common.{◌≡◌, ℕ, nat_le, ◌<◌, ◌≤◌, ◌^�
 use Rattle.std.proofs.lemmas.Bool.Decides.{nat_tests}
 use Rattle.std.specs.Prelude.{codes}
 use Rattle.std.specs.Fmt.{decimal}
+use Rattle.std.specs.List.{AllByRecursion}
 use Rattle.bfd_num.specs.Numbers.{moment_bound, greatest_tick}
 use Rattle.hex.specs.Hex.{IsBytes}
 use Rattle.bfd_packet.specs.KeyChain.{digest_size, fits_kind, type_number}
@@ -18,7 +19,6 @@ use Rattle.bfd_rules.specs.declared.commands.Cmd.TheVariants as commands
 use Rattle.bfd_rules.specs.declared.config.Config.{Config}
 use Rattle.bfd_rules.specs.declared.config.Role.{Role}
 use Rattle.bfd_rules.specs.declared.config.Role.TheVariants as roles
-use Rattle.bfd_session.specs.Step.{IsFit}
 use Rattle.bfd_session.specs.declared.event.SessionConfig.{SessionConfig}
 use Rattle.bfd_session.specs.declared.event.SessionConfig.TheVariants.{Pair}
 use Rattle.bfd_script.specs.declared.fault.LineFault.TheVariants.{FieldCount, OutOfRange}
@@ -37,7 +37,7 @@ use Rattle.bfd_script.specs.Gives.{◌>>=◌}
 use Rattle.bfd_script.specs.Pairs.{active_of, config_by, echo_of, ends_of, pair_of, pair_with, role_of, timing_of}
 use Rattle.bfd_script.specs.Reading.{is_built_command, is_built_line}
 use Rattle.bfd_script.specs.Secrets.{chain_of, fitting, key_of, kind_by, kind_of, one_key, secret_of}
-use Rattle.bfd_script.specs.Sound.{Each, IsAsked, IsEvent, IsKey, IsPairRow, IsReceived, IsRow}
+use Rattle.bfd_script.specs.Sound.{IsAsked, IsEvent, IsKey, IsPairRow, IsReceived, IsRow, IsRanged}
 use Rattle.bfd_script.specs.Spelling.{hex_field, spaced}
 use Rattle.bfd_script.specs.Verbs.{command, fits, number_of, verb_of}
 use Rattle.bfd_script.specs.Written.{address_field, auth_fields, event_fields, is_new_line, key_fields, mode_field, port_field, role_field, row_fields, verb_fields}
@@ -151,7 +151,7 @@ pair_again c fit row high =
     ap (λ r. r >>= λ ends. pair_with ends (mode_field c.active ∷ decimal c.tx ∷ decimal c.rx ∷ decimal c.mult ∷ decimal c.echo ∷ decimal c.seed ∷ [])) (ends_again c fit row)
     ∙ ap (λ r. r >>= λ timing. Ok (config_by (record { discr = c.discr; role = c.role; iface = c.iface; local = c.local; remote = c.remote }) timing)) (timing_again c fit row high)
 
-row_is_fields : (c : Config) → IsConfig c → IsPairRow c → c.echo ≤ 60000000 → Each IsField (row_fields (Pair c))
+row_is_fields : (c : Config) → IsConfig c → IsPairRow c → c.echo ≤ 60000000 → AllByRecursion IsField (row_fields (Pair c))
 row_is_fields c fit row high = (
   p2p_is_field,
   (
@@ -208,7 +208,7 @@ echo_most roles.Single n h = grind (arith, nat_tests)
 echo_most roles.Multi n h = grind (arith, nat_tests)
 
 -- the row has no keys
-pub row_again : (version : Version) (live : Bool) (c : Config) → IsFit (Pair c) → IsRow (Pair c)
+pub row_again : (version : Version) (live : Bool) (c : Config) → IsRanged (Pair c) → IsRow (Pair c)
     → entry_of version places.Table live (spaced (row_fields (Pair c)) []) ≡ Ok (entries.Row (Pair (record c { keys = None })))
 row_again version live c fit row =
     let high = echo_most c.role c.echo fit.echo_range in
@@ -216,7 +216,7 @@ row_again version live c fit row =
     (row_is_fields c fit row high) (row_short c fit row high)
     ∙ ap (λ r. r >>= λ config. Ok (entries.Row config)) (pair_again c fit row high)
 
-pub row_fields_fit : (config : SessionConfig) → IsFit config → IsRow config → Each IsField (row_fields config)
+pub row_fields_fit : (config : SessionConfig) → IsRanged config → IsRow config → AllByRecursion IsField (row_fields config)
 row_fields_fit (Pair c) fit row = row_is_fields c fit row (echo_most c.role c.echo fit.echo_range)
 
 -- ---- the keys of a session
@@ -267,7 +267,7 @@ chain_again kind key h fits = rw (
   secret_again kind key.secret h.bytes fits,
 ) refl
 
-pub auth_fields_fit : (d : ℕ) (kind : AuthType) (key : Key) → d < 2 ^ 32 → IsKey key → Each IsField (auth_fields d kind key)
+pub auth_fields_fit : (d : ℕ) (kind : AuthType) (key : Key) → d < 2 ^ 32 → IsKey key → AllByRecursion IsField (auth_fields d kind key)
 auth_fields_fit d kind key below h = (
   word (codes "auth") refl,
   (
@@ -296,7 +296,7 @@ auth_again version live d kind key some below h fits =
     (number_again 1 4294967295 d some (omega arith) (omega arith))
     ∙ ap (λ r. r >>= λ keys. Ok (entries.Auth d keys)) (chain_again kind key h fits)
 
-pub key_fields_fit : (d : ℕ) (key : Key) → d < 2 ^ 32 → IsKey key → Each IsField (key_fields d key)
+pub key_fields_fit : (d : ℕ) (key : Key) → d < 2 ^ 32 → IsKey key → AllByRecursion IsField (key_fields d key)
 key_fields_fit d key below h = (
   word (codes "key") refl,
   (number_field d (omega arith), (number_field key.id (let k = h.id in omega arith), (hex_is_field key.secret h.bytes, tt))),
@@ -359,7 +359,7 @@ received_again m a h = rw (
   arrival_again m a h,
 ) refl
 
-rx_is_fields : (m : ℕ) (a : Arrival) → IsReceived m a → Each IsField (event_fields (events.Rx m a))
+rx_is_fields : (m : ℕ) (a : Arrival) → IsReceived m a → AllByRecursion IsField (event_fields (events.Rx m a))
 rx_is_fields m a h = (
   rx_is_field,
   (
@@ -391,7 +391,7 @@ tick_short tick h = let l = number_short tick (omega arith) in omega arith
 -- ---- a command
 
 -- the fields of a command after its discriminator
-verb_fits : (cmd : Cmd) → number_of cmd < 2 ^ 64 → Each IsField (verb_fields cmd)
+verb_fits : (cmd : Cmd) → number_of cmd < 2 ^ 64 → AllByRecursion IsField (verb_fields cmd)
 verb_fits commands.Disable h = (word (codes "disable") refl, tt)
 verb_fits commands.Enable h = (word (codes "enable") refl, tt)
 verb_fits commands.Reset h = (word (codes "reset") refl, tt)
@@ -455,7 +455,7 @@ command_again version m d (commands.Key n) h below built new =
     ap (λ o. cond (fits o true) (numbered_of version (decimal m) (decimal d) (codes "key") (decimal n)) (Err FieldCount)) (key_verb version new)
     ∙ numbered_again version m d n (codes "key") verbs.Key h below (key_verb version new)
 
-cmd_is_fields : (m d : ℕ) (cmd : Cmd) → IsAsked m d → number_of cmd < 2 ^ 64 → Each IsField (event_fields (events.Cmd m d cmd))
+cmd_is_fields : (m d : ℕ) (cmd : Cmd) → IsAsked m d → number_of cmd < 2 ^ 64 → AllByRecursion IsField (event_fields (events.Cmd m d cmd))
 cmd_is_fields m d cmd h below = (
   word (codes "cmd") refl,
   (number_field m (let k = h.moment_below in omega arith), (number_field d (let k = h.discr_below in omega arith), verb_fits cmd below)),
@@ -474,7 +474,7 @@ shown_again : (m d : ℕ) → IsAsked m d → shown_of (decimal m) (decimal d) �
 unfolding shown_of
 shown_again m d h = rw (moment_again m d h, asked_again m d h) refl
 
-show_is_fields : (m d : ℕ) → IsAsked m d → Each IsField (event_fields (events.Show m d))
+show_is_fields : (m d : ℕ) → IsAsked m d → AllByRecursion IsField (event_fields (events.Show m d))
 show_is_fields m d h = (
   word (codes "show") refl,
   (number_field m (let k = h.moment_below in omega arith), (number_field d (let k = h.discr_below in omega arith), tt)),
@@ -488,7 +488,7 @@ show_short m d h =
 
 -- ---- any event
 
-pub event_fields_fit : (event : Line) → IsEvent event → is_built_line event ≡ true → Each IsField (event_fields event)
+pub event_fields_fit : (event : Line) → IsEvent event → is_built_line event ≡ true → AllByRecursion IsField (event_fields event)
 event_fields_fit (events.Rx m a) h built = rx_is_fields m a h
 event_fields_fit (events.Tick tick) h built = (tick_is_field, (number_field tick (omega arith), tt))
 event_fields_fit (events.Cmd m d cmd) h built = cmd_is_fields m d cmd h.0 h.1

@@ -6,9 +6,8 @@ use Rattle.std.proofs.lemmas.Fmt.{digits_decimal, digits_value-decimal, decimal_
 use Rattle.std.specs.Prelude.{slice_index}
 use Rattle.std.specs.Char.{is_ascii_digit}
 use Rattle.std.specs.Fmt.{decimal}
-use Rattle.std.specs.List.{list_all}
+use Rattle.std.specs.List.{list_all, AllByRecursion}
 use Rattle.bfd_script.specs.Fields.{is_number, number_in}
-use Rattle.bfd_script.specs.Sound.{Each}
 use Rattle.bfd_script.proofs.Decimal.{own}
 use Rattle.bfd_script.proofs.Elements.{IsField, both}
 
@@ -20,26 +19,26 @@ record IsDigit (byte : ℕ) : Type 0 where
 digit_at : (b : ℕ) → is_ascii_digit b ≡ true → IsDigit b
 digit_at b h = grind (arith, nat_tests)
 
-each_digit : (ds : List ℕ) → list_all is_ascii_digit ds ≡ true → Each IsDigit ds
+each_digit : (ds : List ℕ) → list_all is_ascii_digit ds ≡ true → AllByRecursion IsDigit ds
 each_digit [] h = tt
 each_digit (d ∷ ds) h = let e = both (is_ascii_digit d) (list_all is_ascii_digit ds) h in (digit_at d e.0, each_digit ds e.1)
 
-digits : (n : ℕ) → n < 2 ^ 64 → Each IsDigit (decimal n)
+digits : (n : ℕ) → n < 2 ^ 64 → AllByRecursion IsDigit (decimal n)
 digits n h = each_digit (decimal n) (digits_decimal own n h)
 
-visible : (ds : List ℕ) → Each IsDigit ds → IsField ds
+visible : (ds : List ℕ) → AllByRecursion IsDigit ds → IsField ds
 visible [] all = tt
 visible (d ∷ ds) all = (let low = all.0.above in let high = all.0.below in record { above = omega arith; below = omega arith }, visible ds all.1)
 
 pub number_field : (n : ℕ) → n < 2 ^ 64 → IsField (decimal n)
 number_field n h = visible (decimal n) (digits n h)
 
-dotless : (ds : List ℕ) → Each IsDigit ds → Each (λ b. (b == 46) ≡ false) ds
+dotless : (ds : List ℕ) → AllByRecursion IsDigit ds → AllByRecursion (λ b. (b == 46) ≡ false) ds
 dotless [] all = tt
 dotless (d ∷ ds) all = (let low = all.0.above in grind (arith, nat_tests), dotless ds all.1)
 
 -- the digits have no dot
-pub number_dotless : (n : ℕ) → n < 2 ^ 64 → Each (λ b. (b == 46) ≡ false) (decimal n)
+pub number_dotless : (n : ℕ) → n < 2 ^ 64 → AllByRecursion (λ b. (b == 46) ≡ false) (decimal n)
 number_dotless n h = dotless (decimal n) (digits n h)
 
 pub number_short : (n : ℕ) → n < 2 ^ 64 → length (decimal n) ≤ 20

@@ -2,7 +2,7 @@
 use Rattle.std.proofs.Common.{◌≡◌, ℕ, ◌+◌, ◌<◌, ◌≤◌, ◌==◌, ◌^◌, Bool, true, false, ◌||◌, List, [], ◌∷◌, ◌++◌, length, Option, Some, None, Result, Ok, Err, cond, refl, ap, ◌∙◌, arith, suc, nat_lt, nat_le, append_assoc, append-nil, length-append}
 use Rattle.std.proofs.lemmas.Bool.Decides.{nat_tests}
 use Rattle.std.specs.Prelude.{codes, find, is_some, not}
-use Rattle.std.specs.List.{list_any}
+use Rattle.std.specs.List.{list_any, AllByRecursion}
 use Rattle.bfd_packet.specs.KeyChain.{KeyChain, fits_kind, has_id}
 use Rattle.bfd_packet.specs.declared.keys.AuthType.{AuthType}
 use Rattle.bfd_packet.specs.declared.keys.Key.{Key}
@@ -12,7 +12,6 @@ use Rattle.bfd_rules.specs.declared.config.Role.TheVariants as roles
 use Rattle.bfd_session.specs.declared.event.SessionConfig.{SessionConfig}
 use Rattle.bfd_session.specs.declared.event.SessionConfig.TheVariants.{Pair}
 use Rattle.bfd_session.specs.Kinds.{discr_of}
-use Rattle.bfd_session.specs.Step.{IsFit}
 use Rattle.bfd_script.specs.declared.fault.LineFault.{LineFault}
 use Rattle.bfd_script.specs.declared.fault.LineFault.TheVariants.{NoSuchSession, OutOfRange, SameDiscr, SameKey, TooMany}
 use Rattle.bfd_script.specs.declared.entries.Line.{Line}
@@ -24,8 +23,9 @@ use Rattle.bfd_script.specs.Gives.{◌>>=◌}
 use Rattle.bfd_script.specs.Reading.{Lists, State, accepted, after, is_built, is_built_line, is_named, script_of, start, step, told_from, unless, with_config, with_event, with_key, with_keys}
 use Rattle.bfd_script.specs.Rows.{changed, given, has_discr, has_keys, inserted, keyed_more, keyed_with, keys_in, keys_of}
 use Rattle.bfd_script.specs.Secrets.{key_fault, one_key}
-use Rattle.bfd_script.specs.Selecting.{same_place, same_selector, selector_by, selector_of}
-use Rattle.bfd_script.specs.Sound.{AreKeys, AreNamed, AreNext, Each, IsEvent, IsKey, IsNext, IsRow, IsScript}
+use Rattle.bfd_session.specs.Rows.{same_selector}
+use Rattle.bfd_session.specs.Step.{IsFit}
+use Rattle.bfd_script.specs.Sound.{AreKeys, AreNamed, AreNext, IsEvent, IsKey, IsNext, IsRow, IsScript, IsRanged}
 use Rattle.bfd_script.specs.Spelling.{line, spaced}
 use Rattle.bfd_script.specs.Written.{auth_fields, config_text, event_fields, events_text, has_second, is_new_line, is_new_row, key_fields, keys_text, list_text, more_text, row_fields, rows_text, spelling, version_field, version_of}
 use Rattle.bfd_script.proofs.LinesAgain.{Speaks, auth_again, auth_fields_fit, event_again, event_fields_fit, key_again, key_fields_fit, row_again, row_fields_fit}
@@ -46,19 +46,19 @@ line_taken s next number fields rest split taken =
 
 -- ---- the table
 
-none_above : (k : ℕ) (done : List SessionConfig) → Each (λ d. discr_of d < k) done → has_discr k done ≡ false
+none_above : (k : ℕ) (done : List SessionConfig) → AllByRecursion (λ d. discr_of d < k) done → has_discr k done ≡ false
 none_above k [] h = refl
 none_above k (d ∷ done) h =
     let low : discr_of d < k = h.0 in
     let other : (k == discr_of d) ≡ false = grind (arith, nat_tests) in
     rw (other, none_above k done h.1) refl
 
-none_same : {X : Type 0} (test : X → Bool) (xs : List X) → Each (λ x. test x ≡ false) xs → list_any test xs ≡ false
+none_same : {X : Type 0} (test : X → Bool) (xs : List X) → AllByRecursion (λ x. test x ≡ false) xs → list_any test xs ≡ false
 none_same test [] h = refl
 none_same test (x ∷ xs) h = rw (h.0, none_same test xs h.1) refl
 
 -- a session above all others goes to the end
-inserted_last : (c : SessionConfig) (done : List SessionConfig) → Each (λ d. discr_of d < discr_of c) done → inserted c done ≡ done ++ c ∷ []
+inserted_last : (c : SessionConfig) (done : List SessionConfig) → AllByRecursion (λ d. discr_of d < discr_of c) done → inserted c done ≡ done ++ c ∷ []
 inserted_last c [] h = refl
 inserted_last c (d ∷ done) h =
     let low : discr_of d < discr_of c = h.0 in
@@ -72,17 +72,13 @@ row_taken c s follows room built =
     rw (none_above (discr_of c) s.configs follows.above, none_same (same_selector c) s.configs follows.apart, few, built, inserted_last c s.configs follows.above) refl
 
 -- a session without its keys follows those before it as it does with them
-apart_bare : (role : Role) (c : Config) → selector_by role (record c { keys = None }) ≡ selector_by role c
-apart_bare roles.Single c = refl
-apart_bare roles.Multi c = refl
-
 follows_bare : (c : Config) (done : List SessionConfig) → Follows done (Pair c) → Follows done (Pair (record c { keys = None }))
 follows_bare c done h = record {
   above = h.above;
-  apart = each_to done (λ d e. ap (λ s. same_place s (selector_of d)) (apart_bare c.role c) ∙ e) h.apart;
+  apart = h.apart;
 }
 
-row_step : (version : Version) (c : Config) (done : List SessionConfig) → IsFit (Pair c) → IsRow (Pair c) → Follows done (Pair c) → length done < 65536 → is_built (Pair c) ≡ true
+row_step : (version : Version) (c : Config) (done : List SessionConfig) → IsRanged (Pair c) → IsRow (Pair c) → Follows done (Pair c) → length done < 65536 → is_built (Pair c) ≡ true
     → step false (record { version = version; place = places.Table; configs = done; events = [] }) (spaced (row_fields (Pair c)) [])
     ≡ Ok (record { version = version; place = places.Table; configs = done ++ Pair (record c { keys = None }) ∷ []; events = [] })
 row_step version c done fit row follows room built =
@@ -90,21 +86,21 @@ row_step version c done fit row follows room built =
     ∙ row_taken (Pair (record c { keys = None })) (record { version = version; place = places.Table; configs = done; events = [] }) (follows_bare c done follows) room built
 
 -- the keys of the last session
-find_last : (c : SessionConfig) (done : List SessionConfig) → Each (λ d. discr_of d < discr_of c) done → find (λ d. discr_of c == discr_of d) (done ++ c ∷ []) ≡ Some c
+find_last : (c : SessionConfig) (done : List SessionConfig) → AllByRecursion (λ d. discr_of d < discr_of c) done → find (λ d. discr_of c == discr_of d) (done ++ c ∷ []) ≡ Some c
 find_last c [] h = let same : (discr_of c == discr_of c) ≡ true = grind (arith, nat_tests) in rw same refl
 find_last c (d ∷ done) h =
     let low : discr_of d < discr_of c = h.0 in
     let other : (discr_of c == discr_of d) ≡ false = grind (arith, nat_tests) in
     rw (other, find_last c done h.1) refl
 
-has_last : (c : SessionConfig) (done : List SessionConfig) → Each (λ d. discr_of d < discr_of c) done → has_discr (discr_of c) (done ++ c ∷ []) ≡ true
+has_last : (c : SessionConfig) (done : List SessionConfig) → AllByRecursion (λ d. discr_of d < discr_of c) done → has_discr (discr_of c) (done ++ c ∷ []) ≡ true
 has_last c [] h = let same : (discr_of c == discr_of c) ≡ true = grind (arith, nat_tests) in rw same refl
 has_last c (d ∷ done) h =
     let low : discr_of d < discr_of c = h.0 in
     let other : (discr_of c == discr_of d) ≡ false = grind (arith, nat_tests) in
     rw (other, has_last c done h.1) refl
 
-changed_last : (f : SessionConfig → SessionConfig) (c : SessionConfig) (done : List SessionConfig) → Each (λ d. discr_of d < discr_of c) done
+changed_last : (f : SessionConfig → SessionConfig) (c : SessionConfig) (done : List SessionConfig) → AllByRecursion (λ d. discr_of d < discr_of c) done
     → changed (discr_of c) f (done ++ c ∷ []) ≡ done ++ f c ∷ []
 changed_last f c [] h = let same : (discr_of c == discr_of c) ≡ true = grind (arith, nat_tests) in rw same refl
 changed_last f c (d ∷ done) h =
@@ -116,7 +112,7 @@ taken_step : (keyed there : Bool) (next : State) → keyed ≡ false → there �
     → cond keyed (Err SameDiscr) (cond (not there) (Err NoSuchSession) (Ok next)) ≡ Ok next
 taken_step keyed there next e f = rw (e, f) refl
 
-keys_taken : (version : Version) (c : Config) (keys : KeyChain) (done : List SessionConfig) → c.keys ≡ None → Each (λ d. discr_of d < c.discr) done
+keys_taken : (version : Version) (c : Config) (keys : KeyChain) (done : List SessionConfig) → c.keys ≡ None → AllByRecursion (λ d. discr_of d < c.discr) done
     → with_keys c.discr keys (record { version = version; place = places.Table; configs = done ++ Pair c ∷ []; events = [] })
     ≡ Ok (record { version = version; place = places.Table; configs = done ++ Pair (record c { keys = Some keys }) ∷ []; events = [] })
 keys_taken version c keys done bare h =
@@ -126,7 +122,7 @@ keys_taken version c keys done bare h =
     ∙ ap (λ xs. Ok (record { version = version; place = places.Table; configs = xs; events = [] })) (changed_last (keyed_with keys) (Pair c) done h)
 
 auth_step : (version : Version) (c : Config) (kind : AuthType) (key : Key) (done : List SessionConfig) → c.keys ≡ None → 0 < c.discr → c.discr < 2 ^ 32
-    → IsKey key → fits_kind kind key.secret ≡ true → Each (λ d. discr_of d < c.discr) done
+    → IsKey key → fits_kind kind key.secret ≡ true → AllByRecursion (λ d. discr_of d < c.discr) done
     → step false (record { version = version; place = places.Table; configs = done ++ Pair c ∷ []; events = [] }) (spaced (auth_fields c.discr kind key) [])
     ≡ Ok (record { version = version; place = places.Table; configs = done ++ Pair (record c { keys = Some (one_key kind key.id key.secret) }) ∷ []; events = [] })
 auth_step version c kind key done bare some below fit fits h =
@@ -141,7 +137,7 @@ free_step : (fault : Option LineFault) (next : State) → fault ≡ None → unl
 free_step fault next e = rw e refl
 
 key_taken : (c : Config) (kind : AuthType) (before : List Key) (key : Key) (done : List SessionConfig) → key_fault (Some (record { kind = kind; list = before })) key ≡ None
-    → Each (λ d. discr_of d < c.discr) done
+    → AllByRecursion (λ d. discr_of d < c.discr) done
     → with_key c.discr key (record { version = Two; place = places.Table; configs = done ++ with_list c kind before ∷ []; events = [] })
     ≡ Ok (record { version = Two; place = places.Table; configs = done ++ with_list c kind (before ++ key ∷ []) ∷ []; events = [] })
 key_taken c kind before key done free h =
@@ -159,7 +155,7 @@ has_room : (kind : AuthType) (before : List Key) (key : Key) → key_fault (Some
 has_room kind before key e = room_step (fits_kind kind key.secret) (has_id key.id before) (nat_le 4 (length before)) e
 
 key_step : (c : Config) (kind : AuthType) (before : List Key) (key : Key) (done : List SessionConfig) → 0 < c.discr → c.discr < 2 ^ 32
-    → IsNext kind before key → Each (λ d. discr_of d < c.discr) done
+    → IsNext kind before key → AllByRecursion (λ d. discr_of d < c.discr) done
     → step false (record { version = Two; place = places.Table; configs = done ++ with_list c kind before ∷ []; events = [] }) (spaced (key_fields c.discr key) [])
     ≡ Ok (record { version = Two; place = places.Table; configs = done ++ with_list c kind (before ++ key ∷ []) ∷ []; events = [] })
 key_step c kind before key done some below next h =
@@ -168,7 +164,7 @@ key_step c kind before key done some below next h =
     ∙ key_taken c kind before key done next.free h
 
 more_again : (c : Config) (kind : AuthType) (before keys : List Key) (done : List SessionConfig) (number : ℕ) (rest : List ℕ) → 0 < c.discr → c.discr < 2 ^ 32
-    → AreNext kind before keys → Each (λ d. discr_of d < c.discr) done
+    → AreNext kind before keys → AllByRecursion (λ d. discr_of d < c.discr) done
     → told_from false (record { version = Two; place = places.Table; configs = done ++ with_list c kind before ∷ []; events = [] }) number (lines_of (more_text c.discr keys ++ rest))
     ≡ told_from false (record { version = Two; place = places.Table; configs = done ++ with_list c kind (before ++ keys) ∷ []; events = [] }) (number + length keys) (lines_of rest)
 more_again c kind before [] done number rest some below next h =
@@ -200,7 +196,7 @@ no_others n e = let more : nat_lt 1 (suc (suc n)) ≡ true = grind (arith, nat_t
 
 -- the first key, and then the others, which version 1 has no lines for
 others_again : (version : Version) (c : Config) (kind : AuthType) (key : Key) (keys : List Key) (done : List SessionConfig) (number : ℕ) (rest : List ℕ) → 0 < c.discr → c.discr < 2 ^ 32
-    → Speaks version (nat_lt 1 (suc (length keys))) → AreNext kind (key ∷ []) keys → Each (λ d. discr_of d < c.discr) done
+    → Speaks version (nat_lt 1 (suc (length keys))) → AreNext kind (key ∷ []) keys → AllByRecursion (λ d. discr_of d < c.discr) done
     → told_from false (record { version = version; place = places.Table; configs = done ++ with_list c kind (key ∷ []) ∷ []; events = [] }) number (lines_of (more_text c.discr keys ++ rest))
     ≡ told_from false (record { version = version; place = places.Table; configs = done ++ with_list c kind (key ∷ keys) ∷ []; events = [] }) (number + length keys) (lines_of rest)
 others_again One c kind key [] done number rest some below speaks next h =
@@ -209,7 +205,7 @@ others_again One c kind key (other ∷ keys) done number rest some below speaks 
 others_again Two c kind key keys done number rest some below speaks next h = more_again c kind (key ∷ []) keys done number rest some below next h
 
 list_again : (version : Version) (c : Config) (kind : AuthType) (list : List Key) (done : List SessionConfig) (number : ℕ) (rest : List ℕ) → c.keys ≡ None → 0 < c.discr → c.discr < 2 ^ 32
-    → Speaks version (nat_lt 1 (length list)) → 0 < length list → AreNext kind [] list → Each (λ d. discr_of d < c.discr) done
+    → Speaks version (nat_lt 1 (length list)) → 0 < length list → AreNext kind [] list → AllByRecursion (λ d. discr_of d < c.discr) done
     → told_from false (record { version = version; place = places.Table; configs = done ++ Pair c ∷ []; events = [] }) number (lines_of (list_text c.discr kind list ++ rest))
     ≡ told_from false (record { version = version; place = places.Table; configs = done ++ with_list c kind list ∷ []; events = [] }) (number + length list) (lines_of rest)
 list_again version c kind [] done number rest bare some below speaks there next h = absurd (omega arith)
@@ -225,14 +221,14 @@ list_again version c kind (key ∷ keys) done number rest bare some below speaks
     ∙ ap (λ n. told_from false (record { version = version; place = places.Table; configs = done ++ with_list c kind (key ∷ keys) ∷ []; events = [] }) n (lines_of rest)) e
 
 keys_again : (version : Version) (c : Config) (keys : Option KeyChain) (done : List SessionConfig) (number : ℕ) (rest : List ℕ) → 0 < c.discr → c.discr < 2 ^ 32
-    → Speaks version (has_second keys) → AreKeys keys → Each (λ d. discr_of d < c.discr) done
+    → Speaks version (has_second keys) → AreKeys keys → AllByRecursion (λ d. discr_of d < c.discr) done
     → told_from false (record { version = version; place = places.Table; configs = done ++ Pair (record c { keys = None }) ∷ []; events = [] }) number (lines_of (keys_text c.discr keys ++ rest))
     ≡ told_from false (record { version = version; place = places.Table; configs = done ++ Pair (record c { keys = keys }) ∷ []; events = [] }) (past_keys number keys) (lines_of rest)
 keys_again version c None done number rest some below speaks fit h = refl
 keys_again version c (Some keys) done number rest some below speaks fit h =
     list_again version (record c { keys = None }) keys.kind keys.list done number rest refl some below speaks fit.some fit.list h
 
-session_again : (version : Version) (c : Config) (done : List SessionConfig) (number : ℕ) (rest : List ℕ) → IsFit (Pair c) → IsRow (Pair c) → is_built (Pair c) ≡ true → Follows done (Pair c)
+session_again : (version : Version) (c : Config) (done : List SessionConfig) (number : ℕ) (rest : List ℕ) → IsRanged (Pair c) → IsRow (Pair c) → is_built (Pair c) ≡ true → Follows done (Pair c)
     → Speaks version (is_new_row (Pair c)) → length done < 65536
     → told_from false (record { version = version; place = places.Table; configs = done; events = [] }) number (lines_of (config_text (Pair c) ++ rest))
     ≡ told_from false (record { version = version; place = places.Table; configs = done ++ Pair c ∷ []; events = [] }) (past_keys (number + 1) c.keys) (lines_of rest)
@@ -243,7 +239,7 @@ session_again version c done number rest fit row built follows speaks room =
     (lines_again (row_fields (Pair c)) (keys_text c.discr c.keys ++ rest) (row_fields_fit (Pair c) fit row)) (row_step version c done fit row follows room built)
     ∙ keys_again version c c.keys done (number + 1) rest fit.discr row.discr speaks row.keys follows.above
 
-rows_again : (version : Version) (cs done : List SessionConfig) (number : ℕ) (rest : List ℕ) → Each IsFit cs → Each IsRow cs → Each (λ c. is_built c ≡ true) cs → Each (λ c. Speaks version (is_new_row c)) cs → Ready done cs
+rows_again : (version : Version) (cs done : List SessionConfig) (number : ℕ) (rest : List ℕ) → AllByRecursion IsRanged cs → AllByRecursion IsRow cs → AllByRecursion (λ c. is_built c ≡ true) cs → AllByRecursion (λ c. Speaks version (is_new_row c)) cs → Ready done cs
     → length done + length cs ≤ 65536
     → told_from false (record { version = version; place = places.Table; configs = done; events = [] }) number (lines_of (rows_text cs ++ rest))
     ≡ told_from false (record { version = version; place = places.Table; configs = done ++ cs; events = [] }) (past number cs) (lines_of rest)
@@ -271,8 +267,8 @@ event_step version event configs done fit named room built new =
     ap (λ r. r >>= λ entry. accepted entry (record { version = version; place = places.Events; configs = configs; events = done })) (event_again version event fit built new)
     ∙ event_taken event (record { version = version; place = places.Events; configs = configs; events = done }) named room built
 
-events_again : (version : Version) (events : List Line) (configs : List SessionConfig) (done : List Line) (number : ℕ) (rest : List ℕ) → Each IsEvent events → AreNamed configs events
-    → Each (λ e. is_built_line e ≡ true) events → Each (λ e. Speaks version (is_new_line e)) events → length done + length events ≤ 200000
+events_again : (version : Version) (events : List Line) (configs : List SessionConfig) (done : List Line) (number : ℕ) (rest : List ℕ) → AllByRecursion IsEvent events → AreNamed configs events
+    → AllByRecursion (λ e. is_built_line e ≡ true) events → AllByRecursion (λ e. Speaks version (is_new_line e)) events → length done + length events ≤ 200000
     → told_from false (record { version = version; place = places.Events; configs = configs; events = done }) number (lines_of (events_text events ++ rest))
     ≡ told_from false (record { version = version; place = places.Events; configs = configs; events = done ++ events }) (number + length events) (lines_of rest)
 events_again version [] configs done number rest fit named built new room =
@@ -306,7 +302,7 @@ end_read : (version : Version) (configs : List SessionConfig) (events : List Lin
 end_read version configs events number = refl
 
 -- the version that a script is spelled in has lines for all of it
-all_spoken : {X : Type 0} (test : X → Bool) (xs : List X) → Each (λ x. Speaks Two (test x)) xs
+all_spoken : {X : Type 0} (test : X → Bool) (xs : List X) → AllByRecursion (λ x. Speaks Two (test x)) xs
 all_spoken test [] = tt
 all_spoken test (x ∷ xs) = (tt, all_spoken test xs)
 
@@ -318,29 +314,32 @@ or_right : (p q : Bool) → (p || q) ≡ false → q ≡ false
 or_right true q e = absurd cc
 or_right false q e = e
 
-none_new : {X : Type 0} (test : X → Bool) (xs : List X) → list_any test xs ≡ false → Each (λ x. Speaks One (test x)) xs
+none_new : {X : Type 0} (test : X → Bool) (xs : List X) → list_any test xs ≡ false → AllByRecursion (λ x. Speaks One (test x)) xs
 none_new test [] e = tt
 none_new test (x ∷ xs) e = (or_left (test x) (list_any test xs) e, none_new test xs (or_right (test x) (list_any test xs) e))
 
-rows_by : (rows lines : Bool) (cs : List SessionConfig) → list_any is_new_row cs ≡ rows → Each (λ c. Speaks (cond (rows || lines) Two One) (is_new_row c)) cs
+rows_by : (rows lines : Bool) (cs : List SessionConfig) → list_any is_new_row cs ≡ rows → AllByRecursion (λ c. Speaks (cond (rows || lines) Two One) (is_new_row c)) cs
 rows_by true lines cs e = all_spoken is_new_row cs
 rows_by false true cs e = all_spoken is_new_row cs
 rows_by false false cs e = none_new is_new_row cs e
 
-events_by : (rows lines : Bool) (es : List Line) → list_any is_new_line es ≡ lines → Each (λ e. Speaks (cond (rows || lines) Two One) (is_new_line e)) es
+events_by : (rows lines : Bool) (es : List Line) → list_any is_new_line es ≡ lines → AllByRecursion (λ e. Speaks (cond (rows || lines) Two One) (is_new_line e)) es
 events_by true lines es e = all_spoken is_new_line es
 events_by false true es e = all_spoken is_new_line es
 events_by false false es e = none_new is_new_line es e
 
+ranged_of : (c : SessionConfig) → IsFit c → IsRanged c
+ranged_of (Pair c) h = h.config
+
 -- the spelling in this version
-spelled_again : (version : Version) (script : Lists) → IsScript script → Each (λ c. Speaks version (is_new_row c)) script.configs
-    → Each (λ e. Speaks version (is_new_line e)) script.events
+spelled_again : (version : Version) (script : Lists) → IsScript script → AllByRecursion (λ c. Speaks version (is_new_row c)) script.configs
+    → AllByRecursion (λ e. Speaks version (is_new_line e)) script.events
     → script_of false (line (codes "bfd" ∷ version_field version ∷ []) ++ (rows_text script.configs
     ++ (line (codes "run" ∷ []) ++ (events_text script.events ++ line (codes "end" ∷ []))))) ≡ Ok script
 spelled_again version script h rows lines =
     version_read version (rows_text script.configs ++ (line (codes "run" ∷ []) ++ (events_text script.events ++ line (codes "end" ∷ []))))
     ∙ rows_again version script.configs [] 2 (line (codes "run" ∷ []) ++ (events_text script.events ++ line (codes "end" ∷ [])))
-    h.configs.fit h.configs.rows h.configs.built rows (ready [] script.configs tt h.configs.ascends h.configs.differs) (let k = h.configs.few in omega arith)
+    (each_to script.configs ranged_of h.configs.fit) h.configs.rows h.configs.built rows (ready [] script.configs tt h.configs.ascends h.configs.differs) (let k = h.configs.few in omega arith)
     ∙ run_read version script.configs (past 2 script.configs) (events_text script.events ++ line (codes "end" ∷ []))
     ∙ events_again version script.events script.configs [] (past 2 script.configs + 1) (line (codes "end" ∷ []))
     h.events.lines h.named h.events.built lines (let k = h.events.few in omega arith)

@@ -5,8 +5,8 @@ pub mod Entries
 pub mod Reading
 pub mod Gives
 pub mod Report
+pub mod Doing
 pub mod Spelling
-pub mod Selecting
 pub mod Rows
 pub mod Sound
 pub mod Tables

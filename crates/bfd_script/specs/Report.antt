@@ -9,14 +9,8 @@ use Rattle.bfd_rules.specs.declared.outputs.Out.{Out}
 use Rattle.bfd_rules.specs.declared.outputs.Out.TheVariants.{Changed, Sent}
 use Rattle.bfd_session.specs.declared.event.Answer.{Answer}
 use Rattle.bfd_session.specs.declared.event.Answer.TheVariants.{Handled, Ticked, Dropped, Refused, Shown as Showing}
+use Rattle.bfd_session.specs.Alone.{Outcome}
 use Rattle.bfd_script.specs.Spelling.{line, hex_field, state_name}
-
--- what one event gave
-pub record Outcome : Type 0 where
-  -- its outputs, in the order in which they were emitted
-  pub items : List Out
-  -- its answer
-  pub answer : Answer
 
 -- the name of a refusal of a command
 abbrev pub refusal_name : Refusal → List ℕ

@@ -3,19 +3,20 @@ use Rattle.std.specs.Prelude.{ℕ, Bool, ◌==◌, nat_lt, List, [], ◌∷◌, 
 use Rattle.std.specs.List.{list_any}
 use Rattle.bfd_packet.specs.KeyChain.{KeyChain}
 use Rattle.bfd_packet.specs.declared.keys.Key.{Key}
+use Rattle.bfd_demux.specs.declared.row.RowKind.{RowKind}
+use Rattle.bfd_demux.specs.Rows.{same_selector as same_kind}
 use Rattle.bfd_session.specs.declared.event.SessionConfig.{SessionConfig}
 use Rattle.bfd_session.specs.declared.event.SessionConfig.TheVariants.{Pair}
 use Rattle.bfd_session.specs.Kinds.{discr_of}
-use Rattle.bfd_script.specs.declared.selecting.Selector.{Selector}
-use Rattle.bfd_script.specs.Selecting.{selector_of, same_place, same_selector}
+use Rattle.bfd_session.specs.Rows.{row_of, same_selector}
 
 -- a session has this discriminator
 abbrev pub has_discr : ℕ → List SessionConfig → Bool
 has_discr discr configs = list_any (λ c. discr == discr_of c) configs
 
--- a session has these selecting addresses
-abbrev pub has_selector : Selector → List SessionConfig → Bool
-has_selector selector configs = list_any (λ c. same_place selector (selector_of c)) configs
+-- a session has this kind and these selecting addresses
+abbrev pub has_selector : RowKind → List SessionConfig → Bool
+has_selector kind configs = list_any (λ c. same_kind kind (row_of c).kind) configs
 
 -- a session has the same selecting addresses as this one
 abbrev pub has_place : SessionConfig → List SessionConfig → Bool

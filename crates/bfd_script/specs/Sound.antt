@@ -1,5 +1,7 @@
 -- What is true of each script that the grammar gives.
 use Rattle.std.specs.Prelude.{◌≡◌, ◌<◌, ◌≤◌, ◌^◌, ℕ, true, false, Option, Some, None, List, [], ◌∷◌, ◌++◌, length}
+use Rattle.std.specs.List.{AllByRecursion}
+use Rattle.bfd_session.specs.Rows.{Ascends, AreFit, Differs}
 use Rattle.hex.specs.Hex.{IsBytes}
 use Rattle.bfd_num.specs.Numbers.{moment_bound, greatest_tick}
 use Rattle.bfd_packet.specs.KeyChain.{KeyChain}
@@ -7,34 +9,18 @@ use Rattle.bfd_packet.specs.declared.arrival.Arrival.{Arrival}
 use Rattle.bfd_packet.specs.declared.keys.AuthType.{AuthType}
 use Rattle.bfd_packet.specs.declared.keys.Key.{Key}
 use Rattle.bfd_rules.specs.declared.config.Config.{Config}
+use Rattle.bfd_rules.specs.Sound.{IsConfig}
 use Rattle.bfd_session.specs.declared.event.SessionConfig.{SessionConfig}
 use Rattle.bfd_session.specs.declared.event.SessionConfig.TheVariants.{Pair}
 use Rattle.bfd_session.specs.Kinds.{discr_of}
-use Rattle.bfd_session.specs.Step.{IsFit}
 use Rattle.bfd_script.specs.declared.entries.Entry.{Entry}
 use Rattle.bfd_script.specs.declared.entries.Entry.TheVariants as entries
 use Rattle.bfd_script.specs.declared.entries.Line.{Line}
 use Rattle.bfd_script.specs.declared.entries.Line.TheVariants as events
 use Rattle.bfd_script.specs.Reading.{Lists, is_built, is_built_line, is_named}
 use Rattle.bfd_script.specs.Secrets.{key_fault}
-use Rattle.bfd_script.specs.Selecting.{same_selector}
 use Rattle.bfd_script.specs.Values.{IsAddress}
 use Rattle.bfd_script.specs.Verbs.{number_of}
-
--- a fact is true of each element
-abbrev pub Each : {X : Type 0} → (X → Type 0) → List X → Type 0
-Each P [] = Unit {0}
-Each P (x ∷ xs) = P x × Each P xs
-
--- sessions stand strictly ascending by discriminator
-abbrev pub Ascends : List SessionConfig → Type 0
-Ascends [] = Unit {0}
-Ascends (config ∷ configs) = Each (λ later. discr_of config < discr_of later) configs × Ascends configs
-
--- no two sessions have the same selecting addresses
-abbrev pub Differs : List SessionConfig → Type 0
-Differs [] = Unit {0}
-Differs (config ∷ configs) = Each (λ later. same_selector config later ≡ false) configs × Differs configs
 
 -- a key as a line gives it: its number and the bytes of its secret fit their fields
 pub record IsKey (key : Key) : Type 0 where
@@ -70,6 +56,10 @@ pub record IsPairRow (c : Config) : Type 0 where
   pub seed : c.seed < 2 ^ 32
   pub keys : AreKeys c.keys
 
+-- the configured values of a session are in their ranges
+abbrev pub IsRanged : SessionConfig → Type 0
+IsRanged (Pair c) = IsConfig c
+
 -- a session as its table lines give it
 abbrev pub IsRow : SessionConfig → Type 0
 IsRow (Pair c) = IsPairRow c
@@ -100,7 +90,7 @@ IsEvent (events.Show moment discr) = IsAsked moment discr
 
 -- what a line says, as the line gives it
 abbrev pub IsEntry : Entry → Type 0
-IsEntry (entries.Row config) = IsFit config × IsRow config
+IsEntry (entries.Row config) = IsRanged config × IsRow config
 IsEntry (entries.Auth discr keys) = (discr < 2 ^ 32) × IsChain keys
 IsEntry (entries.Key discr key) = (discr < 2 ^ 32) × IsKey key
 IsEntry (entries.Event event) = IsEvent event
@@ -111,20 +101,20 @@ IsEntry entry = Unit {0}
 pub record AreConfigs (configs : List SessionConfig) : Type 0 where
   pub ascends : Ascends configs
   pub differs : Differs configs
-  pub fit : Each IsFit configs
-  pub rows : Each IsRow configs
-  pub built : Each (λ c. is_built c ≡ true) configs
+  pub fit : AreFit configs
+  pub rows : AllByRecursion IsRow configs
+  pub built : AllByRecursion (λ c. is_built c ≡ true) configs
   pub few : length configs ≤ 65536
 
 -- events: at most 200,000
 pub record AreEvents (events : List Line) : Type 0 where
-  pub lines : Each IsEvent events
-  pub built : Each (λ e. is_built_line e ≡ true) events
+  pub lines : AllByRecursion IsEvent events
+  pub built : AllByRecursion (λ e. is_built_line e ≡ true) events
   pub few : length events ≤ 200000
 
 -- each event that names a session names one of the table
 abbrev pub AreNamed : List SessionConfig → List Line → Type 0
-AreNamed configs events = Each (λ e. is_named e configs ≡ true) events
+AreNamed configs events = AllByRecursion (λ e. is_named e configs ≡ true) events
 
 -- a script that the grammar gives
 pub record IsScript (script : Lists) : Type 0 where

@@ -10,8 +10,7 @@
 //!
 //! Layers, lowest first: `fault` (what can be wrong), `words` (the versions, the words and where they may stand), `fields`
 //! (lines, fields and numbers), `values` (addresses and bytes), `pairs`, `secrets`, `arrivals` and `verbs` (the values of a
-//! table line, of keys, of a packet and of a command), `entries` (what one line says), `selecting` and `table` (the sessions
-//! so far), `state` (what is kept from line to line), `reading` (the whole text); beside them `names`, `report` and
+//! table line, of keys, of a packet and of a command), `entries` (what one line says), `table` (the sessions so far), `state` (what is kept from line to line), `reading` (the whole text); beside them `names`, `report` and
 //! `writing`.
 //!
 //! Built so far are the words `bfd`, `p2p`, `auth`, `run`, `rx`, `tick`, `cmd`, `show` and `end`, and in version 2 `key`.
@@ -32,7 +31,6 @@ mod reading;
 mod report;
 mod script;
 mod secrets;
-mod selecting;
 mod state;
 mod table;
 mod values;

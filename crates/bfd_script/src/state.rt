@@ -1,10 +1,9 @@
 // What is kept from line to line.
 ghost use Rattle.std.specs.Prelude.{◌≡◌, IfOk};
-ghost use Rattle.bfd_session.specs.Step.{IsFit};
 ghost use Rattle.bfd_script.specs.Gives.{Gives, GivesScript};
 ghost use Rattle.bfd_script.specs.Reading as reading;
 ghost use Rattle.bfd_script.specs.Reading.{accepted, finished, start, with_config, with_event, with_key, with_keys};
-ghost use Rattle.bfd_script.specs.Sound.{IsChain, IsEntry, IsEvent, IsKey, IsRow, IsScript};
+ghost use Rattle.bfd_script.specs.Sound.{IsChain, IsEntry, IsEvent, IsKey, IsRow, IsScript, IsRanged};
 
 use crate::entries::{Entry, Line};
 use crate::fault::{BadLine, LineFault, ReadFault, ScriptFault};
@@ -34,7 +33,7 @@ pub(crate) struct Reading {
 
 impl Model for Reading {
     ghost use Rattle.bfd_script.specs.Reading.{State};
-    ghost use Rattle.bfd_script.specs.Sound.{AreEvents, AreNamed};
+    ghost use Rattle.bfd_script.specs.Sound.{AreEvents, AreNamed, IsRanged};
 
     ghost Value = { State };
 
@@ -119,7 +118,7 @@ impl Reading {
     /// One more table row: refused where its discriminator or its selecting addresses are there, where there are 65,536,
     /// and where this program doesn't serve it.
     fn with_row(self, config: SessionConfig) -> Result<Reading, ReadFault>
-        requires fit { IsFit config }
+        requires ranged { IsRanged config }
         requires row { IsRow config }
         ensures { Gives (λ s. s) result (with_config config self) }
     {

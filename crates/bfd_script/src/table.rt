@@ -1,18 +1,17 @@
 // The table of sessions: unique by discriminator and by selecting addresses.
 ghost use Rattle.std.specs.Prelude.{◌≡◌, ◌<◌, [], false, true, length, IfOk, None, Some};
 ghost use Rattle.bfd_session.specs.Kinds.{discr_of};
-ghost use Rattle.bfd_session.specs.Step.{IsFit};
 ghost use Rattle.bfd_script.specs.Reading.{is_built};
 ghost use Rattle.std.specs.Map.{values_of};
 ghost use Rattle.bfd_script.specs.Rows.{by_discr, changed, given, given_more, has_discr, has_keys, has_place, inserted, keyed_more, keyed_with, keys_in, keys_of};
 ghost use Rattle.bfd_script.specs.Secrets.{key_fault};
-ghost use Rattle.bfd_script.specs.Sound.{AreConfigs, IsChain, IsKey, IsRow};
+ghost use Rattle.bfd_script.specs.Sound.{AreConfigs, IsChain, IsKey, IsRow, IsRanged};
 
 use crate::fault::LineFault;
 use crate::secrets::key_fault;
-use crate::selecting::{Selector, selecting};
+use bfd_demux::RowKind;
 use bfd_packet::{Key, Keys};
-use bfd_session::SessionConfig;
+use bfd_session::{SessionConfig, row_of};
 use std::alloc::{AllocError, Global};
 use std::collections::{BTreeMap, BTreeSet};
 use std::marker::Model;
@@ -21,7 +20,7 @@ use std::marker::Model;
 #[derive(Drop)]
 pub(crate) struct Table {
     rows: BTreeMap<u32, SessionConfig>,
-    places: BTreeSet<Selector>,
+    places: BTreeSet<RowKind>,
 }
 
 impl Model for Table {
@@ -35,7 +34,7 @@ impl Model for Table {
 
     ghost view = { λ t. values t.rows };
 
-    ghost invariant = { λ t. IsTable t.rows.entries (contains (⟦<Selector as Ord>⟧.cmp) t.places) };
+    ghost invariant = { λ t. IsTable t.rows.entries (contains (⟦<RowKind as Ord>⟧.cmp) t.places) };
 }
 
 /// The keys of a session.
@@ -140,7 +139,7 @@ impl Table {
     pub(crate) fn has_place(&self, config: &SessionConfig) -> bool
         ensures { result ≡ has_place config.now self.now }
     {
-        self.places.contains(&selecting(config))
+        self.places.contains(&row_of(config).kind)
     }
 
     /// One more session, whose discriminator and selecting addresses are new. The one refusal is want of memory.
@@ -148,7 +147,7 @@ impl Table {
         requires discr { has_discr (discr_of config) self ≡ false }
         requires place { has_place config self ≡ false }
         requires room { length self < 65536 }
-        requires fit { IsFit config }
+        requires ranged { IsRanged config }
         requires row { IsRow config }
         requires built { is_built config ≡ true }
         ensures { IfOk result (λ table. table ≡ inserted config self) }
@@ -157,7 +156,7 @@ impl Table {
             mut rows,
             mut places,
         } = self;
-        places.insert(selecting(&config))?;
+        places.insert(row_of(&config).kind)?;
         rows.insert(config.discr(), config)?;
         Ok(Table { rows, places })
     }

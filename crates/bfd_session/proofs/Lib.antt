@@ -3,3 +3,7 @@ pub mod DueTick
 pub mod Rest
 pub mod Soundness
 pub mod Machines
+pub mod Tables
+pub mod Places
+pub mod Ports
+pub mod Reach

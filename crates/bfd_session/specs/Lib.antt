@@ -4,5 +4,6 @@ pub mod Step
 pub mod Alone
 pub mod Rows
 pub mod Arrivals
+pub mod Reaching
 pub mod Discards
 pub mod Inside

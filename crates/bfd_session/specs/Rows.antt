@@ -1,5 +1,5 @@
 -- The rows by which arrivals are told, one for each session.
-use Rattle.std.specs.Prelude.{◌<◌, ℕ, Bool, List, [], ◌∷◌, map}
+use Rattle.std.specs.Prelude.{◌≡◌, ◌<◌, ◌==◌, ℕ, Bool, false, Option, List, [], ◌∷◌, map, position}
 use Rattle.std.specs.List.{AllByRecursion}
 use Rattle.bfd_packet.specs.declared.arrival.Addr.{Addr}
 use Rattle.bfd_rules.specs.declared.config.Role.{Role}
@@ -36,6 +36,15 @@ abbrev pub Ascends : List SessionConfig → Type 0
 Ascends [] = Unit {0}
 Ascends (config ∷ configs) = AllByRecursion (λ later. discr_of config < discr_of later) configs × Ascends configs
 
+-- no two sessions have the same selecting addresses
+abbrev pub Differs : List SessionConfig → Type 0
+Differs [] = Unit {0}
+Differs (config ∷ configs) = AllByRecursion (λ later. same_selector config later ≡ false) configs × Differs configs
+
 -- each configuration is one that a session may have
 abbrev pub AreFit : List SessionConfig → Type 0
 AreFit configs = AllByRecursion IsFit configs
+
+-- the place of the session with this discriminator
+abbrev pub place_of : ℕ → List SessionConfig → Option ℕ
+place_of discr configs = position (λ c. discr == discr_of c) configs

@@ -1,0 +1,39 @@
+-- What an event line comes to, of the configurations alone: no variable of a session has a part in it.
+use Rattle.std.specs.Prelude.{ℕ, Option, None, Some, List}
+use Rattle.bfd_packet.specs.declared.arrival.Arrival.{Arrival}
+use Rattle.bfd_rules.specs.declared.commands.Refusal.TheVariants.{UnknownSession}
+use Rattle.bfd_session.specs.declared.event.SessionConfig.{SessionConfig}
+use Rattle.bfd_session.specs.declared.event.Event.{Event}
+use Rattle.bfd_session.specs.declared.event.Event.TheVariants.{Command, Show as Showing}
+use Rattle.bfd_session.specs.declared.event.Answer.{Answer}
+use Rattle.bfd_session.specs.declared.event.Answer.TheVariants.{Dropped, Refused}
+use Rattle.bfd_session.specs.Arrivals.{Coming, Discarded, Reflected, Own, comes_to}
+use Rattle.bfd_session.specs.Rows.{rows_of, place_of}
+use Rattle.bfd_script.specs.declared.entries.Line.{Line}
+use Rattle.bfd_script.specs.declared.entries.Line.TheVariants.{Rx, Tick, Cmd, Show}
+
+-- an event of no session, which has this answer; an arrival that the reflector at this place of the pool answers; an own event
+-- of the session at this place, at this moment; a tick of every session
+pub data Doing : Type 0 where
+  Rests : Answer → Doing
+  Reflects : ℕ → Arrival → Doing
+  Happens : ℕ → ℕ → Event → Doing
+  Passes : ℕ → Doing
+
+-- what an arrival at this moment does
+abbrev pub arriving : ℕ → Arrival → Coming → Doing
+arriving moment arrival (Discarded test) = Rests (Dropped test)
+arriving moment arrival (Reflected place) = Reflects place arrival
+arriving moment arrival (Own place event) = Happens place moment event
+
+-- what a command or a question at this moment does: without a session that it names the answer says so
+abbrev pub asking : ℕ → Event → Option ℕ → Doing
+asking moment event None = Rests (Refused UnknownSession)
+asking moment event (Some place) = Happens place moment event
+
+-- what an event line comes to
+abbrev pub doing : List SessionConfig → Line → Doing
+doing configs (Rx moment arrival) = arriving moment arrival (comes_to (rows_of configs) arrival)
+doing configs (Tick t) = Passes t
+doing configs (Cmd moment discr cmd) = asking moment (Command cmd) (place_of discr configs)
+doing configs (Show moment discr) = asking moment Showing (place_of discr configs)
