@@ -1,0 +1,4 @@
+pub mod Moments
+pub mod DueTick
+pub mod Numbers
+pub mod Words

@@ -1,0 +1,4 @@
+pub mod Packet
+pub mod Sequence
+pub mod Timing
+pub mod Rules
