@@ -1,6 +1,6 @@
 //! The table: rows behind two sorted indices.
 
-ghost use Rattle.std.specs.Prelude.{[], false, ◌≡◌, ◌≢◌, ◌+◌, ◌==◌, ◌≤◌, ◌&&◌, ◌||◌, if◌then◌else◌, position, true, not, None, Some, is_some, IfSome, IfOk, OnErr, MatchResult, ◌⊎◌};
+ghost use Rattle.std.specs.Prelude.{[], false, OnOk, ◌≡◌, ◌≢◌, ◌+◌, ◌==◌, ◌≤◌, ◌&&◌, ◌||◌, if◌then◌else◌, position, true, not, None, Some, is_some, IfSome, IfOk, OnErr, MatchResult, ◌⊎◌};
 ghost use Rattle.std.specs.List.{list_any};
 ghost use Rattle.std.specs.Option.{option_map};
 ghost use Rattle.std.specs.Result.{result_err};
@@ -140,17 +140,17 @@ impl Demux {
 }
 
 impl Demux {
-    /// What the arrival is for, or the first test of its port that it fails (RFC 5880 section 6.8.6). On
-    /// every port but echo the payload has to pass the tests on the header, as `header_test` makes them.
-    /// Then: on echo EchoForm and YourUnknown; on sbfd YourUnknown; on single with M set MultipointYour and
-    /// NoTail (RFC 8562); and else YourUnknown, YourZeroState and NoSession. It takes no memory. A step is
-    /// the look at one entry of a sorted table: a lookup takes at most 17, and only a selection by addresses
-    /// needs two lookups.
+    /// What the arrival is for, or the first of its port's tests up to selection that it fails (RFC 5880
+    /// section 6.8.6). First come the tests on the header, as `header_test` makes them; an echo packet has
+    /// none. Then, on the table: on echo EchoForm and YourUnknown; on sbfd YourUnknown; on single with M set
+    /// MultipointYour and NoTail (RFC 8562); and else YourUnknown, YourZeroState and NoSession. It takes no
+    /// memory. A step is the look at one entry of a sorted table: a lookup takes at most 17, and only a
+    /// selection by addresses needs two lookups.
     #[tactic(none)]
-    pub fn select<L: Ledger>(&self, arrival: &Arrival, steps: &mut Steps<L>) -> Result<Target, Test>
-        requires { first_header_failing arrival.now ≡ None }
+    pub fn screen<L: Ledger>(&self, arrival: &Arrival, steps: &mut Steps<L>) -> Result<Target, Test>
         ensures tests { result_err result ≡ first_table_failing self.now arrival.now }
         ensures target { IfOk result (λ target. Some target ≡ target_of self.now arrival.now) }
+        ensures header { OnOk result (first_header_failing arrival.now ≡ None) }
         ensures cost { steps.new ≤ steps.old + 34 }
         ensures one_lookup { is_by_addresses arrival.now.port arrival.now ≡ false → steps.new ≤ steps.old + 17 }
     {
@@ -161,6 +161,18 @@ impl Demux {
                 self.select_packet(arrival, &packet, steps)
             }
         }
+    }
+
+    /// The same for an arrival that is known to pass the tests on its header: a test that fails is one on the
+    /// table.
+    pub fn select<L: Ledger>(&self, arrival: &Arrival, steps: &mut Steps<L>) -> Result<Target, Test>
+        requires { first_header_failing arrival.now ≡ None }
+        ensures tests { result_err result ≡ first_table_failing self.now arrival.now }
+        ensures target { IfOk result (λ target. Some target ≡ target_of self.now arrival.now) }
+        ensures cost { steps.new ≤ steps.old + 34 }
+        ensures one_lookup { is_by_addresses arrival.now.port arrival.now ≡ false → steps.new ≤ steps.old + 17 }
+    {
+        self.screen(arrival, steps)
     }
 
     // What an echo packet is for.
@@ -197,7 +209,7 @@ impl Demux {
             Port::Sbfd => self.select_reflector(packet.your, steps),
             port => {
                 if is_multipoint(port, packet) {
-                    return self.select_tail(arrival, packet, steps);
+                    return self.select_tail(packet.your, tail_of(arrival, packet), steps);
                 }
                 self.select_session(port, packet, selector_of(arrival), steps)
             }
@@ -219,25 +231,19 @@ impl Demux {
         }
     }
 
-    // What a multipoint packet is for.
+    // What a multipoint packet with this Your Discriminator is for, which names a tail by `kind`.
     fn select_tail<L: Ledger>(
         &self,
-        arrival: &Arrival,
-        packet: &Control,
+        your: u32,
+        kind: RowKind,
         steps: &mut Steps<L>,
     ) -> Result<Target, Test>
-        requires { packet.now ≡ fields_of arrival.now.payload }
-        ensures tests { result_err result ≡ (if packet.now.your == 0 then if list_any (has_selector (tail_selector arrival.now)) self.now then None else Some Test.NoTail else Some Test.MultipointYour) }
-        ensures target { IfOk result (λ target. Some target ≡ option_map (λ row. Target.Session (session_index self.now row.discr)) (the_one (has_selector (tail_selector arrival.now)) self.now)) }
+        requires { has_addresses kind ≡ true }
+        ensures tests { result_err result ≡ (if your == 0 then if list_any (has_selector (Some kind)) self.now then None else Some Test.NoTail else Some Test.MultipointYour) }
+        ensures target { IfOk result (λ target. Some target ≡ option_map (λ row. Target.Session (session_index self.now row.discr)) (the_one (has_selector (Some kind)) self.now)) }
         ensures cost { steps.new ≤ steps.old + 34 }
     {
-        if packet.your == 0 {
-            let kind = RowKind::Tail {
-                head: packet.my,
-                iface: arrival.iface,
-                group: arrival.dst,
-                source: arrival.src,
-            };
+        if your == 0 {
             return match self.by_addresses(kind, steps) {
                 Some(index) => Ok(Target::Session(index)),
                 None => Err(Test::NoTail),
@@ -301,6 +307,18 @@ fn is_multipoint(port: Port, packet: &Control) -> bool
     ensures { result ≡ (takes_multipoint_of port && packet.now.multi) }
 {
     matches!(port, Port::Single) && packet.multi
+}
+
+// The kind and addresses by which a multipoint packet names a tail.
+fn tail_of(arrival: &Arrival, packet: &Control) -> RowKind
+    ensures { result ≡ RowKind.Tail packet.now.my arrival.now.iface arrival.now.dst arrival.now.src }
+{
+    RowKind::Tail {
+        head: packet.my,
+        iface: arrival.iface,
+        group: arrival.dst,
+        source: arrival.src,
+    }
 }
 
 // The kind and addresses by which a packet without Your Discriminator names a row on its port.
