@@ -9,16 +9,16 @@ use Rattle.bfd_packet.specs.declared.arrival.Port.{Port}
 use Rattle.bfd_packet.specs.declared.arrival.Port.TheVariants.{Single as SinglePort, Multi as MultiPort, Echo as EchoPort, Sbfd as SbfdPort, Answer as AnswerPort}
 use Rattle.bfd_packet.specs.declared.control.Control.{Control}
 use Rattle.bfd_packet.specs.declared.discard.Test.{Test}
-use Rattle.bfd_packet.specs.declared.discard.Test.TheVariants.{YourUnknown, YourZeroState, NoSession, MultipointYour, NoTail}
+use Rattle.bfd_packet.specs.declared.discard.Test.TheVariants.{YourUnknown, YourZeroState, NoSession, MultipointYour, NoTail, EchoForm}
 use Rattle.bfd_packet.specs.Layout.{fields_of, word_at}
 use Rattle.bfd_packet.specs.HeaderTests.{header_fails, read_of, unless}
 use Rattle.bfd_packet.specs.States.{is_init_or_up}
 use Rattle.bfd_demux.specs.declared.row.Row.{Row}
 use Rattle.bfd_demux.specs.declared.row.RowKind.{RowKind}
 use Rattle.bfd_demux.specs.declared.row.RowKind.TheVariants.{Tail}
-use Rattle.bfd_demux.specs.declared.target.Target.TheVariants.{Session, Reflector}
+use Rattle.bfd_demux.specs.declared.target.Target.TheVariants.{Session, Reflector, Echo}
 use Rattle.bfd_demux.specs.Rows.{has_addresses, same_selector}
-use Rattle.bfd_demux.specs.Selection.{only, the_one, names_on, has_discr, has_selector, selector_on, tail_selector, is_multipoint, is_by_addresses, knows, session_index, reflector_index, table_fails, tests_on_header, tests_on_table, first_failing_on}
+use Rattle.bfd_demux.specs.Selection.{only, the_one, names_on, has_discr, has_selector, selector_on, tail_selector, is_multipoint, is_by_addresses, is_echo_form, knows, session_index, reflector_index, table_fails, tests_on_header, tests_on_table, first_failing_on}
 use Rattle.bfd_demux.specs.Parts.{names_session, index_on, target_named, echo_target, first_past_header, first_echo_failing, first_session_failing}
 
 -- tests that agree name the same row
@@ -81,6 +81,93 @@ echo_named rows arrival = refl
 
 unequal : (n : ℕ) → n ≢ 0 → (n == 0) ≡ false
 unequal n some = grind (arith, nat_tests)
+
+echo_some : (b : Bool) (words read : ℕ × ℕ) → Some read ≡ (if b then Some words else None) → (b ≡ true) × (read ≡ words)
+echo_some true words read is = (refl, cc)
+echo_some false words read is = cc
+
+echo_none : (b : Bool) (words : ℕ × ℕ) → None ≡ (if b then Some words else None) → b ≡ false
+echo_none true words is = cc
+echo_none false words is = refl
+
+-- the words of an echo packet
+pub record IsEcho (payload : List ℕ) (discr sequence : ℕ) : Type 0 where
+  pub form : is_echo_form payload ≡ true
+  pub discr_is : discr ≡ word_at 4 payload
+  pub sequence_is : sequence ≡ word_at 8 payload
+
+pub echo_read : (payload : List ℕ) (discr sequence : ℕ) →
+    ◌≡◌ {A = Option (ℕ × ℕ)} (Some (discr, sequence)) (if is_echo_form payload then Some (word_at 4 payload, word_at 8 payload) else None) → IsEcho payload discr sequence
+echo_read payload discr sequence is =
+    let parts = echo_some (is_echo_form payload) (word_at 4 payload, word_at 8 payload) (discr, sequence) is in
+    record { form = parts.0; discr_is = ap (λ (words : ℕ × ℕ). words.0) parts.1; sequence_is = ap (λ (words : ℕ × ℕ). words.1) parts.1 }
+
+echo_tests : (form known : Bool) → Option Test
+echo_tests form known = if not form then Some EchoForm else if not known then Some YourUnknown else None
+
+-- a payload that is none
+unformed : (form known : Bool) → form ≡ false → Some EchoForm ≡ echo_tests form known
+unfolding echo_tests
+unformed form known is = rw is refl
+
+pub no_echo_packet : (rows : List Row) (payload : List ℕ) →
+    ◌≡◌ {A = Option (ℕ × ℕ)} None (if is_echo_form payload then Some (word_at 4 payload, word_at 8 payload) else None) → Some EchoForm ≡ first_echo_failing rows payload
+unfolding echo_tests
+no_echo_packet rows payload is =
+    unformed (is_echo_form payload) (knows rows EchoPort (word_at 4 payload)) (echo_none (is_echo_form payload) (word_at 4 payload, word_at 8 payload) is)
+
+-- one whose session is known, or isn't
+formed : (form known : Bool) → form ≡ true → (if known then None else Some YourUnknown) ≡ echo_tests form known
+unfolding echo_tests
+formed form true is = rw is refl
+formed form false is = rw is refl
+
+echo_by : (rows : List Row) (payload : List ℕ) (discr sequence : ℕ) (known : Bool) → IsEcho payload discr sequence → known ≡ knows rows EchoPort discr →
+    (if known then None else Some YourUnknown) ≡ first_echo_failing rows payload
+unfolding echo_tests
+echo_by rows payload discr sequence known echo is =
+    ap (λ (b : Bool). if b then None else Some YourUnknown) (is ∙ ap (knows rows EchoPort) echo.discr_is)
+    ∙ formed (is_echo_form payload) (knows rows EchoPort (word_at 4 payload)) echo.form
+
+pub echo_known : (rows : List Row) (payload : List ℕ) (discr sequence : ℕ) → IsEcho payload discr sequence → true ≡ knows rows EchoPort discr → None ≡ first_echo_failing rows payload
+echo_known rows payload discr sequence echo is = echo_by rows payload discr sequence true echo is
+
+pub echo_unknown : (rows : List Row) (payload : List ℕ) (discr sequence : ℕ) → IsEcho payload discr sequence → false ≡ knows rows EchoPort discr → Some YourUnknown ≡ first_echo_failing rows payload
+echo_unknown rows payload discr sequence echo is = echo_by rows payload discr sequence false echo is
+
+to_echo : (rows : List Row) (word : ℕ) (found : Option Row) (index : ℕ) → Some index ≡ option_map (λ (row : Row). session_index rows row.discr) found →
+    Some (Echo index word) ≡ option_map (λ (row : Row). Echo (session_index rows row.discr) word) found
+to_echo rows word None index is = ap (option_map (λ n. Echo n word)) is
+to_echo rows word (Some row) index is = ap (option_map (λ n. Echo n word)) is
+
+-- the echo packet's session and number
+pub echo_found : (rows : List Row) (payload : List ℕ) (discr sequence index : ℕ) → IsEcho payload discr sequence →
+    Some index ≡ option_map (λ (row : Row). index_on EchoPort rows row.discr) (the_one (has_discr EchoPort discr) rows) →
+    Some (Echo index sequence) ≡ option_map (echo_target rows payload) (the_one (has_discr EchoPort (word_at 4 payload)) rows)
+echo_found rows payload discr sequence index echo is =
+    ap (λ word. Some (Echo index word)) echo.sequence_is
+    ∙ to_echo rows (word_at 8 payload) (the_one (has_discr EchoPort (word_at 4 payload)) rows) index
+    (is ∙ ap (λ word. option_map (λ (row : Row). session_index rows row.discr) (the_one (has_discr EchoPort word) rows)) echo.discr_is)
+
+-- a reflector that is known, or isn't
+pub reflects_none : (your : ℕ) (known : Bool) → your ≡ 0 → Some YourUnknown ≡ (if (your == 0) || not known then Some YourUnknown else None)
+reflects_none your known zero = rw zero refl
+
+pub reflects : (your : ℕ) (known : Bool) → your ≢ 0 → (if known then None else Some YourUnknown) ≡ (if (your == 0) || not known then Some YourUnknown else None)
+reflects your true some = rw (unequal your some) refl
+reflects your false some = rw (unequal your some) refl
+
+pub to_reflector : (rows : List Row) (found : Option Row) (index : ℕ) → Some index ≡ option_map (λ (row : Row). reflector_index rows row.discr) found →
+    Some (Reflector index) ≡ option_map (λ (row : Row). Reflector (reflector_index rows row.discr)) found
+to_reflector rows None index is = ap (option_map Reflector) is
+to_reflector rows (Some row) index is = ap (option_map Reflector) is
+
+-- a tail that is known, or isn't
+pub no_tail : (your : ℕ) (any : Bool) → your ≢ 0 → Some MultipointYour ≡ (if your == 0 then if any then None else Some NoTail else Some MultipointYour)
+no_tail your any some = rw (unequal your some) refl
+
+pub tail_heard : (your : ℕ) (any : Bool) → your ≡ 0 → (if any then None else Some NoTail) ≡ (if your == 0 then if any then None else Some NoTail else Some MultipointYour)
+tail_heard your any zero = rw zero refl
 
 -- a packet for a reflector
 pub reflector_failing : (rows : List Row) (arrival : Arrival) (packet : Control) → packet ≡ fields_of arrival.payload →
@@ -237,7 +324,7 @@ pub addresses_unknown : (port : Port) (packet : Control) (selector : Option RowK
     selector ≡ Some kind → list_any (λ row. same_selector kind row.kind) rows ≡ false → Some NoSession ≡ first_session_failing port packet selector rows
 addresses_unknown port packet selector kind rows zero down is unknown = rw (zero, down, is, unknown) refl
 
-to_session : (rows : List Row) (found : Option Row) (index : ℕ) → Some index ≡ option_map (λ (row : Row). session_index rows row.discr) found →
+pub to_session : (rows : List Row) (found : Option Row) (index : ℕ) → Some index ≡ option_map (λ (row : Row). session_index rows row.discr) found →
     Some (Session index) ≡ option_map (λ (row : Row). Session (session_index rows row.discr)) found
 to_session rows None index is = ap (option_map Session) is
 to_session rows (Some row) index is = ap (option_map Session) is

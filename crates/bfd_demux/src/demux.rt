@@ -176,6 +176,7 @@ impl Demux {
     }
 
     // What an echo packet is for.
+    #[tactic(none)]
     fn select_echo<L: Ledger>(&self, payload: &[u8], steps: &mut Steps<L>) -> Result<Target, Test>
         ensures tests { result_err result ≡ first_echo_failing self.now payload.now }
         ensures target { IfOk result (λ target. Some target ≡ option_map (echo_target self.now payload.now) (the_one (has_discr Port.Echo (word_at 4 payload.now)) self.now)) }
@@ -217,6 +218,7 @@ impl Demux {
     }
 
     // What a packet on port sbfd is for.
+    #[tactic(none)]
     fn select_reflector<L: Ledger>(&self, your: u32, steps: &mut Steps<L>) -> Result<Target, Test>
         ensures tests { result_err result ≡ (if (your == 0) || not (knows self.now Port.Sbfd your) then Some Test.YourUnknown else None) }
         ensures target { IfOk result (λ target. (your ≢ 0) × (Some target ≡ option_map (λ row. Target.Reflector (reflector_index self.now row.discr)) (the_one (has_discr Port.Sbfd your) self.now))) }
@@ -232,6 +234,7 @@ impl Demux {
     }
 
     // What a multipoint packet with this Your Discriminator is for, which names a tail by `kind`.
+    #[tactic(none)]
     fn select_tail<L: Ledger>(
         &self,
         your: u32,
@@ -243,13 +246,13 @@ impl Demux {
         ensures target { IfOk result (λ target. Some target ≡ option_map (λ row. Target.Session (session_index self.now row.discr)) (the_one (has_selector (Some kind)) self.now)) }
         ensures cost { steps.new ≤ steps.old + 34 }
     {
-        if your == 0 {
-            return match self.by_addresses(kind, steps) {
-                Some(index) => Ok(Target::Session(index)),
-                None => Err(Test::NoTail),
-            };
+        if your != 0 {
+            return Err(Test::MultipointYour);
         }
-        Err(Test::MultipointYour)
+        match self.by_addresses(kind, steps) {
+            Some(index) => Ok(Target::Session(index)),
+            None => Err(Test::NoTail),
+        }
     }
 
     // What any other packet is for, where a packet without Your Discriminator names a session by `selector`.
