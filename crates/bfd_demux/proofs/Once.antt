@@ -172,11 +172,10 @@ addresses_once rows sound key =
     let once = kind_once_back rows sound key in
     omega arith
 
-no_early : (b : Bool) (n : ℕ) (zero : Option ℕ) (later : Option BuildFault) → cond b (Some (TooMany n)) (option_or (option_map ZeroDiscr zero) later) ≡ None → cond b (Some (TooMany n)) (option_map ZeroDiscr zero) ≡ None
-no_early true n zero later e = cc
-no_early false n None later e = refl
-no_early false n (Some place) later e = cc
+no_early : (early later : Option BuildFault) → option_or early later ≡ None → early ≡ None
+no_early None later e = refl
+no_early (Some fault) later e = cc
 
 -- rows without a fault have none that is seen without memory
 pub no_early_fault : (rows : List Row) → build_fault rows ≡ None → early_fault rows ≡ None
-no_early_fault rows e = no_early (nat_lt 65536 (length rows)) (length rows) (position (λ row. row.discr == 0) rows) _ e
+no_early_fault rows e = no_early (early_fault rows) _ e

@@ -8,15 +8,17 @@ use Rattle.bfd_packet.specs.declared.arrival.Arrival.{Arrival}
 use Rattle.bfd_packet.specs.declared.arrival.Port.{Port}
 use Rattle.bfd_packet.specs.declared.arrival.Port.TheVariants.{Single as SinglePort, Multi as MultiPort, Echo as EchoPort, Sbfd as SbfdPort, Answer as AnswerPort}
 use Rattle.bfd_packet.specs.declared.control.Control.{Control}
-use Rattle.bfd_packet.specs.declared.discard.Test.TheVariants.{YourUnknown, YourZeroState, NoSession, MultipointYour, NoTail}
+use Rattle.bfd_packet.specs.declared.discard.Test.{Test}
+use Rattle.bfd_packet.specs.declared.discard.Test.TheVariants.{YourUnknown, YourZeroState, NoSession, MultipointYour, NoTail, EchoForm}
 use Rattle.bfd_packet.specs.Layout.{fields_of, word_at}
 use Rattle.bfd_packet.specs.HeaderTests.{header_fails, read_of, unless}
 use Rattle.bfd_packet.specs.States.{is_init_or_up}
 use Rattle.bfd_demux.specs.declared.row.Row.{Row}
 use Rattle.bfd_demux.specs.declared.row.RowKind.{RowKind}
-use Rattle.bfd_demux.specs.declared.target.Target.TheVariants.{Session, Reflector}
+use Rattle.bfd_demux.specs.declared.row.RowKind.TheVariants.{Tail}
+use Rattle.bfd_demux.specs.declared.target.Target.TheVariants.{Session, Reflector, Echo}
 use Rattle.bfd_demux.specs.Rows.{has_addresses, same_selector}
-use Rattle.bfd_demux.specs.Selection.{only, the_one, names_on, has_discr, has_selector, selector_on, tail_selector, is_multipoint, is_by_addresses, knows, session_index, reflector_index, table_fails, tests_on_header, tests_on_table, first_failing_on}
+use Rattle.bfd_demux.specs.Selection.{only, the_one, names_on, has_discr, has_selector, selector_on, tail_selector, is_multipoint, is_by_addresses, is_echo_form, knows, session_index, reflector_index, table_fails, tests_on_header, tests_on_table, first_failing_on}
 use Rattle.bfd_demux.specs.Parts.{names_session, index_on, target_named, echo_target, first_past_header, first_echo_failing, first_session_failing}
 
 -- tests that agree name the same row
@@ -41,15 +43,33 @@ header_same SbfdPort rows arrival = refl
 header_same AnswerPort rows arrival = refl
 
 -- past the header: the tests on the table alone
-pub past_header : (port : Port) (rows : List Row) (arrival : Arrival) → find (λ test. header_fails test arrival.payload) (tests_on_header port) ≡ None →
-    first_failing_on port rows arrival ≡ first_past_header port rows arrival
+past_header : (port : Port) (rows : List Row) (arrival : Arrival) → find (λ test. header_fails test arrival.payload) (tests_on_header port) ≡ None →
+    first_past_header port rows arrival ≡ first_failing_on port rows arrival
 past_header port rows arrival none =
-    find-append (λ test. table_fails port test rows arrival) (tests_on_header port) (tests_on_table port (is_multipoint port arrival)) (header_same port rows arrival ∙ none)
+    sym (find-append (λ test. table_fails port test rows arrival) (tests_on_header port) (tests_on_table port (is_multipoint port arrival)) (header_same port rows arrival ∙ none))
+
+found_more : {X : Type 0} (b : Bool) (x t : X) (o rest : Option X) → cond b (Some x) o ≡ Some t → (o ≡ Some t → rest ≡ Some t) → cond b (Some x) rest ≡ Some t
+found_more true x t o rest some more = some
+found_more false x t o rest some more = more some
+
+find_front : {X : Type 0} (test : X → Bool) (xs ys : List X) (t : X) → find test xs ≡ Some t → find test (xs ++ ys) ≡ Some t
+find_front test [] ys t some = cc
+find_front test (x ∷ xs) ys t some = found_more (test x) x t (find test xs) (find test (xs ++ ys)) some (find_front test xs ys t)
+
+-- a test on the header that fails comes before those on the table
+header_first : (port : Port) (rows : List Row) (arrival : Arrival) (test : Test) → find (λ test. header_fails test arrival.payload) (tests_on_header port) ≡ Some test →
+    Some test ≡ first_failing_on port rows arrival
+header_first port rows arrival test some =
+    sym (find_front (λ test. table_fails port test rows arrival) (tests_on_header port) (tests_on_table port (is_multipoint port arrival)) test (header_same port rows arrival ∙ some))
 
 -- what follows for an Ok
 pub ok_then : {T E : Type 0} {P Q : T → Type 0} (r : Result T E) → ((t : T) → P t → Q t) → IfOk r P → IfOk r Q
 ok_then (Ok t) follows h = follows t h
 ok_then (Err e) follows h = h
+
+pub ok_always : {T E : Type 0} {P : Type 0} (r : Result T E) → P → IfOk r (λ t. P)
+ok_always (Ok t) p = p
+ok_always (Err e) p = tt
 
 -- an echo packet
 pub echo_failing : (rows : List Row) (arrival : Arrival) → first_echo_failing rows arrival.payload ≡ first_failing_on EchoPort rows arrival
@@ -61,6 +81,93 @@ echo_named rows arrival = refl
 
 unequal : (n : ℕ) → n ≢ 0 → (n == 0) ≡ false
 unequal n some = grind (arith, nat_tests)
+
+echo_some : (b : Bool) (words read : ℕ × ℕ) → Some read ≡ (if b then Some words else None) → (b ≡ true) × (read ≡ words)
+echo_some true words read is = (refl, cc)
+echo_some false words read is = cc
+
+echo_none : (b : Bool) (words : ℕ × ℕ) → None ≡ (if b then Some words else None) → b ≡ false
+echo_none true words is = cc
+echo_none false words is = refl
+
+-- the words of an echo packet
+pub record IsEcho (payload : List ℕ) (discr sequence : ℕ) : Type 0 where
+  pub form : is_echo_form payload ≡ true
+  pub discr_is : discr ≡ word_at 4 payload
+  pub sequence_is : sequence ≡ word_at 8 payload
+
+pub echo_read : (payload : List ℕ) (discr sequence : ℕ) →
+    ◌≡◌ {A = Option (ℕ × ℕ)} (Some (discr, sequence)) (if is_echo_form payload then Some (word_at 4 payload, word_at 8 payload) else None) → IsEcho payload discr sequence
+echo_read payload discr sequence is =
+    let parts = echo_some (is_echo_form payload) (word_at 4 payload, word_at 8 payload) (discr, sequence) is in
+    record { form = parts.0; discr_is = ap (λ (words : ℕ × ℕ). words.0) parts.1; sequence_is = ap (λ (words : ℕ × ℕ). words.1) parts.1 }
+
+echo_tests : (form known : Bool) → Option Test
+echo_tests form known = if not form then Some EchoForm else if not known then Some YourUnknown else None
+
+-- a payload that is none
+unformed : (form known : Bool) → form ≡ false → Some EchoForm ≡ echo_tests form known
+unfolding echo_tests
+unformed form known is = rw is refl
+
+pub no_echo_packet : (rows : List Row) (payload : List ℕ) →
+    ◌≡◌ {A = Option (ℕ × ℕ)} None (if is_echo_form payload then Some (word_at 4 payload, word_at 8 payload) else None) → Some EchoForm ≡ first_echo_failing rows payload
+unfolding echo_tests
+no_echo_packet rows payload is =
+    unformed (is_echo_form payload) (knows rows EchoPort (word_at 4 payload)) (echo_none (is_echo_form payload) (word_at 4 payload, word_at 8 payload) is)
+
+-- one whose session is known, or isn't
+formed : (form known : Bool) → form ≡ true → (if known then None else Some YourUnknown) ≡ echo_tests form known
+unfolding echo_tests
+formed form true is = rw is refl
+formed form false is = rw is refl
+
+echo_by : (rows : List Row) (payload : List ℕ) (discr sequence : ℕ) (known : Bool) → IsEcho payload discr sequence → known ≡ knows rows EchoPort discr →
+    (if known then None else Some YourUnknown) ≡ first_echo_failing rows payload
+unfolding echo_tests
+echo_by rows payload discr sequence known echo is =
+    ap (λ (b : Bool). if b then None else Some YourUnknown) (is ∙ ap (knows rows EchoPort) echo.discr_is)
+    ∙ formed (is_echo_form payload) (knows rows EchoPort (word_at 4 payload)) echo.form
+
+pub echo_known : (rows : List Row) (payload : List ℕ) (discr sequence : ℕ) → IsEcho payload discr sequence → true ≡ knows rows EchoPort discr → None ≡ first_echo_failing rows payload
+echo_known rows payload discr sequence echo is = echo_by rows payload discr sequence true echo is
+
+pub echo_unknown : (rows : List Row) (payload : List ℕ) (discr sequence : ℕ) → IsEcho payload discr sequence → false ≡ knows rows EchoPort discr → Some YourUnknown ≡ first_echo_failing rows payload
+echo_unknown rows payload discr sequence echo is = echo_by rows payload discr sequence false echo is
+
+to_echo : (rows : List Row) (word : ℕ) (found : Option Row) (index : ℕ) → Some index ≡ option_map (λ (row : Row). session_index rows row.discr) found →
+    Some (Echo index word) ≡ option_map (λ (row : Row). Echo (session_index rows row.discr) word) found
+to_echo rows word None index is = ap (option_map (λ n. Echo n word)) is
+to_echo rows word (Some row) index is = ap (option_map (λ n. Echo n word)) is
+
+-- the echo packet's session and number
+pub echo_found : (rows : List Row) (payload : List ℕ) (discr sequence index : ℕ) → IsEcho payload discr sequence →
+    Some index ≡ option_map (λ (row : Row). index_on EchoPort rows row.discr) (the_one (has_discr EchoPort discr) rows) →
+    Some (Echo index sequence) ≡ option_map (echo_target rows payload) (the_one (has_discr EchoPort (word_at 4 payload)) rows)
+echo_found rows payload discr sequence index echo is =
+    ap (λ word. Some (Echo index word)) echo.sequence_is
+    ∙ to_echo rows (word_at 8 payload) (the_one (has_discr EchoPort (word_at 4 payload)) rows) index
+    (is ∙ ap (λ word. option_map (λ (row : Row). session_index rows row.discr) (the_one (has_discr EchoPort word) rows)) echo.discr_is)
+
+-- a reflector that is known, or isn't
+pub reflects_none : (your : ℕ) (known : Bool) → your ≡ 0 → Some YourUnknown ≡ (if (your == 0) || not known then Some YourUnknown else None)
+reflects_none your known zero = rw zero refl
+
+pub reflects : (your : ℕ) (known : Bool) → your ≢ 0 → (if known then None else Some YourUnknown) ≡ (if (your == 0) || not known then Some YourUnknown else None)
+reflects your true some = rw (unequal your some) refl
+reflects your false some = rw (unequal your some) refl
+
+pub to_reflector : (rows : List Row) (found : Option Row) (index : ℕ) → Some index ≡ option_map (λ (row : Row). reflector_index rows row.discr) found →
+    Some (Reflector index) ≡ option_map (λ (row : Row). Reflector (reflector_index rows row.discr)) found
+to_reflector rows None index is = ap (option_map Reflector) is
+to_reflector rows (Some row) index is = ap (option_map Reflector) is
+
+-- a tail that is known, or isn't
+pub no_tail : (your : ℕ) (any : Bool) → your ≢ 0 → Some MultipointYour ≡ (if your == 0 then if any then None else Some NoTail else Some MultipointYour)
+no_tail your any some = rw (unequal your some) refl
+
+pub tail_heard : (your : ℕ) (any : Bool) → your ≡ 0 → (if any then None else Some NoTail) ≡ (if your == 0 then if any then None else Some NoTail else Some MultipointYour)
+tail_heard your any zero = rw zero refl
 
 -- a packet for a reflector
 pub reflector_failing : (rows : List Row) (arrival : Arrival) (packet : Control) → packet ≡ fields_of arrival.payload →
@@ -82,18 +189,20 @@ tail_cases false true = refl
 tail_cases false false = refl
 
 -- a multipoint packet
-pub tail_failing : (port : Port) (rows : List Row) (arrival : Arrival) (packet : Control) → packet ≡ fields_of arrival.payload → is_multipoint port arrival ≡ true →
-    (if packet.your == 0 then if list_any (has_selector (tail_selector arrival)) rows then None else Some NoTail else Some MultipointYour) ≡ first_past_header port rows arrival
-tail_failing SinglePort rows arrival packet is multipoint =
-    rw (is, multipoint, multipoint) (tail_cases ((fields_of arrival.payload).your == 0) (list_any (has_selector (tail_selector arrival)) rows))
-tail_failing port rows arrival packet is multipoint = cc
+pub tail_failing : (port : Port) (rows : List Row) (arrival : Arrival) (packet : Control) (kind : RowKind) → packet ≡ fields_of arrival.payload → is_multipoint port arrival ≡ true →
+    kind ≡ Tail (fields_of arrival.payload).my arrival.iface arrival.dst arrival.src →
+    (if packet.your == 0 then if list_any (has_selector (Some kind)) rows then None else Some NoTail else Some MultipointYour) ≡ first_past_header port rows arrival
+tail_failing SinglePort rows arrival packet kind is multipoint tail =
+    rw (tail, is, multipoint, multipoint) (tail_cases ((fields_of arrival.payload).your == 0) (list_any (has_selector (tail_selector arrival)) rows))
+tail_failing port rows arrival packet kind is multipoint tail = cc
 
-pub tail_named : (port : Port) (rows : List Row) (arrival : Arrival) → is_multipoint port arrival ≡ true →
-    option_map (λ (row : Row). Session (session_index rows row.discr)) (the_one (has_selector (tail_selector arrival)) rows) ≡ target_named port rows arrival
-tail_named SinglePort rows arrival multipoint =
+pub tail_named : (port : Port) (rows : List Row) (arrival : Arrival) (kind : RowKind) → is_multipoint port arrival ≡ true →
+    kind ≡ Tail (fields_of arrival.payload).my arrival.iface arrival.dst arrival.src →
+    option_map (λ (row : Row). Session (session_index rows row.discr)) (the_one (has_selector (Some kind)) rows) ≡ target_named port rows arrival
+tail_named SinglePort rows arrival kind multipoint tail =
     ap (option_map (λ (row : Row). Session (session_index rows row.discr)))
-    (the_one_agree (has_selector (tail_selector arrival)) (names_on SinglePort arrival) (λ row. rw multipoint refl) rows)
-tail_named port rows arrival multipoint = cc
+    (the_one_agree (has_selector (Some kind)) (names_on SinglePort arrival) (λ row. rw (multipoint, tail) refl) rows)
+tail_named port rows arrival kind multipoint tail = cc
 
 -- any other packet
 pub session_failing : (port : Port) (rows : List Row) (arrival : Arrival) (packet : Control) → packet ≡ fields_of arrival.payload →
@@ -132,19 +241,45 @@ selector_addressed SinglePort arrival = refl
 selector_addressed MultiPort arrival = refl
 selector_addressed port arrival = tt
 
--- a payload that passes the header's tests is read
-pub header_passed : (port : Port) (payload : List ℕ) → port ≢ EchoPort → find (λ test. header_fails test payload) (tests_on_header port) ≡ None → read_of port payload ≡ Ok (fields_of payload)
-header_passed EchoPort payload no_echo none = absurd (no_echo refl)
-header_passed SinglePort payload no_echo none = ap (λ test. unless test (fields_of payload)) none
-header_passed MultiPort payload no_echo none = ap (λ test. unless test (fields_of payload)) none
-header_passed SbfdPort payload no_echo none = ap (λ test. unless test (fields_of payload)) none
-header_passed AnswerPort payload no_echo none = ap (λ test. unless test (fields_of payload)) none
+-- fields that no test refused
+pub record IsRead (failing : Option Test) (fields packet : Control) : Type 0 where
+  pub passes : failing ≡ None
+  pub its : packet ≡ fields
 
-pub same_ok : {T E : Type 0} (r : Result T E) (a b : T) → r ≡ Ok a → r ≡ Ok b → a ≡ b
-same_ok r a b left right = cc
+read_fields : (failing : Option Test) (fields packet : Control) → unless failing fields ≡ Ok packet → IsRead failing fields packet
+read_fields None fields packet is = record { passes = refl; its = cc }
+read_fields (Some test) fields packet is = cc
 
-pub never_err : {T E : Type 0} (r : Result T E) (a : T) (e : E) → r ≡ Ok a → r ≡ Err e → ⊥
-never_err r a e left right = cc
+refused_by : (failing : Option Test) (fields : Control) (test : Test) → unless failing fields ≡ Err test → failing ≡ Some test
+refused_by None fields test is = cc
+refused_by (Some other) fields test is = cc
+
+-- a payload that is read passes the header's tests
+pub header_passed : (port : Port) (payload : List ℕ) (packet : Control) → port ≢ EchoPort → read_of port payload ≡ Ok packet →
+    IsRead (find (λ test. header_fails test payload) (tests_on_header port)) (fields_of payload) packet
+header_passed EchoPort payload packet no_echo is = absurd (no_echo refl)
+header_passed SinglePort payload packet no_echo is = read_fields _ (fields_of payload) packet is
+header_passed MultiPort payload packet no_echo is = read_fields _ (fields_of payload) packet is
+header_passed SbfdPort payload packet no_echo is = read_fields _ (fields_of payload) packet is
+header_passed AnswerPort payload packet no_echo is = read_fields _ (fields_of payload) packet is
+
+header_failed : (port : Port) (payload : List ℕ) (test : Test) → port ≢ EchoPort → read_of port payload ≡ Err test →
+    find (λ test. header_fails test payload) (tests_on_header port) ≡ Some test
+header_failed EchoPort payload test no_echo is = absurd (no_echo refl)
+header_failed SinglePort payload test no_echo is = refused_by _ (fields_of payload) test is
+header_failed MultiPort payload test no_echo is = refused_by _ (fields_of payload) test is
+header_failed SbfdPort payload test no_echo is = refused_by _ (fields_of payload) test is
+header_failed AnswerPort payload test no_echo is = refused_by _ (fields_of payload) test is
+
+-- a packet that isn't read fails that test
+pub unread : (port : Port) (rows : List Row) (arrival : Arrival) (test : Test) → port ≢ EchoPort → read_of port arrival.payload ≡ Err test →
+    Some test ≡ first_failing_on port rows arrival
+unread port rows arrival test no_echo is = header_first port rows arrival test (header_failed port arrival.payload test no_echo is)
+
+-- a packet that is read fails the tests on the table alone
+pub read_past : (port : Port) (rows : List Row) (arrival : Arrival) (packet : Control) → port ≢ EchoPort → read_of port arrival.payload ≡ Ok packet →
+    first_past_header port rows arrival ≡ first_failing_on port rows arrival
+read_past port rows arrival packet no_echo is = past_header port rows arrival (header_passed port arrival.payload packet no_echo is).passes
 
 -- a multipoint packet is looked up by addresses
 pub tail_by_addresses : (port : Port) (arrival : Arrival) → is_multipoint port arrival ≡ true → is_by_addresses port arrival ≡ false → ⊥
@@ -189,7 +324,7 @@ pub addresses_unknown : (port : Port) (packet : Control) (selector : Option RowK
     selector ≡ Some kind → list_any (λ row. same_selector kind row.kind) rows ≡ false → Some NoSession ≡ first_session_failing port packet selector rows
 addresses_unknown port packet selector kind rows zero down is unknown = rw (zero, down, is, unknown) refl
 
-to_session : (rows : List Row) (found : Option Row) (index : ℕ) → Some index ≡ option_map (λ (row : Row). session_index rows row.discr) found →
+pub to_session : (rows : List Row) (found : Option Row) (index : ℕ) → Some index ≡ option_map (λ (row : Row). session_index rows row.discr) found →
     Some (Session index) ≡ option_map (λ (row : Row). Session (session_index rows row.discr)) found
 to_session rows None index is = ap (option_map Session) is
 to_session rows (Some row) index is = ap (option_map Session) is

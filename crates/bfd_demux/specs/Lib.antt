@@ -1,4 +1,5 @@
 pub mod Rows
+pub mod Told
 pub mod Table
 pub mod Selection
 pub mod Parts

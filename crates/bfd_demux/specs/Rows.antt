@@ -55,7 +55,6 @@ early_fault rows =
 -- that come twice
 abbrev pub build_fault : List Row → Option BuildFault
 build_fault rows =
-    if nat_lt 65536 (length rows) then Some (TooMany (length rows)) else
-    option_or (option_map ZeroDiscr (position (λ row. row.discr == 0) rows))
+    option_or (early_fault rows)
     (option_or (pair_fault SameDiscr (first_repeat same_discr rows))
     (pair_fault SameAddresses (first_repeat same_addresses rows)))

@@ -1,6 +1,6 @@
 //! The table: rows behind two sorted indices.
 
-ghost use Rattle.std.specs.Prelude.{[], false, ◌≡◌, ◌≢◌, ◌+◌, ◌==◌, ◌≤◌, ◌&&◌, ◌||◌, if◌then◌else◌, position, true, not, None, Some, is_some, IfSome, IfOk, OnErr, MatchResult, ◌⊎◌};
+ghost use Rattle.std.specs.Prelude.{[], false, OnOk, ◌≡◌, ◌≢◌, ◌+◌, ◌==◌, ◌≤◌, ◌&&◌, ◌||◌, if◌then◌else◌, position, true, not, None, Some, is_some, IfSome, IfOk, OnErr, MatchResult, ◌⊎◌};
 ghost use Rattle.std.specs.List.{list_any};
 ghost use Rattle.std.specs.Option.{option_map};
 ghost use Rattle.std.specs.Result.{result_err};
@@ -8,7 +8,7 @@ ghost use Rattle.bfd_packet.specs.Layout.{fields_of, word_at};
 ghost use Rattle.bfd_packet.specs.HeaderTests.{takes_multipoint_of};
 ghost use Rattle.bfd_packet.specs.States.{is_init_or_up};
 ghost use Rattle.bfd_demux.specs.Rows.{build_fault, early_fault, has_addresses, same_selector};
-ghost use Rattle.bfd_demux.specs.Selection.{first_header_failing, first_table_failing, has_discr, has_selector, is_by_addresses, is_echo_form, is_session, knows, reflector_index, selector_on, session_index, tail_selector, target_of, the_one};
+ghost use Rattle.bfd_demux.specs.Selection.{first_header_failing, first_table_failing, has_discr, has_selector, is_by_addresses, is_echo_form, is_session, knows, reflector_index, selector_on, session_index, target_of, the_one};
 ghost use Rattle.bfd_demux.specs.Parts.{echo_target, first_echo_failing, first_past_header, first_session_failing, index_on, names_session, target_named};
 ghost use Rattle.bfd_demux.specs.Index.{names_of, addresses_of};
 ghost use Rattle.bfd_demux.specs.Table.{how_many};
@@ -140,17 +140,17 @@ impl Demux {
 }
 
 impl Demux {
-    /// What the arrival is for, or the first test of its port that it fails (RFC 5880 section 6.8.6). On
-    /// every port but echo the payload has to pass the tests on the header, as `header_test` makes them.
-    /// Then: on echo EchoForm and YourUnknown; on sbfd YourUnknown; on single with M set MultipointYour and
-    /// NoTail (RFC 8562); and else YourUnknown, YourZeroState and NoSession. It takes no memory. A step is
-    /// the look at one entry of a sorted table: a lookup takes at most 17, and only a selection by addresses
-    /// needs two lookups.
+    /// What the arrival is for, or the first of its port's tests up to selection that it fails (RFC 5880
+    /// section 6.8.6). First come the tests on the header, as `header_test` makes them; an echo packet has
+    /// none. Then, on the table: on echo EchoForm and YourUnknown; on sbfd YourUnknown; on single with M set
+    /// MultipointYour and NoTail (RFC 8562); and else YourUnknown, YourZeroState and NoSession. It takes no
+    /// memory. A step is the look at one entry of a sorted table: a lookup takes at most 17, and only a
+    /// selection by addresses needs two lookups.
     #[tactic(none)]
-    pub fn select<L: Ledger>(&self, arrival: &Arrival, steps: &mut Steps<L>) -> Result<Target, Test>
-        requires { first_header_failing arrival.now ≡ None }
+    pub fn screen<L: Ledger>(&self, arrival: &Arrival, steps: &mut Steps<L>) -> Result<Target, Test>
         ensures tests { result_err result ≡ first_table_failing self.now arrival.now }
         ensures target { IfOk result (λ target. Some target ≡ target_of self.now arrival.now) }
+        ensures header { OnOk result (first_header_failing arrival.now ≡ None) }
         ensures cost { steps.new ≤ steps.old + 34 }
         ensures one_lookup { is_by_addresses arrival.now.port arrival.now ≡ false → steps.new ≤ steps.old + 17 }
     {
@@ -163,7 +163,20 @@ impl Demux {
         }
     }
 
+    /// The same for an arrival that is known to pass the tests on its header: a test that fails is one on the
+    /// table.
+    pub fn select<L: Ledger>(&self, arrival: &Arrival, steps: &mut Steps<L>) -> Result<Target, Test>
+        requires { first_header_failing arrival.now ≡ None }
+        ensures tests { result_err result ≡ first_table_failing self.now arrival.now }
+        ensures target { IfOk result (λ target. Some target ≡ target_of self.now arrival.now) }
+        ensures cost { steps.new ≤ steps.old + 34 }
+        ensures one_lookup { is_by_addresses arrival.now.port arrival.now ≡ false → steps.new ≤ steps.old + 17 }
+    {
+        self.screen(arrival, steps)
+    }
+
     // What an echo packet is for.
+    #[tactic(none)]
     fn select_echo<L: Ledger>(&self, payload: &[u8], steps: &mut Steps<L>) -> Result<Target, Test>
         ensures tests { result_err result ≡ first_echo_failing self.now payload.now }
         ensures target { IfOk result (λ target. Some target ≡ option_map (echo_target self.now payload.now) (the_one (has_discr Port.Echo (word_at 4 payload.now)) self.now)) }
@@ -197,7 +210,7 @@ impl Demux {
             Port::Sbfd => self.select_reflector(packet.your, steps),
             port => {
                 if is_multipoint(port, packet) {
-                    return self.select_tail(arrival, packet, steps);
+                    return self.select_tail(packet.your, tail_of(arrival, packet), steps);
                 }
                 self.select_session(port, packet, selector_of(arrival), steps)
             }
@@ -205,6 +218,7 @@ impl Demux {
     }
 
     // What a packet on port sbfd is for.
+    #[tactic(none)]
     fn select_reflector<L: Ledger>(&self, your: u32, steps: &mut Steps<L>) -> Result<Target, Test>
         ensures tests { result_err result ≡ (if (your == 0) || not (knows self.now Port.Sbfd your) then Some Test.YourUnknown else None) }
         ensures target { IfOk result (λ target. (your ≢ 0) × (Some target ≡ option_map (λ row. Target.Reflector (reflector_index self.now row.discr)) (the_one (has_discr Port.Sbfd your) self.now))) }
@@ -219,31 +233,26 @@ impl Demux {
         }
     }
 
-    // What a multipoint packet is for.
+    // What a multipoint packet with this Your Discriminator is for, which names a tail by `kind`.
+    #[tactic(none)]
     fn select_tail<L: Ledger>(
         &self,
-        arrival: &Arrival,
-        packet: &Control,
+        your: u32,
+        kind: RowKind,
         steps: &mut Steps<L>,
     ) -> Result<Target, Test>
-        requires { packet.now ≡ fields_of arrival.now.payload }
-        ensures tests { result_err result ≡ (if packet.now.your == 0 then if list_any (has_selector (tail_selector arrival.now)) self.now then None else Some Test.NoTail else Some Test.MultipointYour) }
-        ensures target { IfOk result (λ target. Some target ≡ option_map (λ row. Target.Session (session_index self.now row.discr)) (the_one (has_selector (tail_selector arrival.now)) self.now)) }
+        requires { has_addresses kind ≡ true }
+        ensures tests { result_err result ≡ (if your == 0 then if list_any (has_selector (Some kind)) self.now then None else Some Test.NoTail else Some Test.MultipointYour) }
+        ensures target { IfOk result (λ target. Some target ≡ option_map (λ row. Target.Session (session_index self.now row.discr)) (the_one (has_selector (Some kind)) self.now)) }
         ensures cost { steps.new ≤ steps.old + 34 }
     {
-        if packet.your == 0 {
-            let kind = RowKind::Tail {
-                head: packet.my,
-                iface: arrival.iface,
-                group: arrival.dst,
-                source: arrival.src,
-            };
-            return match self.by_addresses(kind, steps) {
-                Some(index) => Ok(Target::Session(index)),
-                None => Err(Test::NoTail),
-            };
+        if your != 0 {
+            return Err(Test::MultipointYour);
         }
-        Err(Test::MultipointYour)
+        match self.by_addresses(kind, steps) {
+            Some(index) => Ok(Target::Session(index)),
+            None => Err(Test::NoTail),
+        }
     }
 
     // What any other packet is for, where a packet without Your Discriminator names a session by `selector`.
@@ -301,6 +310,18 @@ fn is_multipoint(port: Port, packet: &Control) -> bool
     ensures { result ≡ (takes_multipoint_of port && packet.now.multi) }
 {
     matches!(port, Port::Single) && packet.multi
+}
+
+// The kind and addresses by which a multipoint packet names a tail.
+fn tail_of(arrival: &Arrival, packet: &Control) -> RowKind
+    ensures { result ≡ RowKind.Tail packet.now.my arrival.now.iface arrival.now.dst arrival.now.src }
+{
+    RowKind::Tail {
+        head: packet.my,
+        iface: arrival.iface,
+        group: arrival.dst,
+        source: arrival.src,
+    }
 }
 
 // The kind and addresses by which a packet without Your Discriminator names a row on its port.

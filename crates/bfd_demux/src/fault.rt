@@ -1,18 +1,44 @@
 //! Why rows make no table.
 
+ghost use Rattle.std.specs.Prelude.{Some};
+ghost use Rattle.bfd_demux.specs.Told.{fault_text};
+
+use std::fmt;
 use thiserror::Error;
 
-/// Why rows make no table. Rows are named by their places, from 0.
+/// Why rows make no table. Rows are named by their places, from 0. A pair is named with the earlier row first.
 #[derive(Clone, Copy, Debug, PartialEq, Eq, Error)]
 pub enum BuildFault {
-    #[error("rows {0} and {1} have one discriminator")]
+    /// Two rows have one discriminator.
     SameDiscr(usize, usize),
-    #[error("rows {0} and {1} are of one kind with the same addresses")]
+    /// Two rows are of one kind with the same addresses.
     SameAddresses(usize, usize),
-    #[error("row {0} has the discriminator 0")]
+    /// This row has the discriminator 0.
     ZeroDiscr(usize),
-    #[error("{0} rows are more than 65,536")]
+    /// So many rows are more than 65,536.
     TooMany(usize),
-    #[error("no memory is left")]
+    /// No memory is left.
     Memory,
+}
+
+// The derive writes `Error`. It would also write this from messages, but then no contract would say what the text is.
+impl fmt::Display for BuildFault {
+    ghost output = { λ fault. Some (fault_text fault) };
+
+    fn fmt<W: fmt::Write>(&self, f: &mut fmt::Formatter<W>) -> fmt::Result {
+        match self {
+            BuildFault::SameDiscr(earlier, place) => {
+                write!(f, "rows {earlier} and {place} have one discriminator")
+            }
+            BuildFault::SameAddresses(earlier, place) => {
+                write!(
+                    f,
+                    "rows {earlier} and {place} are of one kind with the same addresses"
+                )
+            }
+            BuildFault::ZeroDiscr(place) => write!(f, "row {place} has the discriminator 0"),
+            BuildFault::TooMany(count) => write!(f, "{count} rows are more than 65,536"),
+            BuildFault::Memory => write!(f, "no memory is left"),
+        }
+    }
 }

@@ -1,9 +1,8 @@
 ghost use Rattle.std.specs.Prelude.{◌≡◌, ◌<◌};
-ghost use Rattle.bfd_demux.specs.Selection.{first_header_failing};
 
 use crate::{BuildFault, Demux, Row, RowKind, Target};
 use bfd_num::Steps;
-use bfd_packet::{Addr, Arrival, Payload, Port, Test, header_test};
+use bfd_packet::{Addr, Arrival, Payload, Port, Test};
 use std::alloc::{AllocError, Global};
 use std::marker::Brand;
 use std::sync::ledger::{Blank, Ledger};
@@ -87,27 +86,15 @@ pub fn packet(flags: u8, my: u8, your: u32) -> [u8; 24] {
     bytes
 }
 
-fn first_on_header(arrival: &Arrival) -> Option<Test>
-    ensures { result ≡ first_header_failing arrival.now }
-{
-    match arrival.port {
-        Port::Echo => None,
-        Port::Single => header_test(Port::Single, arrival.payload.as_slice()),
-        Port::Multi => header_test(Port::Multi, arrival.payload.as_slice()),
-        Port::Sbfd => header_test(Port::Sbfd, arrival.payload.as_slice()),
-        Port::Answer => header_test(Port::Answer, arrival.payload.as_slice()),
-    }
-}
-
+// What `select` answers where `screen` does, and else the test that `screen` answers.
 fn screened<L: Ledger>(table: &Demux, arrival: &Arrival, blank: Blank) -> Result<Target, Test>
     requires name { blank.name ≡ L.name }
     requires parts { blank.parts ≡ L.parts }
     requires some { 0 < blank.parts }
 {
-    match first_on_header(arrival) {
-        Some(test) => Err(test),
-        None => table.select(arrival, &mut Steps::<L>::new(blank)),
-    }
+    let mut steps = Steps::<L>::new(blank);
+    table.screen(arrival, &mut steps)?;
+    table.select(arrival, &mut steps)
 }
 
 pub fn select(table: &Demux, arrival: &Arrival) -> Result<Target, Test> {

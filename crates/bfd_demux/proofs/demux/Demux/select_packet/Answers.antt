@@ -1,5 +1,6 @@
-use Rattle.std.proofs.Common.{◌≡◌, true, false, ◌&&◌, arith, sym, ap, ◌∙◌}
+use Rattle.std.proofs.Common.{◌≡◌, true, false, ◌&&◌, arith, sym, ap, ◌∙◌, refl}
 use Rattle.bfd_packet.specs.HeaderTests.{takes_multipoint_of}
+use Rattle.bfd_demux.specs.declared.row.RowKind.TheVariants.{Tail}
 use Rattle.bfd_demux.specs.Selection.{is_multipoint, session_index, the_one}
 use Rattle.bfd_demux.specs.Parts.{first_session_failing, names_session}
 use Rattle.std.specs.Option.{option_map}
@@ -24,15 +25,16 @@ pub returns-in-Sbfd-clause-one_lookup : goal.returns-in-Sbfd-clause-one_lookup
 returns-in-Sbfd-clause-one_lookup g c = λ _. c.select_reflector.ensures.cost
 
 pub select_tail-requires : goal.select_tail-requires
-select_tail-requires g c = c.requires.packet
+select_tail-requires g c = rw c.tail_of.ensures refl
 
 pub returns-then-is_multipoint : goal.returns-then-is_multipoint
 returns-then-is_multipoint g c =
     let multipoint : is_multipoint c.args.arrival.now.port c.args.arrival.now ≡ true =
     ap (λ packet. takes_multipoint_of c.args.arrival.now.port && packet.multi) (sym c.requires.packet) ∙ sym c.is_multipoint.ensures ∙ c.if-is_multipoint.true in
+    let tail = c.tail_of.ensures ∙ ap (λ packet. Tail packet.my c.args.arrival.now.iface c.args.arrival.now.dst c.args.arrival.now.src) c.requires.packet in
     record {
-      tests = c.select_tail.ensures.tests ∙ tail_failing c.args.arrival.now.port c.args.self.now c.args.arrival.now c.args.packet.now c.requires.packet multipoint;
-      target = ok_then c.select_tail.result (λ target h. h ∙ tail_named c.args.arrival.now.port c.args.self.now c.args.arrival.now multipoint) c.select_tail.ensures.target;
+      tests = c.select_tail.ensures.tests ∙ tail_failing c.args.arrival.now.port c.args.self.now c.args.arrival.now c.args.packet.now c.tail_of.result c.requires.packet multipoint tail;
+      target = ok_then c.select_tail.result (λ target h. h ∙ tail_named c.args.arrival.now.port c.args.self.now c.args.arrival.now c.tail_of.result multipoint tail) c.select_tail.ensures.target;
       cost = c.select_tail.ensures.cost;
       one_lookup = λ other. absurd (tail_by_addresses c.args.arrival.now.port c.args.arrival.now multipoint other);
     }
