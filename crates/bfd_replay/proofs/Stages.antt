@@ -5,12 +5,13 @@ use Rattle.bfd_rules.specs.declared.outputs.Out.{Out}
 use Rattle.bfd_rules.specs.Course.{Outputs}
 use Rattle.bfd_session.specs.declared.event.SessionConfig.{SessionConfig}
 use Rattle.bfd_session.specs.declared.event.Answer.{Answer}
-use Rattle.bfd_session.specs.Kinds.{Running}
+use Rattle.bfd_session.specs.Kinds.{Running, configs_of}
 use Rattle.bfd_demux.specs.declared.row.Row.{Row}
 use Rattle.bfd_script.specs.declared.entries.Line.{Line}
-use Rattle.bfd_script.specs.Sound.{Ascends, AreConfigs}
-use Rattle.bfd_replay.specs.Rows.{rows_of}
-use Rattle.bfd_replay.specs.World.{Turn, turned, started, configs_of, happens}
+use Rattle.bfd_session.specs.Rows.{Ascends, rows_of}
+use Rattle.bfd_script.specs.Sound.{AreConfigs}
+use Rattle.bfd_session.specs.Step.{started}
+use Rattle.bfd_replay.specs.World.{Turn, turned, happens}
 use Rattle.bfd_replay.specs.Stage.{IsStage}
 use Rattle.bfd_replay.proofs.Kept.{happens_keeps, length_configs}
 

@@ -40,8 +40,8 @@ impl Model for Progress {
 
 /// The sessions at the start.
 fn started(alloc: Global, configs: Vec<SessionConfig>) -> Result<Vec<Session>, AllocError>
-    requires { Each IsFit configs.items }
-    ensures { IfOk result (λ sessions. sessions.items ≡ map world.started configs.items) }
+    requires { AreFit configs.items }
+    ensures { IfOk result (λ sessions. sessions.items ≡ map started_of configs.items) }
 {
     let mut sessions = Vec::new(alloc);
     for config in configs {
@@ -51,7 +51,7 @@ fn started(alloc: Global, configs: Vec<SessionConfig>) -> Result<Vec<Session>, A
 }
 
 /// The table of the sessions, which have no fault.
-#[tactic(auto, using(crate::proofs::Tables::no_fault))]
+#[tactic(auto, using(bfd_session::proofs::Tables::no_fault))]
 fn table(alloc: Global, configs: &[SessionConfig]) -> Result<Demux, AllocError>
     requires { AreConfigs configs.now }
     ensures { IfOk result (λ demux. demux ≡ rows_list configs.now) }

@@ -1,21 +1,17 @@
 -- One more session in a table: the entries, the places, and what stays true of the sessions.
-use Rattle.std.proofs.Common.{◌≡◌, ℕ, ◌+◌, ◌<◌, ◌==◌, Bool, true, false, ◌||◌, ◌&&◌, cond, List, [], ◌∷◌, length, Option, Some, refl, sym, ap, ◌∙◌, arith, nat_lt, subst}
+use Rattle.std.proofs.Common.{◌≡◌, ℕ, ◌+◌, ◌<◌, ◌==◌, Bool, true, false, ◌||◌, cond, List, [], ◌∷◌, length, Option, Some, refl, sym, ap, ◌∙◌, arith, nat_lt, subst}
 use Rattle.std.proofs.lemmas.Bool.Decides.{nat_tests}
 use Rattle.std.specs.Prelude.{is_some}
 use Rattle.std.specs.List.{list_any, AllByRecursion}
 use Rattle.std.specs.Map.{values_of, lookup}
 use Rattle.std.specs.BTreeMap.{is_at, insert_entry}
-use Rattle.std.specs.Ordering.{nat_cmp, is_eq, ordering_then, match_ordering}
-use Rattle.std.specs.declared.cmp.Ordering.{Ordering}
+use Rattle.std.specs.Ordering.{nat_cmp, is_eq, match_ordering}
 use Rattle.std.specs.declared.cmp.Ordering.TheVariants.{Less, Equal, Greater}
 use Rattle.bfd_session.specs.Rows.{Ascends, kind_of, row_of, same_selector, Differs}
 use Rattle.bfd_packet.specs.declared.arrival.Addr.{Addr}
-use Rattle.bfd_packet.specs.declared.arrival.Addr.TheVariants.{V4, V6}
-use Rattle.bfd_packet.specs.contracts.arrival.AddrOrd.TheImpl as addrs
 use Rattle.bfd_session.specs.declared.event.SessionConfig.{SessionConfig}
 use Rattle.bfd_session.specs.Kinds.{discr_of}
 use Rattle.bfd_session.specs.Step.{IsFit}
-use Rattle.bfd_packet.specs.Addresses.{same_addr}
 use Rattle.bfd_packet.proofs.Turned.{number_turned, addr_turned}
 use Rattle.bfd_rules.specs.declared.config.Role.{Role}
 use Rattle.bfd_rules.specs.declared.config.Role.TheVariants as roles
