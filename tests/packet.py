@@ -68,7 +68,8 @@ def words_of(text):
     field |= {word: int.from_bytes(text[at:at + 4], "big") for word, at in zip(WORDS, range(4, 24, 4))}
     field["length"] = None if text[3] == len(text) else text[3]
     bits = [bit for bit in BITS if text[1] & BITS[bit]]
-    shown = [f"{name}={value}" for name, value in field.items() if value != USUAL[name] or name in ("state", "my", "your", "tx", "rx")]
+    told = ("state", "my", "your", "tx", "rx")
+    shown = [f"{name}={value}" for name, value in field.items() if name in told or value != USUAL[name]]
     return " ".join(shown + bits + ([f"more={text[24:].hex()}"] if len(text) > 24 else []))
 
 
@@ -82,13 +83,18 @@ def field_of(word):
     return name, bytes.fromhex(value) if name in ("secret", "digest", "more") else int(value)
 
 
+def text_of(words):
+    """The bytes that the words of a command line write."""
+    fields = dict(field_of(word) for word in words if word not in BITS)
+    return payload("".join(word for word in words if word in BITS), **fields)
+
+
 def main(words):
     try:
         if len(words) == 1 and "=" not in words[0] and words[0] not in BITS:
             print(words_of(bytes.fromhex(words[0])))
         else:
-            fields = dict(field_of(word) for word in words if word not in BITS)
-            print(payload("".join(word for word in words if word in BITS), **fields).hex() or "-")
+            print(text_of(words).hex())
     except (ValueError, IndexError, OverflowError) as fault:
         sys.exit(f"tests/packet.py: {fault}\n\n{__doc__}")
 
