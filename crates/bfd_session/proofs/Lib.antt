@@ -3,3 +3,4 @@ pub mod DueTick
 pub mod Rest
 pub mod Soundness
 pub mod Machines
+pub mod Naming

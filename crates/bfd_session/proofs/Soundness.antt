@@ -263,3 +263,11 @@ sound_after (Pair c) s limit eff h sound = record {
 pub tick_sound : (s : Running) (limit eff : ℕ) → eff < moment_bound → session.IsSound s → session.IsSound (tick_next limit eff s)
 unfolding ticked_vars
 tick_sound s limit eff h sound = sound_after s.config s limit eff h sound
+
+-- the effective moment of the last own event is a moment
+
+at_by : (c : SessionConfig) (s : Running) → session.sound_by c s → s.vars.at < moment_bound
+at_by (Pair c) s sound = sound.vars.steady.plain.at_below
+
+pub at_sound : (s : Running) → session.IsSound s → s.vars.at < moment_bound
+at_sound s sound = at_by s.config s sound

@@ -6,3 +6,4 @@ pub mod Rows
 pub mod Arrivals
 pub mod Discards
 pub mod Inside
+pub mod Names

@@ -1,16 +1,28 @@
 //! What the definitions promise by themselves, for callers that skip ticks or speak of whole histories.
 ghost use Rattle.std.specs.Prelude.{◌≡◌, ◌*◌, ◌<◌, ℕ, [], false};
+ghost use Rattle.std.specs.List.{AllByRecursion};
 ghost use Rattle.bfd_num.specs.Numbers.{moment_bound};
 ghost use Rattle.bfd_num.specs.Due.{has_come};
-ghost use Rattle.bfd_session.specs.Kinds.{Running};
+ghost use Rattle.bfd_session.specs.declared.event.Event.{Event};
+ghost use Rattle.bfd_session.specs.Kinds.{Running, discr_of};
 ghost use Rattle.bfd_session.specs.Due.{due};
-ghost use Rattle.bfd_session.specs.Step.{IsSound, tick_next, tick_emits};
+ghost use Rattle.bfd_session.specs.Names.{named};
+ghost use Rattle.bfd_session.specs.Step.{IsSound, tick_next, tick_emits, emits};
 
 /// Laws, and no work: for every sound session, a tick by which nothing is due leaves it as it is and puts nothing out, so
-/// a caller may hand a tick to the due sessions alone; and every tick keeps a session sound.
-#[tactic(auto, using(crate::proofs::Rest::rest_session, crate::proofs::Rest::rest_outs, crate::proofs::Soundness::tick_sound))]
+/// a caller may hand a tick to the due sessions alone; every tick keeps a session sound; its last own event was at a
+/// moment; and all that a tick of any session puts out names that session.
+#[tactic(auto, using(crate::proofs::Rest::rest_session, crate::proofs::Rest::rest_outs, crate::proofs::Soundness::tick_sound, crate::proofs::Soundness::at_sound, crate::proofs::Naming::tick_named))]
 pub fn tick_laws()
     ensures session { (s : Running) (t eff : ℕ) → IsSound s → has_come t (due s) ≡ false → tick_next (1000 * t) eff s ≡ s }
     ensures outs { (s : Running) (t eff : ℕ) → IsSound s → has_come t (due s) ≡ false → tick_emits (1000 * t) eff s ≡ [] }
     ensures sound { (s : Running) (limit eff : ℕ) → eff < moment_bound → IsSound s → IsSound (tick_next limit eff s) }
+    ensures moments { (s : Running) → IsSound s → s.vars.at < moment_bound }
+    ensures named { (s : Running) (limit eff : ℕ) → AllByRecursion (λ o. named o ≡ discr_of s.config) (tick_emits limit eff s) }
+{}
+
+/// Laws of own events, and no work: all that an own event of any session puts out names that session.
+#[tactic(auto, using(crate::proofs::Naming::event_named))]
+pub fn event_laws()
+    ensures named { (s : Running) (eff : ℕ) (event : Event) → AllByRecursion (λ o. named o ≡ discr_of s.config) (emits eff event s) }
 {}
