@@ -4,3 +4,4 @@ pub mod Rest
 pub mod Soundness
 pub mod Machines
 pub mod Naming
+pub mod Own

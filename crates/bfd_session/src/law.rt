@@ -7,7 +7,7 @@ ghost use Rattle.bfd_session.specs.declared.event.Event.{Event};
 ghost use Rattle.bfd_session.specs.Kinds.{Running, discr_of};
 ghost use Rattle.bfd_session.specs.Due.{due};
 ghost use Rattle.bfd_session.specs.Names.{named};
-ghost use Rattle.bfd_session.specs.Step.{IsSound, tick_next, tick_emits, emits};
+ghost use Rattle.bfd_session.specs.Step.{IsSound, CanTake, HasSize, tick_next, tick_emits, next, emits};
 
 /// Laws, and no work: for every sound session, a tick by which nothing is due leaves it as it is and puts nothing out, so
 /// a caller may hand a tick to the due sessions alone; every tick keeps a session sound; its last own event was at a
@@ -21,8 +21,11 @@ pub fn tick_laws()
     ensures named { (s : Running) (limit eff : ℕ) → AllByRecursion (λ o. named o ≡ discr_of s.config) (tick_emits limit eff s) }
 {}
 
-/// Laws of own events, and no work: all that an own event of any session puts out names that session.
-#[tactic(auto, using(crate::proofs::Naming::event_named))]
+/// Laws of own events, and no work: all that an own event of any session puts out names that session; and every own event
+/// that a session can take keeps it sound.
+#[tactic(auto, using(crate::proofs::Naming::event_named, crate::proofs::Own::own_sound))]
 pub fn event_laws()
     ensures named { (s : Running) (eff : ℕ) (event : Event) → AllByRecursion (λ o. named o ≡ discr_of s.config) (emits eff event s) }
+    ensures sound { (s : Running) (eff : ℕ) (event : Event) → eff < moment_bound → CanTake s.config event → HasSize event
+        → IsSound s → IsSound (next eff event s) }
 {}
