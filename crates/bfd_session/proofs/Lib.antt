@@ -5,3 +5,4 @@ pub mod Soundness
 pub mod Machines
 pub mod Naming
 pub mod Own
+pub mod Expiring
