@@ -6,3 +6,4 @@ pub mod Machines
 pub mod Naming
 pub mod Own
 pub mod Expiring
+pub mod Discarding
