@@ -1,3 +1,8 @@
 pub mod Still
 pub mod Drawing
 pub mod Searching
+pub mod Front
+pub mod Rest
+pub mod Soundness
+pub mod Naming
+pub mod Expiry

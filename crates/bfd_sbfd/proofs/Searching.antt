@@ -1,5 +1,5 @@
 -- What a binary search of an ascending pool finds is the reflector with the discriminator.
-use Rattle.std.proofs.Common.{◌≡◌, ◌<◌, ◌≤◌, ◌==◌, ℕ, zero, suc, Bool, true, false, List, [], ◌∷◌, length, get_or, refl, sym, ap, arith, inl, inr, Option, None, Some, Result, Ok, Err, find}
+use Rattle.std.proofs.Common.{◌≡◌, ◌<◌, ◌≤◌, ◌==◌, ℕ, zero, suc, true, false, List, [], ◌∷◌, length, get_or, refl, sym, ap, arith, inl, inr, Option, None, Some, Result, Ok, Err, find}
 use Rattle.std.proofs.Math.Nat.{eq-or-lt_of_le}
 use Rattle.std.proofs.lemmas.Bool.Decides.{nat_tests}
 use Rattle.std.proofs.lemmas.Cmp.{ranked}
@@ -7,7 +7,7 @@ use Rattle.std.specs.List.{AllByRecursion}
 use Rattle.std.specs.List.Sorted.{IsSearchInRange, IsBinarySearchResult, IsNonDecreasingBy}
 use Rattle.std.specs.Ordering.{nat_cmp, ordering_index}
 use Rattle.bfd_sbfd.specs.declared.reflecting.Reflector.{Reflector}
-use Rattle.bfd_sbfd.specs.Reflect.{Ascends}
+use Rattle.bfd_sbfd.specs.Reflect.{Ascends, named_in}
 
 -- what is true of each reflector is true of the one at a place
 each_at : (P : Reflector → Type 0) (xs : List Reflector) (k : ℕ) (d : Reflector) → AllByRecursion P xs → k < length xs → P (get_or xs k d)
@@ -31,12 +31,6 @@ rise xs discr up i j d le within = elim (eq-or-lt_of_le le) [
   | inl same ↦ no_lower _ _ discr (omega (arith, ap (λ k. (get_or xs k d).discr) same))
   | inr before ↦ no_lower _ _ discr (omega (arith, ascend xs i j d up before within))
 ]
-
--- a lower discriminator at the head is passed over
-passed : (x : Reflector) (xs : List Reflector) (discr : ℕ) (b : Bool) → (x.discr == discr) ≡ b → b ≡ false
-    → find (λ (r : Reflector). r.discr == discr) (x ∷ xs) ≡ find (λ (r : Reflector). r.discr == discr) xs
-passed x xs discr true is h = cc
-passed x xs discr false is h = rw is refl
 
 is_other : (a discr : ℕ) → (a ≡ discr → ⊥) → (a == discr) ≡ false
 is_other a discr differs = grind (arith, nat_tests)
@@ -69,7 +63,7 @@ lower a discr less same = grind arith
 differs : (a discr at k : ℕ) → (k < at → a < discr) → (at ≤ k → discr < a) → a ≡ discr → ⊥
 differs a discr at k below above same = grind arith
 
-pub found : (xs : List Reflector) (discr at : ℕ) (d : Reflector) → Ascends xs → IsSearchInRange (Ok at) (length xs)
+found : (xs : List Reflector) (discr at : ℕ) (d : Reflector) → Ascends xs → IsSearchInRange (Ok at) (length xs)
     → IsBinarySearchResult (λ (r : Reflector). nat_cmp r.discr discr) xs (Ok at)
     → find (λ (r : Reflector). r.discr == discr) xs ≡ Some (get_or xs at d)
 found xs discr at d up within equal =
@@ -78,7 +72,7 @@ found xs discr at d up within equal =
     (λ k lt. lower _ discr (omega (arith, ascend xs k at d up lt within, same)))
     same
 
-pub missing : (xs : List Reflector) (discr at : ℕ) (d : Reflector) → Ascends xs → IsSearchInRange (Err at) (length xs)
+missing : (xs : List Reflector) (discr at : ℕ) (d : Reflector) → Ascends xs → IsSearchInRange (Err at) (length xs)
     → IsBinarySearchResult (λ (r : Reflector). nat_cmp r.discr discr) xs (Err at)
     → find (λ (r : Reflector). r.discr == discr) xs ≡ None
 missing xs discr at d up within parted =
@@ -86,3 +80,14 @@ missing xs discr at d up within parted =
     none_found xs discr d (λ k lt. differs _ discr at k
     (λ before. ranked _ discr _ (sym (sides.0 k d (omega arith) before)))
     (λ after. ranked _ discr _ (sym (sides.1 k d after lt))))
+
+-- where Your Discriminator isn't 0, what the search says is what it names
+
+pub named_found : (xs : List Reflector) (discr at : ℕ) (d : Reflector) → (discr ≡ 0 → ⊥) → Ascends xs → IsSearchInRange (Ok at) (length xs)
+    → IsBinarySearchResult (λ (r : Reflector). nat_cmp r.discr discr) xs (Ok at) → Some (get_or xs at d) ≡ named_in xs discr
+named_found xs discr at d some up within equal = rw (is_other discr 0 some) (sym (found xs discr at d up within equal))
+
+pub named_missing : (xs : List Reflector) (discr at : ℕ) → (discr ≡ 0 → ⊥) → Ascends xs → IsSearchInRange (Err at) (length xs)
+    → IsBinarySearchResult (λ (r : Reflector). nat_cmp r.discr discr) xs (Err at) → None ≡ named_in xs discr
+named_missing xs discr at some up within parted =
+    rw (is_other discr 0 some) (sym (missing xs discr at (record { discr = 0; rx = 0; up = false }) up within parted))

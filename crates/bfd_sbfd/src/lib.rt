@@ -30,7 +30,7 @@ mod config;
 mod finishing;
 mod frame;
 mod initiator;
-// mod law;
+mod law;
 mod receiving;
 mod reflecting;
 mod settling;
@@ -39,7 +39,7 @@ mod waiting;
 
 pub use config::SeekConfig;
 pub use initiator::Initiator;
-// pub use law::initiator_laws;
+pub use law::initiator_laws;
 pub use reflecting::{Reflector, reflect};
 pub use waiting::{deadline, wait};
 
