@@ -16,10 +16,7 @@ use bfd_rules::{Cmd, Outs, Refusal, Vars, enters, is_admin_down};
 fn is_wrong_kind(cmd: &Cmd) -> bool
     ensures { result ≡ commands.is_wrong_kind cmd.now }
 {
-    !matches!(
-        cmd,
-        Cmd::Disable | Cmd::Enable | Cmd::Tx(_) | Cmd::Mult(_)
-    )
+    !matches!(cmd, Cmd::Disable | Cmd::Enable | Cmd::Tx(_) | Cmd::Mult(_))
 }
 
 /// The number is outside its range.

@@ -20,17 +20,7 @@ ghost use Rattle.bfd_sbfd.specs.Names.{AllNamed};
 /// out, so a caller may hand a tick to the due sessions alone. A tick, a packet and a command keep variables sound. A
 /// tick forgets the last answer exactly where the deadline has come by its limit. And each output of every part of an
 /// event names the session's discriminator.
-#[tactic(auto, using(
-    crate::proofs::Rest::tick_rests,
-    crate::proofs::Soundness::tick_sound,
-    crate::proofs::Soundness::packet_sound,
-    crate::proofs::Soundness::command_sound,
-    crate::proofs::Expiry::expires,
-    crate::proofs::Naming::settle_named,
-    crate::proofs::Naming::received_named,
-    crate::proofs::Naming::commanded_named,
-    crate::proofs::Naming::finish_named
-))]
+#[tactic(auto, using(crate::proofs::Rest::tick_rests, crate::proofs::Soundness::tick_sound, crate::proofs::Soundness::packet_sound, crate::proofs::Soundness::command_sound, crate::proofs::Expiry::expires, crate::proofs::Naming::settle_named, crate::proofs::Naming::received_named, crate::proofs::Naming::commanded_named, crate::proofs::Naming::finish_named))]
 pub fn initiator_laws()
     ensures rests { (c : SeekConfig) (limit eff : ℕ) (v : Vars) (os : List Out) → IsSeekSound c v
         → has_come limit (deadline v) ≡ false → has_come (floor_tick limit) v.tx_due ≡ false

@@ -43,5 +43,5 @@ pub use law::initiator_laws;
 pub use reflecting::{Reflector, reflect};
 pub use waiting::{deadline, wait};
 
-// #[cfg(test)]
-// mod tests;
+#[cfg(test)]
+mod tests;

@@ -11,10 +11,10 @@ ghost use Rattle.bfd_sbfd.specs.Sound.{IsSeekPlain, IsSeekSteady};
 ghost use Rattle.bfd_sbfd.specs.Settle as settling;
 ghost use Rattle.bfd_sbfd.specs.Over.{IsBegun, IsStill};
 
+use crate::SeekConfig;
 use crate::frame::moves;
 use crate::transmitting::transmits;
 use crate::waiting::deadline;
-use crate::SeekConfig;
 use bfd_num::{floor_tick, has_come};
 use bfd_packet::State;
 use bfd_rules::{Mark, Outs, Vars, enters, may_send, tells};
@@ -56,13 +56,7 @@ fn based(eff: u64, v: &Vars) -> Vars
 
 /// A periodic packet (RFC 5880 section 6.8.7).
 #[tactic(auto, unfolding(crate::specs::Settle::periodic_packet))]
-fn periodic_packet(
-    config: &SeekConfig,
-    eff: u64,
-    vars: &mut Vars,
-    mark: &mut Mark,
-    outs: &mut Outs,
-)
+fn periodic_packet(config: &SeekConfig, eff: u64, vars: &mut Vars, mark: &mut Mark, outs: &mut Outs)
     requires steady { IsSeekSteady config.now vars.old }
     requires eff { eff < moment_bound }
     requires room { 0 < outs.old.spare }
