@@ -1,5 +1,5 @@
 -- A tick forgets the last answer exactly where the deadline has come by its limit.
-use Rattle.std.proofs.Common.{◌≡◌, ◌&&◌, ◌↔◌, ◌∙◌, ℕ, Bool, true, false, refl, sym, ap, Option, None, Some, IsSome, if◌then◌else◌}
+use Rattle.std.proofs.Common.{◌≡◌, ◌&&◌, ◌↔◌, ◌∙◌, ℕ, Bool, true, false, refl, sym, Option, None, Some, IsSome, if◌then◌else◌}
 use Rattle.bfd_num.specs.Numbers.{floor_tick}
 use Rattle.bfd_num.specs.Due.{has_come}
 use Rattle.bfd_rules.specs.declared.variables.Mark.{Mark}

@@ -1,6 +1,7 @@
 pub mod Still
 pub mod Drawing
 pub mod Searching
+pub mod Ladder
 pub mod Front
 pub mod Rest
 pub mod Soundness

@@ -1,5 +1,5 @@
 -- Commands to an initiator: each is refused by the first test of a list, or done.
-use Rattle.std.specs.Prelude.{ℕ, ◌&&◌, nat_le, not, Bool, true, false, if◌then◌else◌, Option, is_some, [], ◌∷◌, find}
+use Rattle.std.specs.Prelude.{◌&&◌, nat_le, not, Bool, true, false, if◌then◌else◌, Option, is_some, [], ◌∷◌, find}
 use Rattle.bfd_packet.specs.declared.control.State.TheVariants.{AdminDown, Down}
 use Rattle.bfd_rules.specs.declared.commands.Cmd.{Cmd}
 use Rattle.bfd_rules.specs.declared.commands.Cmd.TheVariants.{Disable, Enable, Tx, Mult}

@@ -1,6 +1,6 @@
 -- The reception of a reflector's answer after settling (RFC 7880 sections 7.3.1 and 7.3.3, RFC 5880 section 6.8.6): the
 -- initiator's discard tests, then its rules in order.
-use Rattle.std.specs.Prelude.{ℕ, true, false, if◌then◌else◌, Some, List}
+use Rattle.std.specs.Prelude.{ℕ, if◌then◌else◌, Some, List}
 use Rattle.bfd_packet.specs.declared.control.State.{State}
 use Rattle.bfd_packet.specs.declared.control.State.TheVariants.{AdminDown, Down, Up}
 use Rattle.bfd_packet.specs.declared.control.Control.{Control}

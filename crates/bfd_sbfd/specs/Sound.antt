@@ -1,6 +1,6 @@
 -- The configurations of an initiator, and the variables that can come up in one (RFC 7880 section 6.2, RFC 5880 section
 -- 6.8.1): what holds after each rule, and what holds between events.
-use Rattle.std.specs.Prelude.{◌≡◌, ◌≤◌, ◌<◌, ◌↔◌, ◌^◌, ℕ, Bool, true, false, None, IsTrue, IsSome, IfSome}
+use Rattle.std.specs.Prelude.{◌≡◌, ◌≤◌, ◌<◌, ◌↔◌, ◌^◌, Bool, true, false, None, IsTrue, IsSome, IfSome}
 use Rattle.bfd_packet.specs.declared.control.State.{State}
 use Rattle.bfd_packet.specs.declared.control.State.TheVariants.{AdminDown, Down, Init, Up}
 use Rattle.bfd_num.specs.Numbers.{moment_bound}
