@@ -221,7 +221,7 @@ goes_down n before tick due level later ahead few at =
 
 -- ---- which lists a tick reaches
 
-bit_zero : (x : ℕ) → ((x ≡ 0) × (bit x 0 ≡ 1)) ⊎ ((x ≢ 0) × (bit x 0 ≡ 0))
+pub bit_zero : (x : ℕ) → ((x ≡ 0) × (bit x 0 ≡ 1)) ⊎ ((x ≢ 0) × (bit x 0 ≡ 0))
 bit_zero x = elim (same_or_not x 0) [
   | inl e ↦ inl (e, ap (λ (y : ℕ). bit y 0) e ∙ bit_same 0)
   | inr ne ↦ inr (ne, bit_other x 0 ne)

@@ -1,5 +1,5 @@
 //! Walks along one list.
-ghost use Rattle.std.specs.Prelude.{◌≡◌, ◌≢◌, ℕ, suc, ◌+◌, ◌<◌, ◌≤◌, length, slice_index};
+ghost use Rattle.std.specs.Prelude.{◌≡◌, ◌≢◌, ℕ, ◌+◌, ◌<◌, ◌≤◌, length, slice_index};
 ghost use Rattle.bfd_lanes.specs.Held.{room_of};
 ghost use Rattle.bfd_lanes.specs.Places.{never};
 ghost use Rattle.bfd_wheel.specs.Taken.{Took, waiting};
@@ -67,7 +67,7 @@ pub(crate) fn walk<L: Ledger>(
     requires level { level ≤ 5 }
     requires t { t < never }
     requires room { waiting t dues.old ≤ out.old.spare }
-    ensures placed { IsPlaced (length dues.old) 1026 (at_midway (length dues.old) before tick (suc level) dues.new) dues.new
+    ensures placed { IsPlaced (length dues.old) 1026 (at_midway (length dues.old) before tick (level + 1) dues.new) dues.new
         nodes.new }
     ensures took { Took t dues.old dues.new out.old.items out.new.items }
     ensures left { (j : ℕ) → j < length dues.old → slice_index dues.new j ≢ never
@@ -75,7 +75,7 @@ pub(crate) fn walk<L: Ledger>(
         → t < slice_index dues.new j }
     ensures room { room_of out.new ≡ room_of out.old }
     ensures spare { waiting t dues.new ≤ out.new.spare }
-    ensures cost { steps.new + loads (length dues.old) (at_midway (length dues.old) before tick (suc level) dues.new) dues.new
+    ensures cost { steps.new + loads (length dues.old) (at_midway (length dues.old) before tick (level + 1) dues.new) dues.new
         ≤ steps.old + 1 + loads (length dues.old) (at_midway (length dues.old) before tick level dues.old) dues.old }
 {
     steps.tick();

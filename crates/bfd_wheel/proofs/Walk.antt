@@ -15,10 +15,10 @@ pub upto : (ℕ → ℕ) → ℕ → ℕ → ℕ
 upto rank m zero = 0
 upto rank m (suc k) = cond (nat_le (rank k) m) 1 0 + upto rank m k
 
-pub counted : (r m : ℕ) → cond (nat_le r m) 1 0 ≤ 1
+counted : (r m : ℕ) → cond (nat_le r m) 1 0 ≤ 1
 counted r m = grind (arith, nat_tests)
 
-pub counted_more : (r l m : ℕ) → l ≤ m → cond (nat_le r l) 1 0 ≤ cond (nat_le r m) 1 0
+counted_more : (r l m : ℕ) → l ≤ m → cond (nat_le r l) 1 0 ≤ cond (nat_le r m) 1 0
 counted_more r l m h = grind (arith, nat_tests)
 
 counted_now : (r m : ℕ) → r ≤ m → ◌≡◌ {A = ℕ} (cond (nat_le r m) 1 0) 1
@@ -36,6 +36,15 @@ pub upto_more : (rank : ℕ → ℕ) (l m k : ℕ) → l ≤ m → upto rank l k
 unfolding upto
 upto_more rank l m zero h = omega arith
 upto_more rank l m (suc k) h = omega (arith, counted_more (rank k) l m h, upto_more rank l m k h)
+
+counted_up : (q r m : ℕ) → r ≤ q → cond (nat_le q m) 1 0 ≤ cond (nat_le r m) 1 0
+counted_up q r m h = grind (arith, nat_tests)
+
+-- ranks that rise make fewer
+pub upto_up : (rank rank2 : ℕ → ℕ) (m k : ℕ) → ((j : ℕ) → rank j ≤ rank2 j) → upto rank2 m k ≤ upto rank m k
+unfolding upto
+upto_up rank rank2 m zero h = omega arith
+upto_up rank rank2 m (suc k) h = omega (arith, counted_up (rank2 k) (rank k) m (h k), upto_up rank rank2 m k h)
 
 pub upto_one : (rank : ℕ → ℕ) (m c k : ℕ) → c < k → rank c ≤ m → 1 ≤ upto rank m k
 unfolding upto
