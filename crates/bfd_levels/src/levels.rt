@@ -102,7 +102,7 @@ impl Levels {
     /// `advance` with its steps counted: one for each list that is looked at, one for each id that is taken, and two
     /// for each that is moved to another list. Moves down are paid for by what the potential falls, so that forward an
     /// advance takes two steps for each tick and five more beyond that, and back one.
-    #[tactic(auto)]
+    #[tactic(auto, using(crate::proofs::Potentials::advance_falls))]
     pub fn advance_counted<L: Ledger>(&mut self, t: u64, out: &mut Ids, steps: &mut Steps<L>)
         requires t { t < 2 ^ 60 }
         requires room { length self.old.dues ≤ out.old.spare }

@@ -22,7 +22,6 @@ pub(crate) const OVERDUE: u32 = 5;
 
 /// How far the due tick `due` lies ahead of the tick `now`: 0 where it doesn't, and else the place, from 0, of the
 /// highest digit in base 256 in which they differ, at most 4.
-#[tactic(auto, using(crate::proofs::Visits::level_left, crate::proofs::Ticks::reached_few, crate::proofs::Jumps::jump_begins, crate::proofs::Views::paid_view, crate::proofs::Potentials::all_calls))]
 pub fn height(due: u64, now: u64) -> u32
     ensures { result ≡ spec.height due now }
 {
