@@ -23,6 +23,13 @@ set_adds w id due = write_adds w.clock id 9 (Some due) w.dues (let h = height-le
 pub clear_falls : (w : Clocked) (id : ℕ) → potential_of (after (Clear id) w) ≤ potential_of w
 clear_falls w id = (let r = write_adds w.clock id 0 None w.dues (omega arith) in omega arith)
 
+-- the same of what a call left
+pub set_rises : (w : Clocked) (clock : ℕ) (dues : List (Option ℕ)) (id due : ℕ) → clock ≡ w.clock → dues ≡ slice_set w.dues id (Some due) → potential clock dues ≤ potential_of w + 9
+set_rises w clock dues id due time is = (let a = set_adds w id due in let b = ap (λ (k : ℕ). potential k dues) time in let c = ap (potential w.clock) is in omega arith)
+
+pub clears_falls : (w : Clocked) (clock : ℕ) (dues : List (Option ℕ)) (id : ℕ) → clock ≡ w.clock → dues ≡ slice_set w.dues id None → potential clock dues ≤ potential_of w
+clears_falls w clock dues id time is = (let a = clear_falls w id in let b = ap (λ (k : ℕ). potential k dues) time in let c = ap (potential w.clock) is in omega arith)
+
 -- ---- the clock goes on
 
 height_max : (due now t : ℕ) → t < due → height due (max now t) ≤ height due now

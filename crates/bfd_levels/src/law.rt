@@ -14,5 +14,5 @@ pub fn call_laws()
     ensures calls { (count : ℕ) (ms : List Made)
         → KeepsAll (record { clock = 0; dues = replicate count None }) ms
         → steps_of ms ≤ shares ms
-            + 2 * (after_all ms (record { clock = 0; dues = replicate count None })).clock }
+        + 2 * (after_all ms (record { clock = 0; dues = replicate count None })).clock }
 {}

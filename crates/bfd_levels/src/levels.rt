@@ -57,6 +57,7 @@ impl Timers for Levels {
         requires due { due < 2 ^ 60 }
         ensures dues { self.new.dues ≡ slice_set self.old.dues id (Some due) }
         ensures clock { self.new.clock ≡ self.old.clock }
+        ensures rises { potential_of self.new ≤ potential_of self.old + 9 }
         ensures cost { steps.new ≤ steps.old + 2 }
     {
         change(&mut self.nodes, &mut self.dues, self.clock, id, due, steps);
@@ -66,6 +67,7 @@ impl Timers for Levels {
         requires id { id < length self.old.dues }
         ensures dues { self.new.dues ≡ slice_set self.old.dues id None }
         ensures clock { self.new.clock ≡ self.old.clock }
+        ensures falls { potential_of self.new ≤ potential_of self.old }
         ensures cost { steps.new ≤ steps.old + 1 }
     {
         free(&mut self.nodes, &mut self.dues, id, steps);

@@ -63,7 +63,11 @@ pub(crate) fn head_of(count: u32, now: u64, due: u64) -> u32
     ensures head { count ≤ result }
     ensures end { result < count + 1026 }
 {
-    let level = if due <= now { OVERDUE } else { height(due, now) };
+    let level = if due <= now {
+        OVERDUE
+    } else {
+        height(due, now)
+    };
     head_at(count, due, level)
 }
 
@@ -72,7 +76,10 @@ pub(crate) fn reached(tick: u64) -> u32
     ensures value { result ≡ reach tick }
     ensures few { result ≤ 5 }
 {
-    1 + carries(tick, 256) + carries(tick, 65_536) + carries(tick, 16_777_216) + carries(tick, 4_294_967_296)
+    1 + carries(tick, 256)
+        + carries(tick, 65_536)
+        + carries(tick, 16_777_216)
+        + carries(tick, 4_294_967_296)
 }
 
 /// 1 where the digits below `base` are all 0, and else 0.

@@ -51,6 +51,7 @@ fn advance_to_256<L: Ledger>(levels: &mut Levels, out: &mut Ids, steps: &mut Ste
         ≡ record { clock = 0; dues = Some 1 ∷ Some 256 ∷ Some 65536 ∷ Some 16777216 ∷ Some 4294967296 ∷ [] } }
     requires out { out.old ≡ record { items = []; spare = 5 } }
     ensures items { out.new.items ≡ 0 ∷ 1 ∷ [] }
+    ensures room { room_of out.new ≡ 5 }
     ensures levels { levels.new
         ≡ record { clock = 256; dues = None ∷ None ∷ Some 65536 ∷ Some 16777216 ∷ Some 4294967296 ∷ [] } }
     ensures potential { potential_of levels.new ≡ 21 }
@@ -130,7 +131,7 @@ fn drawn(j: u32, now: u64) -> Call {
         0 => Call::Clear(id),
         1 => Call::Advance(now.saturating_add(1)),
         2 => Call::Advance(now.saturating_add(number % 700)),
-        3 => Call::Advance((now / 65_536 + 1) * 65_536),
+        3 => Call::Advance(now.saturating_add(65_536 - now % 65_536)),
         4 => Call::Advance(now.saturating_add(number * 5000)),
         5 => Call::Advance(now.saturating_sub(number)),
         6 => Call::Set(id, now.saturating_add(number * number)),
@@ -145,21 +146,22 @@ fn side_by_side<L: Ledger, R: Abort>(
     mut levels: Levels,
     mut wheel: HashedWheel,
     mut plain: PlainTimers,
-    outs: (Ids, Ids, Ids),
+    mut out: Ids,
+    mut out1: Ids,
+    mut out2: Ids,
     blank: Blank,
 )
     requires levels { length levels.dues ≡ 64 }
     requires wheel { length wheel ≡ 64 }
     requires plain { length plain ≡ 64 }
-    requires room0 { 64 ≤ room_of outs.0 }
-    requires room1 { 64 ≤ room_of outs.1 }
-    requires room2 { 64 ≤ room_of outs.2 }
+    requires room { 64 ≤ room_of out }
+    requires room1 { 64 ≤ room_of out1 }
+    requires room2 { 64 ≤ room_of out2 }
     requires name { blank.name ≡ L.name }
     requires parts { blank.parts ≡ L.parts }
     requires some { 0 < blank.parts }
 {
     let mut steps = Steps::<L>::new(blank);
-    let (mut out, mut out1, mut out2) = outs;
     let mut now: u64 = 0;
     let mut j: u32 = 1;
     for round in 0..3000 {
@@ -188,5 +190,5 @@ fn three_forms(rt: HostRuntime) {
     let out = Ids::make(rt.alloc(), 64).expect(&rt, "memory");
     let out1 = Ids::make(rt.alloc(), 64).expect(&rt, "memory");
     let out2 = Ids::make(rt.alloc(), 64).expect(&rt, "memory");
-    side_by_side::<Brand, HostRuntime>(&rt, levels, wheel, plain, (out, out1, out2), Blank::new(1));
+    side_by_side::<Brand, HostRuntime>(&rt, levels, wheel, plain, out, out1, out2, Blank::new(1));
 }

@@ -4,6 +4,7 @@ use Rattle.bfd_lanes.specs.Places.{never, due_of}
 use Rattle.bfd_wheel.proofs.Views.{back, set_view}
 use Rattle.bfd_levels.specs.Height.{Clocked}
 use Rattle.bfd_levels.proofs.Views.{linked_view}
+use Rattle.bfd_levels.proofs.Potentials.{clears_falls}
 use Rattle.bfd_levels.proofs.levels.LevelsTimers.clear.Goals as goal
 
 pub free-requires-clause-linked : goal.free-requires-clause-linked
@@ -14,3 +15,9 @@ pub returns-clause-dues : goal.returns-clause-dues
 returns-clause-dues g c =
     ap (map due_of) (back c.self.inside.dues.len c.free.new.dues c.self.inside.dues.items (c.free.auto.dues ∙ c.deref_mut-2.ensures.len))
     ∙ set_view c.self.inside.dues.items c.deref_mut-2.result.now c.free.new.dues c.args.self.now.dues c.args.id never None c.deref_mut-2.ensures.value (ap (λ (w : Clocked). w.dues) c.self.view_is) c.free.ensures.dues refl
+
+pub returns-clause-falls : goal.returns-clause-falls
+returns-clause-falls g c =
+    clears_falls c.args.self.now c.self.inside.clock _ c.args.id (ap (λ (w : Clocked). w.clock) c.self.view_is)
+    (ap (map due_of) (back c.self.inside.dues.len c.free.new.dues c.self.inside.dues.items (c.free.auto.dues ∙ c.deref_mut-2.ensures.len))
+    ∙ set_view c.self.inside.dues.items c.deref_mut-2.result.now c.free.new.dues c.args.self.now.dues c.args.id never None c.deref_mut-2.ensures.value (ap (λ (w : Clocked). w.dues) c.self.view_is) c.free.ensures.dues refl)
