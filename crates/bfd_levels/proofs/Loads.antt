@@ -1,10 +1,10 @@
 -- Sums over the ids, and what they have to do with the potential.
-use Rattle.std.proofs.Common.{◌≡◌, ◌≢◌, inl, inr, ℕ, zero, suc, ◌+◌, ◌*◌, ◌<◌, ◌≤◌, Bool, true, false, cond, List, [], ◌∷◌, map, length, slice_index, Option, None, Some, refl, sym, ◌∙◌, ap, arith, nat_eq}
+use Rattle.std.proofs.Common.{◌≡◌, ◌≢◌, inl, inr, ℕ, zero, suc, ◌+◌, ◌*◌, ◌<◌, ◌≤◌, Bool, true, false, cond, List, [], ◌∷◌, map, length, slice_index, None, Some, refl, sym, ◌∙◌, ap, arith, nat_eq}
 use Rattle.std.proofs.lemmas.Bool.Decides.{nat_tests}
 use Rattle.bfd_lanes.specs.Places.{never, due_of}
 use Rattle.bfd_wheel.specs.Wheel.{due_in}
-use Rattle.bfd_wheel.proofs.Rings.{same_or_not, under_or_not}
-use Rattle.bfd_levels.specs.Height.{weight, height, potential}
+use Rattle.bfd_wheel.proofs.Rings.{same_or_not}
+use Rattle.bfd_levels.specs.Height.{weight, potential}
 use Rattle.bfd_levels.specs.Lists.{level_of, load, loads, total, at_tick}
 use Rattle.bfd_levels.proofs.Digits.{level_place}
 

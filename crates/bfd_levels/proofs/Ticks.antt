@@ -1,5 +1,5 @@
 -- How many lists the clock reaches on its way, and the overdue list.
-use Rattle.std.proofs.Common.{◌≡◌, ◌≢◌, ◌⊎◌, inl, inr, ℕ, ◌+◌, ◌-◌, ◌*◌, ◌/◌, ◌%◌, ◌<◌, ◌≤◌, List, refl, sym, ◌∙◌, arith, slice_index}
+use Rattle.std.proofs.Common.{◌≡◌, ◌≢◌, inl, inr, ℕ, ◌+◌, ◌-◌, ◌*◌, ◌/◌, ◌%◌, ◌<◌, ◌≤◌, List, refl, ◌∙◌, arith, slice_index}
 use Rattle.bfd_lanes.specs.Places.{never}
 use Rattle.bfd_wheel.specs.Taken.{bit}
 use Rattle.bfd_wheel.proofs.Rings.{under_or_not}

@@ -1,8 +1,7 @@
 -- The clock at one tick: the lists that it reaches one after another, and the overdue list.
-use Rattle.std.proofs.Common.{◌≡◌, ◌≢◌, ℕ, ◌+◌, ◌<◌, ◌≤◌, List, sym, ◌∙◌, ap, arith, slice_index}
-use Rattle.bfd_lanes.specs.Places.{never}
+use Rattle.std.proofs.Common.{◌≡◌, ℕ, ◌+◌, List, sym, ◌∙◌, ap, arith, slice_index}
 use Rattle.bfd_wheel.specs.declared.links.Node.{Node}
-use Rattle.bfd_levels.specs.Lists.{place, midway, reach, at_tick, at_midway, loads}
+use Rattle.bfd_levels.specs.Lists.{midway, reach, at_tick, at_midway, loads}
 use Rattle.bfd_levels.specs.Rings.{IsPlaced}
 use Rattle.bfd_levels.proofs.Placing.{renamed}
 use Rattle.bfd_levels.proofs.Loads.{loads_same}

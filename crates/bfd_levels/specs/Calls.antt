@@ -1,5 +1,5 @@
 -- Lists of calls on a wheel of levels, and the steps that they may take.
-use Rattle.std.specs.Prelude.{◌≡◌, ℕ, ◌+◌, ◌-◌, ◌*◌, ◌<◌, ◌≤◌, max, List, [], ◌∷◌, map, Option, None, Some, slice_set, if◌then◌else◌, nat_le}
+use Rattle.std.specs.Prelude.{ℕ, ◌+◌, ◌-◌, ◌*◌, ◌<◌, ◌≤◌, max, List, [], ◌∷◌, map, None, Some, slice_set}
 use Rattle.bfd_lanes.specs.Places.{without}
 use Rattle.bfd_levels.specs.Height.{Clocked, potential_of}
 

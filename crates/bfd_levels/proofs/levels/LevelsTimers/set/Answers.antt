@@ -1,5 +1,5 @@
-use Rattle.std.proofs.Common.{◌≡◌, ◌+◌, ◌≤◌, ap, map, sym, subst, ◌∙◌, List}
-use Rattle.std.specs.Prelude.{Some, Option, ℕ, slice_set}
+use Rattle.std.proofs.Common.{ap, map, ◌∙◌}
+use Rattle.std.specs.Prelude.{Some}
 use Rattle.bfd_lanes.specs.Places.{due_of}
 use Rattle.bfd_wheel.proofs.Views.{back, set_view, due_of_below}
 use Rattle.bfd_levels.specs.Height.{Clocked}
