@@ -1,6 +1,6 @@
 use Rattle.std.proofs.Common.{◌≡◌, ◌<◌, ℕ, length}
 use Rattle.bfd_wheel.specs.Wheel.{next_in, prev_in}
-use Rattle.bfd_wheel.proofs.hashed.loops.Given as goal
+use Rattle.bfd_wheel.proofs.links.loops.Given as goal
 
 abbrev pub invariant-loop-at : goal.invariant-loop-at
 invariant-loop-at l = record {
