@@ -1,0 +1,1 @@
+//! What the definitions of a head's and a tail's events promise by themselves.
