@@ -1,6 +1,6 @@
 -- The reception of a head's packet after settling (RFC 8562 sections 5.5 and 5.13, RFC 5880 section 6.8.6): the tail's
 -- discard tests, then its rules in order.
-use Rattle.std.specs.Prelude.{ℕ, if◌then◌else◌, Some, List}
+use Rattle.std.specs.Prelude.{ℕ, ◌≢◌, ◌<◌, ◌^◌, if◌then◌else◌, Some, List}
 use Rattle.bfd_packet.specs.declared.control.State.{State}
 use Rattle.bfd_packet.specs.declared.control.State.TheVariants.{AdminDown, Down, Up}
 use Rattle.bfd_packet.specs.declared.control.Control.{Control}
@@ -12,6 +12,13 @@ use Rattle.bfd_rules.specs.declared.verdict.Verdict.TheVariants.{Accepted, Dropp
 use Rattle.bfd_rules.specs.Quantities.{is_admin_down}
 use Rattle.bfd_rules.specs.Course.{Course, changes, enters}
 use Rattle.bfd_mp.specs.declared.config.TailConfig.{TailConfig}
+
+-- the numbers of a packet that a tail keeps fit their fields, and its Detect Mult isn't 0, as those of every packet of bytes
+-- that passes the header tests
+pub record IsSized (packet : Control) : Type 0 where
+  pub some_mult : packet.mult ≢ 0
+  pub mult : packet.mult < 256
+  pub min_tx : packet.min_tx < 2 ^ 32
 
 -- 1. The head's state, Detect Mult and interval are kept, and the moment of its packet
 unfoldable pub keeps_fields : ℕ → Control → Course → Course

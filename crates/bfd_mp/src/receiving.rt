@@ -1,5 +1,5 @@
 //! The reception of a head's packet after settling (RFC 8562 sections 5.5 and 5.13, RFC 5880 section 6.8.6).
-ghost use Rattle.std.specs.Prelude.{◌≡◌, ◌≢◌, ◌<◌, ◌≤◌, ◌+◌, ◌^◌, None, IsSome, List};
+ghost use Rattle.std.specs.Prelude.{◌≡◌, ◌<◌, ◌≤◌, ◌+◌, None, IsSome, List};
 ghost use Rattle.bfd_num.specs.Numbers.{moment_bound};
 ghost use Rattle.bfd_packet.specs.declared.arrival.Port.TheVariants.{Single};
 ghost use Rattle.bfd_packet.specs.Layout.{fields_of};
@@ -10,6 +10,7 @@ ghost use Rattle.bfd_rules.specs.Course.{course};
 ghost use Rattle.bfd_mp.specs.declared.config.TailConfig.{TailConfig as ConfigOf};
 ghost use Rattle.bfd_mp.specs.Sound.{IsTailSound};
 ghost use Rattle.bfd_mp.specs.TailReceive as receive;
+ghost use Rattle.bfd_mp.specs.TailReceive.{IsSized};
 
 use crate::TailConfig;
 use bfd_packet::{Control, Port, State, Test, read};
@@ -20,9 +21,7 @@ use bfd_rules::{Outs, Vars, Verdict, changes, enters, is_admin_down};
 fn keeps_fields(config: &TailConfig, eff: u64, packet: &Control, vars: &mut Vars)
     requires sound { IsTailSound config.now vars.old }
     requires eff { eff < moment_bound }
-    requires some_mult { packet.now.mult ≢ 0 }
-    requires most_mult { packet.now.mult < 256 }
-    requires min_tx { packet.now.min_tx < 2 ^ 32 }
+    requires sized { IsSized packet.now }
     ensures sound { IsTailSound config.now vars.new }
     ensures state { vars.new.state ≡ vars.old.state }
     ensures heard { IsSome vars.new.heard }
@@ -77,9 +76,7 @@ fn accepts(
 ) -> Verdict
     requires sound { IsTailSound config.now vars.old }
     requires eff { eff < moment_bound }
-    requires some_mult { packet.now.mult ≢ 0 }
-    requires most_mult { packet.now.mult < 256 }
-    requires min_tx { packet.now.min_tx < 2 ^ 32 }
+    requires sized { IsSized packet.now }
     requires room { 0 < outs.old.spare }
     ensures sound { IsTailSound config.now vars.new }
     ensures course { (m : Mark) → course vars.new m outs.new.items ≡ receive.accepted config.now eff packet.now (course vars.old m outs.old.items) }
@@ -99,9 +96,7 @@ fn accepts(
 fn fields(raw: &[u8]) -> Control
     requires { first_failing Single raw.now ≡ None }
     ensures fields { result ≡ fields_of raw.now }
-    ensures some_mult { result.mult ≢ 0 }
-    ensures most_mult { result.mult < 256 }
-    ensures min_tx { result.min_tx < 2 ^ 32 }
+    ensures sized { IsSized result }
 {
     match read(Port::Single, raw) {
         Ok(packet) => packet,
@@ -125,8 +120,7 @@ pub fn receives(
     ensures sound { IsTailSound config.now vars.new }
     ensures course { (m : Mark) → course vars.new m outs.new.items ≡ receive.received config.now eff raw.now (course vars.old m outs.old.items) }
     ensures verdict { result ≡ receive.verdict_on raw.now vars.old }
-    ensures most_mult { (fields_of raw.now).mult < 256 }
-    ensures min_tx { (fields_of raw.now).min_tx < 2 ^ 32 }
+    ensures sized { IsSized (fields_of raw.now) }
     ensures spare { outs.old.spare ≤ outs.new.spare + 1 }
     ensures room { outs.new.room ≡ outs.old.room }
 {

@@ -1,5 +1,5 @@
 //! A tail as its calls see it.
-ghost use Rattle.std.specs.Prelude.{◌≡◌, ◌<◌, ◌≤◌, ◌+◌, ◌^◌, None, true, ℕ};
+ghost use Rattle.std.specs.Prelude.{◌≡◌, ◌<◌, ◌≤◌, ◌+◌, None, true, ℕ};
 ghost use Rattle.std.specs.Result.{result_err};
 ghost use Rattle.std.specs.Option.{ForSome};
 ghost use Rattle.bfd_num.specs.Numbers.{moment_bound};
@@ -11,6 +11,7 @@ ghost use Rattle.bfd_mp.specs.declared.config.TailConfig.{TailConfig as ConfigOf
 ghost use Rattle.bfd_mp.specs.Sound.{IsTailConfig, IsTailSound};
 ghost use Rattle.bfd_mp.specs.TailSettle as settling;
 ghost use Rattle.bfd_mp.specs.TailReceive as receive;
+ghost use Rattle.bfd_mp.specs.TailReceive.{IsSized};
 ghost use Rattle.bfd_mp.specs.Command as command;
 ghost use Rattle.bfd_mp.specs.Over.{IsTailOver};
 ghost use Rattle.bfd_mp.specs.Machine as machine;
@@ -166,8 +167,7 @@ impl Tail {
         ensures course { course self.new.vars mark.new outs.new.items
             ≡ receive.received self.old.config eff raw.now (course self.old.vars mark.old outs.old.items) }
         ensures verdict { result ≡ receive.verdict_on raw.now self.old.vars }
-        ensures most_mult { (fields_of raw.now).mult < 256 }
-        ensures min_tx { (fields_of raw.now).min_tx < 2 ^ 32 }
+        ensures sized { IsSized (fields_of raw.now) }
         ensures spare { outs.old.spare ≤ outs.new.spare + 1 }
         ensures room { outs.new.room ≡ outs.old.room }
     {
