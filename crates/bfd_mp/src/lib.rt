@@ -40,6 +40,7 @@ mod waiting;
 
 pub use config::{HeadConfig, TailConfig};
 pub use head::Head;
+pub use law::{head_laws, tail_laws};
 pub use tail::Tail;
 pub use waiting::{deadline, wait};
 
