@@ -24,7 +24,7 @@ pub record IsSized (packet : Control) : Type 0 where
 unfoldable pub keeps_fields : ℕ → Control → Course → Course
 keeps_fields eff packet s =
     record s {
-      vars = record s.vars { remote_state = packet.state; remote_mult = packet.mult; remote_tx = packet.min_tx; heard = Some eff }
+      vars = record s.vars { remote_state = packet.state; remote_mult = packet.mult; remote_tx = packet.min_tx; heard = Some eff };
     }
 
 -- the state machine: own state, received state (RFC 8562 section 5.5); Init changes no state

@@ -44,3 +44,5 @@ pub use law::{head_laws, tail_laws};
 pub use tail::Tail;
 pub use waiting::{deadline, wait};
 
+#[cfg(test)]
+mod tests;
