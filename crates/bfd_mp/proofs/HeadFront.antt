@@ -1,5 +1,5 @@
 -- What was put out before stays in front of what a head's rules put out, and changes nothing else of them.
-use Rattle.std.proofs.Common.{◌≡◌, ◌++◌, ◌==◌, not, ℕ, Bool, true, false, List, refl, append_assoc, is_some, if◌then◌else◌}
+use Rattle.std.proofs.Common.{◌≡◌, ◌++◌, ℕ, Bool, true, false, List, refl, append_assoc, is_some, if◌then◌else◌}
 use Rattle.bfd_packet.specs.declared.arrival.Datagram.{Datagram}
 use Rattle.bfd_num.specs.Numbers.{floor_tick}
 use Rattle.bfd_num.specs.Due.{has_come}

@@ -1,5 +1,5 @@
 -- Each part of an event keeps a head's variables steady and a tail's sound, and the end of a head's event makes them sound.
-use Rattle.std.proofs.Common.{◌≡◌, ◌≢◌, ◌<◌, ◌≤◌, ◌^◌, ◌==◌, ◌&&◌, ◌-◌, nat_le, min, not, ℕ, Bool, true, false, refl, Option, None, Some, IsSome, is_some, find, [], ◌∷◌, List, arith, if◌then◌else◌}
+use Rattle.std.proofs.Common.{◌≡◌, ◌<◌, ◌≤◌, ◌==◌, ◌-◌, min, ℕ, Bool, true, false, refl, Some, IsSome, is_some, List, arith, if◌then◌else◌}
 use Rattle.std.proofs.lemmas.Grind.{common_steps}
 use Rattle.std.proofs.lemmas.Bool.Decides.{nat_tests}
 use Rattle.bfd_packet.specs.declared.control.Control.{Control}
@@ -13,7 +13,6 @@ use Rattle.bfd_rules.specs.declared.commands.Cmd.TheVariants.{Disable, Enable, R
 use Rattle.bfd_rules.specs.declared.variables.Vars.{Vars}
 use Rattle.bfd_rules.specs.Quantities.{is_up, is_admin_down}
 use Rattle.bfd_rules.specs.Course.{Course, changes, sends, stamped, enters, is_untold, based, redrawn}
-use Rattle.bfd_rules.specs.Sound.{is_interval}
 use Rattle.bfd_mp.specs.declared.config.HeadConfig.{HeadConfig}
 use Rattle.bfd_mp.specs.declared.config.TailConfig.{TailConfig}
 use Rattle.bfd_mp.specs.Counting.{counted}
@@ -25,7 +24,7 @@ use Rattle.bfd_mp.specs.HeadFinish as finishing
 use Rattle.bfd_mp.specs.TailSettle as tail
 use Rattle.bfd_mp.specs.TailReceive as receiving
 use Rattle.bfd_mp.specs.TailReceive.{IsSized}
-use Rattle.bfd_mp.specs.Command.{head_refusal, head_commanded, head_done, interval_done, tail_refusal, tail_commanded, tail_done}
+use Rattle.bfd_mp.specs.Command.{head_refusal, head_commanded, head_done, tail_refusal, tail_commanded, tail_done}
 use Rattle.bfd_mp.proofs.Drawing.{drawn_sound}
 
 -- a head

@@ -1,5 +1,5 @@
 -- What was put out before stays in front of what a tail's rules put out, and changes nothing else of them.
-use Rattle.std.proofs.Common.{◌≡◌, ◌++◌, ℕ, List, refl, is_some, if◌then◌else◌}
+use Rattle.std.proofs.Common.{◌≡◌, ℕ, List, refl, is_some}
 use Rattle.bfd_packet.specs.declared.control.Control.{Control}
 use Rattle.bfd_packet.specs.Layout.{fields_of}
 use Rattle.bfd_num.specs.Due.{has_come}

@@ -1,6 +1,6 @@
 -- The configurations of heads and tails, and the variables that can come up in them (RFC 8562 section 5.4): what holds
 -- after each rule, and what holds between events.
-use Rattle.std.specs.Prelude.{◌≡◌, ◌≤◌, ◌<◌, ◌^◌, ℕ, Bool, true, false, None, IsTrue, IsSome, IfSome}
+use Rattle.std.specs.Prelude.{◌≡◌, ◌≤◌, ◌<◌, ◌^◌, Bool, true, false, None, IsTrue, IsSome, IfSome}
 use Rattle.bfd_packet.specs.declared.control.State.{State}
 use Rattle.bfd_packet.specs.declared.control.State.TheVariants.{AdminDown, Down, Init, Up}
 use Rattle.bfd_num.specs.Numbers.{moment_bound}
