@@ -1,12 +1,7 @@
 pub mod Ticks
-pub mod Places
 pub mod Searches
 pub mod Loops
-pub mod Ports
-pub mod Tables
-pub mod Reach
 pub mod Turns
-pub mod Headers
 pub mod Kept
 pub mod Stages
 pub mod Counts

@@ -7,3 +7,7 @@ pub mod Tables
 pub mod Places
 pub mod Ports
 pub mod Reach
+pub mod Naming
+pub mod Own
+pub mod Expiring
+pub mod Discarding

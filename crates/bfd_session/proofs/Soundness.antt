@@ -30,7 +30,7 @@ use Rattle.bfd_session.specs.Step.{tick, tick_next, ticked_vars, begun}
 wanted_plain : (c : Config) (v : Vars) → IsPlain c v → IsPlain c (record v { poll = Wanted })
 wanted_plain c v h = search rules
 
-poll_plain : (c : Config) (before v : Vars) → IsPlain c v → IsPlain c (poll_renewed before v)
+pub poll_plain : (c : Config) (before v : Vars) → IsPlain c v → IsPlain c (poll_renewed before v)
 unfolding poll_renewed
 poll_plain c before v h = grind (arith, common_steps, wanted_plain)
 
@@ -38,7 +38,7 @@ poll_peer : (before v : Vars) → HasPeerMult v → HasPeerMult (poll_renewed be
 unfolding poll_renewed
 poll_peer before v h = grind (arith, common_steps)
 
-used_plain : (c : Config) (v : Vars) → IsPlain c v → IsPlain c (used_renewed v)
+pub used_plain : (c : Config) (v : Vars) → IsPlain c v → IsPlain c (used_renewed v)
 unfolding used_renewed
 used_plain c v h = grind (arith, common_steps)
 
@@ -63,7 +63,7 @@ plain_by c eff v true false h plain = heard_plain c eff v h plain
 plain_by c eff v false true h plain = again_plain c v plain
 plain_by c eff v false false h plain = plain
 
-demand_plain : (c : Config) (eff : ℕ) (before v : Vars) → eff < moment_bound → IsPlain c v → IsPlain c (demand_renewed eff before v)
+pub demand_plain : (c : Config) (eff : ℕ) (before v : Vars) → eff < moment_bound → IsPlain c v → IsPlain c (demand_renewed eff before v)
 unfolding demand_renewed
 demand_plain c eff before v h plain = plain_by c eff v (demand_here before) (demand_here v) h plain
 
@@ -98,7 +98,7 @@ demand_renews : (eff : ℕ) (before v : Vars) → IsRenewed v → IsRenewed (dem
 unfolding demand_renewed
 demand_renews eff before v h = renews_by eff v (demand_here before) (demand_here v) h
 
-renewed_steady : (c : Config) (eff : ℕ) (before v : Vars) → eff < moment_bound → IsPlain c v → HasPeerMult v → IsSteady c (renewed eff before v)
+pub renewed_steady : (c : Config) (eff : ℕ) (before v : Vars) → eff < moment_bound → IsPlain c v → HasPeerMult v → IsSteady c (renewed eff before v)
 unfolding renewed
 renewed_steady c eff before v h plain peer = record {
   plain = demand_plain c eff before (used_renewed (poll_renewed before v)) h (used_plain c (poll_renewed before v) (poll_plain c before v plain));
@@ -108,15 +108,15 @@ renewed_steady c eff before v h plain peer = record {
 
 -- settling
 
-renews_steady : (c : Config) (eff : ℕ) (v : Vars) (s : Course) → eff < moment_bound → IsPlain c v → HasPeerMult v → IsSteady c (renews eff v s).vars
+pub renews_steady : (c : Config) (eff : ℕ) (v : Vars) (s : Course) → eff < moment_bound → IsPlain c v → HasPeerMult v → IsSteady c (renews eff v s).vars
 unfolding renews
 renews_steady c eff v s h plain peer = renewed_steady c eff s.vars v h plain peer
 
-moves_steady : (c : Config) (eff : ℕ) (v : Vars) (s : Course) → eff < moment_bound → IsPlain c v → HasPeerMult v → IsSteady c (moves c.discr eff v s).vars
+pub moves_steady : (c : Config) (eff : ℕ) (v : Vars) (s : Course) → eff < moment_bound → IsPlain c v → HasPeerMult v → IsSteady c (moves c.discr eff v s).vars
 unfolding moves changes
 moves_steady c eff v s h plain peer = renewed_steady c eff s.vars v h plain peer
 
-choice_steady : (c : Config) (b : Bool) (x y : Course) → IsSteady c x.vars → IsSteady c y.vars → IsSteady c (if b then x else y).vars
+pub choice_steady : (c : Config) (b : Bool) (x y : Course) → IsSteady c x.vars → IsSteady c y.vars → IsSteady c (if b then x else y).vars
 choice_steady c true x y hx hy = hx
 choice_steady c false x y hx hy = hy
 
@@ -165,7 +165,7 @@ periodic_steady c limit eff s h steady =
     choice_steady c (has_come (floor_tick limit) s.vars.tx_due && may_send c.active s.vars) (settling.periodic_packet c eff s) s
     (periodic_packet_steady c eff s h steady) steady
 
-settle_steady : (c : Config) (limit eff : ℕ) (s : Course) → eff < moment_bound → IsSteady c s.vars → IsSteady c (settling.settle c limit eff s).vars
+pub settle_steady : (c : Config) (limit eff : ℕ) (s : Course) → eff < moment_bound → IsSteady c s.vars → IsSteady c (settling.settle c limit eff s).vars
 unfolding settling.settle
 settle_steady c limit eff s h steady =
     periodic_steady c limit eff (settling.sequence limit eff (settling.detection c limit eff s)) h
@@ -243,7 +243,7 @@ drawn_sound : (c : Config) (m : Mark) (v : Vars) → IsSteady c v → IsSound c 
 unfolding drawn
 drawn_sound c m v steady = drawn_by c m v (may_send c.active v) (draws m v) refl refl steady
 
-finish_sound : (c : Config) (eff : ℕ) (s : Course) → eff < moment_bound → IsSteady c s.vars → IsSound c (finishing.finish c eff s).vars
+pub finish_sound : (c : Config) (eff : ℕ) (s : Course) → eff < moment_bound → IsSteady c s.vars → IsSound c (finishing.finish c eff s).vars
 unfolding finishing.finish redrawn
 finish_sound c eff s h steady =
     let t : Course = finishing.extra c eff s in drawn_sound c t.mark t.vars (extra_steady c eff s h steady)
@@ -263,3 +263,11 @@ sound_after (Pair c) s limit eff h sound = record {
 pub tick_sound : (s : Running) (limit eff : ℕ) → eff < moment_bound → session.IsSound s → session.IsSound (tick_next limit eff s)
 unfolding ticked_vars
 tick_sound s limit eff h sound = sound_after s.config s limit eff h sound
+
+-- the effective moment of the last own event is a moment
+
+at_by : (c : SessionConfig) (s : Running) → session.sound_by c s → s.vars.at < moment_bound
+at_by (Pair c) s sound = sound.vars.steady.plain.at_below
+
+pub at_sound : (s : Running) → session.IsSound s → s.vars.at < moment_bound
+at_sound s sound = at_by s.config s sound

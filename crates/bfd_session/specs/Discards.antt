@@ -11,13 +11,17 @@ use Rattle.bfd_auth.specs.Verdict.{section_fails, section_tests}
 use Rattle.bfd_rules.specs.declared.config.Config.{Config}
 use Rattle.bfd_rules.specs.declared.variables.Vars.{Vars}
 use Rattle.bfd_rules.specs.declared.verdict.Verdict.{Verdict}
-use Rattle.bfd_rules.specs.declared.verdict.Verdict.TheVariants.{Accepted, Dropped}
+use Rattle.bfd_rules.specs.declared.verdict.Verdict.TheVariants.{Accepted, Dropped as Discarded}
 use Rattle.bfd_rules.specs.Quantities.{is_admin_down}
 use Rattle.bfd_p2p.specs.Receive as receive
 use Rattle.bfd_demux.specs.declared.row.Row.{Row}
 use Rattle.bfd_demux.specs.Selection.{is_multipoint, table_fails, tests_on_header, tests_on_table}
 use Rattle.bfd_session.specs.declared.event.SessionConfig.{SessionConfig}
 use Rattle.bfd_session.specs.declared.event.SessionConfig.TheVariants.{Pair}
+use Rattle.bfd_session.specs.declared.event.Answer.{Answer}
+use Rattle.bfd_session.specs.declared.event.Answer.TheVariants.{Handled, Dropped}
+use Rattle.bfd_session.specs.Kinds.{Running}
+use Rattle.bfd_session.specs.Step.{settled, begun}
 
 -- the sentence of each test on the authentication section
 abbrev pub unauthentic : Option KeyChain → SeqState → List ℕ → Test → Bool
@@ -62,4 +66,13 @@ first_discarding rows c v arrival = find (discards rows c v arrival) (all_tests 
 -- the test that a verdict tells of
 abbrev pub test_of : Verdict → Option Test
 test_of Accepted = None
-test_of (Dropped test) = Some test
+test_of (Discarded test) = Some test
+
+-- the variables by which an own event's packet is judged: those after settling
+abbrev pub judging : ℕ → Running → Vars
+judging eff s = (settled s.config eff eff (begun (Some eff) s.vars [])).vars
+
+-- the answer to a packet, by the first test of the session that fails
+abbrev pub answer_by : Option Test → Answer
+answer_by None = Handled
+answer_by (Some test) = Dropped test

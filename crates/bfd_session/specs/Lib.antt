@@ -7,3 +7,4 @@ pub mod Arrivals
 pub mod Reaching
 pub mod Discards
 pub mod Inside
+pub mod Names

@@ -22,6 +22,6 @@ mod rows;
 mod session;
 
 pub use event::{Answer, Event, SessionConfig, Shown};
-pub use law::tick_laws;
+pub use law::{event_laws, tick_laws};
 pub use rows::{row_of, rows_of};
 pub use session::Session;

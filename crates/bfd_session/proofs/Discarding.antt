@@ -1,0 +1,184 @@
+-- The one list of tests that may discard an arrival is the table's and then the session's, and a session's verdict tells of
+-- the first of its own that fails.
+use Rattle.std.proofs.Common.{◌≡◌, ◌||◌, ◌++◌, ◌∷◌, not, ℕ, Bool, true, false, List, [], refl, sym, ap, ◌∙◌, Option, None, Some, Result, cond, if◌then◌else◌, take, find}
+use Rattle.std.proofs.lemmas.Bool.{and_parts}
+use Rattle.std.proofs.lemmas.List.Folds.{find-append}
+use Rattle.std.specs.List.{list_all}
+use Rattle.std.specs.Option.{option_or}
+use Rattle.bfd_packet.specs.declared.arrival.Arrival.{Arrival}
+use Rattle.bfd_packet.specs.declared.arrival.Port.{Port}
+use Rattle.bfd_packet.specs.declared.arrival.Port.TheVariants.{Single, Multi, Echo, Sbfd, Answer as AnswerPort}
+use Rattle.bfd_packet.specs.declared.control.State.{State}
+use Rattle.bfd_packet.specs.declared.discard.Test.{Test}
+use Rattle.bfd_packet.specs.declared.discard.Test.TheVariants.{Ttl, AuthUnexpected, AuthMissing, AuthType, AuthKey, AuthLen, AuthSeq, AuthDigest, AdminDown}
+use Rattle.bfd_packet.specs.declared.keys.SeqState.{SeqState}
+use Rattle.bfd_packet.specs.KeyChain.{KeyChain}
+use Rattle.bfd_packet.specs.HeaderTests.{unless}
+use Rattle.bfd_packet.specs.Layout.{fields_of}
+use Rattle.bfd_auth.specs.Verdict.{verdict, section_fails, section_tests}
+use Rattle.bfd_rules.specs.declared.config.Config.{Config}
+use Rattle.bfd_rules.specs.declared.variables.Vars.{Vars}
+use Rattle.bfd_rules.specs.declared.verdict.Verdict.{Verdict}
+use Rattle.bfd_rules.specs.declared.verdict.Verdict.TheVariants.{Accepted, Dropped}
+use Rattle.bfd_rules.specs.Quantities.{is_admin_down}
+use Rattle.bfd_p2p.specs.Receive.{session_fails, session_tests, authenticated, judged_by, verdict_by, verdict_on}
+use Rattle.bfd_demux.specs.declared.row.Row.{Row}
+use Rattle.bfd_demux.specs.Selection.{is_multipoint, table_fails, tests_on_header, tests_on_table, first_table_failing}
+use Rattle.bfd_session.specs.declared.event.SessionConfig.{SessionConfig}
+use Rattle.bfd_session.specs.declared.event.SessionConfig.TheVariants.{Pair}
+use Rattle.bfd_session.specs.declared.event.Event.TheVariants.{Packet}
+use Rattle.bfd_session.specs.Kinds.{Running}
+use Rattle.bfd_session.specs.Step.{reply, answer_of, answer_to_packet}
+use Rattle.bfd_session.specs.Discards.{unauthentic, pair_fails, own_fails, own_tests, first_own_failing, discards, first_discarding, test_of, judging, answer_by}
+
+-- two sentences that agree on the tests of a list find the same
+find_same : (p q keep : Test → Bool) → ((test : Test) → keep test ≡ true → p test ≡ q test)
+    → (tests : List Test) → list_all keep tests ≡ true → find p tests ≡ find q tests
+find_same p q keep agree [] all = refl
+find_same p q keep agree (test ∷ tests) all =
+    let both = and_parts (keep test) (list_all keep tests) all in
+    rw (agree test both.0, find_same p q keep agree tests both.1) refl
+
+-- the tests of the authentication section
+abbrev is_section : Test → Bool
+is_section AuthType = true
+is_section AuthKey = true
+is_section AuthLen = true
+is_section AuthSeq = true
+is_section AuthDigest = true
+is_section _ = false
+
+-- the tests on the session's configuration
+abbrev is_first : Test → Bool
+is_first Ttl = true
+is_first AuthUnexpected = true
+is_first AuthMissing = true
+is_first _ = false
+
+-- the tests that aren't a session's own
+abbrev is_shared : Test → Bool
+is_shared AdminDown = false
+is_shared test = not (is_section test || is_first test)
+
+-- no packet fails another test for its authentication section, nor for the session
+
+unauthentic_not : (keys : Option KeyChain) (seq : SeqState) (raw : List ℕ) (test : Test) → is_section test ≡ false → unauthentic keys seq raw test ≡ false
+unauthentic_not None seq raw test other = refl
+unauthentic_not (Some keys) seq raw AuthType other = cc
+unauthentic_not (Some keys) seq raw AuthKey other = cc
+unauthentic_not (Some keys) seq raw AuthLen other = cc
+unauthentic_not (Some keys) seq raw AuthSeq other = cc
+unauthentic_not (Some keys) seq raw AuthDigest other = cc
+unauthentic_not (Some keys) seq raw _ other = refl
+
+pair_not : (c : Config) (v : Vars) (ttl : ℕ) (raw : List ℕ) (test : Test) → is_shared test ≡ true → pair_fails c v ttl raw test ≡ false
+pair_not c v ttl raw Ttl shared = cc
+pair_not c v ttl raw AuthUnexpected shared = cc
+pair_not c v ttl raw AuthMissing shared = cc
+pair_not c v ttl raw AuthType shared = cc
+pair_not c v ttl raw AuthKey shared = cc
+pair_not c v ttl raw AuthLen shared = cc
+pair_not c v ttl raw AuthSeq shared = cc
+pair_not c v ttl raw AuthDigest shared = cc
+pair_not c v ttl raw AdminDown shared = cc
+pair_not c v ttl raw test shared = unauthentic_not c.keys v.seq (take (fields_of raw).length raw) test refl
+
+own_not : (c : SessionConfig) (v : Vars) (arrival : Arrival) (test : Test) → is_shared test ≡ true → own_fails c v arrival test ≡ false
+own_not (Pair c) v arrival test shared = pair_not c v arrival.ttl arrival.payload test shared
+
+-- the tests of the table are such
+
+tests_shared : (port : Port) (multipoint : Bool) → list_all is_shared (tests_on_header port ++ tests_on_table port multipoint) ≡ true
+tests_shared Single true = refl
+tests_shared Single false = refl
+tests_shared Multi true = refl
+tests_shared Multi false = refl
+tests_shared Echo multipoint = refl
+tests_shared Sbfd multipoint = refl
+tests_shared AnswerPort true = refl
+tests_shared AnswerPort false = refl
+
+or_nothing : (a b : Bool) → b ≡ false → (a || b) ≡ a
+or_nothing true b h = refl
+or_nothing false b h = h
+
+table_first : (rows : List Row) (c : SessionConfig) (v : Vars) (arrival : Arrival)
+    → find (discards rows c v arrival) (tests_on_header arrival.port ++ tests_on_table arrival.port (is_multipoint arrival.port arrival))
+    ≡ first_table_failing rows arrival
+table_first rows c v arrival =
+    find_same (discards rows c v arrival) (λ test. table_fails arrival.port test rows arrival) is_shared
+    (λ test shared. or_nothing (table_fails arrival.port test rows arrival) (own_fails c v arrival test) (own_not c v arrival test shared))
+    (tests_on_header arrival.port ++ tests_on_table arrival.port (is_multipoint arrival.port arrival))
+    (tests_shared arrival.port (is_multipoint arrival.port arrival))
+
+-- no arrival fails a session's own tests for the table
+own_first : (rows : List Row) (c : SessionConfig) (v : Vars) (arrival : Arrival)
+    → find (discards rows c v arrival) (own_tests c) ≡ first_own_failing c v arrival
+own_first rows (Pair c) v arrival = refl
+
+pub discards_first : (rows : List Row) (c : SessionConfig) (v : Vars) (arrival : Arrival)
+    → first_discarding rows c v arrival ≡ option_or (first_table_failing rows arrival) (first_own_failing c v arrival)
+discards_first rows c v arrival =
+    find-append (discards rows c v arrival) (tests_on_header arrival.port ++ tests_on_table arrival.port (is_multipoint arrival.port arrival)) (own_tests c)
+    ∙ ap (λ (o : Option Test). option_or o (find (discards rows c v arrival) (own_tests c))) (table_first rows c v arrival)
+    ∙ ap (λ (o : Option Test). option_or (first_table_failing rows arrival) o) (own_first rows c v arrival)
+
+-- the verdict of a point-to-point session
+
+-- the test on AdminDown comes last
+told_by : (admin : Bool) → test_of (if admin then Dropped AdminDown else Accepted) ≡ cond admin (Some AdminDown) None
+told_by true = refl
+told_by false = refl
+
+told_unless : (state : State) (o : Option Test) (seq : SeqState)
+    → test_of (verdict_by state (unless o seq)) ≡ option_or o (cond (is_admin_down state) (Some AdminDown) None)
+told_unless state None seq = told_by (is_admin_down state)
+told_unless state (Some test) seq = refl
+
+-- the tests of the authentication section, with the one on AdminDown after them
+section_first : (keys : Option KeyChain) (state : State) (seq : SeqState) (raw : List ℕ)
+    → test_of (verdict_by state (authenticated keys seq (fields_of raw) raw))
+    ≡ option_or (find (unauthentic keys seq (take (fields_of raw).length raw)) section_tests) (cond (is_admin_down state) (Some AdminDown) None)
+unfolding verdict
+section_first None state seq raw = told_by (is_admin_down state)
+section_first (Some keys) state seq raw = told_unless state (find (section_fails keys seq (take (fields_of raw).length raw)) section_tests) _
+
+told_judged : (state : State) (o : Option Test) (verified : Result SeqState Test)
+    → test_of (verdict_by state (judged_by o verified)) ≡ option_or o (test_of (verdict_by state verified))
+told_judged state None verified = refl
+told_judged state (Some test) verified = refl
+
+-- no packet fails one of the tests on the configuration for its authentication section
+pair_same : (c : Config) (v : Vars) (ttl : ℕ) (raw : List ℕ) (test : Test) → is_first test ≡ true
+    → pair_fails c v ttl raw test ≡ session_fails c ttl (fields_of raw) test
+pair_same c v ttl raw Ttl first = or_nothing _ _ (unauthentic_not c.keys v.seq (take (fields_of raw).length raw) Ttl refl)
+pair_same c v ttl raw AuthUnexpected first = or_nothing _ _ (unauthentic_not c.keys v.seq (take (fields_of raw).length raw) AuthUnexpected refl)
+pair_same c v ttl raw AuthMissing first = or_nothing _ _ (unauthentic_not c.keys v.seq (take (fields_of raw).length raw) AuthMissing refl)
+pair_same c v ttl raw _ first = cc
+
+pub verdict_first : (c : Config) (v : Vars) (arrival : Arrival)
+    → first_own_failing (Pair c) v arrival ≡ test_of (verdict_on c arrival.ttl arrival.payload v)
+verdict_first c v arrival =
+    let raw : List ℕ = arrival.payload in
+    let fails : Test → Bool = pair_fails c v arrival.ttl raw in
+    let first : Option Test = find (session_fails c arrival.ttl (fields_of raw)) session_tests in
+    let verified : Result SeqState Test = authenticated c.keys v.seq (fields_of raw) raw in
+    find-append fails session_tests (section_tests ++ AdminDown ∷ [])
+    ∙ ap (λ (o : Option Test). option_or o (find fails (section_tests ++ AdminDown ∷ [])))
+    (find_same fails (session_fails c arrival.ttl (fields_of raw)) is_first (pair_same c v arrival.ttl raw) session_tests refl)
+    ∙ ap (λ (o : Option Test). option_or first o) (find-append fails section_tests (AdminDown ∷ []))
+    ∙ sym (told_judged v.state first verified ∙ ap (λ (o : Option Test). option_or first o) (section_first c.keys v.state v.seq raw))
+
+pub reply_first : (s : Running) (eff : ℕ) (arrival : Arrival)
+    → reply eff (Packet arrival) s ≡ answer_by (first_own_failing s.config (judging eff s) arrival)
+unfolding reply
+reply_first s eff arrival = by s.config (judging eff s)
+  where
+    answered : (verdict : Verdict) → answer_to_packet verdict ≡ answer_by (test_of verdict)
+    answered Accepted = refl
+    answered (Dropped test) = refl
+
+    by : (c : SessionConfig) (v : Vars) → answer_of c (Packet arrival) v ≡ answer_by (first_own_failing c v arrival)
+    by (Pair c) v =
+        answered (verdict_on c arrival.ttl arrival.payload v)
+        ∙ ap (λ (o : Option Test). answer_by o) (sym (verdict_first c v arrival))

@@ -1,0 +1,155 @@
+-- A tick forgets that a packet was heard exactly where the Detection Time has expired.
+use Rattle.std.proofs.Common.{◌≡◌, ◌||◌, ◌&&◌, ℕ, Bool, true, false, refl, ap, ◌∙◌, Option, None, Some, is_none, IsSome, option_map, [], arith, if◌then◌else◌}
+use Rattle.std.proofs.lemmas.Grind.{common_steps}
+use Rattle.bfd_packet.specs.declared.control.State.TheVariants.{Down, Up}
+use Rattle.bfd_packet.specs.States.{is_init_or_up}
+use Rattle.bfd_num.specs.Numbers.{floor_tick, next_j}
+use Rattle.bfd_num.specs.Due.{has_come}
+use Rattle.bfd_rules.specs.declared.config.Config.{Config}
+use Rattle.bfd_rules.specs.declared.variables.Mark.{Mark}
+use Rattle.bfd_rules.specs.declared.variables.Vars.{Vars}
+use Rattle.bfd_rules.specs.Quantities.{deadline, seq_deadline, demand_here, may_send, tx_interval}
+use Rattle.bfd_rules.specs.Jitter.{pick}
+use Rattle.bfd_rules.specs.Renewal.{poll_again, poll_renewed, used_renewed, demand_renewed, renewed}
+use Rattle.bfd_rules.specs.Course.{Course, enters, changes, sends, draws, drawn, is_untold, redrawn}
+use Rattle.bfd_rules.specs.Sound as pair
+use Rattle.bfd_p2p.specs.Frame.{renews, moves}
+use Rattle.bfd_p2p.specs.Transmit.{transmits}
+use Rattle.bfd_p2p.specs.Settle as settling
+use Rattle.bfd_p2p.specs.Finish as finishing
+use Rattle.bfd_session.specs.declared.event.SessionConfig.{SessionConfig}
+use Rattle.bfd_session.specs.declared.event.SessionConfig.TheVariants.{Pair}
+use Rattle.bfd_session.specs.Kinds.{Running}
+use Rattle.bfd_session.specs.Due.{detects, detects_by}
+use Rattle.bfd_session.specs.Step.{IsSound, sound_by, tick, tick_next, ticked_vars, begun}
+
+-- Renewal: whether a packet was heard stays
+
+mapped_none : (eff : ℕ) (o : Option ℕ) → is_none (option_map (λ _. eff) o) ≡ is_none o
+mapped_none eff None = refl
+mapped_none eff (Some x) = refl
+
+poll_heard : (before v : Vars) → (poll_renewed before v).heard ≡ v.heard
+unfolding poll_renewed
+poll_heard before v = grind (arith, common_steps)
+
+demand_none : (eff : ℕ) (before v : Vars) → is_none (demand_renewed eff before v).heard ≡ is_none v.heard
+unfolding demand_renewed
+demand_none eff before v = by (demand_here before) (demand_here v)
+  where
+    by : (a b : Bool) → is_none (if a then (if b then v else record v { heard = option_map (λ _. eff) v.heard })
+        else (if b then record v { poll = poll_again v.poll } else v)).heard ≡ is_none v.heard
+    by true true = refl
+    by true false = mapped_none eff v.heard
+    by false true = refl
+    by false false = refl
+
+renewed_none : (eff : ℕ) (before v : Vars) → is_none (renewed eff before v).heard ≡ is_none v.heard
+unfolding renewed used_renewed
+renewed_none eff before v = demand_none eff before (used_renewed (poll_renewed before v)) ∙ ap (λ (o : Option ℕ). is_none o) (poll_heard before v)
+
+renews_none : (eff : ℕ) (v : Vars) (s : Course) → is_none (renews eff v s).vars.heard ≡ is_none v.heard
+unfolding renews
+renews_none eff v s = renewed_none eff s.vars v
+
+moves_none : (discr eff : ℕ) (v : Vars) (s : Course) → is_none (moves discr eff v s).vars.heard ≡ is_none v.heard
+unfolding moves changes
+moves_none discr eff v s = renewed_none eff s.vars v
+
+-- settling
+
+either : (n b : Bool) (x y : Course) → is_none x.vars.heard ≡ n → is_none y.vars.heard ≡ n → is_none (if b then x else y).vars.heard ≡ n
+either n true x y hx hy = hx
+either n false x y hx hy = hy
+
+silent_none : (v : Vars) → is_none (settling.goes_silent (settling.forgets_peer v)).heard ≡ true
+silent_none v = by (is_init_or_up v.state)
+  where
+    by : (b : Bool) → is_none (if b then enters Down 1 (settling.forgets_peer v) else settling.forgets_peer v).heard ≡ true
+    by true = refl
+    by false = refl
+
+or_come : (n come : Bool) (x y : Course) → is_none x.vars.heard ≡ true → is_none y.vars.heard ≡ n
+    → is_none (if come then x else y).vars.heard ≡ (n || come)
+or_come true true x y hx hy = hx
+or_come false true x y hx hy = hx
+or_come true false x y hx hy = hy
+or_come false false x y hx hy = hy
+
+detection_none : (c : Config) (limit eff : ℕ) (s : Course)
+    → is_none (settling.detection c limit eff s).vars.heard ≡ (is_none s.vars.heard || has_come limit (deadline s.vars))
+unfolding settling.detection
+detection_none c limit eff s =
+    or_come (is_none s.vars.heard) (has_come limit (deadline s.vars)) (moves c.discr eff (settling.goes_silent (settling.forgets_peer s.vars)) s) s
+    (moves_none c.discr eff (settling.goes_silent (settling.forgets_peer s.vars)) s ∙ silent_none s.vars) refl
+
+sequence_none : (limit eff : ℕ) (s : Course) → is_none (settling.sequence limit eff s).vars.heard ≡ is_none s.vars.heard
+unfolding settling.sequence
+sequence_none limit eff s =
+    either (is_none s.vars.heard) (has_come limit (seq_deadline s.vars)) _ s (renews_none eff (settling.forgets_sequence s.vars) s) refl
+
+periodic_packet_none : (c : Config) (eff : ℕ) (s : Course) → is_none (settling.periodic_packet c eff s).vars.heard ≡ is_none s.vars.heard
+unfolding settling.periodic_packet transmits sends
+periodic_packet_none c eff s = renews_none eff _ _
+
+periodic_none : (c : Config) (limit eff : ℕ) (s : Course) → is_none (settling.periodic c limit eff s).vars.heard ≡ is_none s.vars.heard
+unfolding settling.periodic
+periodic_none c limit eff s =
+    either (is_none s.vars.heard) (has_come (floor_tick limit) s.vars.tx_due && may_send c.active s.vars) _ s (periodic_packet_none c eff s) refl
+
+settle_none : (c : Config) (limit eff : ℕ) (s : Course)
+    → is_none (settling.settle c limit eff s).vars.heard ≡ (is_none s.vars.heard || has_come limit (deadline s.vars))
+unfolding settling.settle
+settle_none c limit eff s = periodic_none c limit eff _ ∙ sequence_none limit eff _ ∙ detection_none c limit eff s
+
+-- the end of an event
+
+extra_none : (c : Config) (eff : ℕ) (s : Course) → is_none (finishing.extra c eff s).vars.heard ≡ is_none s.vars.heard
+unfolding finishing.extra transmits sends
+extra_none c eff s = either (is_none s.vars.heard) (is_untold c.active s.mark s.vars) _ s refl refl
+
+drawn_heard : (active : Bool) (m : Mark) (v : Vars) → (drawn active m v).heard ≡ v.heard
+unfolding drawn
+drawn_heard active m v = by (may_send active v) (draws m v)
+  where
+    by : (may anew : Bool) → (if may
+        then (if anew then record v { tx_due = Some (pick v.base (tx_interval v) v.mult v.j); j = next_j v.j } else v)
+        else record v { tx_due = None }).heard ≡ v.heard
+    by true true = refl
+    by true false = refl
+    by false _ = refl
+
+finish_none : (c : Config) (eff : ℕ) (s : Course) → is_none (finishing.finish c eff s).vars.heard ≡ is_none s.vars.heard
+unfolding finishing.finish redrawn
+finish_none c eff s = ap (λ (o : Option ℕ). is_none o) (drawn_heard c.active _ _) ∙ extra_none c eff s
+
+-- the whole tick
+
+tick_by : (c : SessionConfig) (v : Vars) (limit eff : ℕ)
+    → is_none (tick c limit eff (begun None v [])).vars.heard ≡ (is_none v.heard || has_come limit (detects_by c v))
+unfolding tick
+tick_by (Pair c) v limit eff = finish_none c eff _ ∙ settle_none c limit eff (begun None v [])
+
+pub tick_expires : (s : Running) (limit eff : ℕ)
+    → is_none (tick_next limit eff s).vars.heard ≡ (is_none s.vars.heard || has_come limit (detects s))
+unfolding ticked_vars
+tick_expires s limit eff = tick_by s.config s.vars limit eff
+
+-- a Detection Time runs only where a packet was heard: in Demand mode too, since a session in Up has heard one
+
+mapped_there : (f : ℕ → ℕ) (o : Option ℕ) → IsSome (option_map f o) → IsSome o
+mapped_there f None h = h
+mapped_there f (Some x) h = refl
+
+demand_up : (v : Vars) → demand_here v ≡ true → v.state ≡ Up
+demand_up v h = grind (arith, common_steps)
+
+deadline_heard : (c : Config) (v : Vars) (here : Bool) → demand_here v ≡ here → pair.IsPlain c v → IsSome (deadline v) → IsSome v.heard
+deadline_heard c v true is plain there = plain.up_heard (demand_up v is)
+deadline_heard c v false is plain there = mapped_there _ v.heard (rw is at there)
+
+heard_by : (c : SessionConfig) (s : Running) → sound_by c s → IsSome (detects_by c s.vars) → IsSome s.vars.heard
+heard_by (Pair c) s sound there = deadline_heard c s.vars (demand_here s.vars) refl sound.vars.steady.plain there
+
+pub detects_heard : (s : Running) → IsSound s → IsSome (detects s) → IsSome s.vars.heard
+detects_heard s sound there = heard_by s.config s sound there

@@ -1,0 +1,168 @@
+-- Each output of an event names the event's session.
+use Rattle.std.proofs.Common.{◌≡◌, ◌++◌, ◌∷◌, ◌&&◌, ℕ, Bool, true, false, List, [], refl, None, Some, is_some, Result, Ok, Err, if◌then◌else◌}
+use Rattle.std.specs.List.{AllByRecursion}
+use Rattle.bfd_packet.specs.declared.arrival.Datagram.{Datagram}
+use Rattle.bfd_packet.specs.declared.control.Control.{Control}
+use Rattle.bfd_packet.specs.declared.discard.Test.{Test}
+use Rattle.bfd_packet.specs.declared.keys.SeqState.{SeqState}
+use Rattle.bfd_num.specs.Numbers.{floor_tick}
+use Rattle.bfd_num.specs.Due.{has_come}
+use Rattle.bfd_rules.specs.declared.commands.Cmd.{Cmd}
+use Rattle.bfd_rules.specs.declared.config.Config.{Config}
+use Rattle.bfd_rules.specs.declared.outputs.Out.{Out}
+use Rattle.bfd_rules.specs.declared.outputs.Out.TheVariants.{Changed, Sent}
+use Rattle.bfd_rules.specs.declared.variables.Vars.{Vars}
+use Rattle.bfd_rules.specs.Quantities.{may_send, deadline, seq_deadline, is_admin_down, same_state}
+use Rattle.bfd_rules.specs.Course.{Course, told, changes, sends, is_untold, redrawn}
+use Rattle.bfd_p2p.specs.Frame.{renews, moves}
+use Rattle.bfd_p2p.specs.Transmit.{transmits}
+use Rattle.bfd_p2p.specs.Settle as settling
+use Rattle.bfd_p2p.specs.Receive as receiving
+use Rattle.bfd_p2p.specs.Command.{refusal, commanded}
+use Rattle.bfd_p2p.specs.Finish as finishing
+use Rattle.bfd_session.specs.declared.event.SessionConfig.{SessionConfig}
+use Rattle.bfd_session.specs.declared.event.SessionConfig.TheVariants.{Pair}
+use Rattle.bfd_session.specs.declared.event.Event.{Event}
+use Rattle.bfd_session.specs.declared.event.Event.TheVariants.{Packet, Returned, Command, Show}
+use Rattle.bfd_session.specs.Kinds.{Running, discr_of}
+use Rattle.bfd_session.specs.Names.{named}
+use Rattle.bfd_session.specs.Step.{step, tick, settled, acted, finished, begun, emits, tick_emits}
+
+-- all outputs so far name this session
+record Names (d : ℕ) (s : Course) : Type 0 where
+  all : AllByRecursion (λ o. named o ≡ d) s.outs
+
+-- outputs that do, and then others that do
+names-append : (d : ℕ) (os ps : List Out) → AllByRecursion (λ o. named o ≡ d) os → AllByRecursion (λ o. named o ≡ d) ps
+    → AllByRecursion (λ o. named o ≡ d) (os ++ ps)
+names-append d [] ps h k = k
+names-append d (o ∷ os) ps h k = (h.0, names-append d os ps h.1 k)
+
+-- a choice between two courses
+either : (d : ℕ) (b : Bool) (x y : Course) → Names d x → Names d y → Names d (if b then x else y)
+either d true x y hx hy = hx
+either d false x y hx hy = hy
+
+told-names : (d : ℕ) (v w : Vars) (same : Bool)
+    → AllByRecursion (λ o. named o ≡ d) (if same then [] else Changed d v.state w.state w.diag ∷ [])
+told-names d v w true = tt
+told-names d v w false = (refl, tt)
+
+changes-names : (d : ℕ) (v : Vars) (s : Course) → Names d s → Names d (changes d v s)
+unfolding changes
+changes-names d v s h = record { all = names-append d s.outs (told d s.vars v) h.all (told-names d s.vars v (same_state s.vars.state v.state)) }
+
+sends-names : (d : ℕ) (datagram : Datagram) (s : Course) → Names d s → Names d (sends d datagram s)
+unfolding sends
+sends-names d datagram s h = record { all = names-append d s.outs (Sent d datagram ∷ []) h.all (refl, tt) }
+
+renews-names : (d eff : ℕ) (v : Vars) (s : Course) → Names d s → Names d (renews eff v s)
+unfolding renews
+renews-names d eff v s h = record { all = h.all }
+
+moves-names : (d eff : ℕ) (v : Vars) (s : Course) → Names d s → Names d (moves d eff v s)
+unfolding moves
+moves-names d eff v s h = changes-names d _ s h
+
+transmits-names : (c : Config) (poll fin : Bool) (s : Course) → Names c.discr s → Names c.discr (transmits c poll fin s)
+unfolding transmits
+transmits-names c poll fin s h = sends-names c.discr _ _ record { all = h.all }
+
+-- settling
+
+detection-names : (c : Config) (limit eff : ℕ) (s : Course) → Names c.discr s → Names c.discr (settling.detection c limit eff s)
+unfolding settling.detection
+detection-names c limit eff s h = either c.discr (has_come limit (deadline s.vars)) _ s (moves-names c.discr eff _ s h) h
+
+sequence-names : (d limit eff : ℕ) (s : Course) → Names d s → Names d (settling.sequence limit eff s)
+unfolding settling.sequence
+sequence-names d limit eff s h = either d (has_come limit (seq_deadline s.vars)) _ s (renews-names d eff _ s h) h
+
+periodic_packet-names : (c : Config) (eff : ℕ) (s : Course) → Names c.discr s → Names c.discr (settling.periodic_packet c eff s)
+unfolding settling.periodic_packet
+periodic_packet-names c eff s h = renews-names c.discr eff _ _ record { all = (transmits-names c _ false s h).all }
+
+periodic-names : (c : Config) (limit eff : ℕ) (s : Course) → Names c.discr s → Names c.discr (settling.periodic c limit eff s)
+unfolding settling.periodic
+periodic-names c limit eff s h =
+    either c.discr (has_come (floor_tick limit) s.vars.tx_due && may_send c.active s.vars) _ s (periodic_packet-names c eff s h) h
+
+settle-names : (c : Config) (limit eff : ℕ) (s : Course) → Names c.discr s → Names c.discr (settling.settle c limit eff s)
+unfolding settling.settle
+settle-names c limit eff s h = periodic-names c limit eff _ (sequence-names c.discr limit eff _ (detection-names c limit eff s h))
+
+-- reception
+
+ends_poll-names : (d eff : ℕ) (packet : Control) (s : Course) → Names d s → Names d (receiving.ends_poll eff packet s)
+unfolding receiving.ends_poll
+ends_poll-names d eff packet s h = either d packet.fin _ s (renews-names d eff _ s h) h
+
+kept-names : (c : Config) (eff : ℕ) (packet : Control) (seq : SeqState) (s : Course) → Names c.discr s
+    → Names c.discr (receiving.kept c eff packet seq s)
+unfolding receiving.kept receiving.keeps_sequence receiving.keeps_fields
+kept-names c eff packet seq s h = ends_poll-names c.discr eff packet _ (renews-names c.discr eff _ _ (renews-names c.discr eff _ s h))
+
+moves_state-names : (c : Config) (eff : ℕ) (packet : Control) (s : Course) → Names c.discr s → Names c.discr (receiving.moves_state c eff packet s)
+unfolding receiving.moves_state
+moves_state-names c eff packet s h = moves-names c.discr eff _ s h
+
+answers-names : (c : Config) (packet : Control) (s : Course) → Names c.discr s → Names c.discr (receiving.answers c packet s)
+unfolding receiving.answers
+answers-names c packet s h = either c.discr packet.poll _ s record { all = (transmits-names c false true s h).all } h
+
+accepted-names : (c : Config) (eff : ℕ) (packet : Control) (seq : SeqState) (s : Course) → Names c.discr s
+    → Names c.discr (receiving.accepted c eff packet seq s)
+unfolding receiving.accepted
+accepted-names c eff packet seq s h =
+    let k = kept-names c eff packet seq s h in
+    either c.discr (is_admin_down (receiving.kept c eff packet seq s).vars.state) _ _ k (answers-names c packet _ (moves_state-names c eff packet _ k))
+
+received_on-names : (c : Config) (eff : ℕ) (packet : Control) (judgement : Result SeqState Test) (s : Course) → Names c.discr s
+    → Names c.discr (receiving.received_on c eff packet judgement s)
+unfolding receiving.received_on
+received_on-names c eff packet (Ok seq) s h = accepted-names c eff packet seq s h
+received_on-names c eff packet (Err test) s h = h
+
+received-names : (c : Config) (eff ttl : ℕ) (raw : List ℕ) (s : Course) → Names c.discr s → Names c.discr (receiving.received c eff ttl raw s)
+unfolding receiving.received
+received-names c eff ttl raw s h = received_on-names c eff _ _ s h
+
+-- commands and the end of an event
+
+commanded-names : (c : Config) (eff : ℕ) (cmd : Cmd) (s : Course) → Names c.discr s → Names c.discr (commanded c eff cmd s)
+unfolding commanded
+commanded-names c eff cmd s h = either c.discr (is_some (refusal c s.vars cmd)) s _ h (moves-names c.discr eff _ s h)
+
+extra-names : (c : Config) (eff : ℕ) (s : Course) → Names c.discr s → Names c.discr (finishing.extra c eff s)
+unfolding finishing.extra
+extra-names c eff s h =
+    either c.discr (is_untold c.active s.mark s.vars) _ s record { all = (transmits-names c false false s h).all } h
+
+finish-names : (c : Config) (eff : ℕ) (s : Course) → Names c.discr s → Names c.discr (finishing.finish c eff s)
+unfolding finishing.finish redrawn
+finish-names c eff s h = record { all = (extra-names c eff s h).all }
+
+-- a whole event
+
+settled-names : (c : SessionConfig) (limit eff : ℕ) (s : Course) → Names (discr_of c) s → Names (discr_of c) (settled c limit eff s)
+settled-names (Pair c) limit eff s h = settle-names c limit eff s h
+
+acted-names : (c : SessionConfig) (eff : ℕ) (event : Event) (s : Course) → Names (discr_of c) s → Names (discr_of c) (acted c eff event s)
+acted-names (Pair c) eff (Packet arrival) s h = received-names c eff _ _ s h
+acted-names (Pair c) eff (Returned sequence) s h = h
+acted-names (Pair c) eff (Command cmd) s h = commanded-names c eff cmd s h
+acted-names (Pair c) eff Show s h = h
+
+finished-names : (c : SessionConfig) (eff : ℕ) (s : Course) → Names (discr_of c) s → Names (discr_of c) (finished c eff s)
+finished-names (Pair c) eff s h = finish-names c eff s h
+
+pub tick_named : (s : Running) (limit eff : ℕ) → AllByRecursion (λ o. named o ≡ discr_of s.config) (tick_emits limit eff s)
+unfolding tick_emits tick
+tick_named s limit eff =
+    (finished-names s.config eff _ (settled-names s.config limit eff (begun None s.vars []) record { all = tt })).all
+
+pub event_named : (s : Running) (eff : ℕ) (event : Event) → AllByRecursion (λ o. named o ≡ discr_of s.config) (emits eff event s)
+unfolding emits step
+event_named s eff event =
+    (finished-names s.config eff _ (acted-names s.config eff event _
+    (settled-names s.config eff eff (begun (Some eff) s.vars []) record { all = tt }))).all

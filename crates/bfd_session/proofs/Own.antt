@@ -1,0 +1,303 @@
+-- An own event keeps variables sound.
+use Rattle.std.proofs.Common.{◌≡◌, ◌<◌, ◌≤◌, ◌==◌, ◌||◌, ◌&&◌, not, ℕ, Bool, true, false, refl, Option, None, Some, is_some, is_none, IsSome, option_map, List, [], length, Result, Ok, Err, arith, if◌then◌else◌, cond}
+use Rattle.std.proofs.lemmas.Grind.{common_steps}
+use Rattle.std.proofs.lemmas.Bool.Decides.{nat_tests}
+use Rattle.std.proofs.lemmas.List.Quantifiers.{position-Some}
+use Rattle.std.specs.Prelude.{nat_le, unwrap_or, slice_index}
+use Rattle.bfd_packet.specs.declared.arrival.Port.{Port}
+use Rattle.bfd_packet.specs.declared.control.Control.{Control}
+use Rattle.bfd_packet.specs.declared.control.State.{State}
+use Rattle.bfd_packet.specs.declared.control.State.TheVariants.{AdminDown, Down, Init, Up}
+use Rattle.bfd_packet.specs.declared.discard.Test.{Test}
+use Rattle.bfd_packet.specs.declared.discard.Test.TheVariants.{Short, Version, LengthMin, LengthOver, DetectMult}
+use Rattle.bfd_packet.specs.declared.keys.Key.{Key}
+use Rattle.bfd_packet.specs.declared.keys.SeqState.{SeqState}
+use Rattle.bfd_packet.specs.KeyChain.{KeyChain, place_of, no_key}
+use Rattle.bfd_packet.specs.Layout.{fields_of}
+use Rattle.bfd_packet.specs.HeaderTests.{first_failing, header_fails}
+use Rattle.bfd_num.specs.Numbers.{moment_bound}
+use Rattle.bfd_rules.specs.declared.commands.Cmd.{Cmd}
+use Rattle.bfd_rules.specs.declared.commands.Cmd.TheVariants.{Disable, Enable, Reset, Path, Tx, Rx, Mult, Demand, EchoEvery, Key as KeyOf}
+use Rattle.bfd_rules.specs.declared.commands.Refusal.{Refusal}
+use Rattle.bfd_rules.specs.declared.config.Config.{Config}
+use Rattle.bfd_rules.specs.declared.variables.Vars.{Vars}
+use Rattle.bfd_rules.specs.Quantities.{is_admin_down}
+use Rattle.bfd_rules.specs.Renewal.{poll_renewed, used_renewed, demand_renewed, renewed}
+use Rattle.bfd_rules.specs.Course.{Course, enters, sends}
+use Rattle.bfd_rules.specs.Sound.{IsPlain, IsPlace, HasPeerMult, IsSteady, is_interval}
+use Rattle.bfd_p2p.specs.Frame.{renews, moves}
+use Rattle.bfd_p2p.specs.Transmit.{transmits}
+use Rattle.bfd_p2p.specs.Receive as receiving
+use Rattle.bfd_p2p.specs.Command.{key_place, is_wrong_kind, is_out_of_range, refusal, path_done, demand_done, done, commanded}
+use Rattle.bfd_session.specs.declared.event.SessionConfig.{SessionConfig}
+use Rattle.bfd_session.specs.declared.event.SessionConfig.TheVariants.{Pair}
+use Rattle.bfd_session.specs.declared.event.Event.{Event}
+use Rattle.bfd_session.specs.declared.event.Event.TheVariants.{Packet, Returned, Command, Show}
+use Rattle.bfd_session.specs.Kinds.{Running}
+use Rattle.bfd_session.specs.Step as session
+use Rattle.bfd_session.specs.Step.{IsFor, CanTake, HasSize, step, acted, settled, begun, next, next_vars}
+use Rattle.bfd_session.proofs.Soundness.{poll_plain, used_plain, demand_plain, renews_steady, moves_steady, choice_steady, settle_steady, finish_sound}
+
+-- nothing found: the first of the rest isn't
+found_none : {X : Type 0} → (b : Bool) (x : X) (o : Option X) → cond b (Some x) o ≡ None → (b ≡ false) × (o ≡ None)
+found_none true x o h = cc
+found_none false x o h = (refl, h)
+
+-- renewal of plain variables
+
+renews_plain : (c : Config) (eff : ℕ) (v : Vars) (s : Course) → eff < moment_bound → IsPlain c v → IsPlain c (renews eff v s).vars
+unfolding renews renewed
+renews_plain c eff v s h plain = demand_plain c eff s.vars _ h (used_plain c _ (poll_plain c s.vars v plain))
+
+poll_heard : (before v : Vars) → IsSome v.heard → IsSome (poll_renewed before v).heard
+unfolding poll_renewed
+poll_heard before v h = grind (arith, common_steps)
+
+some_mapped : (eff : ℕ) (o : Option ℕ) → IsSome o → IsSome (option_map (λ _. eff) o)
+some_mapped eff None h = cc
+some_mapped eff (Some x) h = refl
+
+demand_heard : (eff : ℕ) (before v : Vars) → IsSome v.heard → IsSome (demand_renewed eff before v).heard
+unfolding demand_renewed
+demand_heard eff before v h = grind (arith, common_steps, some_mapped)
+
+renews_heard : (eff : ℕ) (v : Vars) (s : Course) → IsSome v.heard → IsSome (renews eff v s).vars.heard
+unfolding renews renewed used_renewed
+renews_heard eff v s h = demand_heard eff s.vars _ (poll_heard s.vars v h)
+
+-- reception
+
+sequenced_plain : (c : Config) (eff : ℕ) (seq : SeqState) (v : Vars) (b : Bool) → eff < moment_bound → IsPlain c v
+    → IsPlain c (record v { seq = seq; seq_heard = if b then Some eff else v.seq_heard })
+sequenced_plain c eff seq v b h plain = grind (arith, common_steps)
+
+-- a packet that is kept: sound variables, and it was heard
+record Taken (c : Config) (s : Course) : Type 0 where
+  steady : IsSteady c s.vars
+  heard : IsSome s.vars.heard
+
+-- the numbers of a packet that the header tests pass
+record Fits (packet : Control) : Type 0 where
+  sized : receiving.IsSized packet
+  mult : 0 < packet.mult
+
+fields_plain : (c : Config) (eff : ℕ) (packet : Control) (v : Vars) → eff < moment_bound → Fits packet → IsPlain c v
+    → IsPlain c (record v {
+      remote_discr = packet.my;
+      remote_state = packet.state;
+      remote_demand = packet.demand;
+      remote_min_rx = packet.min_rx;
+      remote_min_echo = packet.min_echo;
+      remote_mult = packet.mult;
+      remote_tx = packet.min_tx;
+      heard = Some eff;
+    })
+fields_plain c eff packet v h fits plain = grind (arith, common_steps)
+
+keeps_fields_taken : (c : Config) (eff : ℕ) (packet : Control) (s : Course) → eff < moment_bound → Fits packet → IsPlain c s.vars
+    → Taken c (receiving.keeps_fields eff packet s)
+unfolding receiving.keeps_fields
+keeps_fields_taken c eff packet s h fits plain = record {
+  steady = renews_steady c eff _ s h (fields_plain c eff packet s.vars h fits plain)
+      (record { heard_mult = λ _. fits.mult; seq_mult = λ _. fits.mult });
+  heard = renews_heard eff _ s refl;
+}
+
+ended_plain : (c : Config) (v : Vars) → IsPlain c v → IsPlain c (record v { poll = receiving.poll_ended v.poll })
+ended_plain c v plain = grind (arith, common_steps)
+
+choice_taken : (c : Config) (b : Bool) (x y : Course) → Taken c x → Taken c y → Taken c (if b then x else y)
+choice_taken c true x y hx hy = hx
+choice_taken c false x y hx hy = hy
+
+ends_poll_taken : (c : Config) (eff : ℕ) (packet : Control) (s : Course) → eff < moment_bound → Taken c s
+    → Taken c (receiving.ends_poll eff packet s)
+unfolding receiving.ends_poll
+ends_poll_taken c eff packet s h taken =
+    choice_taken c packet.fin _ s record {
+      steady = renews_steady c eff _ s h (ended_plain c s.vars taken.steady.plain)
+          (record { heard_mult = taken.steady.peer.heard_mult; seq_mult = taken.steady.peer.seq_mult });
+      heard = renews_heard eff _ s taken.heard;
+    } taken
+
+kept_taken : (c : Config) (eff : ℕ) (packet : Control) (seq : SeqState) (s : Course) → eff < moment_bound → Fits packet → IsPlain c s.vars
+    → Taken c (receiving.kept c eff packet seq s)
+unfolding receiving.kept receiving.keeps_sequence
+kept_taken c eff packet seq s h fits plain =
+    ends_poll_taken c eff packet _ h (keeps_fields_taken c eff packet _ h fits
+    (renews_plain c eff _ s h (sequenced_plain c eff seq s.vars (receiving.has_sequence c.keys) h plain)))
+
+enters_plain : (c : Config) (state : State) (diag : ℕ) (v : Vars) → diag < 32 → (state ≡ Up → IsSome v.heard) → IsPlain c v
+    → IsPlain c (enters state diag v)
+enters_plain c state diag v few up plain = grind (arith, common_steps)
+
+machine_plain : (c : Config) (own received : State) (v : Vars) → IsSome v.heard → IsPlain c v → IsPlain c (receiving.machine own received v)
+machine_plain c Down Down v heard plain = enters_plain c Init v.diag v plain.diag_below (λ _. heard) plain
+machine_plain c Down Init v heard plain = enters_plain c Up v.diag v plain.diag_below (λ _. heard) plain
+machine_plain c Init Init v heard plain = enters_plain c Up v.diag v plain.diag_below (λ _. heard) plain
+machine_plain c Init Up v heard plain = enters_plain c Up v.diag v plain.diag_below (λ _. heard) plain
+machine_plain c Init AdminDown v heard plain = enters_plain c Down 3 v (omega arith) (λ _. heard) plain
+machine_plain c Up AdminDown v heard plain = enters_plain c Down 3 v (omega arith) (λ _. heard) plain
+machine_plain c Up Down v heard plain = enters_plain c Down 3 v (omega arith) (λ _. heard) plain
+machine_plain c _ _ v heard plain = plain
+
+machine_peer : (own received : State) (v : Vars) → HasPeerMult v → HasPeerMult (receiving.machine own received v)
+machine_peer Down Down v h = record { heard_mult = h.heard_mult; seq_mult = h.seq_mult }
+machine_peer Down Init v h = record { heard_mult = h.heard_mult; seq_mult = h.seq_mult }
+machine_peer Init Init v h = record { heard_mult = h.heard_mult; seq_mult = h.seq_mult }
+machine_peer Init Up v h = record { heard_mult = h.heard_mult; seq_mult = h.seq_mult }
+machine_peer Init AdminDown v h = record { heard_mult = h.heard_mult; seq_mult = h.seq_mult }
+machine_peer Up AdminDown v h = record { heard_mult = h.heard_mult; seq_mult = h.seq_mult }
+machine_peer Up Down v h = record { heard_mult = h.heard_mult; seq_mult = h.seq_mult }
+machine_peer _ _ v h = h
+
+moves_state_steady : (c : Config) (eff : ℕ) (packet : Control) (s : Course) → eff < moment_bound → Taken c s
+    → IsSteady c (receiving.moves_state c eff packet s).vars
+unfolding receiving.moves_state
+moves_state_steady c eff packet s h taken =
+    moves_steady c eff _ s h (machine_plain c s.vars.state packet.state s.vars taken.heard taken.steady.plain)
+    (machine_peer s.vars.state packet.state s.vars taken.steady.peer)
+
+seq_steady : (c : Config) (seq : SeqState) (v : Vars) → IsSteady c v → IsSteady c (record v { seq = seq })
+seq_steady c seq v steady = grind (arith, common_steps)
+
+answers_steady : (c : Config) (packet : Control) (s : Course) → IsSteady c s.vars → IsSteady c (receiving.answers c packet s).vars
+unfolding receiving.answers transmits sends
+answers_steady c packet s steady = choice_steady c packet.poll _ s (seq_steady c _ s.vars steady) steady
+
+accepted_steady : (c : Config) (eff : ℕ) (packet : Control) (seq : SeqState) (s : Course) → eff < moment_bound → Fits packet → IsPlain c s.vars
+    → IsSteady c (receiving.accepted c eff packet seq s).vars
+unfolding receiving.accepted
+accepted_steady c eff packet seq s h fits plain =
+    let taken = kept_taken c eff packet seq s h fits plain in
+    choice_steady c (is_admin_down (receiving.kept c eff packet seq s).vars.state) _ _ taken.steady
+    (answers_steady c packet _ (moves_state_steady c eff packet _ h taken))
+
+received_on_steady : (c : Config) (eff : ℕ) (packet : Control) (judgement : Result SeqState Test) (s : Course) → eff < moment_bound → Fits packet
+    → IsSteady c s.vars → IsSteady c (receiving.received_on c eff packet judgement s).vars
+unfolding receiving.received_on
+received_on_steady c eff packet (Ok seq) s h fits steady = accepted_steady c eff packet seq s h fits steady.plain
+received_on_steady c eff packet (Err test) s h fits steady = steady
+
+-- the header tests leave a Detect Mult that isn't 0
+
+not_zero : (n : ℕ) → (n == 0) ≡ false → 0 < n
+not_zero n h = grind (arith, nat_tests)
+
+some_mult : (port : Port) (payload : List ℕ) → first_failing port payload ≡ None → 0 < (fields_of payload).mult
+some_mult port payload h =
+    let after_short = found_none (header_fails Short payload) _ _ h in
+    let after_version = found_none (header_fails Version payload) _ _ after_short.1 in
+    let after_min = found_none (header_fails LengthMin payload) _ _ after_version.1 in
+    let after_over = found_none (header_fails LengthOver payload) _ _ after_min.1 in
+    not_zero (slice_index payload 2) (found_none (header_fails DetectMult payload) _ _ after_over.1).0
+
+-- commands
+
+path_few : (n : ℕ) → not ((n == 0) || (n == 6) || (n == 8)) ≡ false → n < 32
+path_few n h = grind (arith, nat_tests)
+
+path_plain : (c : Config) (n : ℕ) (v : Vars) → n < 32 → IsPlain c v → IsPlain c (path_done n v)
+path_plain c n v few plain = grind (arith, common_steps)
+
+interval_within : (n : ℕ) → not (is_interval n) ≡ false → (10000 ≤ n) × (n ≤ 60000000)
+interval_within n h = grind (arith, nat_tests)
+
+tx_plain : (c : Config) (n : ℕ) (v : Vars) → (10000 ≤ n) × (n ≤ 60000000) → IsPlain c v → IsPlain c (record v { tx = n })
+tx_plain c n v within plain = grind (arith, common_steps)
+
+rx_plain : (c : Config) (n : ℕ) (v : Vars) → (10000 ≤ n) × (n ≤ 60000000) → IsPlain c v → IsPlain c (record v { rx = n })
+rx_plain c n v within plain = grind (arith, common_steps)
+
+mult_within : (n : ℕ) → not (nat_le 1 n && nat_le n 255) ≡ false → (0 < n) × (n < 256)
+mult_within n h = grind (arith, nat_tests)
+
+mult_plain : (c : Config) (n : ℕ) (v : Vars) → (0 < n) × (n < 256) → IsPlain c v → IsPlain c (record v { mult = n })
+mult_plain c n v within plain = grind (arith, common_steps)
+
+demand_done_plain : (c : Config) (on : Bool) (v : Vars) → IsPlain c v → IsPlain c (demand_done on v)
+demand_done_plain c on v plain = grind (arith, common_steps)
+
+echo_plain : (c : Config) (n : ℕ) (v : Vars) → not (receiving.is_single c.role) ≡ false → not ((n == 0) || is_interval n) ≡ false
+    → IsPlain c v → IsPlain c (record v { echo_every = n })
+echo_plain c n v single range plain = grind (arith, common_steps)
+
+place_by : (keys : List Key) (id other : ℕ) (place : Option ℕ) → place_of id keys ≡ place → is_none place ≡ false
+    → unwrap_or place other < length keys
+place_by keys id other None is there = cc
+place_by keys id other (Some place) is there = (position-Some (λ key. id == key.id) keys place no_key is).0
+
+place_within : (keys : Option KeyChain) (id other : ℕ) → is_none (key_place keys id) ≡ false → IsPlace keys (unwrap_or (key_place keys id) other)
+place_within None id other there = cc
+place_within (Some keys) id other there = place_by keys.list id other (place_of id keys.list) refl there
+
+key_plain : (c : Config) (place : ℕ) (v : Vars) → IsPlace c.keys place → IsPlain c v → IsPlain c (record v { sending = place })
+key_plain c place v h plain = grind (arith, common_steps)
+
+done_plain : (c : Config) (cmd : Cmd) (v : Vars) → is_wrong_kind c cmd ≡ false → is_out_of_range c cmd ≡ false → IsPlain c v
+    → IsPlain c (done c cmd v)
+done_plain c Disable v kind range plain = enters_plain c AdminDown 7 v (omega arith) (λ h. cc) plain
+done_plain c Enable v kind range plain = enters_plain c Down v.diag v plain.diag_below (λ h. cc) plain
+done_plain c Reset v kind range plain = enters_plain c Down 4 v (omega arith) (λ h. cc) plain
+done_plain c (Path n) v kind range plain = path_plain c n v (path_few n range) plain
+done_plain c (Tx n) v kind range plain = tx_plain c n v (interval_within n range) plain
+done_plain c (Rx n) v kind range plain = rx_plain c n v (interval_within n range) plain
+done_plain c (Mult n) v kind range plain = mult_plain c n v (mult_within n range) plain
+done_plain c (Demand n) v kind range plain = demand_done_plain c (n == 1) v plain
+done_plain c (EchoEvery n) v kind range plain = echo_plain c n v kind range plain
+done_plain c (KeyOf n) v kind range plain = key_plain c _ v (place_within c.keys n v.sending range) plain
+
+done_peer : (c : Config) (cmd : Cmd) (v : Vars) → HasPeerMult v → HasPeerMult (done c cmd v)
+done_peer c Disable v h = record { heard_mult = h.heard_mult; seq_mult = h.seq_mult }
+done_peer c Enable v h = record { heard_mult = h.heard_mult; seq_mult = h.seq_mult }
+done_peer c Reset v h = record { heard_mult = h.heard_mult; seq_mult = h.seq_mult }
+done_peer c (Path n) v h = record { heard_mult = h.heard_mult; seq_mult = h.seq_mult }
+done_peer c (Tx n) v h = record { heard_mult = h.heard_mult; seq_mult = h.seq_mult }
+done_peer c (Rx n) v h = record { heard_mult = h.heard_mult; seq_mult = h.seq_mult }
+done_peer c (Mult n) v h = record { heard_mult = h.heard_mult; seq_mult = h.seq_mult }
+done_peer c (Demand n) v h = record { heard_mult = h.heard_mult; seq_mult = h.seq_mult }
+done_peer c (EchoEvery n) v h = record { heard_mult = h.heard_mult; seq_mult = h.seq_mult }
+done_peer c (KeyOf n) v h = record { heard_mult = h.heard_mult; seq_mult = h.seq_mult }
+
+commanded_by : (c : Config) (eff : ℕ) (cmd : Cmd) (s : Course) (o : Option Refusal) → refusal c s.vars cmd ≡ o → eff < moment_bound
+    → IsSteady c s.vars → IsSteady c (if is_some o then s else moves c.discr eff (done c cmd s.vars) s).vars
+commanded_by c eff cmd s (Some refused) is h steady = steady
+commanded_by c eff cmd s None is h steady =
+    let after_kind = found_none (is_wrong_kind c cmd) _ _ is in
+    let after_range = found_none (is_out_of_range c cmd) _ _ after_kind.1 in
+    moves_steady c eff _ s h (done_plain c cmd s.vars after_kind.0 after_range.0 steady.plain) (done_peer c cmd s.vars steady.peer)
+
+commanded_steady : (c : Config) (eff : ℕ) (cmd : Cmd) (s : Course) → eff < moment_bound → IsSteady c s.vars
+    → IsSteady c (commanded c eff cmd s).vars
+unfolding commanded
+commanded_steady c eff cmd s h steady = commanded_by c eff cmd s (refusal c s.vars cmd) refl h steady
+
+-- the whole event
+
+acted_steady : (c : Config) (eff : ℕ) (event : Event) (s : Course) → eff < moment_bound → CanTake (Pair c) event → HasSize event
+    → IsSteady c s.vars → IsSteady c (acted (Pair c) eff event s).vars
+unfolding receiving.received
+acted_steady c eff (Packet arrival) s h takes sized steady =
+    received_on_steady c eff (fields_of arrival.payload) _ s h
+    (record { sized = sized; mult = some_mult arrival.port arrival.payload takes.header }) steady
+acted_steady c eff (Returned sequence) s h takes sized steady = steady
+acted_steady c eff (Command cmd) s h takes sized steady = commanded_steady c eff cmd s h steady
+acted_steady c eff Show s h takes sized steady = steady
+
+stamped_steady : (c : Config) (eff : ℕ) (v : Vars) → eff < moment_bound → IsSteady c v → IsSteady c (record v { at = eff })
+stamped_steady c eff v h steady = grind (arith, common_steps)
+
+sound_after : (c : SessionConfig) (s : Running) (eff : ℕ) (event : Event) → eff < moment_bound → CanTake c event → HasSize event
+    → session.sound_by c s → session.sound_by c (record s { vars = (step c eff event (begun (Some eff) s.vars [])).vars })
+unfolding step
+sound_after (Pair c) s eff event h takes sized sound = record {
+  vars = finish_sound c eff _ h (acted_steady c eff event _ h takes sized
+      (settle_steady c eff eff (begun (Some eff) s.vars []) h (stamped_steady c eff s.vars h sound.vars.steady)));
+  no_echo = sound.no_echo;
+  none_sent = sound.none_sent;
+}
+
+pub own_sound : (s : Running) (eff : ℕ) (event : Event) → eff < moment_bound → CanTake s.config event → HasSize event
+    → session.IsSound s → session.IsSound (next eff event s)
+unfolding next_vars
+own_sound s eff event h takes sized sound = sound_after s.config s eff event h takes sized sound
