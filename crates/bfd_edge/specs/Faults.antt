@@ -1,7 +1,7 @@
 -- Counts of faults, and what a failure says of them.
-use Rattle.std.specs.Prelude.{ℕ, ◌+◌, ◌-◌, ◌^◌, ◌≤◌, min, Result, IsErrOf}
+use Rattle.std.specs.Prelude.{◌≡◌, ℕ, ◌+◌, ◌-◌, ◌^◌, ◌≤◌, min, Result, IsErrOf}
 use Rattle.bfd_edge.specs.declared.fault.Fault.{Fault}
-use Rattle.bfd_edge.specs.declared.fault.Fault.TheVariants.{Failed}
+use Rattle.bfd_edge.specs.declared.fault.Fault.TheVariants.{Failed, Memory}
 
 -- one more, but never above 2^64 - 1
 abbrev pub raised : ℕ → ℕ
@@ -11,7 +11,8 @@ raised count = min (count + 1) (2 ^ 64 - 1)
 abbrev pub Rose : ℕ → ℕ → Type 0
 Rose before now = raised before ≤ now
 
--- the count didn't fall, and the call failed only where it rose
+-- the count didn't fall, the call failed only where it rose, and want of memory is no fault: it leaves the count
 pub record HasCause {T : Type 0} (before now : ℕ) (result : Result T Fault) : Type 0 where
   pub later : before ≤ now
   pub failed : IsErrOf result Failed → Rose before now
+  pub wanted : IsErrOf result Memory → now ≡ before

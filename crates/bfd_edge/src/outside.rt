@@ -18,8 +18,8 @@ pub trait Source {
 
     /// Reads some bytes into `buf`, and answers how many. `Ok(0)` for a buffer that isn't empty is the end.
     ///
-    /// `Failed` comes only where the count of faults rose, and an `Ok` leaves it as it was. After a refusal no byte of the
-    /// source is used up.
+    /// `Failed` comes only where the count of faults rose, and `Ok` and `Memory` leave it as it was. After a refusal no byte
+    /// of the source is used up.
     fn read(&mut self, buf: &mut [u8]) -> Result<usize, Fault>
         ensures bound { ReadsAtMost result buf.new }
         ensures bytes { ReadConsumes (left self.old) (left self.new) result buf.new }
@@ -40,7 +40,7 @@ pub trait Sink {
     /// Takes a front of `piece`, and answers how many bytes that is.
     ///
     /// `Failed` comes only where the count of faults rose, and an `Ok(0)` for a piece that isn't empty is a fault too.
-    /// Any other `Ok` leaves the count as it was. After a refusal no byte was taken.
+    /// Any other `Ok`, and `Memory`, leave the count as it was. After a refusal no byte was taken.
     fn write(&mut self, piece: &[u8]) -> Result<usize, Fault>
         ensures bound { WritesAtMost result piece.now }
         ensures bytes { WriteAppends (taken self.old) (taken self.new) result piece.now }

@@ -29,6 +29,23 @@ impl Write for Broken {
     }
 }
 
+/// A reader that is interrupted at its first call, and then gives its bytes.
+#[derive(Drop)]
+struct Interrupted {
+    bytes: Cursor<&'static [u8]>,
+    came: bool,
+}
+
+impl Read for Interrupted {
+    fn read(&mut self, buf: &mut [u8]) -> io::Result<usize> {
+        if !self.came {
+            self.came = true;
+            return Err(io::Error::from(io::ErrorKind::Interrupted));
+        }
+        self.bytes.read(buf)
+    }
+}
+
 #[test]
 fn memory_source(rt: HostRuntime) -> Result<(), Fail> {
     let alloc = rt.alloc();
@@ -69,6 +86,14 @@ fn adapters(rt: HostRuntime) {
         takes_nothing: false,
     });
     assert_eq!(rt; source.read(&mut buf), Err(Fault::Failed));
+    let mut source = StdSource::make(Interrupted {
+        bytes: Cursor::new(b"xyz".as_slice()),
+        came: false,
+    });
+    assert_eq!(rt; source.read(&mut buf), Err(Fault::Failed), "interrupted");
+    assert_eq!(rt; source.read(&mut buf[..2]), Ok(2), "and no byte is lost");
+    assert_eq!(rt; buf[..2] == b"xy"[..], true);
+    assert_eq!(rt; source.read(&mut buf), Ok(1));
     let mut sink = StdSink::make(Broken {
         takes_nothing: false,
     });

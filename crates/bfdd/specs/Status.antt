@@ -24,3 +24,9 @@ abbrev pub IsDecided : Status → Status → Type 0
 IsDecided Memory wanted = ⊤
 IsDecided WriteFault wanted = wanted ≡ Done
 IsDecided status wanted = status ≡ wanted
+
+-- a fact, but where the status is that of a write that failed, or where a faulty line was told
+abbrev pub UnlessWriting : Status → Type 0 → Type 0
+UnlessWriting WriteFault P = ⊤
+UnlessWriting (BadLine line fault) P = ⊤
+UnlessWriting status P = P

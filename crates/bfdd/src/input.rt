@@ -38,6 +38,7 @@ pub(crate) fn read_all<S: Source>(alloc: Global, source: &mut S) -> Result<Vec<u
     ensures later { S.faults source.old ≤ S.faults source.new }
     ensures calm { IfOk result (λ bytes. S.faults source.new ≡ S.faults source.old) }
     ensures calm_too_large { IsErrOf result InputFault.TooLarge → S.faults source.new ≡ S.faults source.old }
+    ensures calm_memory { IsErrOf result InputFault.Memory → S.faults source.new ≡ S.faults source.old }
 {
     let mut bytes = Vec::new(alloc);
     let mut buf = [0u8; PIECE];

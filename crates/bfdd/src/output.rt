@@ -13,6 +13,7 @@ pub(crate) fn write_all<K: Sink>(sink: &mut K, text: &[u8]) -> Result<(), Fault>
     ensures front { TookFront (K.taken sink.old) (K.taken sink.new) text.now }
     ensures later { K.faults sink.old ≤ K.faults sink.new }
     ensures calm { OnOk result (K.faults sink.new ≡ K.faults sink.old) }
+    ensures calm_memory { IsErrOf result Fault.Memory → K.faults sink.new ≡ K.faults sink.old }
 {
     let mut rest = text;
     'pieces: while !rest.is_empty() {

@@ -7,7 +7,7 @@ ghost use Rattle.bfd_script.specs.Reading.{Lists, script_of};
 ghost use Rattle.bfd_script.specs.Report.{report};
 ghost use Rattle.bfd_script.specs.Sound.{IsScript};
 ghost use Rattle.bfdd.specs.Outside.{ConsumesAtMost, TookFront};
-ghost use Rattle.bfdd.specs.Status.{IsDecided, OnBadLine};
+ghost use Rattle.bfdd.specs.Status.{IsDecided, OnBadLine, UnlessWriting};
 ghost use Rattle.bfdd.specs.Text.{most_bytes, answer_to, complaint_line, status_of};
 ghost use Rattle.bfdd.specs.Words.{is_replay};
 
@@ -29,6 +29,7 @@ fn tell<K: Sink>(alloc: Global, script: Script, sink: &mut K) -> Result<(), Faul
     ensures front { TookFront (K.taken sink.old) (K.taken sink.new) (replayed script) }
     ensures later { K.faults sink.old ≤ K.faults sink.new }
     ensures calm { OnOk result (K.faults sink.new ≡ K.faults sink.old) }
+    ensures calm_memory { IsErrOf result Fault.Memory → K.faults sink.new ≡ K.faults sink.old }
 {
     match replay(alloc, script) {
         Ok(text) => write_all(sink, &text),
@@ -44,6 +45,7 @@ fn complain<K: Sink>(alloc: Global, bad: BadLine, sink: &mut K) -> Result<(), Fa
     ensures front { TookFront (K.taken sink.old) (K.taken sink.new) (complaint_line bad) }
     ensures later { K.faults sink.old ≤ K.faults sink.new }
     ensures calm { OnOk result (K.faults sink.new ≡ K.faults sink.old) }
+    ensures calm_memory { IsErrOf result Fault.Memory → K.faults sink.new ≡ K.faults sink.old }
 {
     match complaint(alloc, bad) {
         Ok(text) => write_all(sink, text.as_bytes()),
@@ -98,11 +100,11 @@ pub fn run<S: Source, K: Sink>(
         TookFront (K.taken sink.old) (K.taken sink.new) (answer_to (script_of false bytes))) }
     ensures at_most { ConsumesAtMost (most_bytes + 1) (S.left source.old) (S.left source.new) }
 
-    // No fault is passed over: where the count of the source rose, the status is ReadFault or Memory.
-    ensures calm_source { result ≢ Status.ReadFault → result ≢ Status.Memory → S.faults source.new ≡ S.faults source.old }
+    // No fault is passed over: where the count of the source rose, the status is ReadFault.
+    ensures calm_source { result ≢ Status.ReadFault → S.faults source.new ≡ S.faults source.old }
 
-    // And a report is whole only where no write failed.
-    ensures calm_sink { result ≡ Status.Done → K.faults sink.new ≡ K.faults sink.old }
+    // And where that of the sink rose, it is WriteFault, or BadLine where the faulty line was being told.
+    ensures calm_sink { UnlessWriting result (K.faults sink.new ≡ K.faults sink.old) }
 
     // Where the source doesn't fail, the text alone decides; a sink that fails can only turn Done into WriteFault.
     ensures decided { is_replay (map (λ word. string_bytes word) words.now) ≡ true
