@@ -12,7 +12,9 @@ COLOURS = {"Up": "#009e73", "Init": "#f0c419", "Down": "#d55e00", "AdminDown": "
 INK = {"Up": "white", "Init": "black", "Down": "white", "AdminDown": "white"}
 CAME, SENT, DROP, POLL, DEMAND, REFUSAL = "#222222", "#0072b2", "#b00020", "#b0479b", "#56b4e9", "#7a4f00"
 MARGIN = 1.35                      # inches for the title, the axis and the legend
+TALLEST = 60                       # inches, however many lanes there are
 MOST_DETAILED = 12                 # with more sessions there are lanes alone
+MOST_WITH_GAPS = 400               # with more, gaps between lanes would flicker
 BAR, BAR_HEIGHT = 0.43, 0.25       # where the bar of states begins in a lane of height 1, from above, and its height
 LEVELS = (0.24, 0.15, 0.06)        # where the reasons of drops stand, one over the other where they would overlap
 
@@ -34,7 +36,7 @@ def draw(lanes, title, since, until, lanes_alone=False):
     """The figure of these lanes between two moments."""
     detailed = len(lanes.lanes) <= MOST_DETAILED and not lanes_alone
     count = len(lanes.lanes) + bool(lanes.strays)
-    height = MARGIN + count * (1.25 if detailed else min(0.24, max(0.045, 14 / count)))
+    height = MARGIN + count * (1.25 if detailed else min(0.24, max(0.045, 14 / count), TALLEST / count))
     figure, axes = plt.subplots(figsize=(12, height))
     scale = Scale(since, until)
     draw_states(axes, scale, lanes, detailed)
@@ -48,9 +50,9 @@ def draw(lanes, title, since, until, lanes_alone=False):
 
 def draw_states(axes, scale, lanes, detailed):
     """The bars of all lanes, one collection a state, so that thousands of lanes are drawn in seconds."""
-    boxes = {state: [] for state in COLOURS}
+    boxes, gap = {state: [] for state in COLOURS}, 0.16 if len(lanes.lanes) <= MOST_WITH_GAPS else 0
     for row, lane in enumerate(lanes.lanes.values()):
-        low, height = (row + BAR, BAR_HEIGHT) if detailed else (row + 0.08, 0.84)
+        low, height = (row + BAR, BAR_HEIGHT) if detailed else (row + gap / 2, 1 - gap)
         for start, end, state in lane.states:
             start, end = max(scale.at(start), scale.since), min(scale.at(end), scale.until)
             if end <= start:
@@ -125,7 +127,8 @@ def grouped(drops, near):
 def finish(figure, axes, scale, lanes, title, detailed, height):
     rows = [label_of(lane.session, detailed) for lane in lanes.lanes.values()] + ["no session"] * bool(lanes.strays)
     step = 1 if detailed else max(1, -(-len(rows) * 13 // int((height - MARGIN) * 72)))
-    axes.set_yticks([row + (BAR + BAR_HEIGHT / 2 if detailed else 0.5) for row in range(0, len(rows), step)], rows[::step], fontsize=9 if detailed else 8)
+    middle = BAR + BAR_HEIGHT / 2 if detailed else 0.5
+    axes.set_yticks([row + middle for row in range(0, len(rows), step)], rows[::step], fontsize=9 if detailed else 8)
     axes.set_ylim(len(rows), 0)
     axes.set_xlim(scale.since, scale.until)
     axes.set_xlabel(scale.name)
@@ -141,7 +144,8 @@ def finish(figure, axes, scale, lanes, title, detailed, height):
     axes.set_title(title, loc="left", fontsize=11)
     figure.tight_layout(rect=(0, 0.3 / height, 1, 1))
     keys = legend_of(lanes, detailed)
-    figure.legend(handles=keys, loc="lower center", ncol=len(keys), fontsize=8.5, frameon=False, columnspacing=1.3, handletextpad=0.5)
+    figure.legend(handles=keys, loc="lower center", ncol=len(keys), fontsize=8.5, frameon=False, columnspacing=1.3,
+                  handletextpad=0.5)
 
 
 def label_of(session, detailed):
