@@ -223,13 +223,19 @@ def script_and_report(told):
     return script, report_of(report, script, told.report or "the report")
 
 
-def run_tool(name, work):
+def tool_name():
+    """The name that a person called: `tools/capture`, or `bfdd-capture` where it is installed."""
+    name = os.path.basename(sys.argv[0])
+    return name if name.startswith("bfdd-") else f"tools/{name}"
+
+
+def run_tool(work):
     """Runs a tool: 0, or 1 with what is wrong on standard error."""
     try:
         work()
         sys.stdout.flush()
     except Complaint as fault:
-        print(f"{name}: {fault}", file=sys.stderr)
+        print(f"{tool_name()}: {fault}", file=sys.stderr)
         sys.exit(1)
     except BrokenPipeError:
         os.dup2(os.open(os.devnull, os.O_WRONLY), 1)
