@@ -1,0 +1,3 @@
+pub mod Moves
+pub mod Ticks
+pub mod Runs
