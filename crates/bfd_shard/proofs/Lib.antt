@@ -1,3 +1,4 @@
 pub mod Moves
 pub mod Ticks
 pub mod Runs
+pub mod Setting

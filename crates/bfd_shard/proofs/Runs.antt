@@ -15,7 +15,7 @@ use Rattle.bfd_shard.specs.declared.entry.ShardEvent.{ShardEvent}
 use Rattle.bfd_shard.specs.declared.entry.ShardEvent.TheVariants.{Own, Tick}
 use Rattle.bfd_shard.specs.declared.entry.Entry.{Entry}
 use Rattle.bfd_shard.specs.History.{events_of, later, last_from, last_tick, after, run_from, run, runs_from, runs, moved, own_moved}
-use Rattle.bfd_shard.specs.Shard.{Shard, IsShard, IsHistory, CanHappen}
+use Rattle.bfd_shard.specs.Shard.{Shard, shard_of, IsShard, IsHistory, CanHappen}
 use Rattle.bfd_shard.proofs.Moves.{session_at, stands_below}
 use Rattle.bfd_shard.proofs.Ticks.{nobody}
 
@@ -153,13 +153,10 @@ history_more : (cs : List SessionConfig) (es : List ShardEvent) (e : ShardEvent)
 history_more cs [] e h can = (can, tt)
 history_more cs (x ∷ es) e h can = (h.0, history_more cs es e h.1 can)
 
-abbrev pub shard : List Running → ℕ → List Entry → ℕ → ℕ → Shard
-shard ss last journal limit room = record { sessions = ss; last = last; journal = journal; limit = limit; room = room }
-
 -- an event leaves a shard
-pub shard_more : (last limit room room2 : ℕ) (entry : Entry) (ss ss2 : List Running) (j : List Entry) → IsShard (shard ss last j limit room)
+pub shard_more : (last limit room room2 : ℕ) (entry : Entry) (ss ss2 : List Running) (j : List Entry) → IsShard (shard_of ss last j limit room)
     → length j < limit → later last entry.event ≤ greatest_tick → CanHappen (configs_of ss) entry.event → ss2 ≡ moved last entry.event ss → AllByRecursion IsSound ss2
-    → IsShard (shard ss2 (later last entry.event) (j ++ entry ∷ []) limit room2)
+    → IsShard (shard_of ss2 (later last entry.event) (j ++ entry ∷ []) limit room2)
 shard_more last limit room room2 entry ss ss2 j s below early can m sound =
     let es : List ShardEvent = events_of j in
     let e : ShardEvent = entry.event in

@@ -22,6 +22,9 @@ pub record Shard : Type 0 where
   pub limit : ℕ
   pub room : ℕ
 
+abbrev pub shard_of : List Running → ℕ → List Entry → ℕ → ℕ → Shard
+shard_of sessions last journal limit room = record { sessions = sessions; last = last; journal = journal; limit = limit; room = room }
+
 -- an own event that the shard may be given: a session stands at its place, and may be handed it
 pub record IsTaken (configs : List SessionConfig) (place : ℕ) (event : Event) : Type 0 where
   pub config : SessionConfig
