@@ -7,11 +7,13 @@ ghost use Rattle.bfd_session.specs.Due.{due as due_tick};
 ghost use Rattle.bfd_session.specs.Kinds.{configs_of};
 ghost use Rattle.bfd_session.specs.Rows.{Ascends, AreFit};
 ghost use Rattle.bfd_session.specs.Step.{IsSound, started};
+ghost use Rattle.bfd_shard.specs.Expired.{IsExact};
 ghost use Rattle.bfd_shard.specs.History.{later, moved, outcome_of};
 ghost use Rattle.bfd_shard.specs.Inside.{MayCome};
 ghost use Rattle.bfd_shard.specs.Shard.{IsShard, IsOwn, IsOver, CanHappen, room_for};
 
 use crate::entry::{Entry, Full, ShardEvent};
+use crate::law::expiry_laws;
 use crate::own::step_at;
 use crate::start::{sessions_of, timers_of};
 use crate::ticking::tick_all;
@@ -106,6 +108,7 @@ impl<W: Timers> ShardState<W> {
         ensures last { IfOk result (λ shard. shard.last ≡ 0) }
         ensures journal { IfOk result (λ shard. shard.journal ≡ []) }
         ensures limit { IfOk result (λ shard. shard.limit ≡ limit) }
+        ensures kept { IfOk result (λ shard. IsShard shard) }
     {
         let sessions = sessions_of(alloc, configs)?;
         let timers = timers_of(alloc, &sessions)?;
@@ -164,6 +167,8 @@ impl<W: Timers> ShardState<W> {
         ensures items { OnOk result (outs.new.items ≡ outs.old.items ++ (outcome_of self.old.last event self.old.sessions).items) }
         ensures answer { IfOk result (λ answer. answer ≡ (outcome_of self.old.last event self.old.sessions).answer) }
         ensures over { OnOk result (IsOver self.new.last event self.new.sessions) }
+        ensures exact { OnOk result (IsExact self.old event self.new.sessions) }
+        ensures kept { IsShard self.new }
         ensures spare { outs.old.spare ≤ outs.new.spare + room_for self.old.sessions event }
         ensures outs_room { outs.new.room ≡ outs.old.room }
         ensures cost { IsOwn event → steps.new ≤ steps.old + 2 }
@@ -171,6 +176,7 @@ impl<W: Timers> ShardState<W> {
         if self.journal.len() == self.limit {
             return Err(Full(self.limit));
         }
+        expiry_laws();
         let (last, answer) = act(
             &mut self.sessions,
             &mut self.timers,

@@ -9,6 +9,8 @@ use Rattle.bfd_session.specs.Step.{IsSound}
 use Rattle.bfd_shard.specs.declared.entry.Entry.{Entry}
 use Rattle.bfd_shard.specs.History.{later, moved}
 use Rattle.bfd_shard.specs.Shard.{Shard, shard_of, IsShard, IsTimed, CanHappen}
+use Rattle.bfd_shard.specs.Expired.{IsExact}
+use Rattle.bfd_shard.proofs.Expiring.{exactly}
 use Rattle.bfd_shard.proofs.Moves.{may_come}
 use Rattle.bfd_shard.proofs.Runs.{shard_more, moved_long, moved_configs}
 use Rattle.bfd_shard.proofs.shard.ShardState.apply.Goals as goal
@@ -49,3 +51,8 @@ returns-clause-configs g c =
     ap configs_of c.act-last.ensures.sessions
     ∙ (moved_configs c.self.inside.last c.args.event c.self.inside.sessions.items
     ∙ ap (λ (s : Shard). configs_of s.sessions) c.self.view_is)
+
+pub returns-clause-exact : goal.returns-clause-exact
+returns-clause-exact g c =
+    subst (λ (s : Shard). IsExact s c.args.event c.act-last.new.sessions.items) c.self.view_is
+    (exactly c.expiry_laws.ensures _ c.args.event c.act-last.new.sessions.items c.self.invariant.shown c.act-last.ensures.sessions)
