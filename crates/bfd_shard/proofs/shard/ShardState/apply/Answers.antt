@@ -56,3 +56,6 @@ pub returns-clause-exact : goal.returns-clause-exact
 returns-clause-exact g c =
     subst (λ (s : Shard). IsExact s c.args.event c.act-last.new.sessions.items) c.self.view_is
     (exactly c.expiry_laws.ensures _ c.args.event c.act-last.new.sessions.items c.self.invariant.shown c.act-last.ensures.sessions)
+
+pub returns-clause-kept : goal.returns-clause-kept
+returns-clause-kept g c = (invariant_of-self g c).shown

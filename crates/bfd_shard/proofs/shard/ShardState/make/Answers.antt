@@ -12,3 +12,6 @@ invariant_of-result g c =
     (g.W.Timers.dues c.in_ok-timers.timers) c.in_ok-ids.ids c.requires.few c.in_ok-sessions.ensures.sessions c.in_ok-sessions.ensures.sound
     c.new.ensures.items (c.in_ok-timers.ensures ∙ ap (map due) c.deref.ensures.value)
     (omega (arith, ap room_of c.in_ok-ids.ensures, c.len.ensures))
+
+pub returns-clause-kept : goal.returns-clause-kept
+returns-clause-kept g c = (invariant_of-result g c).shown
