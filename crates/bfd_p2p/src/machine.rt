@@ -23,7 +23,7 @@ ghost use Rattle.bfd_p2p.specs.Machine as machine;
 use crate::commanding::commands;
 use crate::finishing::finish;
 use crate::frame::moves;
-use crate::receiving::receives;
+use crate::receiving::{accepts, fields, judged};
 use crate::settling::settle;
 use bfd_packet::{Keys, SeqState, State};
 use bfd_rules::{
@@ -181,6 +181,7 @@ impl P2p {
     /// session's port and has M clear. The verdict is the first of the tests Ttl to AdminDown that it fails; one of
     /// the tests Ttl to AuthDigest leaves all as it was, AdminDown comes after the packet's fields were kept. Adds at
     /// most two outputs, and one where no packet with F answers it.
+    #[tactic(auto, unfolding(crate::specs::Receive::received, crate::specs::Receive::received_on))]
     pub fn accept(
         &mut self,
         eff: u64,
@@ -202,7 +203,11 @@ impl P2p {
         ensures spare { outs.old.spare ≤ outs.new.spare + 2 }
         ensures room { outs.new.room ≡ outs.old.room }
     {
-        receives(&self.config, eff, ttl, raw, &mut self.vars, mark, outs)
+        let packet = fields(self.config.role, raw);
+        match judged(&self.config, &self.vars, ttl, &packet, raw) {
+            Ok(seq) => accepts(&self.config, eff, &packet, seq, &mut self.vars, mark, outs),
+            Err(test) => Verdict::Dropped(test),
+        }
     }
 
     /// Does a command, or refuses it by the first of WrongKind, OutOfRange, WrongState and PollBusy that is true of

@@ -52,7 +52,7 @@ fn authenticated(
 }
 
 /// The new sequence state, or the first of the tests Ttl to AuthDigest that the packet fails.
-fn judged(
+pub fn judged(
     config: &Config,
     v: &Vars,
     ttl: u8,
@@ -226,7 +226,7 @@ fn answers(config: &Config, packet: &Control, vars: &mut Vars, mark: &mut Mark, 
 
 /// What a packet that passes the tests does; the test on AdminDown comes after its fields were kept.
 #[tactic(auto, unfolding(crate::specs::Receive::accepted))]
-fn accepts(
+pub fn accepts(
     config: &Config,
     eff: u64,
     packet: &Control,
@@ -268,7 +268,7 @@ pub fn control_port(role: Role) -> Port
 }
 
 /// The fields of a packet that passes its port's header tests.
-fn fields(role: Role, raw: &[u8]) -> Control
+pub fn fields(role: Role, raw: &[u8]) -> Control
     requires { first_failing (port_of role) raw.now ≡ None }
     ensures fields { result ≡ fields_of raw.now }
     ensures mult { result.mult ≢ 0 }
@@ -278,37 +278,5 @@ fn fields(role: Role, raw: &[u8]) -> Control
     match read(control_port(role), raw) {
         Ok(packet) => packet,
         Err(_) => unreachable!(),
-    }
-}
-
-/// Receives a packet that came with this TTL at the effective moment `eff`, in microseconds. `raw` passes the header
-/// tests of the session's port.
-#[tactic(auto, unfolding(crate::specs::Receive::received, crate::specs::Receive::received_on))]
-pub fn receives(
-    config: &Config,
-    eff: u64,
-    ttl: u8,
-    raw: &[u8],
-    vars: &mut Vars,
-    mark: &mut Mark,
-    outs: &mut Outs,
-) -> Verdict
-    requires steady { IsSteady config.now vars.old }
-    requires eff { eff < moment_bound }
-    requires header { first_failing (port_of config.now.role) raw.now ≡ None }
-    requires room { 1 < outs.old.spare }
-    ensures steady { IsSteady config.now vars.new }
-    ensures course { course vars.new mark.new outs.new.items
-        ≡ receive.received config.now eff ttl raw.now (course vars.old mark.old outs.old.items) }
-    ensures verdict { result ≡ receive.verdict_on config.now ttl raw.now vars.old }
-    ensures sized { IsSized (fields_of raw.now) }
-    ensures unanswered { mark.new.answered ≡ false → outs.old.spare ≤ outs.new.spare + 1 }
-    ensures spare { outs.old.spare ≤ outs.new.spare + 2 }
-    ensures room { outs.new.room ≡ outs.old.room }
-{
-    let packet = fields(config.role, raw);
-    match judged(config, vars, ttl, &packet, raw) {
-        Ok(seq) => accepts(config, eff, &packet, seq, vars, mark, outs),
-        Err(test) => Verdict::Dropped(test),
     }
 }

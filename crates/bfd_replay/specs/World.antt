@@ -1,12 +1,17 @@
 -- What the events of a replay give, one after another.
-use Rattle.std.specs.Prelude.{ℕ, max, Option, None, Some, List, [], ◌∷◌, map, length, sum_by, slice_get, slice_set}
+use Rattle.std.specs.Prelude.{ℕ, max, Option, None, Some, Result, Ok, Err, List, [], ◌∷◌, map, length, sum_by, slice_get, slice_set}
 use Rattle.std.specs.List.{filter, flat_map}
+use Rattle.bfd_packet.specs.declared.arrival.Datagram.{Datagram}
+use Rattle.bfd_packet.specs.declared.discard.Test.{Test}
 use Rattle.bfd_rules.specs.declared.outputs.Out.{Out}
+use Rattle.bfd_rules.specs.declared.outputs.Out.TheVariants.{Sent}
+use Rattle.bfd_sbfd.specs.declared.reflecting.Reflector.{Reflector}
+use Rattle.bfd_sbfd.specs.Reflect.{reflect}
 use Rattle.bfd_rules.specs.Quantities.{is_up}
 use Rattle.bfd_session.specs.declared.event.SessionConfig.{SessionConfig}
 use Rattle.bfd_session.specs.declared.event.Event.{Event}
 use Rattle.bfd_session.specs.declared.event.Answer.{Answer}
-use Rattle.bfd_session.specs.declared.event.Answer.TheVariants.{Handled, Ticked}
+use Rattle.bfd_session.specs.declared.event.Answer.TheVariants.{Handled, Ticked, Dropped}
 use Rattle.bfd_session.specs.Kinds.{Running, configs_of}
 use Rattle.bfd_session.specs.Step.{started}
 use Rattle.bfd_session.specs.Alone.{Outcome, stepped, step_outcome, ticked, tick_items}
@@ -15,9 +20,10 @@ use Rattle.bfd_script.specs.Doing.{Doing, Rests, Reflects, Happens, Passes, doin
 use Rattle.bfd_script.specs.Reading.{Lists}
 use Rattle.bfd_script.specs.Report.{sent, dropped, report}
 
--- the sessions by ascending discriminator, and the greatest tick so far
+-- the sessions and the reflectors, each by ascending discriminator, and the greatest tick so far
 pub record World : Type 0 where
   pub sessions : List Running
+  pub pool : List Reflector
   pub last : ℕ
 
 -- an event: the world after it, and what it gave
@@ -25,19 +31,23 @@ pub record Turn : Type 0 where
   pub world : World
   pub outcome : Outcome
 
+-- no line of a file gives a reflector yet
+abbrev pub world_of : List Running → ℕ → World
+world_of sessions last = record { sessions = sessions; pool = []; last = last }
+
+abbrev pub gives : World → List Out → Answer → Turn
+gives w items answer = record { world = w; outcome = record { items = items; answer = answer } }
+
 abbrev pub turned : List Running → ℕ → List Out → Answer → Turn
-turned sessions last items answer = record {
-  world = record { sessions = sessions; last = last };
-  outcome = record { items = items; answer = answer };
-}
+turned sessions last items answer = gives (world_of sessions last) items answer
 
 -- the world at the start
 abbrev pub opened : List SessionConfig → World
-opened configs = record { sessions = map started configs; last = 0 }
+opened configs = world_of (map started configs) 0
 
 -- an event that changes no session, and has this answer
 abbrev pub rests : Answer → World → Turn
-rests answer w = record { world = w; outcome = record { items = []; answer = answer } }
+rests answer w = gives w [] answer
 
 -- an own event of the session at this place, and of no other
 abbrev pub own_of : Option Running → ℕ → ℕ → Event → World → Turn
@@ -55,20 +65,26 @@ unfoldable pub ticks : ℕ → World → Turn
 ticks t w =
     let last : ℕ = max w.last t in
     record {
-      world = record { sessions = map (ticked last) w.sessions; last = last };
+      world = record w { sessions = map (ticked last) w.sessions; last = last };
       outcome = record { items = flat_map (tick_items last) w.sessions; answer = Ticked };
     }
 
--- what a line that comes to this does (reflectors aren't built: no table has one)
+-- a reflector's answer is sent in its name, or a test of the reflectors' port discards the packet (RFC 7880 section 7.2)
+abbrev pub reflected : Option Reflector → Result Datagram Test → World → Turn
+reflected reflector (Err test) w = rests (Dropped test) w
+reflected None (Ok datagram) w = rests Handled w
+reflected (Some reflector) (Ok datagram) w = gives w (Sent reflector.discr datagram ∷ []) Handled
+
+-- what a line that comes to this does
 abbrev pub done : Doing → World → Turn
 done (Rests answer) w = rests answer w
-done (Reflects place arrival) w = rests Handled w
+done (Reflects place arrival) w = reflected (slice_get w.pool place) (reflect w.pool arrival) w
 done (Happens place moment event) w = own place moment event w
 done (Passes t) w = ticks t w
 
 -- a line of a script
 abbrev pub happens : Line → World → Turn
-happens line w = done (doing (configs_of w.sessions) line) w
+happens line w = done (doing (configs_of w.sessions) w.pool line) w
 
 -- what the lines give, one after another
 abbrev pub outcomes : List Line → World → List Outcome

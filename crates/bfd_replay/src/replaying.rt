@@ -1,13 +1,13 @@
 //! A world of sessions, and the replay of a script.
-ghost use Rattle.std.specs.Prelude.{◌≡◌, ◌<◌, ◌≤◌, ◌+◌, ◌*◌, ◌++◌, ℕ, true, IfOk, length, map, string_bytes, sum_by};
+ghost use Rattle.std.specs.Prelude.{◌≡◌, ◌<◌, ◌≤◌, ◌+◌, ◌*◌, ◌++◌, ℕ, true, IfOk, [], length, map, string_bytes, sum_by};
 ghost use Rattle.std.specs.List.{AllByRecursion};
-ghost use Rattle.bfd_session.specs.Rows.{AreFit, rows_of as rows_list};
+ghost use Rattle.bfd_session.specs.Rows.{AreFit, table_of};
 ghost use Rattle.bfd_session.specs.Step.{started as started_of};
 ghost use Rattle.bfd_script.specs.Reading.{is_built_line};
 ghost use Rattle.bfd_script.specs.Report.{sent_by, dropped_by, done_line, report};
 ghost use Rattle.bfd_script.specs.Sound.{AreConfigs, IsScript};
 ghost use Rattle.bfd_replay.specs.Stage.{IsStage};
-ghost use Rattle.bfd_replay.specs.World.{turned};
+ghost use Rattle.bfd_replay.specs.World.{gives, turned};
 ghost use Rattle.bfd_replay.specs.World as world;
 
 use crate::world::happen;
@@ -29,11 +29,12 @@ struct Progress {
 }
 
 impl Model for Progress {
+    ghost use Rattle.std.specs.Prelude.{[]};
     ghost use Rattle.bfd_replay.specs.Stage.{Stage, IsStage};
 
     ghost Value = { Stage };
 
-    ghost view = { λ r. record { world = record { sessions = r.sessions.items; last = r.last }; items = r.outs.items } };
+    ghost view = { λ r. record { world = record { sessions = r.sessions.items; pool = []; last = r.last }; items = r.outs.items } };
 
     ghost invariant = { λ r. IsStage r.sessions.items r.demux r.last r.outs };
 }
@@ -51,10 +52,10 @@ fn started(alloc: Global, configs: Vec<SessionConfig>) -> Result<Vec<Session>, A
 }
 
 /// The table of the sessions, which have no fault.
-#[tactic(auto, using(bfd_session::proofs::Tables::no_fault))]
+#[tactic(auto, using(bfd_session::proofs::Tables::no_fault, bfd_session::proofs::Tables::alone))]
 fn table(alloc: Global, configs: &[SessionConfig]) -> Result<Demux, AllocError>
     requires { AreConfigs configs.now }
-    ensures { IfOk result (λ demux. demux ≡ rows_list configs.now) }
+    ensures { IfOk result (λ demux. demux ≡ table_of configs.now []) }
 {
     let rows = rows_of(alloc, configs)?;
     match Demux::build(alloc, &rows) {
@@ -76,7 +77,7 @@ fn turn(
     requires stage { IsStage sessions.old.items demux.now last outs.old }
     requires built { is_built_line line ≡ true }
     ensures turn { turned sessions.new.items result.0 outs.new.items result.1
-        ≡ world.happens line (record { sessions = sessions.old.items; last = last }) }
+        ≡ world.happens line (world.world_of sessions.old.items last) }
     ensures stage { IsStage sessions.new.items demux.now result.0 outs.new }
 {
     outs.clear();
@@ -103,7 +104,7 @@ impl Progress {
     /// One event: what it gave is in the outputs and the answer.
     fn happen(&mut self, line: Line) -> Answer
         requires { is_built_line line ≡ true }
-        ensures { turned self.new.world.sessions self.new.world.last self.new.items result ≡ world.happens line self.old.world }
+        ensures { gives self.new.world self.new.items result ≡ world.happens line self.old.world }
     {
         let (last, answer) = turn(
             &mut self.sessions,

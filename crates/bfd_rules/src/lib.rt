@@ -5,7 +5,7 @@
 //! It stands on `bfd_num` and `bfd_packet`. Variables are plain records, so each quantity and each rule is a
 //! function of them, by a definition in `specs/`. It promises that every quantity is its definition, that no
 //! sum overflows for sound variables, and that the rules of renewal, which every other rule is followed by,
-//! keep variables steady. No call but `Outs::make` is refused.
+//! keep variables steady. No call but `Outs::make` and `Outs::take` is refused.
 #![tactic(auto)]
 
 mod commands;

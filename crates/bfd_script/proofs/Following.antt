@@ -5,7 +5,7 @@ use Rattle.bfd_session.specs.Rows.{Ascends, row_of, same_selector, Differs}
 use Rattle.bfd_session.specs.declared.event.SessionConfig.{SessionConfig}
 use Rattle.bfd_session.specs.Kinds.{discr_of}
 use Rattle.bfd_script.proofs.Elements.{each_more, each_to}
-use Rattle.bfd_script.proofs.Inserting.{kind_turned}
+use Rattle.bfd_session.proofs.Tables.{same_turned}
 
 -- each session before is below this one, and has other selecting addresses
 pub record Follows (done : List SessionConfig) (c : SessionConfig) : Type 0 where
@@ -29,7 +29,7 @@ before_above : (c : SessionConfig) (cs : List SessionConfig) (d : SessionConfig)
 before_above c cs d h = h.below.0
 
 before_apart : (c : SessionConfig) (cs : List SessionConfig) (d : SessionConfig) → AllBefore d (c ∷ cs) → same_selector c d ≡ false
-before_apart c cs d h = kind_turned (row_of c).kind (row_of d).kind ∙ h.apart.0
+before_apart c cs d h = same_turned (row_of c).kind (row_of d).kind ∙ h.apart.0
 
 -- so it is in a table that ascends and differs
 pub ready : (done cs : List SessionConfig) → AllByRecursion (λ d. AllBefore d cs) done → Ascends cs → Differs cs → Ready done cs

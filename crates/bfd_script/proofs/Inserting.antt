@@ -12,14 +12,13 @@ use Rattle.bfd_packet.specs.declared.arrival.Addr.{Addr}
 use Rattle.bfd_session.specs.declared.event.SessionConfig.{SessionConfig}
 use Rattle.bfd_session.specs.Kinds.{discr_of}
 use Rattle.bfd_session.specs.Step.{IsFit}
-use Rattle.bfd_packet.proofs.Turned.{number_turned, addr_turned}
 use Rattle.bfd_rules.specs.declared.config.Role.{Role}
 use Rattle.bfd_rules.specs.declared.config.Role.TheVariants as roles
 use Rattle.bfd_demux.specs.declared.row.RowKind.{RowKind}
-use Rattle.bfd_demux.specs.declared.row.RowKind.TheVariants.{Single, Multi, Seek, Reflect, Head, Tail}
 use Rattle.bfd_demux.specs.contracts.row.RowKindOrd.TheImpl as kinds
 use Rattle.bfd_demux.specs.Rows.{has_addresses, same_selector as same_kind}
 use Rattle.bfd_demux.proofs.AlikeRows.{selector_level}
+use Rattle.bfd_session.proofs.Tables.{same_turned}
 use Rattle.bfd_session.specs.declared.event.SessionConfig.TheVariants.{Pair}
 use Rattle.bfd_script.specs.Reading.{is_built}
 use Rattle.bfd_script.specs.Rows.{has_discr, has_place, has_selector, inserted, by_discr}
@@ -95,16 +94,6 @@ pub any_inserted : (test : SessionConfig → Bool) (c : SessionConfig) (cs : Lis
 any_inserted test c [] = refl
 any_inserted test c (d ∷ ds) = any_cond test (nat_lt (discr_of c) (discr_of d)) c d ds (inserted c ds) (any_inserted test c ds)
 
--- the same selecting addresses are the same either way round
-pub kind_turned : (a b : RowKind) → same_kind a b ≡ same_kind b a
-kind_turned (Single i l r) (Single i' l' r') = rw (number_turned i i', addr_turned l l', addr_turned r r') refl
-kind_turned (Multi l r) (Multi l' r') = rw (addr_turned l l', addr_turned r r') refl
-kind_turned (Tail d i g s) (Tail d' i' g' s') = rw (number_turned d d', number_turned i i', addr_turned g g', addr_turned s s') refl
-kind_turned Seek (Single i l r) = refl
-kind_turned Reflect (Single i l r) = refl
-kind_turned Head (Single i l r) = refl
-kind_turned a b = refl
-
 -- a session's kind compares Equal where it has the same selecting addresses
 kind_addressed : (role : Role) (iface : ℕ) (local remote : Addr) → has_addresses (kind_of role iface local remote) ≡ true
 kind_addressed roles.Single iface local remote = refl
@@ -114,7 +103,7 @@ row_addressed : (c : SessionConfig) → has_addresses (row_of c).kind ≡ true
 row_addressed (Pair c) = kind_addressed c.role c.iface c.local c.remote
 
 kind_level : (c : SessionConfig) (q : RowKind) → is_eq (kinds.ghosts.cmp (row_of c).kind q) ≡ same_kind q (row_of c).kind
-kind_level c q = selector_level (row_of c).kind q (row_addressed c) ∙ kind_turned (row_of c).kind q
+kind_level c q = selector_level (row_of c).kind q (row_addressed c) ∙ same_turned (row_of c).kind q
 
 or_step : (at same old has : Bool) → at ≡ same → old ≡ has → cond at true old ≡ (same || has)
 or_step at true old has e f = rw e refl
@@ -177,7 +166,7 @@ differs_cond : (less : Bool) (c d : SessionConfig) (ds : List SessionConfig)
     → AllByRecursion (λ x. same_selector c x ≡ false) (d ∷ ds) → Differs (d ∷ ds) → Differs (inserted c ds) → Differs (cond less (c ∷ d ∷ ds) (d ∷ inserted c ds))
 differs_cond true c d ds new all more = (new, all)
 differs_cond false c d ds new all more =
-    (each_inserted (λ x. same_selector d x ≡ false) c ds (kind_turned (row_of d).kind (row_of c).kind ∙ new.0) all.0, more)
+    (each_inserted (λ x. same_selector d x ≡ false) c ds (same_turned (row_of d).kind (row_of c).kind ∙ new.0) all.0, more)
 
 differs_inserted : (c : SessionConfig) (cs : List SessionConfig) → AllByRecursion (λ x. same_selector c x ≡ false) cs → Differs cs → Differs (inserted c cs)
 differs_inserted c [] new all = (tt, tt)

@@ -1,14 +1,15 @@
--- What an event line comes to, of the configurations alone: no variable of a session has a part in it.
+-- What an event line comes to, of the configurations and the pool alone: no variable of a session has a part in it.
 use Rattle.std.specs.Prelude.{ℕ, Option, None, Some, List}
 use Rattle.bfd_packet.specs.declared.arrival.Arrival.{Arrival}
 use Rattle.bfd_rules.specs.declared.commands.Refusal.TheVariants.{UnknownSession}
+use Rattle.bfd_sbfd.specs.declared.reflecting.Reflector.{Reflector}
 use Rattle.bfd_session.specs.declared.event.SessionConfig.{SessionConfig}
 use Rattle.bfd_session.specs.declared.event.Event.{Event}
 use Rattle.bfd_session.specs.declared.event.Event.TheVariants.{Command, Show as Showing}
 use Rattle.bfd_session.specs.declared.event.Answer.{Answer}
 use Rattle.bfd_session.specs.declared.event.Answer.TheVariants.{Dropped, Refused}
 use Rattle.bfd_session.specs.Arrivals.{Coming, Discarded, Reflected, Own, comes_to}
-use Rattle.bfd_session.specs.Rows.{rows_of, place_of}
+use Rattle.bfd_session.specs.Rows.{table_of, place_of}
 use Rattle.bfd_script.specs.declared.entries.Line.{Line}
 use Rattle.bfd_script.specs.declared.entries.Line.TheVariants.{Rx, Tick, Cmd, Show}
 
@@ -32,8 +33,8 @@ asking moment event None = Rests (Refused UnknownSession)
 asking moment event (Some place) = Happens place moment event
 
 -- what an event line comes to
-abbrev pub doing : List SessionConfig → Line → Doing
-doing configs (Rx moment arrival) = arriving moment arrival (comes_to (rows_of configs) arrival)
-doing configs (Tick t) = Passes t
-doing configs (Cmd moment discr cmd) = asking moment (Command cmd) (place_of discr configs)
-doing configs (Show moment discr) = asking moment Showing (place_of discr configs)
+abbrev pub doing : List SessionConfig → List Reflector → Line → Doing
+doing configs pool (Rx moment arrival) = arriving moment arrival (comes_to (table_of configs pool) arrival)
+doing configs pool (Tick t) = Passes t
+doing configs pool (Cmd moment discr cmd) = asking moment (Command cmd) (place_of discr configs)
+doing configs pool (Show moment discr) = asking moment Showing (place_of discr configs)

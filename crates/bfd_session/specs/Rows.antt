@@ -1,12 +1,13 @@
--- The rows by which arrivals are told, one for each session.
-use Rattle.std.specs.Prelude.{◌≡◌, ◌<◌, ◌==◌, ℕ, Bool, false, Option, List, [], ◌∷◌, map, position}
+-- The rows by which arrivals are told, one for each session and each reflector.
+use Rattle.std.specs.Prelude.{◌≡◌, ◌<◌, ◌==◌, ℕ, Bool, false, Option, List, [], ◌∷◌, ◌++◌, map, position}
 use Rattle.std.specs.List.{AllByRecursion}
 use Rattle.bfd_packet.specs.declared.arrival.Addr.{Addr}
 use Rattle.bfd_rules.specs.declared.config.Role.{Role}
 use Rattle.bfd_rules.specs.declared.config.Role.TheVariants.{Single, Multi}
+use Rattle.bfd_sbfd.specs.declared.reflecting.Reflector.{Reflector}
 use Rattle.bfd_demux.specs.declared.row.Row.{Row}
 use Rattle.bfd_demux.specs.declared.row.RowKind.{RowKind}
-use Rattle.bfd_demux.specs.declared.row.RowKind.TheVariants.{Single as SingleRow, Multi as MultiRow}
+use Rattle.bfd_demux.specs.declared.row.RowKind.TheVariants.{Single as SingleRow, Multi as MultiRow, Reflect as ReflectRow}
 use Rattle.bfd_demux.specs.Rows.{same_addresses}
 use Rattle.bfd_session.specs.declared.event.SessionConfig.{SessionConfig}
 use Rattle.bfd_session.specs.declared.event.SessionConfig.TheVariants.{Pair}
@@ -25,6 +26,14 @@ row_of (Pair c) = record { discr = c.discr; kind = kind_of c.role c.iface c.loca
 -- the rows of sessions, in their order
 abbrev pub rows_of : List SessionConfig → List Row
 rows_of configs = map row_of configs
+
+-- the row of a reflector (RFC 7880 section 7.2)
+abbrev pub row_of_reflector : Reflector → Row
+row_of_reflector reflector = record { discr = reflector.discr; kind = ReflectRow }
+
+-- the table of sessions and of a pool of reflectors
+abbrev pub table_of : List SessionConfig → List Reflector → List Row
+table_of configs pool = rows_of configs ++ map row_of_reflector pool
 
 -- two sessions have the same selecting addresses: a packet without Your Discriminator can't tell them apart (RFC 5881
 -- section 3, RFC 5883 section 4)

@@ -94,7 +94,8 @@ fn acts(p: &mut P2p, eff: u64, event: &Event, mark: &mut Mark, outs: &mut Outs) 
     }
 }
 
-/// An own event, from what was put out before it.
+/// An own event, from what was put out before it. At most two outputs are those of settling, and two of the event and its
+/// end together: a packet with F tells the state, so nothing more is told.
 #[tactic(auto, unfolding(crate::specs::Step::step))]
 fn runs(p: &mut P2p, eff: u64, event: &Event, outs: &mut Outs) -> Answer
     requires eff { eff < moment_bound }
@@ -107,7 +108,7 @@ fn runs(p: &mut P2p, eff: u64, event: &Event, outs: &mut Outs) -> Answer
     ensures answer { result ≡ session.answer_of (Pair p.old.config) event.now
         (session.settled (Pair p.old.config) eff eff (begun (Some eff) p.old.vars outs.old.items)).vars }
     ensures sound { IsSound p.new.config p.new.vars }
-    ensures spare { outs.old.spare ≤ outs.new.spare + 5 }
+    ensures spare { outs.old.spare ≤ outs.new.spare + 4 }
     ensures room { outs.new.room ≡ outs.old.room }
 {
     let mut mark = p.begin(Some(eff));
@@ -127,7 +128,7 @@ pub fn steps(p: &mut P2p, eff: u64, event: &Event, outs: &mut Outs) -> Answer
     ensures outs { outs.new.items ≡ outs.old.items ++ session.emits eff event.now (pair_of p.old) }
     ensures answer { result ≡ session.reply eff event.now (pair_of p.old) }
     ensures sound { IsSound p.new.config p.new.vars }
-    ensures spare { outs.old.spare ≤ outs.new.spare + 5 }
+    ensures spare { outs.old.spare ≤ outs.new.spare + 4 }
     ensures room { outs.new.room ≡ outs.old.room }
 {
     runs(p, eff, event, outs)
@@ -138,13 +139,13 @@ pub fn steps(p: &mut P2p, eff: u64, event: &Event, outs: &mut Outs) -> Answer
 fn passes(p: &mut P2p, limit: u64, eff: u64, outs: &mut Outs)
     requires sound { IsSound p.old.config p.old.vars }
     requires eff { eff < moment_bound }
-    requires room { 5 ≤ outs.old.spare }
+    requires room { 3 ≤ outs.old.spare }
     ensures config { p.new.config ≡ p.old.config }
     ensures vars { p.new.vars ≡ (session.tick (Pair p.old.config) limit eff (begun None p.old.vars outs.old.items)).vars }
     ensures outs { outs.new.items ≡ (session.tick (Pair p.old.config) limit eff (begun None p.old.vars outs.old.items)).outs }
     ensures over { limit ≤ eff → IsOver limit p.new.vars }
     ensures sound { IsSound p.new.config p.new.vars }
-    ensures spare { outs.old.spare ≤ outs.new.spare + 5 }
+    ensures spare { outs.old.spare ≤ outs.new.spare + 3 }
     ensures room { outs.new.room ≡ outs.old.room }
 {
     let mut kept = p.begin(None);
@@ -156,12 +157,12 @@ fn passes(p: &mut P2p, limit: u64, eff: u64, outs: &mut Outs)
 pub fn ticks(p: &mut P2p, limit: u64, eff: u64, outs: &mut Outs)
     requires sound { IsSound p.old.config p.old.vars }
     requires eff { eff < moment_bound }
-    requires room { 5 ≤ outs.old.spare }
+    requires room { 3 ≤ outs.old.spare }
     ensures session { pair_of p.new ≡ session.tick_next limit eff (pair_of p.old) }
     ensures outs { outs.new.items ≡ outs.old.items ++ session.tick_emits limit eff (pair_of p.old) }
     ensures over { (t : ℕ) → limit ≡ 1000 * t → limit ≤ eff → has_come t (due.due (pair_of p.new)) ≡ false }
     ensures sound { IsSound p.new.config p.new.vars }
-    ensures spare { outs.old.spare ≤ outs.new.spare + 5 }
+    ensures spare { outs.old.spare ≤ outs.new.spare + 3 }
     ensures room { outs.new.room ≡ outs.old.room }
 {
     passes(p, limit, eff, outs);

@@ -1,0 +1,9 @@
+pub mod Still
+pub mod Drawing
+pub mod Searching
+pub mod Ladder
+pub mod Front
+pub mod Rest
+pub mod Soundness
+pub mod Naming
+pub mod Expiry

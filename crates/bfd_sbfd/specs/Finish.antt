@@ -1,0 +1,13 @@
+-- How an event ends: a change that the reflector hasn't been told is told, and the next due tick is drawn.
+use Rattle.std.specs.Prelude.{ℕ, true, if◌then◌else◌}
+use Rattle.bfd_rules.specs.Course.{Course, is_untold, based, redrawn}
+use Rattle.bfd_sbfd.specs.declared.config.SeekConfig.{SeekConfig}
+use Rattle.bfd_sbfd.specs.Transmit.{transmits}
+
+-- a changed state or diagnostic is told at once by one packet, unless none may be sent (RFC 5880 section 6.8.7)
+unfoldable pub extra : SeekConfig → ℕ → Course → Course
+extra c eff s = if is_untold true s.mark s.vars then based eff (transmits c s) else s
+
+-- and then the due tick is drawn, as the event leaves it
+unfoldable pub finish : SeekConfig → ℕ → Course → Course
+finish c eff s = redrawn true (extra c eff s)

@@ -1,0 +1,13 @@
+-- How one rule that may change the state or an interval changes an initiator.
+use Rattle.std.specs.Prelude.{ℕ}
+use Rattle.bfd_rules.specs.declared.variables.Vars.{Vars}
+use Rattle.bfd_rules.specs.Quantities.{adv_tx}
+use Rattle.bfd_rules.specs.Course.{Course, changes}
+
+-- without Poll Sequences the advertised interval is used at once
+abbrev pub in_use : Vars → Vars
+in_use v = record v { used_tx = adv_tx v }
+
+-- the rule makes v of the variables, and a new state is told
+unfoldable pub moves : ℕ → Vars → Course → Course
+moves discr v s = changes discr (in_use v) s

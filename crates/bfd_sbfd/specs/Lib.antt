@@ -1,0 +1,12 @@
+pub mod Waiting
+pub mod Sound
+pub mod Frame
+pub mod Transmit
+pub mod Settle
+pub mod Receive
+pub mod Command
+pub mod Finish
+pub mod Machine
+pub mod Over
+pub mod Names
+pub mod Reflect
