@@ -1,16 +1,16 @@
 //! A shard.
-ghost use Rattle.std.specs.Prelude.{ℕ, ◌≡◌, ◌+◌, ◌<◌, ◌≤◌, ◌++◌, ◌∷◌, [], IfErr, IfOk, OnErr, OnOk, length, map};
+ghost use Rattle.std.specs.Prelude.{ℕ, ◌≡◌, ◌+◌, ◌<◌, ◌≤◌, ◌++◌, ◌∷◌, [], IfErr, IfOk, OnErr, OnOk, IsTrue, ◌↔◌, length, map};
 ghost use Rattle.std.specs.List.{AllByRecursion};
 ghost use Rattle.bfd_num.specs.Numbers.{greatest_tick};
 ghost use Rattle.bfd_lanes.specs.Held.{room_of};
 ghost use Rattle.bfd_session.specs.Due.{due as due_tick};
 ghost use Rattle.bfd_session.specs.Kinds.{configs_of};
-ghost use Rattle.bfd_session.specs.Rows.{Ascends, AreFit};
+ghost use Rattle.bfd_session.specs.Rows.{AreFit};
 ghost use Rattle.bfd_session.specs.Step.{IsSound, started};
 ghost use Rattle.bfd_shard.specs.Expired.{IsExact};
 ghost use Rattle.bfd_shard.specs.History.{later, moved, outcome_of};
 ghost use Rattle.bfd_shard.specs.Inside.{MayCome};
-ghost use Rattle.bfd_shard.specs.Shard.{IsShard, IsOwn, IsOver, CanHappen, room_for};
+ghost use Rattle.bfd_shard.specs.Shard.{IsShard, IsTaken, IsOwn, IsOver, CanHappen, room_for};
 
 use crate::entry::{Entry, Full, ShardEvent};
 use crate::law::expiry_laws;
@@ -20,7 +20,7 @@ use crate::ticking::tick_all;
 use bfd_lanes::Ids;
 use bfd_num::{Steps, Tick};
 use bfd_rules::Outs;
-use bfd_session::{Answer, Session, SessionConfig};
+use bfd_session::{Answer, Event, Session, SessionConfig};
 use bfd_wheel::Timers;
 use std::alloc::{AllocError, Global};
 use std::marker::Model;
@@ -96,14 +96,22 @@ fn act<W: Timers, L: Ledger>(
     }
 }
 
+/// Whether a session stands at the place that takes the event.
+fn takes_at(sessions: &[Session], place: u32, event: &Event) -> bool
+    ensures { IsTrue result ↔ IsTaken (configs_of sessions.now) place event.now }
+{
+    match sessions.get(place as usize) {
+        Some(session) => session.takes(event),
+        None => false,
+    }
+}
+
 impl<W: Timers> ShardState<W> {
-    /// A shard of the sessions with these configurations, at most 65,536, each within its ranges, ascending and distinct by
-    /// discriminator: all stand at the start, the last tick is 0, and the journal is empty and takes `limit` entries. It is
-    /// refused only for want of memory.
+    /// A shard of the sessions with these configurations, at most 65,536 and each within its ranges: all stand at the start,
+    /// the last tick is 0, and the journal is empty and takes `limit` entries. It is refused only for want of memory.
     pub fn make(alloc: Global, configs: Vec<SessionConfig>, limit: usize) -> Result<ShardState<W>, AllocError>
         requires few { length configs.items ≤ 65536 }
         requires fit { AreFit configs.items }
-        requires ascends { Ascends configs.items }
         ensures sessions { IfOk result (λ shard. shard.sessions ≡ map started configs.items) }
         ensures last { IfOk result (λ shard. shard.last ≡ 0) }
         ensures journal { IfOk result (λ shard. shard.journal ≡ []) }
@@ -121,6 +129,17 @@ impl<W: Timers> ShardState<W> {
             limit,
             ids,
         })
+    }
+
+    /// Whether the event may be applied: a tick always may, and an own event where a session stands at its place that takes
+    /// it.
+    pub fn takes(&self, event: &ShardEvent) -> bool
+        ensures { IsTrue result ↔ CanHappen (configs_of self.now.sessions) event.now }
+    {
+        match event {
+            ShardEvent::Own { place, event, .. } => takes_at(&self.sessions, *place, event),
+            ShardEvent::Tick(_) => true,
+        }
     }
 
     /// Makes room for one entry more in the journal, where it is below its limit; nothing else changes. It is refused only
