@@ -103,11 +103,11 @@ fn fills<W: Timers, L: Ledger, R: Abort>(
 ) -> Option<()> {
     play(shard, question(3, 2500)?, outs, steps)?.ok()?;
     assert_eq!(*rt; seen(shard, 3), (1, 0, 2500));
-    for event in [question(3, 9000)?, tick(9)?] {
-        assert_eq!(*rt; play(shard, event, outs, steps), Some(Err(Full(1))));
-        assert_eq!(*rt; seen(shard, 3), (1, 0, 2500));
-        assert_eq!(*rt; outs.items().len(), 0);
-    }
+    let again = play(shard, question(3, 9000)?, outs, steps);
+    assert_eq!(*rt; again, Some(Err(Full(1))));
+    assert_eq!(*rt; play(shard, tick(9)?, outs, steps), Some(Err(Full(1))));
+    assert_eq!(*rt; seen(shard, 3), (1, 0, 2500));
+    assert_eq!(*rt; outs.items().len(), 0);
     Some(())
 }
 
@@ -121,7 +121,10 @@ fn goes_back<W: Timers, L: Ledger, R: Abort>(
 ) -> Option<()> {
     // a Down session sends within its first second: three of the four are active
     for (t, sent) in [(2000, 3), (1000, 0), (2000, 0)] {
-        assert_eq!(*rt; play(shard, tick(t)?, outs, steps), Some(Ok(Answer::Ticked)));
+        assert_eq!(*rt;
+            play(shard, tick(t)?, outs, steps),
+            Some(Ok(Answer::Ticked))
+        );
         assert_eq!(*rt; outs.items().len(), sent, "at {t}");
         assert_eq!(*rt; seen(shard, 2).1, 2000, "at {t}");
     }
@@ -365,7 +368,11 @@ fn copied<R: Abort>(rt: &R, alloc: Global, journal: &[Entry]) -> Result<usize, A
 }
 
 /// The rows and the drawn events on one form of timers.
-fn on_form<W: Timers, L: Ledger, R: Abort>(rt: &R, alloc: Global, steps: &mut Steps<L>) -> Result<(), AllocError> {
+fn on_form<W: Timers, L: Ledger, R: Abort>(
+    rt: &R,
+    alloc: Global,
+    steps: &mut Steps<L>,
+) -> Result<(), AllocError> {
     let mut outs = Outs::make(alloc, 25)?;
     let mut shard = ShardState::<W>::make(alloc, configs(alloc)?, 1)?;
     assert!(*rt; fills(rt, &mut shard, &mut outs, steps).is_some());
