@@ -155,8 +155,8 @@ impl<W: Timers> ShardState<W> {
         }
     }
 
-    /// Makes room for one entry more in the journal, where it is below its limit; nothing else changes. It is refused only
-    /// for want of memory, and then nothing changes at all.
+    /// Makes room for one entry more in the journal, where it is below its limit. Nothing else changes, also where it is
+    /// refused, which it is only for want of memory.
     pub fn prepare(&mut self) -> Result<(), AllocError>
         ensures ready { OnOk result (length self.new.journal < self.new.limit → 0 < self.new.room) }
         ensures sessions { self.new.sessions ≡ self.old.sessions }
