@@ -1,5 +1,5 @@
 -- The script is one that the grammar gives.
-use Rattle.std.proofs.Common.{◌≡◌, ◌<◌, ◌≤◌, ◌+◌, ◌*◌, ◌/◌, ◌-◌, ◌%◌, ◌==◌, ◌++◌, ◌&&◌, ◌^◌, ◌∙◌, ℕ, zero, suc, Bool, true, false, cond, List, [], ◌∷◌, length, map, refl, ap, sym, subst, arith, length-append, not}
+use Rattle.std.proofs.Common.{◌≡◌, ◌<◌, ◌≤◌, ◌+◌, ◌*◌, ◌%◌, ◌==◌, ◌&&◌, ◌∙◌, ℕ, zero, suc, Bool, true, false, cond, List, [], ◌∷◌, length, map, refl, ap, sym, subst, arith, length-append, not}
 use Rattle.std.proofs.lemmas.List.{length-map}
 use Rattle.std.proofs.Math.Nat.{mod-lt}
 use Rattle.std.proofs.lemmas.Bool.Decides.{nat_tests}
@@ -7,7 +7,7 @@ use Rattle.std.proofs.lemmas.List.FromFn.{length-map-range_with_len}
 use Rattle.std.specs.List.{AllByRecursion, filter, flat_map, range_with_len}
 use Rattle.bfd_session.specs.declared.event.SessionConfig.{SessionConfig}
 use Rattle.bfd_session.specs.Kinds.{discr_of}
-use Rattle.bfd_session.specs.Rows.{Ascends, AreFit, Differs, same_selector}
+use Rattle.bfd_session.specs.Rows.{Ascends, Differs, same_selector}
 use Rattle.bfd_session.specs.Step.{IsFit}
 use Rattle.bfd_script.specs.declared.entries.Line.{Line}
 use Rattle.bfd_script.specs.declared.entries.Line.TheVariants.{Tick}
@@ -32,9 +32,10 @@ other_selector seed a i less = ap (λ b. true && b) (other_peer a i less)
 
 differs : (seed a n : ℕ) → Differs (map (config seed) (range_with_len a n))
 differs seed a zero = tt
-differs seed a (suc n) =
-    (all_map (λ later. same_selector (config seed a) later ≡ false) (config seed) (a + 1) n (λ i low high. other_selector seed a i (omega arith)),
-    differs seed (a + 1) n)
+differs seed a (suc n) = (
+  all_map (λ later. same_selector (config seed a) later ≡ false) (config seed) (a + 1) n (λ i low high. other_selector seed a i (omega arith)),
+  differs seed (a + 1) n,
+)
 
 is_fit : (seed i : ℕ) → 0 < i → IsFit (config seed i)
 is_fit seed i some = record {

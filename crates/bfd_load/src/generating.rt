@@ -182,12 +182,7 @@ fn events(alloc: Global, sessions: u32, ticks: u32) -> Result<Vec<Line>, AllocEr
 /// leaves the remainder by 300 that i leaves it hears a packet, at the tick's moment: the first says Init and a Desired Min TX
 /// Interval of 1,000,000 microseconds, those after it Up, F and 300,000. A session whose number 10 divides hears three packets
 /// and then none. The packets of a tick stand by ascending session, and the tick after them.
-pub fn generate(
-    alloc: Global,
-    sessions: u32,
-    ticks: u32,
-    seed: u32,
-) -> Result<Script, AllocError>
+pub fn generate(alloc: Global, sessions: u32, ticks: u32, seed: u32) -> Result<Script, AllocError>
     requires sessions { sessions ≤ 5000 }
     requires ticks { ticks ≤ 6000 }
     ensures script { IfOk result (λ script. script ≡ load.script sessions ticks seed) }

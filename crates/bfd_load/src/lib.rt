@@ -10,7 +10,7 @@
 #![tactic(auto)]
 
 mod generating;
-
-
+#[cfg(test)]
+mod tests;
 
 pub use generating::generate;

@@ -1,5 +1,5 @@
 -- One session more is made, and at the end all are.
-use Rattle.std.proofs.Common.{◌≡◌, ◌+◌, ◌-◌, ◌++◌, ◌∙◌, ℕ, List, [], ◌∷◌, map, ap, arith}
+use Rattle.std.proofs.Common.{◌+◌, ◌-◌, ◌++◌, ◌∙◌, [], ◌∷◌, map, ap, arith}
 use Rattle.std.specs.List.{range_with_len}
 use Rattle.bfd_session.specs.declared.event.SessionConfig.{SessionConfig}
 use Rattle.bfd_load.specs.Load as load

@@ -1,6 +1,5 @@
 -- One session more has heard its packet.
-use Rattle.std.proofs.Common.{◌+◌, ◌-◌, ◌%◌, ◌++◌, ◌∙◌, ap, arith}
-use Rattle.bfd_load.specs.Load as load
+use Rattle.std.proofs.Common.{◌++◌, ap, arith}
 use Rattle.bfd_load.proofs.Hearing.{first, heard_one}
 use Rattle.bfd_load.proofs.generating.hear.Goals as goal
 
