@@ -93,14 +93,14 @@ more_sent e e2 g =
 packet_then : (left right : SessionConfig) (side : Side) (past : List PairEvent) (event : PairEvent) (e e2 : End)
     → Told left right side past e → (g : Grows e e2)
     → ((k : ℕ) (bytes : List ℕ) → Later e.sent g.more k bytes → is_init_or_up (fields_of bytes).state ≡ true
-        → HeardBy left right side (past ++ event ∷ []) k)
+    → HeardBy left right side (past ++ event ∷ []) k)
     → (k : ℕ) (bytes : List ℕ) → slice_get e2.sent k ≡ Some bytes → is_init_or_up (fields_of bytes).state ≡ true
     → HeardBy left right side (past ++ event ∷ []) k
 packet_then left right side past event e e2 t g now k bytes there warm =
     elim (first_or_later e.sent g.more k bytes (ap (λ (ps : List (List ℕ)). slice_get ps k) (sym g.appended) ∙ there)) [
-  | inl first ↦ heard_still left right side past event k k (omega arith) (t.packets k bytes first warm)
-  | inr later ↦ now k bytes later warm
-]
+      | inl first ↦ heard_still left right side past event k k (omega arith) (t.packets k bytes first warm)
+      | inr later ↦ now k bytes later warm
+    ]
 
 -- who had heard the other side has heard it
 told_warm : (left right : SessionConfig) (side : Side) (past : List PairEvent) (event : PairEvent) (e e2 : End)
@@ -116,10 +116,10 @@ told_quiet : (left right : SessionConfig) (side : Side) (past : List PairEvent) 
     → Told left right side past e → Quiet e e2 → Told left right side (past ++ event ∷ []) e2
 told_quiet left right side past event e e2 t q = elim (either (is_init_or_up e.session.vars.state)) [
   | inl low ↦ record {
-      state = λ warm. absurd (never _ (q.state low) warm);
-      packets = packet_then left right side past event e e2 t q.grows
-          (λ k bytes later warm. absurd (never _ (each_at IsCold q.grows.more later.place bytes (q.packets low) later.there) warm));
-    }
+    state = λ warm. absurd (never _ (q.state low) warm);
+    packets = packet_then left right side past event e e2 t q.grows
+        (λ k bytes later warm. absurd (never _ (each_at IsCold q.grows.more later.place bytes (q.packets low) later.there) warm));
+  }
   | inr warm ↦ told_warm left right side past event e e2 t q.grows
       (λ n le. heard_still left right side past event (length e.sent) n le (t.state warm))
 ]

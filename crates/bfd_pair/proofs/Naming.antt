@@ -54,8 +54,8 @@ named your discr zero unknown = grind (arith, nat_tests)
 -- port single: where M is set a session of two ends is no tail
 single_plain : (discr iface : ℕ) (local remote : Addr) (arrival : Arrival) (m : Bool) → is_multipoint SinglePort arrival ≡ m
     → find (λ test. table_fails SinglePort test (row Single discr iface local remote ∷ []) arrival)
-        (Short ∷ Version ∷ LengthMin ∷ LengthOver ∷ DetectMult ∷ MyDiscr ∷ []
-        ++ (if m then MultipointYour ∷ NoTail ∷ [] else YourUnknown ∷ YourZeroState ∷ NoSession ∷ [])) ≡ None
+    (Short ∷ Version ∷ LengthMin ∷ LengthOver ∷ DetectMult ∷ MyDiscr ∷ []
+    ++ (if m then MultipointYour ∷ NoTail ∷ [] else YourUnknown ∷ YourZeroState ∷ NoSession ∷ [])) ≡ None
     → m ≡ false
 single_plain discr iface local remote arrival true is h =
     let none = passes (λ test. table_fails SinglePort test (row Single discr iface local remote ∷ []) arrival)
@@ -66,8 +66,8 @@ single_plain discr iface local remote arrival false is h = refl
 names_single : (discr iface : ℕ) (local remote : Addr) (arrival : Arrival) (m : Bool) → m ≡ false
     → is_init_or_up (fields_of arrival.payload).state ≡ true
     → find (λ test. table_fails SinglePort test (row Single discr iface local remote ∷ []) arrival)
-        (Short ∷ Version ∷ LengthMin ∷ LengthOver ∷ DetectMult ∷ MyDiscr ∷ []
-        ++ (if m then MultipointYour ∷ NoTail ∷ [] else YourUnknown ∷ YourZeroState ∷ NoSession ∷ [])) ≡ None
+    (Short ∷ Version ∷ LengthMin ∷ LengthOver ∷ DetectMult ∷ MyDiscr ∷ []
+    ++ (if m then MultipointYour ∷ NoTail ∷ [] else YourUnknown ∷ YourZeroState ∷ NoSession ∷ [])) ≡ None
     → (fields_of arrival.payload).your ≡ discr
 names_single discr iface local remote arrival true plain state h = absurd (never plain)
 names_single discr iface local remote arrival false plain state h =

@@ -42,7 +42,6 @@ turn_config (Order Right moment cmd) w Right = refl
 module _ (l r l2 r2 : Peer) (last last2 : ℕ) (past past2 : List PairEvent) (event : PairEvent) (p : Pairing)
     (pair : IsPair l r last past) (view : pairing_of l r past ≡ p)
     (both : both_of l2 r2 last2 ≡ (turn event (both_of l r last)).both) (more : past2 ≡ past ++ event ∷ []) where
-
   left_same : l2.session.config ≡ l.session.config
   left_same = ap (λ (w : Both). w.left.session.config) both ∙ turn_config event (both_of l r last) Left
 

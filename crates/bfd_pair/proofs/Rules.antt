@@ -55,7 +55,6 @@ module _ (P : Course → Type 0) (ok : State → Bool)
     (goes : (discr : ℕ) (v : Vars) (s : Course) → Goes ok s.vars v → P s → P (changes discr v s))
     (puts : (c : Config) (poll fin : Bool) (s : Course) → P s → P (transmits c poll fin s))
     (down : ok Down ≡ true) (admin_down : ok AdminDown ≡ true) where
-
   either : (b : Bool) (x y : Course) → P x → P y → P (if b then x else y)
   either true x y hx hy = hx
   either false x y hx hy = hy

@@ -101,22 +101,22 @@ by_packet : (w : Both) (side : Side) (moment number : ℕ) (found : Option (List
     → packet_at number (end_of (other side) w).sent ≡ found
     → Quiet (end_of side w) (given found (length (end_of (other side) w).sent) moment w.last (end_of side w)).end
     ⊎ Hears w (Give side moment number) side (end_of side w)
-        (given found (length (end_of (other side) w).sent) moment w.last (end_of side w)).end
+    (given found (length (end_of (other side) w).sent) moment w.last (end_of side w)).end
 by_packet w side moment number None is = inl (rests_quiet (end_of side w))
 by_packet w side moment number (Some bytes) is =
     elim (by_test (screened (end_of side w).session.config bytes) moment w.last bytes (end_of side w)) [
-  | inl quiet ↦ inl quiet
-  | inr heard ↦ inr (record {
-      moment = moment;
-      number = number;
-      gives = refl;
-      bytes = bytes;
-      sent = is;
-      handled = moves_answer side _ w
-          ∙ (ap (λ (p : Option (List ℕ)). (given p (length (end_of (other side) w).sent) moment w.last (end_of side w)).answer) is ∙ heard.0);
-      grows = heard.1;
-    })
-]
+      | inl quiet ↦ inl quiet
+      | inr heard ↦ inr (record {
+        moment = moment;
+        number = number;
+        gives = refl;
+        bytes = bytes;
+        sent = is;
+        handled = moves_answer side _ w
+            ∙ (ap (λ (p : Option (List ℕ)). (given p (length (end_of (other side) w).sent) moment w.last (end_of side w)).answer) is ∙ heard.0);
+        grows = heard.1;
+      })
+    ]
 
 pub hears_or_quiet : (w : Both) (event : PairEvent) (side : Side)
     → Quiet (end_of side w) (end_of side (turn event w).both)
