@@ -1,5 +1,5 @@
 -- A session outside Init and Up that handles no packet stays there, and sends no packet in Init or Up.
-use Rattle.std.proofs.Common.{◌≡◌, ◌⊎◌, inl, inr, ◌≤◌, ◌++◌, ◌^◌, ◌+◌, ◌*◌, ◌/◌, not, ℕ, Bool, true, false, List, [], refl, sym, ap, ◌∙◌, subst, Option, None, Some, Result, Ok, Err, if◌then◌else◌, arith}
+use Rattle.std.proofs.Common.{◌≡◌, inl, inr, ◌≤◌, ◌++◌, ◌^◌, ◌+◌, ◌*◌, ◌/◌, not, ℕ, Bool, true, false, List, [], refl, sym, ap, ◌∙◌, subst, Option, None, Some, Result, Ok, Err, if◌then◌else◌, arith}
 use Rattle.bfd_auth.specs.Sealed.{sealed, section_of}
 use Rattle.bfd_packet.specs.declared.arrival.Arrival.{Arrival}
 use Rattle.bfd_packet.specs.declared.control.Control.{Control}
@@ -16,7 +16,6 @@ use Rattle.bfd_rules.specs.declared.config.Config.{Config}
 use Rattle.bfd_rules.specs.declared.outputs.Out.{Out}
 use Rattle.bfd_rules.specs.declared.variables.Mark.{Mark}
 use Rattle.bfd_rules.specs.declared.variables.Vars.{Vars}
-use Rattle.bfd_rules.specs.declared.verdict.Verdict.{Verdict}
 use Rattle.bfd_rules.specs.declared.verdict.Verdict.TheVariants.{Accepted, Dropped}
 use Rattle.bfd_rules.specs.Quantities.{is_admin_down}
 use Rattle.bfd_rules.specs.Course.{Course, course, changes, sends, told}
@@ -28,7 +27,7 @@ use Rattle.bfd_session.specs.declared.event.SessionConfig.{SessionConfig}
 use Rattle.bfd_session.specs.declared.event.SessionConfig.TheVariants.{Pair}
 use Rattle.bfd_session.specs.declared.event.Event.TheVariants.{Packet, Command}
 use Rattle.bfd_session.specs.declared.event.Answer.{Answer}
-use Rattle.bfd_session.specs.declared.event.Answer.TheVariants.{Handled, Ticked, Dropped as DroppedBy, Refused, Shown}
+use Rattle.bfd_session.specs.declared.event.Answer.TheVariants.{Handled}
 use Rattle.bfd_session.specs.Kinds.{Running}
 use Rattle.bfd_session.specs.Step.{begun, settled, acted, finished, step, tick, next, next_vars, ticked_vars, emits, tick_next, tick_emits, reply, answer_to_packet}
 use Rattle.bfd_pair.specs.Run.{packets_in}

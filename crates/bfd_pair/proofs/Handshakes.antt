@@ -12,7 +12,7 @@ use Rattle.bfd_pair.specs.declared.event.Side.{Side}
 use Rattle.bfd_pair.specs.declared.event.Side.TheVariants.{Left, Right}
 use Rattle.bfd_pair.specs.declared.event.PairEvent.{PairEvent}
 use Rattle.bfd_pair.specs.declared.event.PairEvent.TheVariants.{Tick, Give, Order}
-use Rattle.bfd_pair.specs.Run.{End, Both, Move, other, end_of, items_of, packet_at, arrival_to, screened, own, comes, given, pair_run, turn}
+use Rattle.bfd_pair.specs.Run.{End, Both, Move, other, end_of, items_of, packet_at, arrival_to, screened, comes, given, pair_run, turn}
 use Rattle.bfd_pair.specs.Handshake.{Heard, IsHandshake, sent_by_then, tells_up, is_up_after}
 use Rattle.bfd_pair.proofs.Calm.{tick_untold, tick_low, order_untold, order_low, packet_untold, packet_low}
 use Rattle.bfd_pair.proofs.Naming.{names}

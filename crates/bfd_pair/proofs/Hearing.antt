@@ -1,5 +1,5 @@
 -- A side in Init or Up, and each packet in Init or Up that it has sent, come after it handled a packet of the other side.
-use Rattle.std.proofs.Common.{◌≡◌, ◌⊎◌, inl, inr, ◌++◌, ◌==◌, ◌-◌, ◌<◌, ◌≤◌, ◌+◌, ℕ, Bool, true, false, List, [], ◌∷◌, length, length-append, refl, sym, ap, ◌∙◌, subst, arith, append_assoc, append-nil, Option, None, Some}
+use Rattle.std.proofs.Common.{◌≡◌, ◌⊎◌, inl, inr, ◌++◌, ◌==◌, ◌-◌, ◌<◌, ◌≤◌, ℕ, Bool, true, false, List, [], ◌∷◌, length, length-append, refl, sym, ap, ◌∙◌, subst, arith, append_assoc, append-nil, None, Some}
 use Rattle.std.specs.Prelude.{slice_get}
 use Rattle.std.proofs.lemmas.Bool.Decides.{nat_tests}
 use Rattle.bfd_packet.specs.Layout.{fields_of}
@@ -12,7 +12,7 @@ use Rattle.bfd_pair.specs.declared.event.Side.{Side}
 use Rattle.bfd_pair.specs.declared.event.Side.TheVariants.{Left, Right}
 use Rattle.bfd_pair.specs.declared.event.PairEvent.{PairEvent}
 use Rattle.bfd_pair.specs.declared.event.PairEvent.TheVariants.{Give}
-use Rattle.bfd_pair.specs.Run.{End, Both, other, end_of, packet_at, after, pair_run, turn}
+use Rattle.bfd_pair.specs.Run.{End, Both, end_of, packet_at, after, pair_run, turn}
 use Rattle.bfd_pair.specs.Handshake.{Heard, sent_by_then}
 use Rattle.bfd_pair.proofs.Packets.{each_at, Later, first_or_later}
 use Rattle.bfd_pair.proofs.Rules.{drawn_state}

@@ -11,7 +11,6 @@ use Rattle.bfd_packet.specs.declared.discard.Test.TheVariants.{Short, Version, L
 use Rattle.bfd_packet.specs.HeaderTests.{header_fails, first_failing}
 use Rattle.bfd_packet.specs.Layout.{fields_of}
 use Rattle.bfd_packet.specs.States.{is_init_or_up}
-use Rattle.bfd_rules.specs.declared.config.Config.{Config}
 use Rattle.bfd_rules.specs.declared.config.Role.{Role}
 use Rattle.bfd_rules.specs.declared.config.Role.TheVariants.{Single, Multi}
 use Rattle.bfd_p2p.specs.Port.{port_of}
@@ -22,7 +21,7 @@ use Rattle.bfd_session.specs.declared.event.SessionConfig.TheVariants.{Pair}
 use Rattle.bfd_session.specs.declared.event.Event.TheVariants.{Packet}
 use Rattle.bfd_session.specs.Kinds.{discr_of}
 use Rattle.bfd_session.specs.Rows.{kind_of, row_of}
-use Rattle.bfd_session.specs.Step.{CanTake, IsFor}
+use Rattle.bfd_session.specs.Step.{CanTake}
 use Rattle.bfd_pair.specs.Run.{arrival_to, screened}
 
 -- where no test is found that fails, each passes

@@ -1,5 +1,5 @@
 -- An event leaves a pair of what the past, with it, makes.
-use Rattle.std.proofs.Common.{◌≡◌, ◌≤◌, ◌++◌, ℕ, true, false, List, [], ◌∷◌, refl, sym, ap, ◌∙◌, subst, arith, length, Option, None, Some}
+use Rattle.std.proofs.Common.{◌≡◌, ◌≤◌, ◌++◌, ℕ, true, false, List, [], ◌∷◌, refl, sym, ap, ◌∙◌, arith, length, Option, None, Some}
 use Rattle.bfd_num.specs.Numbers.{greatest_tick}
 use Rattle.bfd_packet.specs.declared.discard.Test.{Test}
 use Rattle.bfd_session.specs.declared.event.SessionConfig.{SessionConfig}

@@ -1,5 +1,5 @@
 -- A side of the program as a side of the definitions.
-use Rattle.std.proofs.Common.{◌≡◌, ◌≤◌, ◌-◌, ◌++◌, ℕ, Bool, not, true, false, List, [], ◌∷◌, length, take, drop, refl, sym, ap, ◌∙◌, subst, arith, None}
+use Rattle.std.proofs.Common.{◌≡◌, ◌≤◌, ◌-◌, ◌++◌, ℕ, Bool, not, true, false, List, [], ◌∷◌, length, take, drop, refl, ap, ◌∙◌, subst, arith, None}
 use Rattle.std.proofs.lemmas.List.{take_all, length-drop}
 use Rattle.std.proofs.Math.Seq.{drop-append_seam}
 use Rattle.bfd_packet.specs.declared.arrival.Arrival.{Arrival}

@@ -12,9 +12,8 @@ use Rattle.bfd_pair.specs.declared.event.Side.{Side}
 use Rattle.bfd_pair.specs.declared.event.Side.TheVariants.{Left, Right}
 use Rattle.bfd_pair.specs.declared.event.PairEvent.{PairEvent}
 use Rattle.bfd_pair.specs.declared.event.PairEvent.TheVariants.{Tick, Give, Order}
-use Rattle.bfd_pair.specs.declared.event.PairAnswer.{PairAnswer}
-use Rattle.bfd_pair.specs.declared.event.PairAnswer.TheVariants.{Did, NoPacket}
-use Rattle.bfd_pair.specs.Run.{End, Both, Move, other, end_of, packets_in, packet_at, arrival_to, screened, own, comes, given, gives, ticking, moves, turn}
+use Rattle.bfd_pair.specs.declared.event.PairAnswer.TheVariants.{Did}
+use Rattle.bfd_pair.specs.Run.{End, Both, Move, other, end_of, packets_in, packet_at, arrival_to, screened, own, comes, given, ticking, moves, turn}
 use Rattle.bfd_pair.proofs.Packets.{Each}
 use Rattle.bfd_pair.proofs.Cold.{IsCold, is_handled, tick_state, tick_packets, order_state, order_packets, packet_state, packet_packets}
 

@@ -2,7 +2,7 @@
 use Rattle.std.proofs.Common.{◌≡◌, ◌++◌, [], ◌∷◌, ℕ, List, ap, ◌∙◌}
 use Rattle.bfd_pair.specs.declared.event.PairEvent.{PairEvent}
 use Rattle.bfd_pair.specs.declared.peer.Peer.{Peer}
-use Rattle.bfd_pair.specs.Run.{End, Both, turn}
+use Rattle.bfd_pair.specs.Run.{Both, turn}
 use Rattle.bfd_pair.specs.Inside.{seen, both_of}
 use Rattle.bfd_pair.proofs.Handshakes.{handshakes}
 use Rattle.bfd_pair.proofs.Pairs.{pair_more, pairing_more, rises_more}
