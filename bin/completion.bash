@@ -1,0 +1,19 @@
+# Completion of bfdd and its tools, for bash.
+_bfdd() {
+    local word="${COMP_WORDS[COMP_CWORD]}" before="${COMP_WORDS[COMP_CWORD - 1]}" words
+    COMPREPLY=()
+    case "${COMP_WORDS[0]##*/}" in
+    bfdd) [ "$COMP_CWORD" = 1 ] && mapfile -t COMPREPLY < <(compgen -W "replay help --help --version" -- "$word") && return ;;
+    bfdd-capture) words="--help --local --keys --tick --from --to --mode" ;;
+    bfdd-packets) words="--help --report --program --sent --output" ;;
+    bfdd-timeline) words="--help --report --program --output --from --to --lanes --title" ;;
+    esac
+    case "$before" in
+    --mode) mapfile -t COMPREPLY < <(compgen -W "active passive" -- "$word") && return ;;
+    esac
+    case "$word" in
+    -*) mapfile -t COMPREPLY < <(compgen -W "${words-}" -- "$word") ;;
+    *) mapfile -t COMPREPLY < <(compgen -f -- "$word") ;;
+    esac
+}
+complete -o filenames -F _bfdd bfdd bfdd-capture bfdd-packets bfdd-timeline

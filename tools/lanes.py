@@ -1,0 +1,94 @@
+"""What a replay tells of each session in time: its states, packets, drops, polls and demand mode."""
+from texts import packet_of
+
+
+class Lane:
+    """One session. Moments are seconds; a span is (from, to)."""
+
+    def __init__(self, session):
+        self.session = session
+        self.states = [[0.0, None, "Down"]]  # each from its moment until the next one's
+        self.came, self.sent, self.drops, self.refusals = [], [], [], []
+        self.polls, self.demand = Spans(), Spans()
+
+    def change(self, moment, state):
+        self.states[-1][1] = moment
+        self.states.append([moment, None, state])
+
+    def hear(self, moment, payload, reason):
+        """A packet of the peer; `reason` is why it was dropped, or None. F of one that passed ends a poll."""
+        self.came.append(moment)
+        packet = packet_of(payload)
+        if reason:
+            self.drops.append((moment, reason))
+        elif packet and packet.has("F"):
+            self.polls.end(moment)
+
+    def send(self, moment, payload):
+        """A packet of this side: P begins a poll, D says whether demand mode is active."""
+        self.sent.append(moment)
+        packet = packet_of(payload)
+        if packet and packet.has("P"):
+            self.polls.begin(moment)
+        if packet and packet.has("D"):
+            self.demand.begin(moment)
+        else:
+            self.demand.end(moment)
+
+    def close(self, moment):
+        self.states[-1][1] = moment
+        self.polls.end(moment)
+        self.demand.end(moment)
+
+
+class Spans(list):
+    """Spans of which the last may be open."""
+
+    def __init__(self):
+        super().__init__()
+        self.since = None
+
+    def begin(self, moment):
+        self.since = moment if self.since is None else self.since
+
+    def end(self, moment):
+        if self.since is not None:
+            self.append((self.since, moment))
+        self.since = None
+
+
+class Lanes:
+    """All sessions in the order of their discriminators, and the drops of no session."""
+
+    def __init__(self, script, report):
+        self.lanes = {discr: Lane(session) for discr, session in sorted(script.sessions.items())}
+        self.strays = []
+        self.end = max((event.moment for event in script.events), default=0) / 1e6
+        self.events, self.sent = len(script.events), sum(line.word == "tx" for line in report)
+        self.dropped = sum(line.word == "drop" for line in report)
+        lines = {}
+        for line in report:
+            lines.setdefault(line.number, []).append(line)
+        for number, event in enumerate(script.events, 1):
+            self.take(script, event, lines.get(number, ()))
+        self.end += (self.end or 1.0) * 0.02  # room for what the last event left
+        for lane in self.lanes.values():
+            lane.close(self.end)
+
+    def take(self, script, event, lines):
+        """An event, and what the report has of it: what the sessions did, and then what came of a packet."""
+        moment = event.moment / 1e6
+        for line in lines:
+            if line.word == "state":
+                self.lanes[int(line.words[0])].change(moment, line.words[2])
+            elif line.word == "tx":
+                self.lanes[int(line.words[0])].send(moment, bytes.fromhex(line.words[1]))
+            elif line.word == "refuse" and event.discr in self.lanes:
+                self.lanes[event.discr].refusals.append((moment, line.words[0]))
+        if event.arrival:
+            reason = next((line.words[0] for line in lines if line.word == "drop"), None)
+            lane = self.lanes.get(script.session_of(event))
+            if lane:
+                lane.hear(moment, event.arrival.payload, reason)
+            elif reason:
+                self.strays.append((moment, reason))

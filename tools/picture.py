@@ -1,0 +1,174 @@
+"""Draws the lanes of a replay, by matplotlib."""
+from texts import library, shown
+
+library("matplotlib", "python3-matplotlib").use("Agg")
+import matplotlib.pyplot as plt
+from matplotlib.collections import PolyCollection
+from matplotlib.lines import Line2D
+from matplotlib.patches import Patch
+
+# Colours that people who don't tell red from green can tell.
+COLOURS = {"Up": "#009e73", "Init": "#f0c419", "Down": "#d55e00", "AdminDown": "#8c8c8c"}
+INK = {"Up": "white", "Init": "black", "Down": "white", "AdminDown": "white"}
+CAME, SENT, DROP, POLL, DEMAND, REFUSAL = "#222222", "#0072b2", "#b00020", "#b0479b", "#56b4e9", "#7a4f00"
+MARGIN = 1.35                      # inches for the title, the axis and the legend
+TALLEST = 60                       # inches, however many lanes there are
+MOST_DETAILED = 12                 # with more sessions there are lanes alone
+MOST_WITH_GAPS = 400               # with more, gaps between lanes would flicker
+BAR, BAR_HEIGHT = 0.43, 0.25       # where the bar of states begins in a lane of height 1, from above, and its height
+LEVELS = (0.24, 0.15, 0.06)        # where the reasons of drops stand, one over the other where they would overlap
+
+
+class Scale:
+    """The unit of the time axis, and what part of the picture a time takes."""
+
+    def __init__(self, since, until):
+        span = max(until - since, 1e-6)
+        self.name, self.unit = next(((name, unit) for name, unit in (("hours", 3600), ("minutes", 60), ("seconds", 1))
+                                     if span >= 3 * unit), ("milliseconds", 0.001))
+        self.since, self.until, self.span = since / self.unit, until / self.unit, span / self.unit
+
+    def at(self, moment):
+        return moment / self.unit
+
+
+def draw(lanes, title, since, until, lanes_alone=False):
+    """The figure of these lanes between two moments."""
+    detailed = len(lanes.lanes) <= MOST_DETAILED and not lanes_alone
+    count = len(lanes.lanes) + bool(lanes.strays)
+    height = MARGIN + count * (1.25 if detailed else min(0.24, max(0.045, 14 / count), TALLEST / count))
+    figure, axes = plt.subplots(figsize=(12, height))
+    scale = Scale(since, until)
+    draw_states(axes, scale, lanes, detailed)
+    for row, lane in enumerate(lanes.lanes.values() if detailed else ()):
+        draw_details(axes, scale, row, lane)
+    if lanes.strays:
+        draw_drops(axes, scale, len(lanes.lanes), lanes.strays, detailed)
+    finish(figure, axes, scale, lanes, title, detailed, height)
+    return figure
+
+
+def draw_states(axes, scale, lanes, detailed):
+    """The bars of all lanes, one collection a state, so that thousands of lanes are drawn in seconds."""
+    boxes, gap = {state: [] for state in COLOURS}, 0.16 if len(lanes.lanes) <= MOST_WITH_GAPS else 0
+    for row, lane in enumerate(lanes.lanes.values()):
+        low, height = (row + BAR, BAR_HEIGHT) if detailed else (row + gap / 2, 1 - gap)
+        for start, end, state in lane.states:
+            start, end = max(scale.at(start), scale.since), min(scale.at(end), scale.until)
+            if end <= start:
+                continue
+            boxes[state].append(((start, low), (start, low + height), (end, low + height), (end, low)))
+            if detailed and (end - start) / scale.span > 0.012 + 0.009 * len(state):
+                axes.text((start + end) / 2, low + height / 2, state, ha="center", va="center", color=INK[state], fontsize=9)
+    for state, corners in boxes.items():
+        axes.add_collection(PolyCollection(corners, facecolor=COLOURS[state], linewidth=0), autolim=False)
+
+
+def draw_details(axes, scale, row, lane):
+    below = row + BAR + BAR_HEIGHT
+    marks(axes, scale, lane.came, row + BAR - 0.13, row + BAR - 0.02, CAME)
+    marks(axes, scale, lane.sent, below + 0.02, below + 0.13, SENT)
+    for spans, colour, low in ((lane.polls, POLL, below + 0.16), (lane.demand, DEMAND, below + 0.22)):
+        axes.broken_barh([(scale.at(start), max(scale.at(end - start), scale.span / 600)) for start, end in spans],
+                         (low, 0.045), color=colour, linewidth=0)
+    draw_drops(axes, scale, row, lane.drops, True)
+    for moment, cause in lane.refusals:
+        axes.plot(scale.at(moment), below + 0.075, marker="D", color=REFUSAL, markersize=5)
+        write(axes, scale, scale.at(moment) + scale.span / 150, below + 0.08, cause, REFUSAL)
+
+
+def marks(axes, scale, moments, low, high, colour):
+    """A stroke for each packet, thinner where there are many."""
+    width = 1.4 if len(moments) < 150 else 0.8 if len(moments) < 800 else 0.3
+    axes.vlines([scale.at(moment) for moment in moments], low, high, color=colour, linewidth=width)
+
+
+def write(axes, scale, moment, height, label, colour):
+    """Small words at a moment, kept inside at the right end."""
+    at_end = moment > scale.until - scale.span * width_of(label)
+    axes.text(scale.until if at_end else moment, height, label, color=colour, fontsize=7.5, ha="right" if at_end else "left",
+              va="center", clip_on=True)
+
+
+def width_of(label):
+    """The part of the picture's width that small words take, with a space."""
+    return 0.008 + 0.0068 * len(label)
+
+
+def draw_drops(axes, scale, row, drops, detailed):
+    """A cross for each drop. Those of one reason that follow each other closely share a label; a label that has no room in
+    any level is left out."""
+    if not detailed:
+        return marks(axes, scale, [moment for moment, _ in drops], row + 0.08, row + 0.92, DROP)
+    inside = [(scale.at(moment), reason) for moment, reason in drops if scale.since <= scale.at(moment) <= scale.until]
+    axes.plot([moment for moment, _ in inside], [row + BAR - 0.075] * len(inside), "x", color=DROP, markersize=6,
+              markeredgewidth=1.6)
+    free = [scale.since] * len(LEVELS)
+    for moment, reason, count in grouped(inside, scale.span / 40):
+        label = reason + (f" ×{count}" if count > 1 else "")
+        level = next((at for at in range(len(LEVELS)) if free[at] <= moment), None)
+        if level is not None:
+            write(axes, scale, moment, row + LEVELS[level], label, DROP)
+            free[level] = moment + scale.span * width_of(label)
+
+
+def grouped(drops, near):
+    """(first moment, reason, number) of the drops of one reason that are near to each other."""
+    groups, last = [], None
+    for moment, reason in drops:
+        if groups and groups[-1][1] == reason and moment - last <= near:
+            groups[-1][2] += 1
+        else:
+            groups.append([moment, reason, 1])
+        last = moment
+    return groups
+
+
+def finish(figure, axes, scale, lanes, title, detailed, height):
+    rows = [label_of(lane.session, detailed) for lane in lanes.lanes.values()] + ["no session"] * bool(lanes.strays)
+    step = 1 if detailed else max(1, -(-len(rows) * 13 // int((height - MARGIN) * 72)))
+    middle = BAR + BAR_HEIGHT / 2 if detailed else 0.5
+    axes.set_yticks([row + middle for row in range(0, len(rows), step)], rows[::step], fontsize=9 if detailed else 8)
+    axes.set_ylim(len(rows), 0)
+    axes.set_xlim(scale.since, scale.until)
+    axes.set_xlabel(scale.name)
+    axes.tick_params(axis="y", length=0 if step == 1 else 3)
+    axes.xaxis.grid(True, color="#dddddd", linewidth=0.6)
+    axes.set_axisbelow(True)
+    if not detailed:
+        axes.set_ylabel("session")
+    else:
+        axes.hlines(range(1, len(rows)), scale.since, scale.until, color="#cccccc", linewidth=0.6)
+    for side in ("top", "right", "left"):
+        axes.spines[side].set_visible(False)
+    axes.set_title(title, loc="left", fontsize=11)
+    figure.tight_layout(rect=(0, 0.3 / height, 1, 1))
+    keys = legend_of(lanes, detailed)
+    figure.legend(handles=keys, loc="lower center", ncol=len(keys), fontsize=8.5, frameon=False, columnspacing=1.3,
+                  handletextpad=0.5)
+
+
+def label_of(session, detailed):
+    ends = f"{shown(session.local)} – {shown(session.remote)}"
+    if not detailed:
+        return f"{session.discr}"
+    where = "several hops" if session.hops == "multi" else f"interface {session.iface}"
+    return f"session {session.discr}\n{ends}\n{where}"
+
+
+def legend_of(lanes, detailed):
+    """What the picture has, and no more."""
+    every = list(lanes.lanes.values())
+    states = {state for lane in every for _, _, state in lane.states}
+    keys = [Patch(color=colour, label=state) for state, colour in COLOURS.items() if state in states]
+    if detailed:
+        keys += [Line2D([], [], color=colour, marker="|", linestyle="", markersize=9, markeredgewidth=1.6, label=label)
+                 for colour, label in ((CAME, "packet that came"), (SENT, "packet that was sent"))]
+        keys += [Line2D([], [], color=POLL, linewidth=4, label="poll")] if any(lane.polls for lane in every) else []
+        keys += [Line2D([], [], color=DEMAND, linewidth=4, label="demand mode")] if any(lane.demand for lane in every) else []
+        if any(lane.refusals for lane in every):
+            keys.append(Line2D([], [], color=REFUSAL, marker="D", linestyle="", markersize=5, label="command refused"))
+    if lanes.strays or detailed and any(lane.drops for lane in every):
+        keys.append(Line2D([], [], color=DROP, marker="x" if detailed else "|", linestyle="", markersize=7, markeredgewidth=1.6,
+                           label="dropped"))
+    return keys

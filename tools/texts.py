@@ -1,0 +1,238 @@
+"""Packet files, reports and control packets, as the tools read them. docs/FORMATS.md and docs/PROTOCOL.md say what they are.
+
+Nothing here is proved. A packet file is taken as one that the program reads: only what a tool needs of a line is looked at.
+"""
+import importlib
+import ipaddress
+import os
+import shlex
+import subprocess
+import sys
+from pathlib import Path
+from typing import NamedTuple
+
+TOP = Path(__file__).resolve().parent.parent
+STATES = ["AdminDown", "Down", "Init", "Up"]
+PORTS = {"single": 3784, "multi": 4784}
+SOURCE_PORT = 49152
+BITS = {"P": 0x20, "F": 0x10, "C": 0x08, "A": 0x04, "D": 0x02, "M": 0x01}
+
+
+class Complaint(Exception):
+    """What a person is told in place of an answer."""
+
+
+def library(name, package):
+    """A module that Debian has in `package`. Where this Python lacks it and Debian's own has it, the tool starts again there."""
+    try:
+        return importlib.import_module(name)
+    except ImportError:
+        debian = "/usr/bin/python3"
+        if os.path.realpath(sys.executable) != os.path.realpath(debian) and os.access(debian, os.X_OK):
+            has = subprocess.run([debian, "-c", f"import {name}"], stderr=subprocess.DEVNULL).returncode == 0
+            if has:
+                os.execv(debian, [debian, *sys.argv])
+        raise Complaint(f"this needs the Python library {name.split('.')[0]}: `apt-get install {package}`, "
+                        f"or `pip install {name.split('.')[0]}`") from None
+
+
+class Packet(NamedTuple):
+    """The fields of a control packet (RFC 5880 section 4.1), intervals in microseconds."""
+    version: int
+    diag: int
+    state: str
+    flags: int
+    mult: int
+    my: int
+    your: int
+    tx: int
+    rx: int
+    auth: int | None  # Auth Type, and the two below, where there is a section that has them
+    key: int | None
+    seq: int | None
+
+    def has(self, bit):
+        return bool(self.flags & BITS[bit])
+
+
+def packet_of(payload):
+    """The fields of a payload, or None where it is too short to have them."""
+    if len(payload) < 24:
+        return None
+    words = [int.from_bytes(payload[at:at + 4], "big") for at in range(4, 20, 4)]
+    section = payload[24:] if payload[1] & BITS["A"] else b""
+    auth = section[0] if section else None
+    key = section[2] if len(section) > 2 else None
+    seq = int.from_bytes(section[4:8], "big") if auth in (2, 3, 4, 5) and len(section) >= 8 else None
+    return Packet(payload[0] >> 5, payload[0] & 31, STATES[payload[1] >> 6], payload[1] & 63, payload[2], *words, auth, key, seq)
+
+
+def address_of(text):
+    """The bytes of an address as a packet file has it, or as people write it."""
+    if len(text) == 32 and ":" not in text:
+        return bytes.fromhex(text)
+    return ipaddress.ip_address(text).packed
+
+
+def spelled(address):
+    """An address as a packet file has it."""
+    return ".".join(map(str, address)) if len(address) == 4 else address.hex()
+
+
+def shown(address):
+    """An address as people write it."""
+    return str(ipaddress.ip_address(address))
+
+
+class Session(NamedTuple):
+    discr: int
+    hops: str
+    iface: int
+    local: bytes
+    remote: bytes
+
+    def selectors(self):
+        return (self.hops, self.iface if self.hops == "single" else None, self.local, self.remote)
+
+
+class Arrival(NamedTuple):
+    """What an `rx` line says."""
+    port: str
+    iface: int
+    src: bytes
+    dst: bytes
+    ttl: int
+    payload: bytes
+
+
+class Event(NamedTuple):
+    """An event line: its word, when it takes effect in microseconds, and what it is about."""
+    word: str
+    moment: int
+    discr: int | None  # the session, where the line names one
+    arrival: Arrival | None
+    words: list
+
+
+class Script:
+    """A packet file: its sessions by discriminator, and its events in their order."""
+
+    def __init__(self, text, name):
+        self.sessions, self.events, self.last_tick = {}, [], 0
+        for number, line in enumerate(text.split("\n"), 1):
+            try:
+                self.take(line.split(" "))
+            except (ValueError, IndexError):
+                raise Complaint(f"{name}: line {number} is in no packet file: {line[:80]}") from None
+        self.by_addresses = {session.selectors(): session.discr for session in self.sessions.values()}
+
+    def take(self, fields):
+        word = fields[0]
+        if word == "p2p":
+            discr, iface = int(fields[1]), int(fields[3])
+            self.sessions[discr] = Session(discr, fields[2], iface, address_of(fields[4]), address_of(fields[5]))
+        elif word == "tick":
+            self.last_tick = max(self.last_tick, int(fields[1]) * 1000)
+            self.events.append(Event(word, self.last_tick, None, None, fields))
+        elif word == "rx":
+            arrival = Arrival(fields[2], int(fields[3]), address_of(fields[4]), address_of(fields[5]), int(fields[6]),
+                              bytes.fromhex(fields[7].replace("-", "")))
+            self.events.append(Event(word, self.effective(fields[1]), None, arrival, fields))
+        elif word in ("cmd", "show"):
+            self.events.append(Event(word, self.effective(fields[1]), int(fields[2]), None, fields))
+        elif word not in ("bfd", "auth", "key", "run", "end", ""):
+            raise ValueError
+
+    def effective(self, moment):
+        """A moment before the last tick counts as that tick's."""
+        return max(int(moment), self.last_tick)
+
+    def session_of(self, event):
+        """The discriminator of the session that an event is of, or None where it is of all or of none."""
+        if not event.arrival:
+            return event.discr
+        packet = packet_of(event.arrival.payload)
+        if packet and packet.your:
+            session = self.sessions.get(packet.your)
+            return packet.your if session and session.hops == event.arrival.port else None
+        place = event.arrival.iface if event.arrival.port == "single" else None
+        return self.by_addresses.get((event.arrival.port, place, event.arrival.dst, event.arrival.src))
+
+
+class Line(NamedTuple):
+    """A line of a report: the event's number, and the words behind it."""
+    number: int
+    word: str
+    words: list
+
+
+def report_of(text, script, name):
+    """The lines of a report of this packet file, without its last."""
+    bad = text.split("\n", 1)[0].split(" ")
+    if bad[0] == "bad":
+        raise Complaint(f"the packet file isn't in the grammar: line {bad[1]}, {bad[2]}; bin/bfdd says more at a terminal")
+    lines = []
+    for at, line in enumerate(text.splitlines(), 1):
+        fields = line.split(" ")
+        if fields[0] == "done":
+            if int(fields[1]) != len(script.events):
+                raise Complaint(f"{name} is the report of another packet file: it has {fields[1]} events, and the file has "
+                                f"{len(script.events)}")
+            return lines
+        if not fields[0].isdigit() or not 1 <= int(fields[0]) <= len(script.events) or len(fields) < 3:
+            raise Complaint(f"{name}: line {at} is in no report of this packet file: {line[:80]}")
+        lines.append(Line(int(fields[0]), fields[1], fields[2:]))
+    raise Complaint(f"{name} isn't a whole report: its last line `done ..` is missing")
+
+
+def text_of(path):
+    """The text of a file; `-` is standard input."""
+    try:
+        data = sys.stdin.buffer.read() if path == "-" else Path(path).read_bytes()
+    except OSError as fault:
+        raise Complaint(f"{path}: {fault.strerror}") from None
+    if not data:
+        raise Complaint(f"{path}: the file is empty")
+    try:
+        return data.decode("ascii")
+    except UnicodeDecodeError as fault:
+        raise Complaint(f"{path}: byte {fault.start + 1} is no ASCII, so it's no text of bfdd") from None
+
+
+def replayed(program, text):
+    """The report that a program writes for a packet file."""
+    ran = subprocess.run([*program, "replay"], input=text.encode("ascii"), stdout=subprocess.PIPE)
+    if ran.returncode not in (0, 2):
+        raise Complaint(f"{' '.join(program)} replay ended with status {ran.returncode}")
+    return ran.stdout.decode("ascii")
+
+
+def add_replay_arguments(parser):
+    """The arguments of a tool that looks at a packet file and its report."""
+    parser.add_argument("file", metavar="FILE", help="a packet file; - is standard input")
+    parser.add_argument("--report", metavar="REPORT", help="its report; without, the file is replayed")
+    parser.add_argument("--program", type=shlex.split, metavar="COMMAND", default=[str(TOP / "bin/bfdd")],
+                        help="what replays it, in place of bin/bfdd")
+
+
+def script_and_report(told):
+    """What these arguments name."""
+    text = text_of(told.file)
+    script = Script(text, told.file)
+    report = text_of(told.report) if told.report else replayed(told.program, text)
+    return script, report_of(report, script, told.report or "the report")
+
+
+def run_tool(name, work):
+    """Runs a tool: 0, or 1 with what is wrong on standard error."""
+    try:
+        work()
+        sys.stdout.flush()
+    except Complaint as fault:
+        print(f"{name}: {fault}", file=sys.stderr)
+        sys.exit(1)
+    except BrokenPipeError:
+        os.dup2(os.open(os.devnull, os.O_WRONLY), 1)
+        sys.exit(1)
+    except KeyboardInterrupt:
+        sys.exit(130)
