@@ -1,0 +1,5 @@
+pub mod Counting
+pub mod Bytes
+pub mod Each
+pub mod Hearing
+pub mod Whole

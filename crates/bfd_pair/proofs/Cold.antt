@@ -1,0 +1,212 @@
+-- A session outside Init and Up that handles no packet stays there, and sends no packet in Init or Up.
+use Rattle.std.proofs.Common.{◌≡◌, inl, inr, ◌≤◌, ◌++◌, ◌^◌, ◌+◌, ◌*◌, ◌/◌, not, ℕ, Bool, true, false, List, [], refl, sym, ap, ◌∙◌, subst, Option, None, Some, Result, Ok, Err, if◌then◌else◌, arith}
+use Rattle.bfd_auth.specs.Sealed.{sealed, section_of}
+use Rattle.bfd_packet.specs.declared.arrival.Arrival.{Arrival}
+use Rattle.bfd_packet.specs.declared.control.Control.{Control}
+use Rattle.bfd_packet.specs.declared.control.State.{State}
+use Rattle.bfd_packet.specs.declared.control.State.TheVariants.{AdminDown, Down, Init, Up}
+use Rattle.bfd_packet.specs.declared.discard.Test.{Test}
+use Rattle.bfd_packet.specs.declared.discard.Test.TheVariants.{AdminDown as DiscardAdminDown}
+use Rattle.bfd_packet.specs.declared.keys.SeqState.{SeqState}
+use Rattle.bfd_packet.specs.KeyChain.{KeyChain, key_at}
+use Rattle.bfd_packet.specs.Layout.{fields_of, text_of, bit_of, state_of, state_number, has_section}
+use Rattle.bfd_packet.specs.States.{is_init_or_up}
+use Rattle.bfd_rules.specs.declared.commands.Cmd.{Cmd}
+use Rattle.bfd_rules.specs.declared.config.Config.{Config}
+use Rattle.bfd_rules.specs.declared.outputs.Out.{Out}
+use Rattle.bfd_rules.specs.declared.variables.Mark.{Mark}
+use Rattle.bfd_rules.specs.declared.variables.Vars.{Vars}
+use Rattle.bfd_rules.specs.declared.verdict.Verdict.TheVariants.{Accepted, Dropped}
+use Rattle.bfd_rules.specs.Quantities.{is_admin_down}
+use Rattle.bfd_rules.specs.Course.{Course, course, changes, sends, told}
+use Rattle.bfd_p2p.specs.Frame.{renews}
+use Rattle.bfd_p2p.specs.Transmit.{transmits, bytes_of, packet_of}
+use Rattle.bfd_p2p.specs.Settle.{settle}
+use Rattle.bfd_p2p.specs.Receive as receiving
+use Rattle.bfd_session.specs.declared.event.SessionConfig.{SessionConfig}
+use Rattle.bfd_session.specs.declared.event.SessionConfig.TheVariants.{Pair}
+use Rattle.bfd_session.specs.declared.event.Event.TheVariants.{Packet, Command}
+use Rattle.bfd_session.specs.declared.event.Answer.{Answer}
+use Rattle.bfd_session.specs.declared.event.Answer.TheVariants.{Handled}
+use Rattle.bfd_session.specs.Kinds.{Running}
+use Rattle.bfd_session.specs.Step.{begun, settled, acted, finished, step, tick, next, next_vars, ticked_vars, emits, tick_next, tick_emits, reply, answer_to_packet}
+use Rattle.bfd_pair.specs.Run.{packets_in}
+use Rattle.bfd_pair.proofs.Packets.{Each, each_append, packets-append, told_packets}
+use Rattle.bfd_pair.proofs.Rules.{Goes, renewed_state, settle_keeps, commanded_keeps, finish_keeps, kept_keeps}
+
+-- the packet isn't in Init or Up
+abbrev pub IsCold : List ℕ → Type 0
+IsCold bytes = is_init_or_up (fields_of bytes).state ≡ false
+
+-- the session isn't in Init or Up, and has put out no packet in either
+pub record Cold (s : Course) : Type 0 where
+  pub state : is_init_or_up s.vars.state ≡ false
+  pub packets : Each IsCold (packets_in s.outs)
+
+abbrev cold_state : State → Bool
+cold_state state = not (is_init_or_up state)
+
+-- the state of a packet reads back
+
+bit-le : (b : Bool) (place : ℕ) → bit_of b place ≤ 2 ^ place
+bit-le true place = omega arith
+bit-le false place = omega arith
+
+high_bits : (s p f i a d m : ℕ) → p ≤ 32 → f ≤ 16 → i ≤ 8 → a ≤ 4 → d ≤ 2 → m ≤ 1
+    → (s * 64 + (p + (f + (i + (a + (d + m)))))) / 64 ≡ s
+high_bits s p f i a d m hp hf hi ha hd hm = omega arith
+
+number_back : (state : State) → state_of (state_number state) ≡ state
+number_back AdminDown = refl
+number_back Down = refl
+number_back Init = refl
+number_back Up = refl
+
+text_state : (packet : Control) (section : List ℕ) → (fields_of (text_of packet section)).state ≡ packet.state
+unfolding text_of
+text_state packet section =
+    ap state_of (high_bits (state_number packet.state) (bit_of packet.poll 5) (bit_of packet.fin 4) (bit_of packet.cpi 3)
+    (bit_of (has_section section) 2) (bit_of packet.demand 1) (bit_of packet.multi 0)
+    (bit-le packet.poll 5) (bit-le packet.fin 4) (bit-le packet.cpi 3) (bit-le (has_section section) 2) (bit-le packet.demand 1)
+    (bit-le packet.multi 0))
+    ∙ number_back packet.state
+
+bytes_state : (keys : Option KeyChain) (with : ℕ) (seq : SeqState) (packet : Control)
+    → (fields_of (bytes_of keys with seq packet)).state ≡ packet.state
+unfolding sealed
+bytes_state None with seq packet = text_state packet []
+bytes_state (Some keys) with seq packet = text_state packet (section_of keys.kind (key_at with keys.list) seq.xmit packet)
+
+-- what the rules ask
+
+cold_still : (s : Course) (v : Vars) (m : Mark) → v.state ≡ s.vars.state → Cold s → Cold (course v m s.outs)
+cold_still s v m same h = record { state = ap is_init_or_up same ∙ h.state; packets = h.packets }
+
+not_true : (b : Bool) → not b ≡ true → b ≡ false
+not_true true h = cc
+not_true false h = refl
+
+cold_to : (v w : Vars) → is_init_or_up v.state ≡ false → Goes cold_state v w → is_init_or_up w.state ≡ false
+cold_to v w low (inl same) = ap is_init_or_up same ∙ low
+cold_to v w low (inr allowed) = not_true (is_init_or_up w.state) allowed
+
+put_cold : (xs ys : List Out) → Each IsCold (packets_in xs) → Each IsCold (packets_in ys) → Each IsCold (packets_in (xs ++ ys))
+put_cold xs ys h k =
+    subst (λ (ps : List (List ℕ)). Each IsCold ps) (sym (packets-append xs ys))
+    (each_append IsCold (packets_in xs) (packets_in ys) h k)
+
+cold_goes : (discr : ℕ) (v : Vars) (s : Course) → Goes cold_state s.vars v → Cold s → Cold (changes discr v s)
+unfolding changes
+cold_goes discr v s to h = record {
+  state = cold_to s.vars v h.state to;
+  packets = put_cold s.outs (told discr s.vars v) h.packets
+      (subst (λ (ps : List (List ℕ)). Each IsCold ps) (sym (told_packets discr s.vars v)) tt);
+}
+
+cold_puts : (c : Config) (poll fin : Bool) (s : Course) → Cold s → Cold (transmits c poll fin s)
+unfolding transmits sends
+cold_puts c poll fin s h = record {
+  state = h.state;
+  packets = put_cold s.outs _ h.packets
+      (ap is_init_or_up (bytes_state c.keys s.vars.sending s.vars.seq (packet_of c s.vars poll fin)) ∙ h.state, tt);
+}
+
+-- whole events
+
+begun_cold : (at : Option ℕ) (v : Vars) → is_init_or_up v.state ≡ false → Cold (begun at v [])
+begun_cold None v low = record { state = low; packets = tt }
+begun_cold (Some eff) v low = record { state = low; packets = tt }
+
+settled_cold : (c : SessionConfig) (limit eff : ℕ) (s : Course) → Cold s → Cold (settled c limit eff s)
+settled_cold (Pair c) limit eff s h = settle_keeps Cold cold_state cold_still cold_goes cold_puts refl refl c limit eff s h
+
+finished_cold : (c : SessionConfig) (eff : ℕ) (s : Course) → Cold s → Cold (finished c eff s)
+finished_cold (Pair c) eff s h = finish_keeps Cold cold_state cold_still cold_goes cold_puts refl refl c eff s h
+
+ordered_cold : (c : SessionConfig) (eff : ℕ) (cmd : Cmd) (s : Course) → Cold s → Cold (acted c eff (Command cmd) s)
+ordered_cold (Pair c) eff cmd s h = commanded_keeps Cold cold_state cold_still cold_goes cold_puts refl refl c eff cmd s h
+
+tick_cold : (s : Running) (limit eff : ℕ) → is_init_or_up s.vars.state ≡ false → Cold (tick s.config limit eff (begun None s.vars []))
+unfolding tick
+tick_cold s limit eff low = finished_cold s.config eff _ (settled_cold s.config limit eff _ (begun_cold None s.vars low))
+
+pub tick_state : (s : Running) (limit eff : ℕ) → is_init_or_up s.vars.state ≡ false
+    → is_init_or_up (tick_next limit eff s).vars.state ≡ false
+unfolding ticked_vars
+tick_state s limit eff low = (tick_cold s limit eff low).state
+
+pub tick_packets : (s : Running) (limit eff : ℕ) → is_init_or_up s.vars.state ≡ false
+    → Each IsCold (packets_in (tick_emits limit eff s))
+unfolding tick_emits
+tick_packets s limit eff low = (tick_cold s limit eff low).packets
+
+order_cold : (s : Running) (eff : ℕ) (cmd : Cmd) → is_init_or_up s.vars.state ≡ false
+    → Cold (step s.config eff (Command cmd) (begun (Some eff) s.vars []))
+unfolding step
+order_cold s eff cmd low =
+    finished_cold s.config eff _ (ordered_cold s.config eff cmd _ (settled_cold s.config eff eff _ (begun_cold (Some eff) s.vars low)))
+
+pub order_state : (s : Running) (eff : ℕ) (cmd : Cmd) → is_init_or_up s.vars.state ≡ false
+    → is_init_or_up (next eff (Command cmd) s).vars.state ≡ false
+unfolding next_vars
+order_state s eff cmd low = (order_cold s eff cmd low).state
+
+pub order_packets : (s : Running) (eff : ℕ) (cmd : Cmd) → is_init_or_up s.vars.state ≡ false
+    → Each IsCold (packets_in (emits eff (Command cmd) s))
+unfolding emits
+order_packets s eff cmd low = (order_cold s eff cmd low).packets
+
+-- a packet that isn't handled
+
+abbrev pub is_handled : Answer → Bool
+is_handled Handled = true
+is_handled _ = false
+
+kept_state : (c : Config) (eff : ℕ) (packet : Control) (seq : SeqState) (s : Course)
+    → (receiving.kept c eff packet seq s).vars.state ≡ s.vars.state
+unfolding receiving.kept receiving.ends_poll receiving.keeps_fields receiving.keeps_sequence renews
+kept_state c eff packet seq s = by_fin packet.fin _ _ (renewed_state eff _ _) ∙ (renewed_state eff _ _ ∙ renewed_state eff _ _)
+  where
+    by_fin : (b : Bool) (x y : Course) → x.vars.state ≡ y.vars.state → (if b then x else y).vars.state ≡ y.vars.state
+    by_fin true x y same = same
+    by_fin false x y same = refl
+
+admin_by : (b : Bool) → is_handled (answer_to_packet (if b then Dropped DiscardAdminDown else Accepted)) ≡ false → b ≡ true
+admin_by true h = refl
+admin_by false h = cc
+
+unhandled_cold : (c : Config) (eff : ℕ) (packet : Control) (judgement : Result SeqState Test) (s : Course)
+    → is_handled (answer_to_packet (receiving.verdict_by s.vars.state judgement)) ≡ false → Cold s
+    → Cold (receiving.received_on c eff packet judgement s)
+unfolding receiving.received_on receiving.accepted
+unhandled_cold c eff packet (Ok seq) s refused h =
+    let admin : is_admin_down (receiving.kept c eff packet seq s).vars.state ≡ true =
+    ap is_admin_down (kept_state c eff packet seq s) ∙ admin_by (is_admin_down s.vars.state) refused in
+    rw admin (kept_keeps Cold cold_state cold_still cold_goes cold_puts refl refl c eff packet seq s h)
+unhandled_cold c eff packet (Err test) s refused h = h
+
+acted_cold : (c : SessionConfig) (eff : ℕ) (arrival : Arrival) (v : Vars)
+    → is_handled (reply eff (Packet arrival) (record { config = c; vars = v; echo = None; echo_next = 0 })) ≡ false
+    → Cold (settled c eff eff (begun (Some eff) v []))
+    → Cold (acted c eff (Packet arrival) (settled c eff eff (begun (Some eff) v [])))
+unfolding reply receiving.received
+acted_cold (Pair c) eff arrival v refused h =
+    let s : Course = settle c eff eff (begun (Some eff) v []) in
+    unhandled_cold c eff (fields_of arrival.payload) (receiving.judged c s.vars arrival.ttl arrival.payload) s refused h
+
+packet_cold : (s : Running) (eff : ℕ) (arrival : Arrival) → is_handled (reply eff (Packet arrival) s) ≡ false
+    → is_init_or_up s.vars.state ≡ false → Cold (step s.config eff (Packet arrival) (begun (Some eff) s.vars []))
+unfolding step reply
+packet_cold s eff arrival refused low =
+    finished_cold s.config eff _ (acted_cold s.config eff arrival s.vars refused
+    (settled_cold s.config eff eff _ (begun_cold (Some eff) s.vars low)))
+
+pub packet_state : (s : Running) (eff : ℕ) (arrival : Arrival) → is_handled (reply eff (Packet arrival) s) ≡ false
+    → is_init_or_up s.vars.state ≡ false → is_init_or_up (next eff (Packet arrival) s).vars.state ≡ false
+unfolding next_vars
+packet_state s eff arrival refused low = (packet_cold s eff arrival refused low).state
+
+pub packet_packets : (s : Running) (eff : ℕ) (arrival : Arrival) → is_handled (reply eff (Packet arrival) s) ≡ false
+    → is_init_or_up s.vars.state ≡ false → Each IsCold (packets_in (emits eff (Packet arrival) s))
+unfolding emits
+packet_packets s eff arrival refused low = (packet_cold s eff arrival refused low).packets

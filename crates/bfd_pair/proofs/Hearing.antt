@@ -1,0 +1,180 @@
+-- A side in Init or Up, and each packet in Init or Up that it has sent, come after it handled a packet of the other side.
+use Rattle.std.proofs.Common.{◌≡◌, ◌⊎◌, inl, inr, ◌++◌, ◌==◌, ◌-◌, ◌<◌, ◌≤◌, ℕ, Bool, true, false, List, [], ◌∷◌, length, length-append, refl, sym, ap, ◌∙◌, subst, arith, append_assoc, append-nil, None, Some}
+use Rattle.std.specs.Prelude.{slice_get}
+use Rattle.std.proofs.lemmas.Bool.Decides.{nat_tests}
+use Rattle.bfd_packet.specs.Layout.{fields_of}
+use Rattle.bfd_packet.specs.States.{is_init_or_up}
+use Rattle.bfd_p2p.specs.Machine.{made as pair_made}
+use Rattle.bfd_session.specs.declared.event.SessionConfig.{SessionConfig}
+use Rattle.bfd_session.specs.declared.event.SessionConfig.TheVariants.{Pair}
+use Rattle.bfd_session.specs.Step.{started}
+use Rattle.bfd_pair.specs.declared.event.Side.{Side}
+use Rattle.bfd_pair.specs.declared.event.Side.TheVariants.{Left, Right}
+use Rattle.bfd_pair.specs.declared.event.PairEvent.{PairEvent}
+use Rattle.bfd_pair.specs.declared.event.PairEvent.TheVariants.{Give}
+use Rattle.bfd_pair.specs.Run.{End, Both, end_of, packet_at, after, pair_run, turn}
+use Rattle.bfd_pair.specs.Handshake.{Heard, sent_by_then}
+use Rattle.bfd_pair.proofs.Packets.{each_at, Later, first_or_later}
+use Rattle.bfd_pair.proofs.Rules.{drawn_state}
+use Rattle.bfd_pair.proofs.Cold.{IsCold}
+use Rattle.bfd_pair.proofs.Sides.{Grows, Quiet, Hears, hears_or_quiet}
+
+-- one event more
+
+after-append : (w : Both) (xs ys : List PairEvent) → after (xs ++ ys) w ≡ after ys (after xs w)
+after-append w [] ys = refl
+after-append w (x ∷ xs) ys = after-append (turn x w).both xs ys
+
+pub run_more : (left right : SessionConfig) (past : List PairEvent) (event : PairEvent)
+    → pair_run left right (past ++ event ∷ []) ≡ (turn event (pair_run left right past)).both
+unfolding pair_run
+run_more left right past event = after-append _ past (event ∷ [])
+
+-- the side had heard the other when it had sent at most n packets
+pub record HeardBy (left right : SessionConfig) (side : Side) (past : List PairEvent) (n : ℕ) : Type 0 where
+  pub heard : Heard left right side past
+  pub by : sent_by_then left right side past heard ≤ n
+
+heard_still : (left right : SessionConfig) (side : Side) (past : List PairEvent) (event : PairEvent) (m n : ℕ) → m ≤ n
+    → HeardBy left right side past m → HeardBy left right side (past ++ event ∷ []) n
+heard_still left right side past event m n le h = record {
+  heard = record {
+    before = h.heard.before;
+    later = h.heard.later ++ event ∷ [];
+    moment = h.heard.moment;
+    number = h.heard.number;
+    split = ap (λ (es : List PairEvent). es ++ event ∷ []) h.heard.split
+        ∙ append_assoc h.heard.before (Give side h.heard.moment h.heard.number ∷ h.heard.later) (event ∷ []);
+    bytes = h.heard.bytes;
+    sent = h.heard.sent;
+    handled = h.heard.handled;
+  };
+  by = (let b : length (end_of side (pair_run left right h.heard.before)).sent ≤ m = h.by in omega arith);
+}
+
+heard_now : (left right : SessionConfig) (side : Side) (past : List PairEvent) (event : PairEvent) (n : ℕ) (e e2 : End)
+    → length (end_of side (pair_run left right past)).sent ≤ n → Hears (pair_run left right past) event side e e2
+    → HeardBy left right side (past ++ event ∷ []) n
+heard_now left right side past event n e e2 le h = record {
+  heard = record {
+    before = past;
+    later = [];
+    moment = h.moment;
+    number = h.number;
+    split = ap (λ (x : PairEvent). past ++ x ∷ []) h.gives;
+    bytes = h.bytes;
+    sent = h.sent;
+    handled = h.handled;
+  };
+  by = le;
+}
+
+-- the invariant
+pub record Told (left right : SessionConfig) (side : Side) (past : List PairEvent) (e : End) : Type 0 where
+  pub state : is_init_or_up e.session.vars.state ≡ true → HeardBy left right side past (length e.sent)
+  pub packets : (k : ℕ) (bytes : List ℕ) → slice_get e.sent k ≡ Some bytes → is_init_or_up (fields_of bytes).state ≡ true
+      → HeardBy left right side past k
+
+never : (b : Bool) → b ≡ false → b ≡ true → ⊥
+never true h k = cc
+never false h k = cc
+
+either : (b : Bool) → (b ≡ false) ⊎ (b ≡ true)
+either true = inr refl
+either false = inl refl
+
+more_sent : (e e2 : End) (g : Grows e e2) → length e.sent ≤ length e2.sent
+more_sent e e2 g =
+    let sum = length-append e.sent g.more in
+    let same = ap (λ (ps : List (List ℕ)). length ps) g.appended in
+    omega arith
+
+-- a packet that was sent before the event, or in it
+packet_then : (left right : SessionConfig) (side : Side) (past : List PairEvent) (event : PairEvent) (e e2 : End)
+    → Told left right side past e → (g : Grows e e2)
+    → ((k : ℕ) (bytes : List ℕ) → Later e.sent g.more k bytes → is_init_or_up (fields_of bytes).state ≡ true
+    → HeardBy left right side (past ++ event ∷ []) k)
+    → (k : ℕ) (bytes : List ℕ) → slice_get e2.sent k ≡ Some bytes → is_init_or_up (fields_of bytes).state ≡ true
+    → HeardBy left right side (past ++ event ∷ []) k
+packet_then left right side past event e e2 t g now k bytes there warm =
+    elim (first_or_later e.sent g.more k bytes (ap (λ (ps : List (List ℕ)). slice_get ps k) (sym g.appended) ∙ there)) [
+      | inl first ↦ heard_still left right side past event k k (omega arith) (t.packets k bytes first warm)
+      | inr later ↦ now k bytes later warm
+    ]
+
+-- who had heard the other side has heard it
+told_warm : (left right : SessionConfig) (side : Side) (past : List PairEvent) (event : PairEvent) (e e2 : End)
+    → Told left right side past e → Grows e e2
+    → ((n : ℕ) → length e.sent ≤ n → HeardBy left right side (past ++ event ∷ []) n)
+    → Told left right side (past ++ event ∷ []) e2
+told_warm left right side past event e e2 t g heard = record {
+  state = λ warm. heard (length e2.sent) (more_sent e e2 g);
+  packets = packet_then left right side past event e e2 t g (λ k bytes later warm. heard k later.after);
+}
+
+told_quiet : (left right : SessionConfig) (side : Side) (past : List PairEvent) (event : PairEvent) (e e2 : End)
+    → Told left right side past e → Quiet e e2 → Told left right side (past ++ event ∷ []) e2
+told_quiet left right side past event e e2 t q = elim (either (is_init_or_up e.session.vars.state)) [
+  | inl low ↦ record {
+    state = λ warm. absurd (never _ (q.state low) warm);
+    packets = packet_then left right side past event e e2 t q.grows
+        (λ k bytes later warm. absurd (never _ (each_at IsCold q.grows.more later.place bytes (q.packets low) later.there) warm));
+  }
+  | inr warm ↦ told_warm left right side past event e e2 t q.grows
+      (λ n le. heard_still left right side past event (length e.sent) n le (t.state warm))
+]
+
+told_step : (left right : SessionConfig) (side : Side) (past : List PairEvent) (event : PairEvent)
+    → Told left right side past (end_of side (pair_run left right past))
+    → Told left right side (past ++ event ∷ []) (end_of side (turn event (pair_run left right past)).both)
+told_step left right side past event t = elim (hears_or_quiet (pair_run left right past) event side) [
+  | inl quiet ↦ told_quiet left right side past event _ _ t quiet
+  | inr hears ↦ told_warm left right side past event _ _ t hears.grows (λ n le. heard_now left right side past event n _ _ le hears)
+]
+
+started_cold : (config : SessionConfig) → is_init_or_up (started config).vars.state ≡ false
+unfolding pair_made
+started_cold (Pair c) = ap is_init_or_up (drawn_state c.active _ _)
+
+told_start : (left right : SessionConfig) (side : Side) → Told left right side [] (end_of side (pair_run left right []))
+unfolding pair_run
+told_start left right Left = record { state = λ warm. absurd (never _ (started_cold left) warm); packets = λ k bytes there warm. cc }
+told_start left right Right = record { state = λ warm. absurd (never _ (started_cold right) warm); packets = λ k bytes there warm. cc }
+
+told_on : (left right : SessionConfig) (side : Side) (past events : List PairEvent)
+    → Told left right side past (end_of side (pair_run left right past))
+    → Told left right side (past ++ events) (end_of side (pair_run left right (past ++ events)))
+told_on left right side past [] t =
+    subst (λ (es : List PairEvent). Told left right side es (end_of side (pair_run left right es))) (sym (append-nil past)) t
+told_on left right side past (event ∷ events) t =
+    subst (λ (es : List PairEvent). Told left right side es (end_of side (pair_run left right es))) (append_assoc past (event ∷ []) events)
+    (told_on left right side (past ++ event ∷ []) events
+    (subst (λ (w : Both). Told left right side (past ++ event ∷ []) (end_of side w)) (sym (run_more left right past event))
+    (told_step left right side past event t)))
+
+told : (left right : SessionConfig) (side : Side) (past : List PairEvent) → Told left right side past (end_of side (pair_run left right past))
+told left right side past = told_on left right side [] past (told_start left right side)
+
+-- where the packet of a number stands
+pub record At (number : ℕ) (sent : List (List ℕ)) (bytes : List ℕ) : Type 0 where
+  pub place : ℕ
+  pub below : place < number
+  pub there : slice_get sent place ≡ Some bytes
+
+place_by : (number : ℕ) (sent : List (List ℕ)) (bytes : List ℕ) (zero : Bool) → (number == 0) ≡ zero
+    → packet_at number sent ≡ Some bytes → At number sent bytes
+place_by number sent bytes true is found = absurd (let none : packet_at number sent ≡ None = rw is refl in cc)
+place_by number sent bytes false is found = record {
+  place = number - 1;
+  below = grind (arith, nat_tests);
+  there = (let same : packet_at number sent ≡ slice_get sent (number - 1) = rw is refl in sym same ∙ found);
+}
+
+-- a packet in Init or Up was sent after its sender had heard the other side
+pub packet_heard : (left right : SessionConfig) (side : Side) (past : List PairEvent) (number : ℕ) (bytes : List ℕ)
+    → packet_at number (end_of side (pair_run left right past)).sent ≡ Some bytes → is_init_or_up (fields_of bytes).state ≡ true
+    → (heard : Heard left right side past) × (sent_by_then left right side past heard < number)
+packet_heard left right side past number bytes found warm =
+    let at : At number (end_of side (pair_run left right past)).sent bytes = place_by number _ bytes _ refl found in
+    let h : HeardBy left right side past at.place = (told left right side past).packets at.place bytes at.there warm in
+    (h.heard, (let b = h.by in let l = at.below in omega arith))

@@ -1,0 +1,130 @@
+-- A packet that fails no test up to selection over a session's one row: the session takes it, and in Init or Up it names the session.
+use Rattle.std.proofs.Common.{◌≡◌, ◌==◌, ◌&&◌, ◌||◌, ◌++◌, not, ℕ, Bool, true, false, List, [], ◌∷◌, refl, sym, ap, ◌∙◌, subst, Option, None, Some, if◌then◌else◌, arith}
+use Rattle.std.specs.Prelude.{find}
+use Rattle.std.proofs.lemmas.Bool.Decides.{nat_tests}
+use Rattle.bfd_packet.specs.declared.arrival.Addr.{Addr}
+use Rattle.bfd_packet.specs.declared.arrival.Arrival.{Arrival}
+use Rattle.bfd_packet.specs.declared.arrival.Port.{Port}
+use Rattle.bfd_packet.specs.declared.arrival.Port.TheVariants.{Single as SinglePort, Multi as MultiPort}
+use Rattle.bfd_packet.specs.declared.discard.Test.{Test}
+use Rattle.bfd_packet.specs.declared.discard.Test.TheVariants.{Short, Version, LengthMin, LengthOver, DetectMult, Multipoint, MyDiscr, YourUnknown, YourZeroState, NoSession, MultipointYour, NoTail}
+use Rattle.bfd_packet.specs.HeaderTests.{header_fails, first_failing}
+use Rattle.bfd_packet.specs.Layout.{fields_of}
+use Rattle.bfd_packet.specs.States.{is_init_or_up}
+use Rattle.bfd_rules.specs.declared.config.Role.{Role}
+use Rattle.bfd_rules.specs.declared.config.Role.TheVariants.{Single, Multi}
+use Rattle.bfd_p2p.specs.Port.{port_of}
+use Rattle.bfd_demux.specs.declared.row.Row.{Row}
+use Rattle.bfd_demux.specs.Selection.{first_header_failing, first_table_failing, first_failing_on, is_multipoint, table_fails, tests_on_header}
+use Rattle.bfd_session.specs.declared.event.SessionConfig.{SessionConfig}
+use Rattle.bfd_session.specs.declared.event.SessionConfig.TheVariants.{Pair}
+use Rattle.bfd_session.specs.declared.event.Event.TheVariants.{Packet}
+use Rattle.bfd_session.specs.Kinds.{discr_of}
+use Rattle.bfd_session.specs.Rows.{kind_of, row_of}
+use Rattle.bfd_session.specs.Step.{CanTake}
+use Rattle.bfd_pair.specs.Run.{arrival_to, screened}
+
+-- where no test is found that fails, each passes
+
+here_passes : (t : Test) (fails : Bool) (later : Option Test) → (if fails then Some t else later) ≡ None → fails ≡ false
+here_passes t true later h = cc
+here_passes t false later h = refl
+
+later_passes : (t : Test) (fails : Bool) (later : Option Test) → (if fails then Some t else later) ≡ None → later ≡ None
+later_passes t true later h = cc
+later_passes t false later h = h
+
+passes : (fails : Test → Bool) (before : List Test) (t : Test) (after : List Test) → find fails (before ++ t ∷ after) ≡ None
+    → fails t ≡ false
+passes fails [] t after h = here_passes t (fails t) (find fails after) h
+passes fails (x ∷ before) t after h =
+    passes fails before t after (later_passes x (fails x) (find fails (before ++ t ∷ after)) h)
+
+never : true ≡ false → ⊥
+never h = cc
+
+abbrev row : Role → ℕ → ℕ → Addr → Addr → Row
+row role discr iface local remote = record { discr = discr; kind = kind_of role iface local remote }
+
+-- by the two tests on Your Discriminator
+named : (your discr : ℕ) → ((your == 0) && true) ≡ false → (not (your == 0) && not ((discr == your) || false)) ≡ false → your ≡ discr
+named your discr zero unknown = grind (arith, nat_tests)
+
+-- port single: where M is set a session of two ends is no tail
+single_plain : (discr iface : ℕ) (local remote : Addr) (arrival : Arrival) (m : Bool) → is_multipoint SinglePort arrival ≡ m
+    → find (λ test. table_fails SinglePort test (row Single discr iface local remote ∷ []) arrival)
+    (Short ∷ Version ∷ LengthMin ∷ LengthOver ∷ DetectMult ∷ MyDiscr ∷ []
+    ++ (if m then MultipointYour ∷ NoTail ∷ [] else YourUnknown ∷ YourZeroState ∷ NoSession ∷ [])) ≡ None
+    → m ≡ false
+single_plain discr iface local remote arrival true is h =
+    let none = passes (λ test. table_fails SinglePort test (row Single discr iface local remote ∷ []) arrival)
+    (Short ∷ Version ∷ LengthMin ∷ LengthOver ∷ DetectMult ∷ MyDiscr ∷ MultipointYour ∷ []) NoTail [] h in
+    absurd (never (ap (λ (b : Bool). b && true) (sym is) ∙ none))
+single_plain discr iface local remote arrival false is h = refl
+
+names_single : (discr iface : ℕ) (local remote : Addr) (arrival : Arrival) (m : Bool) → m ≡ false
+    → is_init_or_up (fields_of arrival.payload).state ≡ true
+    → find (λ test. table_fails SinglePort test (row Single discr iface local remote ∷ []) arrival)
+    (Short ∷ Version ∷ LengthMin ∷ LengthOver ∷ DetectMult ∷ MyDiscr ∷ []
+    ++ (if m then MultipointYour ∷ NoTail ∷ [] else YourUnknown ∷ YourZeroState ∷ NoSession ∷ [])) ≡ None
+    → (fields_of arrival.payload).your ≡ discr
+names_single discr iface local remote arrival true plain state h = absurd (never plain)
+names_single discr iface local remote arrival false plain state h =
+    let fails : Test → Bool = λ test. table_fails SinglePort test (row Single discr iface local remote ∷ []) arrival in
+    let zero = passes fails (Short ∷ Version ∷ LengthMin ∷ LengthOver ∷ DetectMult ∷ MyDiscr ∷ YourUnknown ∷ []) YourZeroState (NoSession ∷ []) h in
+    let unknown = passes fails (Short ∷ Version ∷ LengthMin ∷ LengthOver ∷ DetectMult ∷ MyDiscr ∷ []) YourUnknown (YourZeroState ∷ NoSession ∷ []) h in
+    named (fields_of arrival.payload).your discr
+    (ap (λ (b : Bool). ((fields_of arrival.payload).your == 0) && b) (sym state) ∙ zero) unknown
+
+names_multi : (discr iface : ℕ) (local remote : Addr) (arrival : Arrival) → is_init_or_up (fields_of arrival.payload).state ≡ true
+    → first_failing_on MultiPort (row Multi discr iface local remote ∷ []) arrival ≡ None
+    → (fields_of arrival.payload).your ≡ discr
+names_multi discr iface local remote arrival state h =
+    let fails : Test → Bool = λ test. table_fails MultiPort test (row Multi discr iface local remote ∷ []) arrival in
+    let zero = passes fails (Short ∷ Version ∷ LengthMin ∷ LengthOver ∷ DetectMult ∷ Multipoint ∷ MyDiscr ∷ YourUnknown ∷ []) YourZeroState (NoSession ∷ []) h in
+    let unknown = passes fails (Short ∷ Version ∷ LengthMin ∷ LengthOver ∷ DetectMult ∷ Multipoint ∷ MyDiscr ∷ []) YourUnknown (YourZeroState ∷ NoSession ∷ []) h in
+    named (fields_of arrival.payload).your discr
+    (ap (λ (b : Bool). ((fields_of arrival.payload).your == 0) && b) (sym state) ∙ zero) unknown
+
+names_by : (role : Role) (discr iface : ℕ) (local remote : Addr) (arrival : Arrival)
+    → is_init_or_up (fields_of arrival.payload).state ≡ true
+    → first_failing_on (port_of role) (row role discr iface local remote ∷ []) arrival ≡ None
+    → (fields_of arrival.payload).your ≡ discr
+names_by Single discr iface local remote arrival state h =
+    names_single discr iface local remote arrival (is_multipoint SinglePort arrival)
+    (single_plain discr iface local remote arrival (is_multipoint SinglePort arrival) refl h) state h
+names_by Multi discr iface local remote arrival state h = names_multi discr iface local remote arrival state h
+
+pub names : (config : SessionConfig) (bytes : List ℕ) → is_init_or_up (fields_of bytes).state ≡ true → screened config bytes ≡ None
+    → (fields_of bytes).your ≡ discr_of config
+names (Pair c) bytes state h = names_by c.role c.discr c.iface c.local c.remote (arrival_to (Pair c) bytes) state h
+
+-- the session takes it
+
+plain_by : (role : Role) (discr iface : ℕ) (local remote : Addr) (arrival : Arrival)
+    → first_failing_on (port_of role) (row role discr iface local remote ∷ []) arrival ≡ None
+    → (fields_of arrival.payload).multi ≡ false
+plain_by Single discr iface local remote arrival h =
+    single_plain discr iface local remote arrival (is_multipoint SinglePort arrival) refl h
+plain_by Multi discr iface local remote arrival h =
+    passes (λ test. table_fails MultiPort test (row Multi discr iface local remote ∷ []) arrival)
+    (Short ∷ Version ∷ LengthMin ∷ LengthOver ∷ DetectMult ∷ []) Multipoint
+    (MyDiscr ∷ YourUnknown ∷ YourZeroState ∷ NoSession ∷ []) h
+
+header_by : (role : Role) (payload : List ℕ) → find (λ test. header_fails test payload) (tests_on_header (port_of role)) ≡ None
+    → first_failing (port_of role) payload ≡ None
+header_by Single payload h = h
+header_by Multi payload h = h
+
+pub takes : (config : SessionConfig) (arrival : Arrival) → arrival ≡ arrival_to config arrival.payload
+    → first_header_failing arrival ≡ None → first_table_failing (row_of config ∷ []) arrival ≡ None → CanTake config (Packet arrival)
+takes (Pair c) arrival is header none =
+    let port : arrival.port ≡ port_of c.role = ap (λ (a : Arrival). a.port) is in
+    record {
+      port = port;
+      header = subst (λ (p : Port). first_failing p arrival.payload ≡ None) (sym port)
+          (header_by c.role arrival.payload
+          (subst (λ (p : Port). find (λ test. header_fails test arrival.payload) (tests_on_header p) ≡ None) port header));
+      plain = plain_by c.role c.discr c.iface c.local c.remote arrival
+          (subst (λ (p : Port). first_failing_on p (row_of (Pair c) ∷ []) arrival ≡ None) port none);
+    }

@@ -1,0 +1,89 @@
+-- An event leaves a pair of what the past, with it, makes.
+use Rattle.std.proofs.Common.{◌≡◌, ◌≤◌, ◌++◌, ℕ, true, false, List, [], ◌∷◌, refl, sym, ap, ◌∙◌, arith, length, Option, None, Some}
+use Rattle.bfd_num.specs.Numbers.{greatest_tick}
+use Rattle.bfd_packet.specs.declared.discard.Test.{Test}
+use Rattle.bfd_session.specs.declared.event.SessionConfig.{SessionConfig}
+use Rattle.bfd_pair.specs.declared.event.Side.{Side}
+use Rattle.bfd_pair.specs.declared.event.Side.TheVariants.{Left, Right}
+use Rattle.bfd_pair.specs.declared.event.PairEvent.{PairEvent}
+use Rattle.bfd_pair.specs.declared.event.PairEvent.TheVariants.{Tick, Give, Order}
+use Rattle.bfd_pair.specs.declared.peer.Peer.{Peer}
+use Rattle.bfd_pair.specs.Run.{End, Both, end_of, packet_at, screened, comes, given, opened, pair_run, turn}
+use Rattle.bfd_pair.specs.Handshake.{IsHandshake, is_up_after}
+use Rattle.bfd_pair.specs.Inside.{seen, both_of, Pairing, pairing_of, IsPeer, IsPair}
+use Rattle.bfd_pair.proofs.Hearing.{run_more}
+use Rattle.bfd_pair.proofs.Handshakes.{comes_up}
+
+-- no event changes a configuration
+
+comes_config : (failing : Option Test) (moment last : ℕ) (bytes : List ℕ) (e : End)
+    → (comes failing moment last bytes e).end.session.config ≡ e.session.config
+comes_config (Some test) moment last bytes e = refl
+comes_config None moment last bytes e = refl
+
+given_config : (found : Option (List ℕ)) (count moment last : ℕ) (e : End)
+    → (given found count moment last e).end.session.config ≡ e.session.config
+given_config None count moment last e = refl
+given_config (Some bytes) count moment last e = comes_config (screened e.session.config bytes) moment last bytes e
+
+turn_config : (event : PairEvent) (w : Both) (side : Side)
+    → (end_of side (turn event w).both).session.config ≡ (end_of side w).session.config
+turn_config (Tick t) w Left = refl
+turn_config (Tick t) w Right = refl
+turn_config (Give Left moment number) w Left = given_config (packet_at number w.right.sent) (length w.right.sent) moment w.last w.left
+turn_config (Give Right moment number) w Left = refl
+turn_config (Give Left moment number) w Right = refl
+turn_config (Give Right moment number) w Right = given_config (packet_at number w.left.sent) (length w.left.sent) moment w.last w.right
+turn_config (Order Left moment cmd) w Left = refl
+turn_config (Order Right moment cmd) w Left = refl
+turn_config (Order Left moment cmd) w Right = refl
+turn_config (Order Right moment cmd) w Right = refl
+
+module _ (l r l2 r2 : Peer) (last last2 : ℕ) (past past2 : List PairEvent) (event : PairEvent) (p : Pairing)
+    (pair : IsPair l r last past) (view : pairing_of l r past ≡ p)
+    (both : both_of l2 r2 last2 ≡ (turn event (both_of l r last)).both) (more : past2 ≡ past ++ event ∷ []) where
+  left_same : l2.session.config ≡ l.session.config
+  left_same = ap (λ (w : Both). w.left.session.config) both ∙ turn_config event (both_of l r last) Left
+
+  right_same : r2.session.config ≡ r.session.config
+  right_same = ap (λ (w : Both). w.right.session.config) both ∙ turn_config event (both_of l r last) Right
+
+  run_now : both_of l2 r2 last2 ≡ pair_run l2.session.config r2.session.config past2
+  run_now =
+      both
+      ∙ (ap (λ (w : Both). (turn event w).both) pair.run
+      ∙ (sym (run_more l.session.config r.session.config past event)
+      ∙ (ap (λ (c : SessionConfig). pair_run c r.session.config (past ++ event ∷ [])) (sym left_same)
+      ∙ (ap (λ (c : SessionConfig). pair_run l2.session.config c (past ++ event ∷ [])) (sym right_same)
+      ∙ ap (λ (es : List PairEvent). pair_run l2.session.config r2.session.config es) (sym more)))))
+
+  pub pair_more : IsPeer l2 → IsPeer r2 → last2 ≤ greatest_tick → IsPair l2 r2 last2 past2
+  pair_more left right within = record { left_peer = left; right_peer = right; within = within; run = run_now }
+
+  pub pairing_more : pairing_of l2 r2 past2 ≡ record p { past = p.past ++ event ∷ [] }
+  pairing_more =
+      ap (λ (c : SessionConfig). record { left = c; right = r2.session.config; past = past2 }) left_same
+      ∙ (ap (λ (c : SessionConfig). record { left = l.session.config; right = c; past = past2 }) right_same
+      ∙ (ap (λ (es : List PairEvent). record { left = l.session.config; right = r.session.config; past = es }) more
+      ∙ ap (λ (q : Pairing). record q { past = q.past ++ event ∷ [] }) view))
+
+  pub rises_more : (side : Side) → is_up_after p.left p.right side p.past ≡ false
+      → is_up_after l2.session.config r2.session.config side past2 ≡ true → IsHandshake p.left p.right side event p.past
+  rises_more side low up =
+      comes_up p.left p.right p.past event side low
+      (ap (λ (x : Pairing). is_up_after x.left x.right side x.past) (sym pairing_more) ∙ up)
+
+-- two sides at the start
+pub pair_start : (l r : Peer) (left right : SessionConfig) (past : List PairEvent) → IsPeer l → IsPeer r
+    → seen l ≡ opened left → seen r ≡ opened right → past ≡ [] → IsPair l r 0 past
+unfolding pair_run
+pair_start l r left right past hl hr el er none = record {
+  left_peer = hl;
+  right_peer = hr;
+  within = omega arith;
+  run = ap (λ (e : End). record { left = e; right = seen r; last = 0 }) el
+      ∙ (ap (λ (e : End). record { left = opened left; right = e; last = 0 }) er
+      ∙ (ap (λ (c : SessionConfig). pair_run c right []) (sym (ap (λ (e : End). e.session.config) el))
+      ∙ (ap (λ (c : SessionConfig). pair_run l.session.config c []) (sym (ap (λ (e : End). e.session.config) er))
+      ∙ ap (λ (es : List PairEvent). pair_run l.session.config r.session.config es) (sym none))));
+}

@@ -1,0 +1,58 @@
+-- A side of the program as a side of the definitions.
+use Rattle.std.proofs.Common.{◌≡◌, ◌≤◌, ◌-◌, ◌++◌, ℕ, Bool, not, true, false, List, [], ◌∷◌, length, take, drop, refl, ap, ◌∙◌, subst, arith, None}
+use Rattle.std.proofs.lemmas.List.{take_all, length-drop}
+use Rattle.std.proofs.Math.Seq.{drop-append_seam}
+use Rattle.bfd_packet.specs.declared.arrival.Arrival.{Arrival}
+use Rattle.bfd_rules.specs.declared.commands.Cmd.{Cmd}
+use Rattle.bfd_rules.specs.declared.outputs.Out.{Out}
+use Rattle.bfd_demux.specs.declared.row.Row.{Row}
+use Rattle.bfd_demux.specs.Rows.{build_fault}
+use Rattle.bfd_demux.specs.Selection.{first_header_failing, first_table_failing}
+use Rattle.bfd_session.specs.declared.event.SessionConfig.{SessionConfig}
+use Rattle.bfd_session.specs.declared.event.SessionConfig.TheVariants.{Pair}
+use Rattle.bfd_session.specs.declared.event.Event.TheVariants.{Packet, Command}
+use Rattle.bfd_session.specs.Rows.{row_of}
+use Rattle.bfd_session.specs.Step.{IsFit, CanTake, is_echo_command}
+use Rattle.bfd_session.proofs.Tables.{no_fault as no_faults}
+use Rattle.bfd_pair.specs.declared.peer.Peer.{Peer}
+use Rattle.bfd_pair.specs.Run.{arrival_to, packets_in}
+use Rattle.bfd_pair.specs.Inside.{IsPeer}
+use Rattle.bfd_pair.proofs.Packets.{packets_few}
+use Rattle.bfd_pair.proofs.Naming.{takes}
+
+-- a table of one row has no fault
+pub no_fault : (config : SessionConfig) → IsFit config → build_fault (row_of config ∷ []) ≡ None
+no_fault config fit = no_faults (config ∷ []) (tt, tt) (tt, tt) (fit, tt) (omega arith)
+
+-- no more packets are kept than there were outputs since
+pub few : (from : ℕ) (items : List Out) → length (packets_in (drop from items)) ≤ length items - from
+few from items =
+    let fewer = packets_few (drop from items) in
+    let rest = length-drop from items in
+    omega arith
+
+-- what was put out since
+pub put_since : (from : ℕ) (before more after : List Out) → after ≡ before ++ more → from ≡ length before → drop from after ≡ more
+put_since from before more after e at =
+    ap (λ (k : ℕ). drop k after) at ∙ (ap (drop (length before)) e ∙ drop-append_seam before more)
+
+-- a part up to the end
+pub to_the_end : (from : ℕ) (items : List Out) → take (length items - from) (drop from items) ≡ drop from items
+to_the_end from items = take_all (length items - from) (drop from items) (let rest = length-drop from items in omega arith)
+
+-- a packet is kept whole
+pub whole : (bytes : List ℕ) → length bytes ≤ 52 → take 256 bytes ≡ bytes
+whole bytes few = take_all 256 bytes (omega arith)
+
+pub takes_packet : (p : Peer) (arrival : Arrival) → IsPeer p → arrival ≡ arrival_to p.session.config arrival.payload
+    → first_header_failing arrival ≡ None → first_table_failing p.table arrival ≡ None → CanTake p.session.config (Packet arrival)
+takes_packet p arrival peer is header none =
+    takes p.session.config arrival is header
+    (subst (λ (rows : List Row). first_table_failing rows arrival ≡ None) peer.table none)
+
+not_true : (b : Bool) → not b ≡ true → b ≡ false
+not_true true h = cc
+not_true false h = refl
+
+pub takes_command : (cmd : Cmd) (config : SessionConfig) → not (is_echo_command cmd) ≡ true → CanTake config (Command cmd)
+takes_command cmd (Pair c) built = not_true (is_echo_command cmd) built

@@ -1,0 +1,178 @@
+-- What every rule of a point-to-point session keeps, but for the state machine's answer to a packet in Init or Up: a fact of a
+-- session's state and its outputs which holds on where variables change and the state doesn't, where the state changes to one of the
+-- allowed ones and is told, and where a packet with the present state is sent.
+use Rattle.std.proofs.Common.{◌≡◌, ◌⊎◌, inl, inr, ◌&&◌, ℕ, not, Bool, true, false, refl, ap, ◌∙◌, arith, is_some, if◌then◌else◌}
+use Rattle.bfd_num.specs.Numbers.{floor_tick}
+use Rattle.bfd_num.specs.Due.{has_come}
+use Rattle.bfd_packet.specs.declared.control.Control.{Control}
+use Rattle.bfd_packet.specs.declared.control.State.{State}
+use Rattle.bfd_packet.specs.declared.control.State.TheVariants.{AdminDown, Down, Init, Up}
+use Rattle.bfd_packet.specs.declared.keys.SeqState.{SeqState}
+use Rattle.bfd_packet.specs.States.{is_init_or_up}
+use Rattle.bfd_rules.specs.declared.commands.Cmd.{Cmd}
+use Rattle.bfd_rules.specs.declared.commands.Cmd.TheVariants.{Disable, Enable, Reset, Path, Tx, Rx, Mult, Demand, EchoEvery, Key}
+use Rattle.bfd_rules.specs.declared.config.Config.{Config}
+use Rattle.bfd_rules.specs.declared.variables.Mark.{Mark}
+use Rattle.bfd_rules.specs.declared.variables.Vars.{Vars}
+use Rattle.bfd_rules.specs.Quantities.{may_send, deadline, seq_deadline, is_idle, is_admin_down}
+use Rattle.bfd_rules.specs.Renewal.{poll_renewed, used_renewed, demand_renewed, renewed}
+use Rattle.bfd_rules.specs.Course.{Course, course, changes, sends, enters, tells, is_untold, based, drawn, redrawn}
+use Rattle.bfd_p2p.specs.Frame.{renews, moves}
+use Rattle.bfd_p2p.specs.Transmit.{transmits}
+use Rattle.bfd_p2p.specs.Settle as settling
+use Rattle.bfd_p2p.specs.Receive as receiving
+use Rattle.bfd_p2p.specs.Command.{refusal, commanded, done}
+use Rattle.bfd_p2p.specs.Finish as finishing
+
+-- Renewal and drawing leave the state
+
+poll_state : (before v : Vars) → (poll_renewed before v).state ≡ v.state
+unfolding poll_renewed
+poll_state before v = grind arith
+
+demand_state : (eff : ℕ) (before v : Vars) → (demand_renewed eff before v).state ≡ v.state
+unfolding demand_renewed
+demand_state eff before v = grind arith
+
+pub renewed_state : (eff : ℕ) (before v : Vars) → (renewed eff before v).state ≡ v.state
+unfolding renewed used_renewed
+renewed_state eff before v = demand_state eff before _ ∙ poll_state before v
+
+pub drawn_state : (active : Bool) (m : Mark) (v : Vars) → (drawn active m v).state ≡ v.state
+unfolding drawn
+drawn_state active m v = grind arith
+
+-- the state stays, or becomes an allowed one
+abbrev pub Goes : (State → Bool) → Vars → Vars → Type 0
+Goes ok v w = (w.state ≡ v.state) ⊎ (ok w.state ≡ true)
+
+goes_by : (ok : State → Bool) (v w x : Vars) → x.state ≡ w.state → Goes ok v w → Goes ok v x
+goes_by ok v w x same (inl stays) = inl (same ∙ stays)
+goes_by ok v w x same (inr allowed) = inr (ap ok same ∙ allowed)
+
+module _ (P : Course → Type 0) (ok : State → Bool)
+    (still : (s : Course) (v : Vars) (m : Mark) → v.state ≡ s.vars.state → P s → P (course v m s.outs))
+    (goes : (discr : ℕ) (v : Vars) (s : Course) → Goes ok s.vars v → P s → P (changes discr v s))
+    (puts : (c : Config) (poll fin : Bool) (s : Course) → P s → P (transmits c poll fin s))
+    (down : ok Down ≡ true) (admin_down : ok AdminDown ≡ true) where
+  either : (b : Bool) (x y : Course) → P x → P y → P (if b then x else y)
+  either true x y hx hy = hx
+  either false x y hx hy = hy
+
+  renews_keeps : (eff : ℕ) (v : Vars) (s : Course) → v.state ≡ s.vars.state → P s → P (renews eff v s)
+  unfolding renews
+  renews_keeps eff v s same h = still s (renewed eff s.vars v) s.mark (renewed_state eff s.vars v ∙ same) h
+
+  moves_keeps : (discr eff : ℕ) (v : Vars) (s : Course) → Goes ok s.vars v → P s → P (moves discr eff v s)
+  unfolding moves
+  moves_keeps discr eff v s to h =
+      goes discr (renewed eff s.vars v) s (goes_by ok s.vars v (renewed eff s.vars v) (renewed_state eff s.vars v) to) h
+
+  silent_goes : (v : Vars) → Goes ok v (settling.goes_silent (settling.forgets_peer v))
+  silent_goes v = by_state (is_init_or_up v.state)
+    where
+      by_state : (b : Bool) → Goes ok v (if b then enters Down 1 (settling.forgets_peer v) else settling.forgets_peer v)
+      by_state true = inr down
+      by_state false = inl refl
+
+  detection_keeps : (c : Config) (limit eff : ℕ) (s : Course) → P s → P (settling.detection c limit eff s)
+  unfolding settling.detection
+  detection_keeps c limit eff s h =
+      either (has_come limit (deadline s.vars)) _ s (moves_keeps c.discr eff _ s (silent_goes s.vars) h) h
+
+  sequence_keeps : (limit eff : ℕ) (s : Course) → P s → P (settling.sequence limit eff s)
+  unfolding settling.sequence
+  sequence_keeps limit eff s h =
+      either (has_come limit (seq_deadline s.vars)) _ s (renews_keeps eff (settling.forgets_sequence s.vars) s refl h) h
+
+  periodic_packet_keeps : (c : Config) (eff : ℕ) (s : Course) → P s → P (settling.periodic_packet c eff s)
+  unfolding settling.periodic_packet transmits sends
+  periodic_packet_keeps c eff s h =
+      let sent : P (transmits c (not (is_idle s.vars.poll)) false s) = puts c (not (is_idle s.vars.poll)) false s h in
+      renews_keeps eff _ _ refl (still (transmits c (not (is_idle s.vars.poll)) false s) s.vars (tells s.vars s.mark) refl sent)
+
+  periodic_keeps : (c : Config) (limit eff : ℕ) (s : Course) → P s → P (settling.periodic c limit eff s)
+  unfolding settling.periodic
+  periodic_keeps c limit eff s h =
+      either (has_come (floor_tick limit) s.vars.tx_due && may_send c.active s.vars) _ s (periodic_packet_keeps c eff s h) h
+
+  pub settle_keeps : (c : Config) (limit eff : ℕ) (s : Course) → P s → P (settling.settle c limit eff s)
+  unfolding settling.settle
+  settle_keeps c limit eff s h =
+      periodic_keeps c limit eff _ (sequence_keeps limit eff _ (detection_keeps c limit eff s h))
+
+  -- commands
+
+  done_goes : (c : Config) (cmd : Cmd) (v : Vars) → Goes ok v (done c cmd v)
+  done_goes c Disable v = inr admin_down
+  done_goes c Enable v = inr down
+  done_goes c Reset v = inr down
+  done_goes c (Path n) v = inl refl
+  done_goes c (Tx n) v = inl refl
+  done_goes c (Rx n) v = inl refl
+  done_goes c (Mult n) v = inl refl
+  done_goes c (Demand n) v = inl refl
+  done_goes c (EchoEvery n) v = inl refl
+  done_goes c (Key n) v = inl refl
+
+  pub commanded_keeps : (c : Config) (eff : ℕ) (cmd : Cmd) (s : Course) → P s → P (commanded c eff cmd s)
+  unfolding commanded
+  commanded_keeps c eff cmd s h =
+      either (is_some (refusal c s.vars cmd)) s _ h (moves_keeps c.discr eff (done c cmd s.vars) s (done_goes c cmd s.vars) h)
+
+  -- the end of an event
+
+  based_keeps : (eff : ℕ) (s : Course) → P s → P (based eff s)
+  based_keeps eff s h = still s (record s.vars { base = eff }) (record s.mark { moved = true }) refl h
+
+  extra_keeps : (c : Config) (eff : ℕ) (s : Course) → P s → P (finishing.extra c eff s)
+  unfolding finishing.extra
+  extra_keeps c eff s h =
+      either (is_untold c.active s.mark s.vars) _ s (based_keeps eff (transmits c false false s) (puts c false false s h)) h
+
+  pub finish_keeps : (c : Config) (eff : ℕ) (s : Course) → P s → P (finishing.finish c eff s)
+  unfolding finishing.finish redrawn
+  finish_keeps c eff s h =
+      let e : Course = finishing.extra c eff s in
+      still e (drawn c.active e.mark e.vars) e.mark (drawn_state c.active e.mark e.vars) (extra_keeps c eff s h)
+
+  -- packets
+
+  pub kept_keeps : (c : Config) (eff : ℕ) (packet : Control) (seq : SeqState) (s : Course) → P s
+      → P (receiving.kept c eff packet seq s)
+  unfolding receiving.kept receiving.ends_poll receiving.keeps_fields receiving.keeps_sequence
+  kept_keeps c eff packet seq s h =
+      let fields = renews_keeps eff _ _ refl (renews_keeps eff _ s refl h) in
+      either packet.fin _ _ (renews_keeps eff _ _ refl fields) fields
+
+  answers_keeps : (c : Config) (packet : Control) (s : Course) → P s → P (receiving.answers c packet s)
+  unfolding receiving.answers
+  answers_keeps c packet s h =
+      let sent : Course = transmits c false true s in
+      either packet.poll _ s (still sent sent.vars (record s.mark { answered = true }) refl (puts c false true s h)) h
+
+  -- a packet in AdminDown or Down leads to Init or Down alone
+  machine_goes : ok Init ≡ true → (mine received : State) (v : Vars) → v.state ≡ mine → is_init_or_up received ≡ false
+      → Goes ok v (receiving.machine mine received v)
+  machine_goes init Down Down v is low = inr init
+  machine_goes init Down Init v is low = cc
+  machine_goes init Down Up v is low = cc
+  machine_goes init Down AdminDown v is low = inl refl
+  machine_goes init Init Down v is low = inl refl
+  machine_goes init Init Init v is low = cc
+  machine_goes init Init Up v is low = cc
+  machine_goes init Init AdminDown v is low = inr down
+  machine_goes init Up Down v is low = inr down
+  machine_goes init Up Init v is low = cc
+  machine_goes init Up Up v is low = cc
+  machine_goes init Up AdminDown v is low = inr down
+  machine_goes init AdminDown received v is low = inl refl
+
+  pub low_keeps : ok Init ≡ true → (c : Config) (eff : ℕ) (packet : Control) (seq : SeqState) (s : Course)
+      → is_init_or_up packet.state ≡ false → P s → P (receiving.accepted c eff packet seq s)
+  unfolding receiving.accepted receiving.moves_state
+  low_keeps init c eff packet seq s low h =
+      let t : Course = receiving.kept c eff packet seq s in
+      let at : P t = kept_keeps c eff packet seq s h in
+      either (is_admin_down t.vars.state) t _ at
+      (answers_keeps c packet _ (moves_keeps c.discr eff _ t (machine_goes init t.vars.state packet.state t.vars refl low) at))

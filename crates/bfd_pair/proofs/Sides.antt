@@ -1,0 +1,132 @@
+-- What an event makes of one side: it handles a packet, or stays as cold as it was.
+use Rattle.std.proofs.Common.{◌≡◌, ◌⊎◌, inl, inr, ◌++◌, ◌*◌, max, ℕ, Bool, true, false, List, [], refl, sym, ap, ◌∙◌, append-nil, length, Option, None, Some}
+use Rattle.bfd_packet.specs.declared.arrival.Arrival.{Arrival}
+use Rattle.bfd_packet.specs.declared.discard.Test.{Test}
+use Rattle.bfd_packet.specs.States.{is_init_or_up}
+use Rattle.bfd_rules.specs.declared.commands.Cmd.{Cmd}
+use Rattle.bfd_session.specs.declared.event.Event.TheVariants.{Packet, Command}
+use Rattle.bfd_session.specs.declared.event.Answer.{Answer}
+use Rattle.bfd_session.specs.declared.event.Answer.TheVariants.{Handled, Ticked, Dropped, Refused, Shown}
+use Rattle.bfd_session.specs.Alone.{effective, step_outcome, tick_items}
+use Rattle.bfd_pair.specs.declared.event.Side.{Side}
+use Rattle.bfd_pair.specs.declared.event.Side.TheVariants.{Left, Right}
+use Rattle.bfd_pair.specs.declared.event.PairEvent.{PairEvent}
+use Rattle.bfd_pair.specs.declared.event.PairEvent.TheVariants.{Tick, Give, Order}
+use Rattle.bfd_pair.specs.declared.event.PairAnswer.TheVariants.{Did}
+use Rattle.bfd_pair.specs.Run.{End, Both, Move, other, end_of, packets_in, packet_at, arrival_to, screened, own, comes, given, ticking, moves, turn}
+use Rattle.bfd_pair.proofs.Packets.{Each}
+use Rattle.bfd_pair.proofs.Cold.{IsCold, is_handled, tick_state, tick_packets, order_state, order_packets, packet_state, packet_packets}
+
+-- packets were sent besides
+pub record Grows (e e2 : End) : Type 0 where
+  pub more : List (List ℕ)
+  pub appended : e2.sent ≡ e.sent ++ more
+
+-- and a side outside Init and Up stays there, and sent none in Init or Up
+pub record Quiet (e e2 : End) : Type 0 where
+  pub grows : Grows e e2
+  pub state : is_init_or_up e.session.vars.state ≡ false → is_init_or_up e2.session.vars.state ≡ false
+  pub packets : is_init_or_up e.session.vars.state ≡ false → Each IsCold grows.more
+
+abbrev rests_quiet : (e : End) → Quiet e e
+rests_quiet e = record {
+  grows = record { more = []; appended = sym (append-nil e.sent) };
+  state = λ h. h;
+  packets = λ h. tt;
+}
+
+ticking_quiet : (last : ℕ) (e : End) → Quiet e (ticking last e)
+ticking_quiet last e = record {
+  grows = record { more = packets_in (tick_items last e.session); appended = refl };
+  state = λ h. tick_state e.session (1000 * last) (max (1000 * last) e.session.vars.at) h;
+  packets = λ h. tick_packets e.session (1000 * last) (max (1000 * last) e.session.vars.at) h;
+}
+
+order_quiet : (moment last : ℕ) (cmd : Cmd) (e : End) → Quiet e (own moment last (Command cmd) e).end
+order_quiet moment last cmd e = record {
+  grows = record { more = packets_in (step_outcome moment last (Command cmd) e.session).items; appended = refl };
+  state = λ h. order_state e.session (effective moment last e.session) cmd h;
+  packets = λ h. order_packets e.session (effective moment last e.session) cmd h;
+}
+
+packet_grows : (moment last : ℕ) (arrival : Arrival) (e : End) → Grows e (own moment last (Packet arrival) e).end
+packet_grows moment last arrival e =
+    record { more = packets_in (step_outcome moment last (Packet arrival) e.session).items; appended = refl }
+
+packet_quiet : (moment last : ℕ) (arrival : Arrival) (e : End)
+    → is_handled (step_outcome moment last (Packet arrival) e.session).answer ≡ false → Quiet e (own moment last (Packet arrival) e).end
+unfolding packet_grows
+packet_quiet moment last arrival e refused = record {
+  grows = packet_grows moment last arrival e;
+  state = λ h. packet_state e.session (effective moment last e.session) arrival refused h;
+  packets = λ h. packet_packets e.session (effective moment last e.session) arrival refused h;
+}
+
+-- the side is given a packet of the other side, and handles it
+pub record Hears (w : Both) (event : PairEvent) (side : Side) (e e2 : End) : Type 0 where
+  pub moment : ℕ
+  pub number : ℕ
+  pub gives : event ≡ Give side moment number
+  pub bytes : List ℕ
+  pub sent : packet_at number (end_of (other side) w).sent ≡ Some bytes
+  pub handled : (turn (Give side moment number) w).answer ≡ Did Handled
+  pub grows : Grows e e2
+
+moves_answer : (side : Side) (m : Move) (w : Both) → (moves side m w).answer ≡ m.answer
+moves_answer Left m w = refl
+moves_answer Right m w = refl
+
+is_answer : (a : Answer) → is_handled a ≡ true → a ≡ Handled
+is_answer Handled h = refl
+is_answer Ticked h = cc
+is_answer (Dropped test) h = cc
+is_answer (Refused refusal) h = cc
+is_answer (Shown shown) h = cc
+
+by_answer : (moment last : ℕ) (arrival : Arrival) (e : End) (b : Bool)
+    → is_handled (step_outcome moment last (Packet arrival) e.session).answer ≡ b
+    → Quiet e (own moment last (Packet arrival) e).end
+    ⊎ (((own moment last (Packet arrival) e).answer ≡ Did Handled) × Grows e (own moment last (Packet arrival) e).end)
+by_answer moment last arrival e true is = inr (ap Did (is_answer _ is), packet_grows moment last arrival e)
+by_answer moment last arrival e false is = inl (packet_quiet moment last arrival e is)
+
+by_test : (failing : Option Test) (moment last : ℕ) (bytes : List ℕ) (e : End)
+    → Quiet e (comes failing moment last bytes e).end
+    ⊎ (((comes failing moment last bytes e).answer ≡ Did Handled) × Grows e (comes failing moment last bytes e).end)
+by_test (Some test) moment last bytes e = inl (rests_quiet e)
+by_test None moment last bytes e = by_answer moment last (arrival_to e.session.config bytes) e _ refl
+
+by_packet : (w : Both) (side : Side) (moment number : ℕ) (found : Option (List ℕ))
+    → packet_at number (end_of (other side) w).sent ≡ found
+    → Quiet (end_of side w) (given found (length (end_of (other side) w).sent) moment w.last (end_of side w)).end
+    ⊎ Hears w (Give side moment number) side (end_of side w)
+    (given found (length (end_of (other side) w).sent) moment w.last (end_of side w)).end
+by_packet w side moment number None is = inl (rests_quiet (end_of side w))
+by_packet w side moment number (Some bytes) is =
+    elim (by_test (screened (end_of side w).session.config bytes) moment w.last bytes (end_of side w)) [
+      | inl quiet ↦ inl quiet
+      | inr heard ↦ inr (record {
+        moment = moment;
+        number = number;
+        gives = refl;
+        bytes = bytes;
+        sent = is;
+        handled = moves_answer side _ w
+            ∙ (ap (λ (p : Option (List ℕ)). (given p (length (end_of (other side) w).sent) moment w.last (end_of side w)).answer) is ∙ heard.0);
+        grows = heard.1;
+      })
+    ]
+
+pub hears_or_quiet : (w : Both) (event : PairEvent) (side : Side)
+    → Quiet (end_of side w) (end_of side (turn event w).both)
+    ⊎ Hears w event side (end_of side w) (end_of side (turn event w).both)
+hears_or_quiet w (Tick t) Left = inl (ticking_quiet (max w.last t) w.left)
+hears_or_quiet w (Tick t) Right = inl (ticking_quiet (max w.last t) w.right)
+hears_or_quiet w (Give Left moment number) Left = by_packet w Left moment number _ refl
+hears_or_quiet w (Give Right moment number) Left = inl (rests_quiet w.left)
+hears_or_quiet w (Give Left moment number) Right = inl (rests_quiet w.right)
+hears_or_quiet w (Give Right moment number) Right = by_packet w Right moment number _ refl
+hears_or_quiet w (Order Left moment cmd) Left = inl (order_quiet moment w.last cmd w.left)
+hears_or_quiet w (Order Right moment cmd) Left = inl (rests_quiet w.left)
+hears_or_quiet w (Order Left moment cmd) Right = inl (rests_quiet w.right)
+hears_or_quiet w (Order Right moment cmd) Right = inl (order_quiet moment w.last cmd w.right)

@@ -1,0 +1,153 @@
+-- The pair run: two sessions and all that each has sent, event by event.
+use Rattle.std.specs.Prelude.{ℕ, ◌-◌, ◌==◌, max, if◌then◌else◌, Option, None, Some, List, [], ◌∷◌, ◌++◌, length, slice_get}
+use Rattle.bfd_packet.specs.declared.arrival.Arrival.{Arrival}
+use Rattle.bfd_packet.specs.declared.discard.Test.{Test}
+use Rattle.bfd_rules.specs.declared.outputs.Out.{Out}
+use Rattle.bfd_rules.specs.declared.outputs.Out.TheVariants.{Changed, Sent}
+use Rattle.bfd_p2p.specs.Port.{port_of}
+use Rattle.bfd_session.specs.declared.event.SessionConfig.{SessionConfig}
+use Rattle.bfd_session.specs.declared.event.SessionConfig.TheVariants.{Pair}
+use Rattle.bfd_session.specs.declared.event.Event.{Event}
+use Rattle.bfd_session.specs.declared.event.Event.TheVariants.{Packet, Command}
+use Rattle.bfd_session.specs.declared.event.Answer.TheVariants.{Ticked, Dropped}
+use Rattle.bfd_session.specs.Kinds.{Running}
+use Rattle.bfd_session.specs.Step.{started}
+use Rattle.bfd_session.specs.Alone.{stepped, step_outcome, ticked, tick_items}
+use Rattle.bfd_session.specs.Rows.{row_of}
+use Rattle.bfd_demux.specs.Selection.{first_table_failing}
+use Rattle.bfd_pair.specs.declared.event.Side.{Side}
+use Rattle.bfd_pair.specs.declared.event.Side.TheVariants.{Left, Right}
+use Rattle.bfd_pair.specs.declared.event.PairEvent.{PairEvent}
+use Rattle.bfd_pair.specs.declared.event.PairEvent.TheVariants.{Tick, Give, Order}
+use Rattle.bfd_pair.specs.declared.event.PairAnswer.{PairAnswer}
+use Rattle.bfd_pair.specs.declared.event.PairAnswer.TheVariants.{Did, NoPacket}
+
+-- one side: its session, and the packets that it has sent, in their order
+pub record End : Type 0 where
+  pub session : Running
+  pub sent : List (List ℕ)
+
+-- both sides, and the greatest tick so far
+pub record Both : Type 0 where
+  pub left : End
+  pub right : End
+  pub last : ℕ
+
+-- what an event makes of one side, what that side puts out in it, and the answer
+pub record Move : Type 0 where
+  pub end : End
+  pub items : List Out
+  pub answer : PairAnswer
+
+-- what an event makes of both, what each puts out in it, and the answer
+pub record Turn : Type 0 where
+  pub both : Both
+  pub left_items : List Out
+  pub right_items : List Out
+  pub answer : PairAnswer
+
+abbrev pub other : Side → Side
+other Left = Right
+other Right = Left
+
+abbrev pub end_of : Side → Both → End
+end_of Left w = w.left
+end_of Right w = w.right
+
+abbrev pub items_of : Side → Turn → List Out
+items_of Left turn = turn.left_items
+items_of Right turn = turn.right_items
+
+-- the packets among outputs
+abbrev pub packets_in : List Out → List (List ℕ)
+packets_in [] = []
+packets_in (Changed discr old new diag ∷ items) = packets_in items
+packets_in (Sent discr datagram ∷ items) = datagram.bytes ∷ packets_in items
+
+-- the packet of a number, the first being 1
+abbrev pub packet_at : ℕ → List (List ℕ) → Option (List ℕ)
+packet_at number sent = if number == 0 then None else slice_get sent (number - 1)
+
+-- a packet on its way to a session of this configuration: to its port and its interface, from the peer's address to its own,
+-- with the TTL that it was sent with (RFC 5881 sections 4 and 5, RFC 5883 section 5)
+abbrev pub arrival_to : SessionConfig → List ℕ → Arrival
+arrival_to (Pair c) bytes = record {
+  port = port_of c.role;
+  iface = c.iface;
+  src = c.remote;
+  sport = 49152;
+  dst = c.local;
+  ttl = 255;
+  payload = bytes;
+}
+
+-- the first test that it fails up to selection, over the one row of that session; one that fails none names that row
+abbrev pub screened : SessionConfig → List ℕ → Option Test
+screened config bytes = first_table_failing (row_of config ∷ []) (arrival_to config bytes)
+
+-- the packets that an event puts out have been sent
+abbrev pub sending : Running → List Out → End → End
+sending s items e = record { session = s; sent = e.sent ++ packets_in items }
+
+-- an own event of a side
+abbrev pub own : ℕ → ℕ → Event → End → Move
+own moment last event e = record {
+  end = sending (stepped moment last event e.session) (step_outcome moment last event e.session).items e;
+  items = (step_outcome moment last event e.session).items;
+  answer = Did (step_outcome moment last event e.session).answer;
+}
+
+-- a side that nothing happens to
+abbrev pub rests : PairAnswer → End → Move
+rests answer e = record { end = e; items = []; answer = answer }
+
+-- a packet comes to a side: it is discarded by the first test that fails, or is an own event
+abbrev pub comes : Option Test → ℕ → ℕ → List ℕ → End → Move
+comes (Some test) moment last bytes e = rests (Did (Dropped test)) e
+comes None moment last bytes e = own moment last (Packet (arrival_to e.session.config bytes)) e
+
+-- a side is given a packet, or there is none among so many
+abbrev pub given : Option (List ℕ) → ℕ → ℕ → ℕ → End → Move
+given None count moment last e = rests (NoPacket count) e
+given (Some bytes) count moment last e = comes (screened e.session.config bytes) moment last bytes e
+
+-- a side is given the packet of a number among those that were sent
+abbrev pub gives : ℕ → List (List ℕ) → ℕ → ℕ → End → Move
+gives number sent moment last e = given (packet_at number sent) (length sent) moment last e
+
+-- a tick of a side
+abbrev pub ticking : ℕ → End → End
+ticking last e = sending (ticked last e.session) (tick_items last e.session) e
+
+-- one side moves, and the other rests
+abbrev pub moves : Side → Move → Both → Turn
+moves Left m w = record { both = record w { left = m.end }; left_items = m.items; right_items = []; answer = m.answer }
+moves Right m w = record { both = record w { right = m.end }; left_items = []; right_items = m.items; answer = m.answer }
+
+-- a tick of both, with one last tick
+abbrev pub ticks : ℕ → Both → Turn
+ticks last w = record {
+  both = record { left = ticking last w.left; right = ticking last w.right; last = last };
+  left_items = tick_items last w.left.session;
+  right_items = tick_items last w.right.session;
+  answer = Did Ticked;
+}
+
+-- one event
+abbrev pub turn : PairEvent → Both → Turn
+turn (Tick t) w = ticks (max w.last t) w
+turn (Give to moment number) w = moves to (gives number (end_of (other to) w).sent moment w.last (end_of to w)) w
+turn (Order side moment cmd) w = moves side (own moment w.last (Command cmd) (end_of side w)) w
+
+-- the events one after another
+abbrev pub after : List PairEvent → Both → Both
+after [] w = w
+after (event ∷ events) w = after events (turn event w).both
+
+-- a side at the start
+abbrev pub opened : SessionConfig → End
+opened config = record { session = started config; sent = [] }
+
+-- both sides after these events
+unfoldable pub pair_run : SessionConfig → SessionConfig → List PairEvent → Both
+pair_run left right events = after events (record { left = opened left; right = opened right; last = 0 })

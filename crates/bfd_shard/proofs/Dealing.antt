@@ -1,0 +1,102 @@
+-- A session's own events are all that it is made of.
+use Rattle.std.proofs.Common.{◌≡◌, ◌≢◌, ◌⊎◌, inl, inr, ℕ, ◌+◌, ◌*◌, ◌/◌, ◌%◌, Bool, true, false, List, [], ◌∷◌, Some, None, refl, ap, sym, ◌∙◌, arith, max}
+use Rattle.std.specs.Prelude.{if◌then◌else◌, ◌==◌}
+use Rattle.std.specs.List.{cons_option}
+use Rattle.std.proofs.lemmas.Bool.Decides.{nat_tests}
+use Rattle.std.proofs.lemmas.Nat.{div-add-mod'}
+use Rattle.bfd_session.specs.declared.event.SessionConfig.{SessionConfig}
+use Rattle.bfd_session.specs.declared.event.Event.{Event}
+use Rattle.bfd_session.specs.Alone.{stepped, ticked}
+use Rattle.bfd_session.specs.Kinds.{Running}
+use Rattle.bfd_session.specs.Step.{started}
+use Rattle.bfd_shard.specs.declared.entry.ShardEvent.{ShardEvent}
+use Rattle.bfd_shard.specs.declared.entry.ShardEvent.TheVariants.{Own, Tick}
+use Rattle.bfd_shard.specs.Dealing.{own_events, history_of}
+use Rattle.bfd_shard.specs.History.{last_from, last_tick, run_from, run}
+
+-- a session is made of its own events
+
+own_first : (p q m last : ℕ) (ev : Event) (es : List ShardEvent) (s : Running) (b : Bool)
+    → ((t : Running) → run_from p last es t ≡ run_from 0 last (own_events p es) t)
+    → run_from p last es (if b then stepped m last ev s else s)
+    ≡ run_from 0 last (cons_option (if b then Some (Own 0 m ev) else None) (own_events p es)) s
+unfolding run_from
+own_first p q m last ev es s true rest = rest (stepped m last ev s)
+own_first p q m last ev es s false rest = rest s
+
+run_alone : (p last : ℕ) (es : List ShardEvent) (s : Running) → run_from p last es s ≡ run_from 0 last (own_events p es) s
+unfolding run_from
+run_alone p last [] s = refl
+run_alone p last (Own q m ev ∷ es) s = own_first p q m last ev es s (q == p) (run_alone p last es)
+run_alone p last (Tick t ∷ es) s = run_alone p (max last t) es (ticked (max last t) s)
+
+pub same_own_events : (p q : ℕ) (es fs : List ShardEvent) (c : SessionConfig) → own_events p es ≡ own_events q fs → run p es c ≡ run q fs c
+same_own_events p q es fs c e =
+    run_alone p 0 es (started c) ∙ (ap (λ (xs : List ShardEvent). run_from 0 0 xs (started c)) e ∙ sym (run_alone q 0 fs (started c)))
+
+-- the places of a table, and those of its shards
+
+whole : (j k n : ℕ) → j / n ≡ k / n → j % n ≡ k % n → j ≡ k
+whole j k n q r =
+    sym (div-add-mod' j n) ∙ (ap (λ (x : ℕ). x * n + j % n) q ∙ (ap (λ (x : ℕ). k / n * n + x) r ∙ div-add-mod' k n))
+
+same_or_not : (a b : ℕ) → (a ≡ b) ⊎ (a ≢ b)
+same_or_not a b = grind arith
+
+tells : (a b : ℕ) → a ≡ b → (a == b) ≡ true
+tells a b e = grind (arith, nat_tests)
+
+differs : (a b : ℕ) → a ≢ b → (a == b) ≡ false
+differs a b e = grind (arith, nat_tests)
+
+told : (a b : ℕ) → (a == b) ≡ true → a ≡ b
+told a b e = grind (arith, nat_tests)
+
+apart : (a b : ℕ) → (a == b) ≡ false → a ≢ b
+apart a b e = grind (arith, nat_tests)
+
+-- in one shard, places are the same where those of the table are
+same_places : (j k n : ℕ) → j % n ≡ k % n → (j / n == k / n) ≡ (j == k)
+same_places j k n together = by (same_or_not j k)
+  where
+    by : (j ≡ k) ⊎ (j ≢ k) → (j / n == k / n) ≡ (j == k)
+    by (inl same) = tells (j / n) (k / n) (ap (λ (x : ℕ). x / n) same) ∙ sym (tells j k same)
+    by (inr other) = differs (j / n) (k / n) (λ q. other (whole j k n q together)) ∙ sym (differs j k other)
+
+-- an own event of another shard is one of another place
+other_shard : (j k n : ℕ) → (j % n == k % n) ≡ false → (j == k) ≡ false
+other_shard j k n is = differs j k (λ same. apart (j % n) (k % n) is (ap (λ (x : ℕ). x % n) same))
+
+own_dealt : (n k j m : ℕ) (ev : Event) (es : List ShardEvent) (b : Bool) → (j % n == k % n) ≡ b
+    → own_events (k / n) (history_of n (k % n) es) ≡ own_events k es
+    → own_events (k / n) (cons_option (if b then Some (Own (j / n) m ev) else None) (history_of n (k % n) es)) ≡ own_events k (Own j m ev ∷ es)
+own_dealt n k j m ev es true is rest =
+    ap (λ (b : Bool). cons_option (if b then Some (Own 0 m ev) else None) (own_events (k / n) (history_of n (k % n) es)))
+    (same_places j k n (told (j % n) (k % n) is))
+    ∙ ap (cons_option (if j == k then Some (Own 0 m ev) else None)) rest
+own_dealt n k j m ev es false is rest =
+    rest ∙ ap (λ (b : Bool). cons_option (if b then Some (Own 0 m ev) else None) (own_events k es)) (sym (other_shard j k n is))
+
+pub own_of_shard : (n k : ℕ) (es : List ShardEvent) → own_events (k / n) (history_of n (k % n) es) ≡ own_events k es
+own_of_shard n k [] = refl
+own_of_shard n k (Own j m ev ∷ es) = own_dealt n k j m ev es (j % n == k % n) refl (own_of_shard n k es)
+own_of_shard n k (Tick t ∷ es) = ap (λ (xs : List ShardEvent). Tick t ∷ xs) (own_of_shard n k es)
+
+pub dealt_out : (n k : ℕ) (es : List ShardEvent) (c : SessionConfig) → run (k / n) (history_of n (k % n) es) c ≡ run k es c
+dealt_out n k es c = same_own_events (k / n) k (history_of n (k % n) es) es c (own_of_shard n k es)
+
+-- every shard has every tick
+
+last_dealt : (last j m : ℕ) (ev : Event) (es : List ShardEvent) (b : Bool) → last_from last (cons_option (if b then Some (Own j m ev) else None) es) ≡ last_from last es
+unfolding last_from
+last_dealt last j m ev es true = refl
+last_dealt last j m ev es false = refl
+
+last_kept : (n r last : ℕ) (es : List ShardEvent) → last_from last (history_of n r es) ≡ last_from last es
+unfolding last_from
+last_kept n r last [] = refl
+last_kept n r last (Own j m ev ∷ es) = last_dealt last (j / n) m ev (history_of n r es) (j % n == r) ∙ last_kept n r last es
+last_kept n r last (Tick t ∷ es) = last_kept n r (max last t) es
+
+pub last_of_shard : (n r : ℕ) (es : List ShardEvent) → last_tick (history_of n r es) ≡ last_tick es
+last_of_shard n r es = last_kept n r 0 es

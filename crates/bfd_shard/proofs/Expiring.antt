@@ -1,0 +1,60 @@
+-- A tick expires exactly the sessions whose Detection Time has expired by it.
+use Rattle.std.proofs.Common.{◌≡◌, ◌&&◌, ◌||◌, ◌*◌, ◌+◌, ◌++◌, ℕ, max, Bool, true, false, List, [], ◌∷◌, map, Option, Some, None, is_some, is_none, IsSome, refl, ap, sym, ◌∙◌, subst}
+use Rattle.std.specs.Prelude.{if◌then◌else◌, zip}
+use Rattle.std.specs.List.{AllByRecursion}
+use Rattle.bfd_num.specs.Due.{has_come}
+use Rattle.bfd_lanes.specs.Places.{places}
+use Rattle.bfd_session.specs.declared.event.SessionConfig.{SessionConfig}
+use Rattle.bfd_session.specs.Alone.{ticked}
+use Rattle.bfd_session.specs.Due.{detects}
+use Rattle.bfd_session.specs.Kinds.{Running, configs_of}
+use Rattle.bfd_session.specs.Step.{IsSound, tick_next}
+use Rattle.bfd_shard.specs.declared.entry.ShardEvent.{ShardEvent}
+use Rattle.bfd_shard.specs.declared.entry.ShardEvent.TheVariants.{Own, Tick}
+use Rattle.bfd_shard.specs.Expired.{expired, forgets, forgotten, has_expired, IsExact}
+use Rattle.bfd_shard.specs.History.{events_of, last_tick, moved, runs}
+use Rattle.bfd_shard.specs.Shard.{Shard, IsShard}
+use Rattle.bfd_shard.proofs.Runs.{runs_more}
+
+-- what a tick does to what was heard
+pub record Expires : Type 0 where
+  pub expires : (s : Running) (limit eff : ℕ) → is_none (tick_next limit eff s).vars.heard ≡ (is_none s.vars.heard || has_come limit (detects s))
+  pub heard : (s : Running) → IsSound s → IsSome (detects s) → IsSome s.vars.heard
+
+-- what was heard is forgotten where the deadline has come, which is there only where something was heard
+forgot : (o d : Option ℕ) (limit : ℕ) (none : Bool) → none ≡ (is_none o || has_come limit d) → (IsSome d → IsSome o) → (is_some o && none) ≡ has_come limit d
+forgot (Some h) d limit none is there = is
+forgot None None limit none is there = refl
+forgot None (Some x) limit none is there = let h : false ≡ true = there refl in cc
+
+module _ (laws : Expires) (last : ℕ) where
+  forgets_one : (s : Running) → IsSound s → forgets (s, ticked last s) ≡ has_expired last s
+  forgets_one s sound =
+      forgot s.vars.heard (detects s) (1000 * last) (is_none (ticked last s).vars.heard)
+      (laws.expires s (1000 * last) (max (1000 * last) s.vars.at)) (laws.heard s sound)
+
+  forgets_all : (n : ℕ) (ss : List Running) → AllByRecursion IsSound ss → places forgets n (zip ss (map (ticked last) ss)) ≡ places (has_expired last) n ss
+  forgets_all n [] sound = refl
+  forgets_all n (s ∷ ss) sound =
+      ap (λ (b : Bool). if b then n ∷ places forgets (n + 1) (zip ss (map (ticked last) ss)) else places forgets (n + 1) (zip ss (map (ticked last) ss))) (forgets_one s sound.0)
+      ∙ ap (λ (ks : List ℕ). if has_expired last s then n ∷ ks else ks) (forgets_all (n + 1) ss sound.1)
+
+pub tick_expires : (laws : Expires) (cs : List SessionConfig) (es : List ShardEvent) (t : ℕ) → AllByRecursion IsSound (runs es cs)
+    → forgotten (runs es cs) (runs (es ++ Tick t ∷ []) cs) ≡ expired cs es t
+unfolding moved
+tick_expires laws cs es t sound =
+    ap (forgotten (runs es cs)) (runs_more es (Tick t) cs) ∙ forgets_all laws (max (last_tick es) t) 0 (runs es cs) sound
+
+-- the law of expiry, of one event of a shard
+pub exactly : ((cs : List SessionConfig) (es : List ShardEvent) (t : ℕ) → AllByRecursion IsSound (runs es cs)
+    → forgotten (runs es cs) (runs (es ++ Tick t ∷ []) cs) ≡ expired cs es t)
+    → (shard : Shard) (e : ShardEvent) (after : List Running) → IsShard shard → after ≡ moved shard.last e shard.sessions → IsExact shard e after
+exactly law shard (Own place moment event) after s m = tt
+exactly law shard (Tick t) after s m =
+    let cs : List SessionConfig = configs_of shard.sessions in
+    let es : List ShardEvent = events_of shard.journal in
+    let old : shard.sessions ≡ runs es cs = s.whole in
+    let new : after ≡ runs (es ++ Tick t ∷ []) cs =
+    m ∙ (ap (λ (l : ℕ). moved l (Tick t) shard.sessions) s.clock ∙ (ap (moved (last_tick es) (Tick t)) old ∙ sym (runs_more es (Tick t) cs))) in
+    ap (λ (ss : List Running). forgotten ss after) old ∙ (ap (forgotten (runs es cs)) new
+    ∙ law cs es t (subst (λ (ss : List Running). AllByRecursion IsSound ss) old s.sound))

@@ -1,0 +1,55 @@
+-- One session of a list changes.
+use Rattle.std.proofs.Common.{◌≡◌, ◌<◌, ℕ, zero, suc, List, [], ◌∷◌, length, map, set, get_or, refl, sym, ap, subst, Some, arith}
+use Rattle.std.specs.Prelude.{slice_get, unwrap_or}
+use Rattle.std.specs.List.{AllByRecursion}
+use Rattle.std.proofs.lemmas.List.{map-set}
+use Rattle.bfd_session.specs.declared.event.SessionConfig.{SessionConfig}
+use Rattle.bfd_session.specs.declared.event.Event.{Event}
+use Rattle.bfd_session.specs.Due.{due}
+use Rattle.bfd_session.specs.Kinds.{Running, configs_of}
+use Rattle.bfd_session.specs.Reaching.{Stands}
+use Rattle.bfd_session.specs.Step.{CanTake}
+use Rattle.bfd_shard.specs.declared.entry.ShardEvent.{ShardEvent}
+use Rattle.bfd_shard.specs.declared.entry.ShardEvent.TheVariants.{Own, Tick}
+use Rattle.bfd_shard.specs.Shard.{CanHappen}
+use Rattle.bfd_shard.specs.Inside.{MayCome}
+
+-- the due ticks then change at its place
+pub due_set : (ss : List Running) (k : ℕ) (s : Running) → map due (set ss k s) ≡ set (map due ss) k (due s)
+due_set ss k s = map-set due ss k s
+
+-- what holds of all holds still, if it holds of the new one
+pub all_set : (P : Running → Type 0) (ss : List Running) (k : ℕ) (s : Running) → AllByRecursion P ss → P s → AllByRecursion P (set ss k s)
+all_set P [] k s all one = tt
+all_set P (x ∷ ss) zero s all one = (one, all.1)
+all_set P (x ∷ ss) (suc k) s all one = (all.0, all_set P ss k s all.1 one)
+
+-- the session at a place
+pub session_at : (ss : List Running) (k : ℕ) (s d : Running) → slice_get ss k ≡ Some s → get_or ss k d ≡ s
+session_at [] zero s d e = cc
+session_at [] (suc k) s d e = cc
+session_at (x ∷ ss) zero s d e = ap (λ o. unwrap_or o s) e
+session_at (x ∷ ss) (suc k) s d e = session_at ss k s d e
+
+pub stands_below : (ss : List Running) (k : ℕ) (s : Running) → slice_get ss k ≡ Some s → k < length ss
+stands_below [] zero s e = cc
+stands_below [] (suc k) s e = cc
+stands_below (x ∷ ss) zero s e = omega arith
+stands_below (x ∷ ss) (suc k) s e = let inner : k < length ss = stands_below ss k s e in omega arith
+
+-- takes what was asked of it
+pub takes_at : (ss : List Running) (k : ℕ) (event : Event) (st : Stands ss k event) (d : Running) → CanTake (get_or ss k d).config event
+takes_at ss k event st d = subst (λ (s : Running). CanTake s.config event) (sym (session_at ss k st.session d st.there)) st.takes
+
+-- the session of a configuration stands at its place
+stands_of : (ss : List Running) (k : ℕ) (c : SessionConfig) (event : Event) → slice_get (configs_of ss) k ≡ Some c → CanTake c event → Stands ss k event
+stands_of [] zero c event e t = cc
+stands_of [] (suc k) c event e t = cc
+stands_of (x ∷ ss) zero c event e t =
+    record { session = x; there = refl; takes = subst (λ (z : SessionConfig). CanTake z event) (sym (ap (λ o. unwrap_or o c) e)) t }
+stands_of (x ∷ ss) (suc k) c event e t =
+    let r : Stands ss k event = stands_of ss k c event e t in record { session = r.session; there = r.there; takes = r.takes }
+
+pub may_come : (ss : List Running) (e : ShardEvent) → CanHappen (configs_of ss) e → MayCome ss e
+may_come ss (Own k m event) can = stands_of ss k can.config event can.there can.takes
+may_come ss (Tick t) can = tt

@@ -1,0 +1,176 @@
+-- A history that grows by one event.
+use Rattle.std.proofs.Common.{◌≡◌, ◌≢◌, ◌⊎◌, inl, inr, ℕ, ◌+◌, ◌<◌, ◌≤◌, refl, sym, ◌∙◌, ap, subst, List, [], ◌∷◌, ◌++◌, length, length-append, map, max, get_or, set, Option, None, Some, Bool, true, false, arith, get_or-set_same, get_or-set_other, length-set, zero, suc, ext_get_or}
+use Rattle.std.specs.Prelude.{if◌then◌else◌, ◌==◌, slice_get, unwrap_or}
+use Rattle.std.specs.List.{AllByRecursion}
+use Rattle.std.proofs.lemmas.List.{get_or-map, length-map, map-append}
+use Rattle.std.proofs.lemmas.Bool.Decides.{nat_tests}
+use Rattle.bfd_num.specs.Numbers.{greatest_tick}
+use Rattle.bfd_session.specs.declared.event.SessionConfig.{SessionConfig}
+use Rattle.bfd_session.specs.declared.event.Event.{Event}
+use Rattle.bfd_session.specs.Alone.{stepped, ticked}
+use Rattle.bfd_session.specs.Kinds.{Running, configs_of}
+use Rattle.bfd_session.specs.Step.{IsSound, started}
+use Rattle.bfd_shard.specs.declared.entry.ShardEvent.{ShardEvent}
+use Rattle.bfd_shard.specs.declared.entry.ShardEvent.TheVariants.{Own, Tick}
+use Rattle.bfd_shard.specs.declared.entry.Entry.{Entry}
+use Rattle.bfd_shard.specs.History.{events_of, later, last_from, last_tick, after, run_from, run, runs_from, runs, moved, own_moved}
+use Rattle.bfd_shard.specs.Shard.{shard_of, IsShard, IsHistory, CanHappen}
+use Rattle.bfd_shard.proofs.Moves.{session_at, stands_below}
+use Rattle.bfd_shard.proofs.Ticks.{nobody}
+
+-- one session
+
+pub run_more : (p last : ℕ) (es : List ShardEvent) (e : ShardEvent) (s : Running) → run_from p last (es ++ e ∷ []) s ≡ after p (last_from last es) e (run_from p last es s)
+unfolding run_from last_from
+run_more p last [] e s = refl
+run_more p last (x ∷ es) e s = run_more p (later last x) es e (after p last x s)
+
+pub last_more : (last : ℕ) (es : List ShardEvent) (e : ShardEvent) → last_from last (es ++ e ∷ []) ≡ later (last_from last es) e
+unfolding last_from
+last_more last [] e = refl
+last_more last (x ∷ es) e = last_more (later last x) es e
+
+-- all sessions
+
+pub runs_long : (p : ℕ) (es : List ShardEvent) (cs : List SessionConfig) → length (runs_from p es cs) ≡ length cs
+unfolding runs_from
+runs_long p es [] = refl
+runs_long p es (c ∷ cs) = ap suc (runs_long (p + 1) es cs)
+
+pub runs_at : (p : ℕ) (es : List ShardEvent) (cs : List SessionConfig) (k m : ℕ) (c : SessionConfig) (d : Running) → k < length cs → p + k ≡ m
+    → get_or (runs_from p es cs) k d ≡ run m es (get_or cs k c)
+unfolding runs_from
+runs_at p es [] k m c d h e = absurd (omega arith)
+runs_at p es (x ∷ cs) zero m c d h e = ap (λ (n : ℕ). run n es x) (let same : p ≡ m = omega arith in same)
+runs_at p es (x ∷ cs) (suc k) m c d h e = runs_at (p + 1) es cs k m c d (omega arith) (omega arith)
+
+-- an event of all sessions
+
+same_or_not : (a b : ℕ) → (a ≡ b) ⊎ (a ≢ b)
+same_or_not a b = grind arith
+
+chosen : {A : Type 0} (q k : ℕ) (x y : A) → q ≡ k → (if q == k then x else y) ≡ x
+chosen q k x y e = grind (arith, nat_tests)
+
+passed : {A : Type 0} (q k : ℕ) (x y : A) → q ≢ k → (if q == k then x else y) ≡ y
+passed q k x y e = grind (arith, nat_tests)
+
+-- where nobody stands is past the end
+past_end : (ss : List Running) (k q : ℕ) → slice_get ss q ≡ None → k < length ss → q ≢ k
+past_end [] k q e h = absurd (omega arith)
+past_end (x ∷ ss) zero zero e h = cc
+past_end (x ∷ ss) zero (suc q) e h = omega arith
+past_end (x ∷ ss) (suc k) zero e h = omega arith
+past_end (x ∷ ss) (suc k) (suc q) e h = let r = past_end ss k q e (omega arith) in omega (arith, r)
+
+own_at : (last q m : ℕ) (ev : Event) (ss : List Running) (o : Option Running) → slice_get ss q ≡ o → (k : ℕ) (d : Running) → k < length ss
+    → get_or (own_moved o q m last ev ss) k d ≡ after k last (Own q m ev) (get_or ss k d)
+own_at last q m ev ss None e k d h = sym (passed q k (stepped m last ev (get_or ss k d)) (get_or ss k d) (past_end ss k q e h))
+own_at last q m ev ss (Some x) e k d h = by (same_or_not k q)
+  where
+    by : (k ≡ q) ⊎ (k ≢ q) → get_or (set ss q (stepped m last ev x)) k d ≡ after k last (Own q m ev) (get_or ss k d)
+    by (inl same) =
+        ap (λ j. get_or (set ss q (stepped m last ev x)) j d) same
+        ∙ (get_or-set_same ss q (stepped m last ev x) d (stands_below ss q x e)
+        ∙ (ap (stepped m last ev) (sym (session_at ss q x d e) ∙ ap (λ j. get_or ss j d) (sym same))
+        ∙ sym (chosen q k (stepped m last ev (get_or ss k d)) (get_or ss k d) (sym same))))
+    by (inr other) =
+        get_or-set_other ss q k (stepped m last ev x) d other
+        ∙ sym (passed q k (stepped m last ev (get_or ss k d)) (get_or ss k d) (λ z. other (sym z)))
+
+pub moved_at : (last : ℕ) (e : ShardEvent) (ss : List Running) (k : ℕ) (d : Running) → k < length ss
+    → get_or (moved last e ss) k d ≡ after k last e (get_or ss k d)
+unfolding moved
+moved_at last (Own q m ev) ss k d h = own_at last q m ev ss (slice_get ss q) refl k d h
+moved_at last (Tick t) ss k d h = get_or-map (ticked (max last t)) ss k d d h
+
+own_long : (last q m : ℕ) (ev : Event) (ss : List Running) (o : Option Running) → length (own_moved o q m last ev ss) ≡ length ss
+own_long last q m ev ss None = refl
+own_long last q m ev ss (Some x) = length-set _ _ _
+
+pub moved_long : (last : ℕ) (e : ShardEvent) (ss : List Running) → length (moved last e ss) ≡ length ss
+unfolding moved
+moved_long last (Own q m ev) ss = own_long last q m ev ss (slice_get ss q)
+moved_long last (Tick t) ss = length-map ss (ticked (max last t))
+
+set_configs : (ss : List Running) (k m last : ℕ) (ev : Event) (x : Running) → slice_get ss k ≡ Some x
+    → configs_of (set ss k (stepped m last ev x)) ≡ configs_of ss
+set_configs [] zero m last ev x e = refl
+set_configs [] (suc k) m last ev x e = refl
+set_configs (y ∷ ss) zero m last ev x e = ap (λ (o : Option Running). (unwrap_or o x).config ∷ configs_of ss) (sym e)
+set_configs (y ∷ ss) (suc k) m last ev x e = ap (λ cs. y.config ∷ cs) (set_configs ss k m last ev x e)
+
+own_configs : (o : Option Running) (ss : List Running) (k m last : ℕ) (ev : Event) → slice_get ss k ≡ o → configs_of (own_moved o k m last ev ss) ≡ configs_of ss
+own_configs None ss k m last ev e = refl
+own_configs (Some x) ss k m last ev e = set_configs ss k m last ev x e
+
+tick_configs : (last : ℕ) (ss : List Running) → configs_of (map (ticked last) ss) ≡ configs_of ss
+tick_configs last [] = refl
+tick_configs last (x ∷ ss) = ap (λ cs. x.config ∷ cs) (tick_configs last ss)
+
+-- an event changes no configuration
+pub moved_configs : (last : ℕ) (e : ShardEvent) (ss : List Running) → configs_of (moved last e ss) ≡ configs_of ss
+unfolding moved
+moved_configs last (Own q m ev) ss = own_configs (slice_get ss q) ss q m last ev refl
+moved_configs last (Tick t) ss = tick_configs (max last t) ss
+
+-- one event more of a history is an event of the sessions that it left
+pub runs_more : (es : List ShardEvent) (e : ShardEvent) (cs : List SessionConfig) → runs (es ++ e ∷ []) cs ≡ moved (last_tick es) e (runs es cs)
+runs_more es e cs =
+    let c : SessionConfig = nobody.config in
+    let long : length (runs es cs) ≡ length cs = runs_long 0 es cs in
+    let grown : length (runs (es ++ e ∷ []) cs) ≡ length cs = runs_long 0 (es ++ e ∷ []) cs in
+    ext_get_or nobody (runs (es ++ e ∷ []) cs) (moved (last_tick es) e (runs es cs))
+    (let l = moved_long (last_tick es) e (runs es cs) in omega arith)
+    (λ k h. runs_at 0 (es ++ e ∷ []) cs k k c nobody (omega arith) (omega arith)
+    ∙ (run_more k 0 es e (started (get_or cs k c))
+    ∙ (ap (after k (last_tick es) e) (sym (runs_at 0 es cs k k c nobody (omega arith) (omega arith)))
+    ∙ sym (moved_at (last_tick es) e (runs es cs) k nobody (omega arith)))))
+
+-- no event changes the configuration of a session
+after_config : (p last : ℕ) (e : ShardEvent) (s : Running) → (after p last e s).config ≡ s.config
+after_config p last (Tick t) s = refl
+after_config p last (Own q m ev) s = by (q == p)
+  where
+    by : (b : Bool) → (if b then stepped m last ev s else s).config ≡ s.config
+    by true = refl
+    by false = refl
+
+run_config : (p last : ℕ) (es : List ShardEvent) (s : Running) → (run_from p last es s).config ≡ s.config
+unfolding run_from
+run_config p last [] s = refl
+run_config p last (e ∷ es) s = run_config p (later last e) es (after p last e s) ∙ after_config p last e s
+
+pub runs_configs : (p : ℕ) (es : List ShardEvent) (cs : List SessionConfig) → configs_of (runs_from p es cs) ≡ cs
+unfolding runs_from
+runs_configs p es [] = refl
+runs_configs p es (c ∷ cs) = ap (λ (k : SessionConfig). k ∷ configs_of (runs_from (p + 1) es cs)) (run_config p 0 es (started c)) ∙ ap (λ ks. c ∷ ks) (runs_configs (p + 1) es cs)
+
+-- the shard
+
+history_more : (cs : List SessionConfig) (es : List ShardEvent) (e : ShardEvent) → IsHistory cs es → CanHappen cs e → IsHistory cs (es ++ e ∷ [])
+history_more cs [] e h can = (can, tt)
+history_more cs (x ∷ es) e h can = (h.0, history_more cs es e h.1 can)
+
+-- an event leaves a shard
+pub shard_more : (last limit room room2 : ℕ) (entry : Entry) (ss ss2 : List Running) (j : List Entry) → IsShard (shard_of ss last j limit room)
+    → length j < limit → later last entry.event ≤ greatest_tick → CanHappen (configs_of ss) entry.event → ss2 ≡ moved last entry.event ss → AllByRecursion IsSound ss2
+    → IsShard (shard_of ss2 (later last entry.event) (j ++ entry ∷ []) limit room2)
+shard_more last limit room room2 entry ss ss2 j s below early can m sound =
+    let es : List ShardEvent = events_of j in
+    let e : ShardEvent = entry.event in
+    let told : events_of (j ++ entry ∷ []) ≡ es ++ e ∷ [] = map-append (λ (x : Entry). x.event) j (entry ∷ []) in
+    let cs : List SessionConfig = configs_of ss in
+    let configs : configs_of ss2 ≡ cs = ap configs_of m ∙ moved_configs last e ss in
+    record {
+      few = omega (arith, s.few, ap length m, moved_long last e ss);
+      full = omega (arith, length-append j (entry ∷ []));
+      history = subst (λ (xs : List ShardEvent). IsHistory (configs_of ss2) xs) (sym told)
+          (subst (λ (ks : List SessionConfig). IsHistory ks (es ++ e ∷ [])) (sym configs) (history_more cs es e s.history can));
+      clock = ap (λ (t : ℕ). later t e) s.clock ∙ (sym (last_more 0 es e) ∙ ap last_tick (sym told));
+      early = early;
+      whole = m ∙ (ap (λ (t : ℕ). moved t e ss) s.clock ∙ (ap (moved (last_tick es) e) s.whole
+          ∙ (sym (runs_more es e cs) ∙ (ap (λ (xs : List ShardEvent). runs xs cs) (sym told)
+          ∙ ap (runs (events_of (j ++ entry ∷ []))) (sym configs)))));
+      sound = sound;
+    }

@@ -1,0 +1,17 @@
+-- A shard at the start.
+use Rattle.std.proofs.Common.{◌∙◌, ◌-◌, ap, map, arith}
+use Rattle.std.specs.Prelude.{vec_len, vec_capacity}
+use Rattle.bfd_lanes.specs.Held.{room_of}
+use Rattle.bfd_session.specs.Due.{due}
+use Rattle.bfd_shard.proofs.Setting.{shard_made}
+use Rattle.bfd_shard.proofs.shard.ShardState.make.Goals as goal
+
+pub invariant_of-result : goal.invariant_of-result
+invariant_of-result g c =
+    shard_made c.args.configs.items c.in_ok-sessions.sessions.items c.args.limit (vec_capacity c.new.result - vec_len c.new.result) c.new.result.items
+    (g.W.Timers.dues c.in_ok-timers.timers) c.in_ok-ids.ids c.requires.few c.in_ok-sessions.ensures.sessions c.in_ok-sessions.ensures.sound
+    c.new.ensures.items (c.in_ok-timers.ensures ∙ ap (map due) c.deref.ensures.value)
+    (omega (arith, ap room_of c.in_ok-ids.ensures, c.len.ensures))
+
+pub returns-clause-kept : goal.returns-clause-kept
+returns-clause-kept g c = (invariant_of-result g c).shown

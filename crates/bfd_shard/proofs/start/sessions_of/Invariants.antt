@@ -1,0 +1,14 @@
+-- The sessions so far stand at the start, and the configurations that are left are within their ranges.
+use Rattle.std.proofs.Common.{◌≡◌, ◌++◌, map}
+use Rattle.std.specs.List.{AllByRecursion}
+use Rattle.bfd_session.specs.Rows.{AreFit}
+use Rattle.bfd_session.specs.Step.{IsSound, started}
+use Rattle.bfd_shard.proofs.start.sessions_of.Given as goal
+
+abbrev pub invariant-loop-config : goal.invariant-loop-config
+invariant-loop-config l = record {
+  whole : l.yielded ++ l.config-iterator.rest.items ≡ l.fn.configs.items;
+  fit : AreFit l.config-iterator.rest.items;
+  made : l.sessions.items ≡ map started l.yielded;
+  sound : AllByRecursion IsSound l.sessions.items;
+}

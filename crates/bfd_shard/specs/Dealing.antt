@@ -1,0 +1,24 @@
+-- A session's own events, and sessions that are dealt out to shards.
+use Rattle.std.specs.Prelude.{ℕ, ◌/◌, ◌%◌, ◌==◌, List, if◌then◌else◌, Option, None, Some}
+use Rattle.std.specs.List.{filter_map}
+use Rattle.bfd_shard.specs.declared.entry.ShardEvent.{ShardEvent}
+use Rattle.bfd_shard.specs.declared.entry.ShardEvent.TheVariants.{Own, Tick}
+
+-- an event as the session at this place has it when it stands alone: an own event of another place is none of its own
+abbrev pub own_event : ℕ → ShardEvent → Option ShardEvent
+own_event place (Own other moment event) = if other == place then Some (Own 0 moment event) else None
+own_event place (Tick t) = Some (Tick t)
+
+-- the own events of the session at this place, with the ticks between them
+abbrev pub own_events : ℕ → List ShardEvent → List ShardEvent
+own_events place events = filter_map (own_event place) events
+
+-- an event of a whole table as one of the shard of this number has it, of so many shards: the session at place k of the
+-- table stands at place k / shards of shard k % shards, and a tick is an event of every shard
+abbrev pub event_in : ℕ → ℕ → ShardEvent → Option ShardEvent
+event_in shards number (Own k moment event) = if k % shards == number then Some (Own (k / shards) moment event) else None
+event_in shards number (Tick t) = Some (Tick t)
+
+-- the history of that shard
+abbrev pub history_of : ℕ → ℕ → List ShardEvent → List ShardEvent
+history_of shards number events = filter_map (event_in shards number) events

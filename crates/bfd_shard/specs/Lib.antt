@@ -1,0 +1,5 @@
+pub mod History
+pub mod Shard
+pub mod Inside
+pub mod Dealing
+pub mod Expired

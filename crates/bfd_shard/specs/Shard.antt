@@ -1,0 +1,77 @@
+-- What a shard keeps between events.
+use Rattle.std.specs.Prelude.{ℕ, ◌≡◌, ◌≤◌, ◌*◌, false, List, length, map, slice_get, Option, Some}
+use Rattle.std.specs.List.{AllByRecursion}
+use Rattle.bfd_num.specs.Numbers.{greatest_tick}
+use Rattle.bfd_num.specs.Due.{has_come}
+use Rattle.bfd_lanes.specs.Held.{Held, room_of}
+use Rattle.bfd_session.specs.declared.event.SessionConfig.{SessionConfig}
+use Rattle.bfd_session.specs.declared.event.Event.{Event}
+use Rattle.bfd_session.specs.Due.{due}
+use Rattle.bfd_session.specs.Kinds.{Running, configs_of}
+use Rattle.bfd_session.specs.Step.{IsSound, CanTake}
+use Rattle.bfd_shard.specs.declared.entry.ShardEvent.{ShardEvent}
+use Rattle.bfd_shard.specs.declared.entry.ShardEvent.TheVariants.{Own, Tick}
+use Rattle.bfd_shard.specs.declared.entry.Entry.{Entry}
+use Rattle.bfd_shard.specs.History.{events_of, last_tick, runs}
+
+-- a shard, as its callers see it; room is for how many entries more the journal's memory is there
+pub record Shard : Type 0 where
+  pub sessions : List Running
+  pub last : ℕ
+  pub journal : List Entry
+  pub limit : ℕ
+  pub room : ℕ
+
+abbrev pub shard_of : List Running → ℕ → List Entry → ℕ → ℕ → Shard
+shard_of sessions last journal limit room = record { sessions = sessions; last = last; journal = journal; limit = limit; room = room }
+
+-- an own event that the shard may be given: a session stands at its place, and may be handed it
+pub record IsTaken (configs : List SessionConfig) (place : ℕ) (event : Event) : Type 0 where
+  pub config : SessionConfig
+  pub there : slice_get configs place ≡ Some config
+  pub takes : CanTake config event
+
+-- an event that a shard of these sessions may be given; a tick always may
+abbrev pub CanHappen : List SessionConfig → ShardEvent → Type 0
+CanHappen configs (Own place moment event) = IsTaken configs place event
+CanHappen configs (Tick t) = Unit {0}
+
+-- a history of a shard of these sessions
+abbrev pub IsHistory : List SessionConfig → List ShardEvent → Type 0
+IsHistory configs events = AllByRecursion (CanHappen configs) events
+
+-- a shard between events: its journal is within its limit, and tells its history; its last tick is that of the history; and
+-- each session is what its own events and the ticks in the history make of it, with sound variables
+pub record IsShard (shard : Shard) : Type 0 where
+  pub few : length shard.sessions ≤ 65536
+  pub full : length shard.journal ≤ shard.limit
+  pub history : IsHistory (configs_of shard.sessions) (events_of shard.journal)
+  pub clock : shard.last ≡ last_tick (events_of shard.journal)
+  pub early : shard.last ≤ greatest_tick
+  pub whole : shard.sessions ≡ runs (events_of shard.journal) (configs_of shard.sessions)
+  pub sound : AllByRecursion IsSound shard.sessions
+
+-- a shard with its timers, whose list is the due tick of each session, and with ids that find room for all of them
+pub record IsTimed (shard : Shard) (dues : List (Option ℕ)) (ids : Held) : Type 0 where
+  pub shown : IsShard shard
+  pub timed : dues ≡ map due shard.sessions
+  pub ids_fit : length shard.sessions ≤ room_of ids
+
+-- how many outputs an event may give: five for an own event, and five for each session at a tick
+abbrev pub room_for : List Running → ShardEvent → ℕ
+room_for sessions (Own place moment event) = 5
+room_for sessions (Tick t) = 5 * length sessions
+
+-- an own event of a session
+abbrev pub IsOwn : ShardEvent → Type 0
+IsOwn (Own place moment event) = Unit {0}
+IsOwn (Tick t) = ⊥
+
+-- nothing is left that is due by this tick
+abbrev pub NoneDue : ℕ → List Running → Type 0
+NoneDue last sessions = AllByRecursion (λ s. has_come last (due s) ≡ false) sessions
+
+-- after a tick nothing is left that is due by the last tick; of an own event this says nothing
+abbrev pub IsOver : ℕ → ShardEvent → List Running → Type 0
+IsOver last (Own place moment event) sessions = Unit {0}
+IsOver last (Tick t) sessions = NoneDue last sessions

@@ -1,0 +1,249 @@
+//! A shard.
+ghost use Rattle.std.specs.Prelude.{ℕ, ◌≡◌, ◌+◌, ◌<◌, ◌≤◌, ◌++◌, ◌∷◌, [], IfErr, IfOk, OnErr, OnOk, IsTrue, ◌↔◌, length, map};
+ghost use Rattle.std.specs.List.{AllByRecursion};
+ghost use Rattle.bfd_num.specs.Numbers.{greatest_tick};
+ghost use Rattle.bfd_lanes.specs.Held.{room_of};
+ghost use Rattle.bfd_session.specs.Due.{due as due_tick};
+ghost use Rattle.bfd_session.specs.Kinds.{configs_of};
+ghost use Rattle.bfd_session.specs.Rows.{AreFit};
+ghost use Rattle.bfd_session.specs.Step.{IsSound, started};
+ghost use Rattle.bfd_shard.specs.Expired.{IsExact};
+ghost use Rattle.bfd_shard.specs.History.{later, moved, outcome_of};
+ghost use Rattle.bfd_shard.specs.Inside.{MayCome};
+ghost use Rattle.bfd_shard.specs.Shard.{IsShard, IsTaken, IsOwn, IsOver, CanHappen, room_for};
+
+use crate::entry::{Entry, Full, ShardEvent};
+use crate::law::expiry_laws;
+use crate::own::step_at;
+use crate::start::{sessions_of, timers_of};
+use crate::ticking::tick_all;
+use bfd_lanes::Ids;
+use bfd_num::{Steps, Tick};
+use bfd_rules::Outs;
+use bfd_session::{Answer, Event, Session, SessionConfig};
+use bfd_wheel::Timers;
+use std::alloc::{AllocError, Global};
+use std::marker::Model;
+use std::sync::ledger::Ledger;
+
+/// Sessions by place, with their timers, the last tick, and the journal of their events.
+#[derive(Drop)]
+pub struct ShardState<W: Timers> {
+    sessions: Vec<Session>,
+    timers: W,
+    last: u64,
+    journal: Vec<Entry>,
+    limit: usize,
+    ids: Ids,
+}
+
+impl<W: Timers> Model for ShardState<W> {
+    ghost use Rattle.std.specs.Prelude.{◌-◌, vec_len, vec_capacity};
+    ghost use Rattle.bfd_shard.specs.Shard.{Shard, IsTimed, shard_of};
+
+    ghost Value = { Shard };
+
+    ghost view = { λ s. shard_of s.sessions.items s.last s.journal.items s.limit (vec_capacity s.journal - vec_len s.journal) };
+
+    ghost invariant = { λ s. IsTimed (shard_of s.sessions.items s.last s.journal.items s.limit (vec_capacity s.journal - vec_len s.journal)) (W.dues s.timers) s.ids };
+}
+
+/// An event of the sessions: answers the last tick after it, and the event's answer.
+#[tactic(auto, using(crate::proofs::Moves::takes_at, crate::proofs::Moves::stands_below), unfolding(crate::specs::History::moved, crate::specs::History::outcome_of))]
+fn act<W: Timers, L: Ledger>(
+    sessions: &mut Vec<Session>,
+    timers: &mut W,
+    last: u64,
+    event: &ShardEvent,
+    ids: &mut Ids,
+    outs: &mut Outs,
+    steps: &mut Steps<L>,
+) -> (u64, Answer)
+    requires few { length sessions.old.items ≤ 65536 }
+    requires last { last ≤ greatest_tick }
+    requires may_come { MayCome sessions.old.items event.now }
+    requires dues { W.dues timers.old ≡ map due_tick sessions.old.items }
+    requires sound { AllByRecursion IsSound sessions.old.items }
+    requires ids { length sessions.old.items ≤ room_of ids.old }
+    requires room { room_for sessions.old.items event.now ≤ outs.old.spare }
+    ensures last { result.0 ≡ later last event.now }
+    ensures early { result.0 ≤ greatest_tick }
+    ensures sessions { sessions.new.items ≡ moved last event.now sessions.old.items }
+    ensures items { outs.new.items ≡ outs.old.items ++ (outcome_of last event.now sessions.old.items).items }
+    ensures answer { result.1 ≡ (outcome_of last event.now sessions.old.items).answer }
+    ensures dues { W.dues timers.new ≡ map due_tick sessions.new.items }
+    ensures over { IsOver (later last event.now) event.now sessions.new.items }
+    ensures sound { AllByRecursion IsSound sessions.new.items }
+    ensures ids { room_of ids.new ≡ room_of ids.old }
+    ensures spare { outs.old.spare ≤ outs.new.spare + room_for sessions.old.items event.now }
+    ensures room { outs.new.room ≡ outs.old.room }
+    ensures cost { IsOwn event.now → steps.new ≤ steps.old + 2 }
+{
+    match event {
+        ShardEvent::Own {
+            place,
+            moment,
+            event,
+        } => {
+            let answer = step_at(
+                sessions,
+                timers,
+                last,
+                *place,
+                moment.get(),
+                event,
+                outs,
+                steps,
+            );
+            (last, answer)
+        }
+        ShardEvent::Tick(t) => {
+            let last = last.max(t.get());
+            tick_all(sessions, timers, last, ids, outs, steps);
+            (last, Answer::Ticked)
+        }
+    }
+}
+
+/// Whether a session stands at the place that takes the event.
+fn takes_at(sessions: &[Session], place: u32, event: &Event) -> bool
+    ensures { IsTrue result ↔ IsTaken (configs_of sessions.now) place event.now }
+{
+    match sessions.get(place as usize) {
+        Some(session) => session.takes(event),
+        None => false,
+    }
+}
+
+impl<W: Timers> ShardState<W> {
+    /// A shard of the sessions with these configurations, at most 65,536 and each within its ranges: all stand at the start,
+    /// the last tick is 0, and the journal is empty and takes `limit` entries. It is refused only for want of memory.
+    pub fn make(
+        alloc: Global,
+        configs: Vec<SessionConfig>,
+        limit: usize,
+    ) -> Result<ShardState<W>, AllocError>
+        requires few { length configs.items ≤ 65536 }
+        requires fit { AreFit configs.items }
+        ensures sessions { IfOk result (λ shard. shard.sessions ≡ map started configs.items) }
+        ensures last { IfOk result (λ shard. shard.last ≡ 0) }
+        ensures journal { IfOk result (λ shard. shard.journal ≡ []) }
+        ensures limit { IfOk result (λ shard. shard.limit ≡ limit) }
+        ensures kept { IfOk result (λ shard. IsShard shard) }
+    {
+        let sessions = sessions_of(alloc, configs)?;
+        let timers = timers_of(alloc, &sessions)?;
+        let ids = Ids::make(alloc, sessions.len())?;
+        Ok(ShardState {
+            sessions,
+            timers,
+            last: 0,
+            journal: Vec::new(alloc),
+            limit,
+            ids,
+        })
+    }
+
+    /// Whether the event may be applied: a tick always may, and an own event where a session stands at its place that takes
+    /// it.
+    pub fn takes(&self, event: &ShardEvent) -> bool
+        ensures { IsTrue result ↔ CanHappen (configs_of self.now.sessions) event.now }
+    {
+        match event {
+            ShardEvent::Own { place, event, .. } => takes_at(&self.sessions, *place, event),
+            ShardEvent::Tick(_) => true,
+        }
+    }
+
+    /// Makes room for one entry more in the journal, where it is below its limit. Nothing else changes, also where it is
+    /// refused, which it is only for want of memory.
+    pub fn prepare(&mut self) -> Result<(), AllocError>
+        ensures ready { OnOk result (length self.new.journal < self.new.limit → 0 < self.new.room) }
+        ensures sessions { self.new.sessions ≡ self.old.sessions }
+        ensures last { self.new.last ≡ self.old.last }
+        ensures journal { self.new.journal ≡ self.old.journal }
+        ensures limit { self.new.limit ≡ self.old.limit }
+    {
+        if self.journal.len() < self.limit {
+            self.journal.reserve(1)?;
+        }
+        Ok(())
+    }
+
+    /// One event, brought by this caller. The shard is prepared; an own event is one that the session at its place takes;
+    /// and `outs` has room for five outputs, or at a tick for five of each session.
+    ///
+    /// The entry is appended to the journal. An own event changes the session at its place and no other, in at most 2 steps
+    /// of the timers; a tick changes every session, and leaves nothing that is due by the last tick. The outputs are
+    /// appended, at a tick by ascending place, and the answer is the session's, or `Ticked`. `Full` comes exactly where the
+    /// journal has as many entries as its limit, which it tells; then all is as before. Takes no memory.
+    pub fn apply<L: Ledger>(
+        &mut self,
+        caller: u32,
+        event: ShardEvent,
+        outs: &mut Outs,
+        steps: &mut Steps<L>,
+    ) -> Result<Answer, Full>
+        requires ready { length self.old.journal < self.old.limit → 0 < self.old.room }
+        requires can { CanHappen (configs_of self.old.sessions) event }
+        requires room { room_for self.old.sessions event ≤ outs.old.spare }
+        ensures full { IfErr result (λ full. (full.0 ≡ length self.old.journal) × (length self.old.journal ≡ self.old.limit)) }
+        ensures below { OnOk result (length self.old.journal < self.old.limit) }
+        ensures same { OnErr result (self.new ≡ self.old) }
+        ensures untold { OnErr result (outs.new ≡ outs.old) }
+        ensures journal { OnOk result (self.new.journal ≡ self.old.journal ++ record { caller = caller; event = event } ∷ []) }
+        ensures limit { self.new.limit ≡ self.old.limit }
+        ensures last { OnOk result (self.new.last ≡ later self.old.last event) }
+        ensures sessions { OnOk result (self.new.sessions ≡ moved self.old.last event self.old.sessions) }
+        ensures configs { configs_of self.new.sessions ≡ configs_of self.old.sessions }
+        ensures items { OnOk result (outs.new.items ≡ outs.old.items ++ (outcome_of self.old.last event self.old.sessions).items) }
+        ensures answer { IfOk result (λ answer. answer ≡ (outcome_of self.old.last event self.old.sessions).answer) }
+        ensures over { OnOk result (IsOver self.new.last event self.new.sessions) }
+        ensures exact { OnOk result (IsExact self.old event self.new.sessions) }
+        ensures stood { IsShard self.old }
+        ensures kept { IsShard self.new }
+        ensures spare { outs.old.spare ≤ outs.new.spare + room_for self.old.sessions event }
+        ensures outs_room { outs.new.room ≡ outs.old.room }
+        ensures cost { IsOwn event → steps.new ≤ steps.old + 2 }
+    {
+        if self.journal.len() == self.limit {
+            return Err(Full(self.limit));
+        }
+        expiry_laws();
+        let (last, answer) = act(
+            &mut self.sessions,
+            &mut self.timers,
+            self.last,
+            &event,
+            &mut self.ids,
+            outs,
+            steps,
+        );
+        self.last = last;
+        self.journal.push_reserved(Entry { caller, event });
+        Ok(answer)
+    }
+
+    /// The sessions, by place. Between events a shard is what its journal makes of it.
+    pub fn sessions(&self) -> &[Session]
+        ensures value { result.now ≡ self.now.sessions }
+        ensures kept { IsShard self.now }
+    {
+        let _ = &self.last;
+        self.sessions.as_slice()
+    }
+
+    /// The last tick: the greatest one so far, or 0.
+    pub fn last(&self) -> Tick
+        ensures { result ≡ self.now.last }
+    {
+        Tick::new(self.last).unwrap()
+    }
+
+    /// The journal: the events so far, each with the number of its caller.
+    pub fn journal(&self) -> &[Entry]
+        ensures { result.now ≡ self.now.journal }
+    {
+        self.journal.as_slice()
+    }
+}

@@ -1,0 +1,56 @@
+//! Sessions and timers at the start.
+ghost use Rattle.std.specs.Prelude.{ℕ, ◌≡◌, ◌<◌, ◌≤◌, IfOk, length, map};
+ghost use Rattle.std.specs.List.{AllByRecursion};
+ghost use Rattle.bfd_session.specs.Due.{due as due_tick};
+ghost use Rattle.bfd_session.specs.Rows.{AreFit};
+ghost use Rattle.bfd_session.specs.Step.{IsSound, started};
+
+use crate::own::keep_due;
+use bfd_num::Steps;
+use bfd_session::{Session, SessionConfig};
+use bfd_wheel::Timers;
+use std::alloc::{AllocError, Global};
+use std::marker::Brand;
+use std::sync::ledger::{Blank, Ledger};
+
+/// The sessions at the start.
+pub(crate) fn sessions_of(
+    alloc: Global,
+    configs: Vec<SessionConfig>,
+) -> Result<Vec<Session>, AllocError>
+    requires { AreFit configs.items }
+    ensures sessions { IfOk result (λ sessions. sessions.items ≡ map started configs.items) }
+    ensures sound { IfOk result (λ sessions. AllByRecursion IsSound sessions.items) }
+{
+    let mut sessions = Vec::with_capacity(alloc, configs.len())?;
+    for config in configs {
+        sessions.push(Session::make(config))?;
+    }
+    Ok(sessions)
+}
+
+/// Keeps the due tick of each session, with a counter of its own.
+fn keep_all<W: Timers, L: Ledger>(sessions: &[Session], timers: &mut W, blank: Blank)
+    requires few { length sessions.now ≤ 65536 }
+    requires long { length (W.dues timers.old) ≡ length sessions.now }
+    requires name { blank.name ≡ L.name }
+    requires parts { blank.parts ≡ L.parts }
+    requires some { 0 < blank.parts }
+    ensures dues { W.dues timers.new ≡ map due_tick sessions.now }
+{
+    let mut steps = Steps::<L>::new(blank);
+    for place in 0..sessions.len() {
+        let due = sessions[place].due();
+        keep_due(timers, place as u32, due, &mut steps);
+    }
+}
+
+/// Timers with the due tick of each session.
+pub(crate) fn timers_of<W: Timers>(alloc: Global, sessions: &[Session]) -> Result<W, AllocError>
+    requires few { length sessions.now ≤ 65536 }
+    ensures { IfOk result (λ timers. W.dues timers ≡ map due_tick sessions.now) }
+{
+    let mut timers = W::make(alloc, sessions.len() as u32)?;
+    keep_all::<W, Brand>(sessions, &mut timers, Blank::new(1));
+    Ok(timers)
+}
