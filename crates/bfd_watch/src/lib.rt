@@ -9,7 +9,10 @@
 #![tactic(auto)]
 
 mod change;
+mod group;
+mod text;
 mod watch;
 
 pub use change::{Change, WatchFault};
+pub use group::{LinkGroup, Member};
 pub use watch::Watch;
