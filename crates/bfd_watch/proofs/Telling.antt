@@ -11,7 +11,7 @@ use Rattle.bfd_shard.specs.declared.entry.ShardEvent.{ShardEvent}
 use Rattle.bfd_shard.specs.declared.entry.Entry.{Entry}
 use Rattle.bfd_shard.specs.History.{events_of, last_tick, runs, outcome_of}
 use Rattle.bfd_watch.specs.declared.change.Change.{Change}
-use Rattle.bfd_watch.specs.Changes.{change_in, changes_in, changes_from, outcomes_after, changes}
+use Rattle.bfd_watch.specs.Changes.{change_in, changes_in, changes_from, outcomes_after, outcomes, changes}
 use Rattle.bfd_watch.specs.Watching.{watching}
 
 front : {X : Type 0} (o : Option X) (xs : List X) → cons_option o xs ≡ cons_option o [] ++ xs
@@ -44,12 +44,16 @@ outcomes_more configs past (x ∷ es) e =
     ∙ ap (λ xs. outcomes_after configs (past ++ x ∷ []) es ++ outcome_of (last_tick xs) e (runs xs configs) ∷ [])
     (append_assoc past (x ∷ []) es))
 
+pub outcomes_grow : (configs : List SessionConfig) (es : List ShardEvent) (e : ShardEvent)
+    → outcomes configs (es ++ e ∷ []) ≡ outcomes configs es ++ outcome_of (last_tick es) e (runs es configs) ∷ []
+outcomes_grow configs es e = outcomes_more configs [] es e
+
 outcomes_long : (configs : List SessionConfig) (past es : List ShardEvent) → length (outcomes_after configs past es) ≡ length es
 unfolding outcomes_after
 outcomes_long configs past [] = refl
 outcomes_long configs past (x ∷ es) = let r = outcomes_long configs (past ++ x ∷ []) es in omega (arith, r)
 
-from_more : (n : ℕ) (os : List Outcome) (o : Outcome)
+pub from_more : (n : ℕ) (os : List Outcome) (o : Outcome)
     → changes_from n (os ++ o ∷ []) ≡ changes_from n os ++ changes_in (n + length os) o.items
 unfolding changes_from
 from_more n [] o = let same : n ≡ n + 0 = omega arith in append-nil (changes_in n o.items) ∙ ap (λ k. changes_in k o.items) same

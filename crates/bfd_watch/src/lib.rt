@@ -10,9 +10,14 @@
 
 mod change;
 mod group;
+mod law;
 mod text;
 mod watch;
 
 pub use change::{Change, WatchFault};
 pub use group::{LinkGroup, Member};
+pub use law::{changes_laws, watched_laws};
 pub use watch::Watch;
+
+#[cfg(test)]
+mod tests;
