@@ -40,31 +40,31 @@ first n o g =
 
 more_from : (n : ℕ) (os : List Outcome) (o : Outcome) (g : Group)
     → lines_from n (os ++ o ∷ []) g
-      ≡ lines_from n os g ++ event_lines (n + length os) (changes_in (n + length os) o.items) (group_after (changes_from n os) g)
+    ≡ lines_from n os g ++ event_lines (n + length os) (changes_in (n + length os) o.items) (group_after (changes_from n os) g)
 unfolding lines_from changes_from
 more_from n [] o g = first n o g
 more_from n (x ∷ os) o g =
     let here : List Change = changes_in n x.items in
     let next : n + 1 + length os ≡ n + length (x ∷ os) = omega arith in
     ap (λ ls. event_lines n here g ++ ls)
-      (more_from (n + 1) os o (group_after here g)
-      ∙ (ap (λ k. lines_from (n + 1) os (group_after here g)
-          ++ event_lines k (changes_in k o.items) (group_after (changes_from (n + 1) os) (group_after here g))) next
-      ∙ ap (λ h. lines_from (n + 1) os (group_after here g) ++ event_lines (n + length (x ∷ os)) (changes_in (n + length (x ∷ os)) o.items) h)
-        (sym (group_twice here (changes_from (n + 1) os) g))))
+    (more_from (n + 1) os o (group_after here g)
+    ∙ (ap (λ k. lines_from (n + 1) os (group_after here g)
+    ++ event_lines k (changes_in k o.items) (group_after (changes_from (n + 1) os) (group_after here g))) next
+    ∙ ap (λ h. lines_from (n + 1) os (group_after here g) ++ event_lines (n + length (x ∷ os)) (changes_in (n + length (x ∷ os)) o.items) h)
+    (sym (group_twice here (changes_from (n + 1) os) g))))
     ∙ sym (append_assoc (event_lines n here g) (lines_from (n + 1) os (group_after here g))
-      (event_lines (n + length (x ∷ os)) (changes_in (n + length (x ∷ os)) o.items) (group_after (here ++ changes_from (n + 1) os) g)))
+    (event_lines (n + length (x ∷ os)) (changes_in (n + length (x ∷ os)) o.items) (group_after (here ++ changes_from (n + 1) os) g)))
 
 pub lines_more : (os : List Outcome) (o : Outcome) (g : Group)
     → lines_from 1 (os ++ o ∷ []) g
-      ≡ lines_from 1 os g ++ event_lines (length os + 1) (changes_in (length os + 1) o.items) (group_after (changes_from 1 os) g)
+    ≡ lines_from 1 os g ++ event_lines (length os + 1) (changes_in (length os + 1) o.items) (group_after (changes_from 1 os) g)
 lines_more os o g =
     let number : 1 + length os ≡ length os + 1 = omega arith in
     more_from 1 os o g ∙ ap (λ k. lines_from 1 os g ++ event_lines k (changes_in k o.items) (group_after (changes_from 1 os) g)) number
 
 pub group_more : (os : List Outcome) (o : Outcome) (g : Group)
     → group_after (changes_from 1 (os ++ o ∷ [])) g
-      ≡ group_after (changes_in (length os + 1) o.items) (group_after (changes_from 1 os) g)
+    ≡ group_after (changes_in (length os + 1) o.items) (group_after (changes_from 1 os) g)
 group_more os o g =
     let number : 1 + length os ≡ length os + 1 = omega arith in
     ap (λ cs. group_after cs g) (from_more 1 os o ∙ ap (λ k. changes_from 1 os ++ changes_in k o.items) number)

@@ -66,6 +66,22 @@ fn group_text(alloc: Global, number: u64, group: &LinkGroup) -> Result<String, A
     format!(in alloc; "{number} group {count} {word}\n")
 }
 
+/// The line of a group that an event found so and left so, where that has moved it.
+fn moved_text(
+    alloc: Global,
+    number: u64,
+    before: &LinkGroup,
+    after: &LinkGroup,
+) -> Result<String, AllocError>
+    ensures { IfOk result (λ text. string_bytes text
+        ≡ if_moved (is_group_up before.now) (is_group_up after.now) (group_line number after.now)) }
+{
+    if before.is_up() == after.is_up() {
+        return Ok(String::new(alloc));
+    }
+    group_text(alloc, number, after)
+}
+
 /// The lines of an event that finds a group so and leaves it so.
 fn event_text(
     alloc: Global,
@@ -78,10 +94,8 @@ fn event_text(
         ++ if_moved (is_group_up before.now) (is_group_up after.now) (group_line number after.now)) }
 {
     let mut text = changes_text(alloc, number, changes)?;
-    if before.is_up() != after.is_up() {
-        let line = group_text(alloc, number, after)?;
-        text.push_str(line.as_str())?;
-    }
+    let moved = moved_text(alloc, number, before, after)?;
+    text.push_str(moved.as_str())?;
     Ok(text)
 }
 
