@@ -1,0 +1,12 @@
+-- The changes of one entry more.
+use Rattle.std.proofs.Common.{rules}
+use Rattle.bfd_watch.proofs.Telling.{whole_more}
+use Rattle.bfd_watch.proofs.watch.Watch.take.Goals as goal
+
+pub returns-clause-told : goal.returns-clause-told
+returns-clause-told g c = search rules
+
+pub returns-clause-whole : goal.returns-clause-whole
+returns-clause-whole g c =
+    whole_more c.args.self.now.configs _ c.args.self.now.entries c.follow.new.shard.journal c.args.entry c.args.out.now.items c.append_changes.new.out.items
+    (search rules) (search rules) (returns-clause-told g c)

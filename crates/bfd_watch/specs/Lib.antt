@@ -1,0 +1,4 @@
+pub mod Changes
+pub mod Watching
+pub mod Groups
+pub mod Watched
