@@ -1,11 +1,15 @@
 -- Counts of faults, and what a failure says of them.
-use Rattle.std.specs.Prelude.{◌≡◌, ℕ, ◌+◌, ◌-◌, ◌^◌, ◌≤◌, min, Result, IsErrOf}
+use Rattle.std.specs.Prelude.{◌≡◌, ℕ, ◌+◌, ◌-◌, ◌^◌, ◌≤◌, min, max, Result, IsErrOf}
 use Rattle.bfd_edge.specs.declared.fault.Fault.{Fault}
 use Rattle.bfd_edge.specs.declared.fault.Fault.TheVariants.{Failed, Memory}
 
 -- one more, but never above 2^64 - 1
 abbrev pub raised : ℕ → ℕ
 raised count = min (count + 1) (2 ^ 64 - 1)
+
+-- the count after so many more: it never falls, and stands still at 2^64 - 1
+abbrev pub risen : ℕ → ℕ → ℕ
+risen count more = max count (min (count + more) (2 ^ 64 - 1))
 
 -- the count rose by one or more; at 2^64 - 1 it is taken to have risen by any number
 abbrev pub Rose : ℕ → ℕ → Type 0

@@ -1,2 +1,9 @@
 pub mod Faults
+pub mod Links
 pub mod Memory
+pub mod MemoryLink
+pub mod MemoryPorts
+pub mod MemoryTicker
+pub mod Places
+pub mod Ports
+pub mod Tickers

@@ -32,6 +32,9 @@ use bfd_rules::{
 use std::marker::Model;
 
 /// A point-to-point session: its configuration, and its variables, which are steady also between the parts of an event.
+///
+/// A call that writes its variables in several steps hands them to a function of the modules below, since between the steps
+/// they needn't be steady.
 #[derive(Drop)]
 pub struct P2p {
     config: Config,

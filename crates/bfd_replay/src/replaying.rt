@@ -65,7 +65,7 @@ fn table(alloc: Global, configs: &[SessionConfig]) -> Result<Demux, AllocError>
     }
 }
 
-/// Does one event of a stage in its parts.
+/// Does one event of a stage in its parts, which `Progress` lends one by one.
 #[tactic(auto, using(crate::proofs::Stages::stage_kept))]
 fn turn(
     sessions: &mut Vec<Session>,

@@ -95,7 +95,8 @@ fn acts(p: &mut P2p, eff: u64, event: &Event, mark: &mut Mark, outs: &mut Outs) 
 }
 
 /// An own event, from what was put out before it. At most two outputs are those of settling, and two of the event and its
-/// end together: a packet with F tells the state, so nothing more is told.
+/// end together: a packet with F tells the state, so nothing more is told. (Apart from `steps`: this opens the definition that
+/// a law of `steps` is about.)
 #[tactic(auto, unfolding(crate::specs::Step::step))]
 fn runs(p: &mut P2p, eff: u64, event: &Event, outs: &mut Outs) -> Answer
     requires eff { eff < moment_bound }
@@ -134,7 +135,7 @@ pub fn steps(p: &mut P2p, eff: u64, event: &Event, outs: &mut Outs) -> Answer
     runs(p, eff, event, outs)
 }
 
-/// A tick with this limit, from what was put out before it.
+/// A tick with this limit, from what was put out before it. (Apart from `ticks`, as `runs` is from `steps`.)
 #[tactic(auto, unfolding(crate::specs::Step::tick))]
 fn passes(p: &mut P2p, limit: u64, eff: u64, outs: &mut Outs)
     requires sound { IsSound p.old.config p.old.vars }

@@ -27,17 +27,26 @@ counted_now r m h = grind (arith, nat_tests)
 counted_not : (r m : ℕ) → m < r → ◌≡◌ {A = ℕ} (cond (nat_le r m) 1 0) 0
 counted_not r m h = grind (arith, nat_tests)
 
-upto-le : (rank : ℕ → ℕ) (m k : ℕ) → upto rank m k ≤ k
+pub upto-le : (rank : ℕ → ℕ) (m k : ℕ) → upto rank m k ≤ k
 unfolding upto
 upto-le rank m zero = omega arith
 upto-le rank m (suc k) = omega (arith, counted (rank k) m, upto-le rank m k)
 
-upto_more : (rank : ℕ → ℕ) (l m k : ℕ) → l ≤ m → upto rank l k ≤ upto rank m k
+pub upto_more : (rank : ℕ → ℕ) (l m k : ℕ) → l ≤ m → upto rank l k ≤ upto rank m k
 unfolding upto
 upto_more rank l m zero h = omega arith
 upto_more rank l m (suc k) h = omega (arith, counted_more (rank k) l m h, upto_more rank l m k h)
 
-upto_one : (rank : ℕ → ℕ) (m c k : ℕ) → c < k → rank c ≤ m → 1 ≤ upto rank m k
+counted_up : (q r m : ℕ) → r ≤ q → cond (nat_le q m) 1 0 ≤ cond (nat_le r m) 1 0
+counted_up q r m h = grind (arith, nat_tests)
+
+-- ranks that rise make fewer
+pub upto_up : (rank rank2 : ℕ → ℕ) (m k : ℕ) → ((j : ℕ) → rank j ≤ rank2 j) → upto rank2 m k ≤ upto rank m k
+unfolding upto
+upto_up rank rank2 m zero h = omega arith
+upto_up rank rank2 m (suc k) h = omega (arith, counted_up (rank2 k) (rank k) m (h k), upto_up rank rank2 m k h)
+
+pub upto_one : (rank : ℕ → ℕ) (m c k : ℕ) → c < k → rank c ≤ m → 1 ≤ upto rank m k
 unfolding upto
 upto_one rank m c zero near h = absurd (omega arith)
 upto_one rank m c (suc k) near h = elim (same_or_not c k) [
@@ -45,7 +54,7 @@ upto_one rank m c (suc k) near h = elim (same_or_not c k) [
   | inr ne ↦ (let rest = upto_one rank m c k (omega arith) h in omega arith)
 ]
 
-upto_falls : (rank : ℕ → ℕ) (l m c k : ℕ) → c < k → rank c ≡ m → l < m → upto rank l k + 1 ≤ upto rank m k
+pub upto_falls : (rank : ℕ → ℕ) (l m c k : ℕ) → c < k → rank c ≡ m → l < m → upto rank l k + 1 ≤ upto rank m k
 unfolding upto
 upto_falls rank l m c zero near at less = absurd (omega arith)
 upto_falls rank l m c (suc k) near at less = elim (same_or_not c k) [

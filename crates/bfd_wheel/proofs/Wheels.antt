@@ -10,10 +10,10 @@ use Rattle.bfd_wheel.proofs.Rings.{same_or_not, under_or_not, TakesOut, ring_wit
 
 -- ---- the list of a node
 
-below_true : (j n : ℕ) → j < n → nat_lt j n ≡ true
+pub below_true : (j n : ℕ) → j < n → nat_lt j n ≡ true
 below_true j n h = grind (arith, nat_tests)
 
-below_false : (j n : ℕ) → n ≤ j → nat_lt j n ≡ false
+pub below_false : (j n : ℕ) → n ≤ j → nat_lt j n ≡ false
 below_false j n h = grind (arith, nat_tests)
 
 pub home_id : (n now : ℕ) (due : ℕ → ℕ) (j : ℕ) → j < n → home n now due j ≡ place n now (due j)
@@ -86,16 +86,16 @@ first_linked n now i h dues nodes w off far near =
 -- ---- a node is put in
 
 -- the ranks with the new node on top
-abbrev ranked : ℕ → ℕ → (ℕ → ℕ) → ℕ → ℕ
+abbrev pub ranked : ℕ → ℕ → (ℕ → ℕ) → ℕ → ℕ
 ranked i top rank j = cond (nat_eq j i) top (rank j)
 
-ranked_own : (i top : ℕ) (rank : ℕ → ℕ) → ranked i top rank i ≡ top
+pub ranked_own : (i top : ℕ) (rank : ℕ → ℕ) → ranked i top rank i ≡ top
 ranked_own i top rank = ap (λ (b : Bool). cond b top (rank i)) (let same : nat_eq i i ≡ true = grind (arith, nat_tests) in same)
 
-ranked_same : (i top : ℕ) (rank : ℕ → ℕ) (j : ℕ) → j ≢ i → ranked i top rank j ≡ rank j
+pub ranked_same : (i top : ℕ) (rank : ℕ → ℕ) (j : ℕ) → j ≢ i → ranked i top rank j ≡ rank j
 ranked_same i top rank j ne = ap (λ (b : Bool). cond b top (rank j)) (let other : nat_eq j i ≡ false = grind (arith, nat_tests) in other)
 
-ranked_below : (i top : ℕ) (rank : ℕ → ℕ) → ((j : ℕ) → rank j < top) → (j : ℕ) → ranked i top rank j < suc top
+pub ranked_below : (i top : ℕ) (rank : ℕ → ℕ) → ((j : ℕ) → rank j < top) → (j : ℕ) → ranked i top rank j < suc top
 ranked_below i top rank below j = elim (same_or_not j i) [
   | inl e ↦ (let own : ranked i top rank j ≡ top = ap (ranked i top rank) e ∙ ranked_own i top rank in omega arith)
   | inr ne ↦ (let own : ranked i top rank j ≡ rank j = ranked_same i top rank j ne in let b = below j in omega arith)
@@ -153,24 +153,24 @@ moved n now t dues nodes w later early above = record {
 
 -- ---- the start
 
-start_rank : ℕ → ℕ → ℕ
+pub start_rank : ℕ → ℕ → ℕ
 start_rank n j = cond (nat_lt j n) (suc j) 0
 
-start_id : (n j : ℕ) → j < n → start_rank n j ≡ suc j
+pub start_id : (n j : ℕ) → j < n → start_rank n j ≡ suc j
 unfolding start_rank
 start_id n j h = ap (λ (b : Bool). cond b (suc j) 0) (below_true j n h)
 
-start_head : (n j : ℕ) → n ≤ j → start_rank n j ≡ 0
+pub start_head : (n j : ℕ) → n ≤ j → start_rank n j ≡ 0
 unfolding start_rank
 start_head n j h = ap (λ (b : Bool). cond b (suc j) 0) (below_false j n h)
 
-start_below : (n j : ℕ) → start_rank n j < n + 1
+pub start_below : (n j : ℕ) → start_rank n j < n + 1
 start_below n j = elim (under_or_not j n) [
   | inl near ↦ (let e = start_id n j near in omega arith)
   | inr far ↦ (let e = start_head n j far in omega arith)
 ]
 
-start_one : (n j k : ℕ) → start_rank n j ≡ start_rank n k → j < n → j ≡ k
+pub start_one : (n j k : ℕ) → start_rank n j ≡ start_rank n k → j < n → j ≡ k
 start_one n j k same near = elim (under_or_not k n) [
   | inl close ↦ (let e = start_id n j near in let f = start_id n k close in omega arith)
   | inr far ↦ absurd (let e = start_id n j near in let f = start_head n k far in omega arith)

@@ -11,7 +11,7 @@ use bfd_num::Steps;
 use std::sync::ledger::Ledger;
 
 /// Takes the id, which has a due tick, off its list.
-pub(crate) fn detach(nodes: &mut [Node], dues: &mut [u64], id: u32)
+pub fn detach(nodes: &mut [Node], dues: &mut [u64], id: u32)
     requires linked { IsLinked id dues.old nodes.old }
     ensures wheel { (n now : ℕ) → IsWheel n now dues.old nodes.old → IsWheel n now dues.new nodes.new }
     ensures dues { dues.new ≡ slice_set dues.old id never }

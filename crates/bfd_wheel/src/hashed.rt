@@ -1,11 +1,8 @@
 //! Timers as a hashed wheel.
-ghost use Rattle.std.specs.Prelude.{◌≡◌, ℕ, ◌+◌, ◌≤◌, ◌<◌, length, IfOk};
-ghost use Rattle.bfd_wheel.specs.Wheel.{next_in, prev_in};
-
 use crate::change::{change, free};
 use crate::form::Timers;
-use crate::links::Node;
-use crate::list::{none, read};
+use crate::links::{Node, loops};
+use crate::list::{due_at, no_dues};
 use crate::place::HEADS;
 use crate::take::take;
 use bfd_lanes::{Ids, least_due};
@@ -39,7 +36,7 @@ impl Timers for HashedWheel {
     ghost dues = { λ w. w };
 
     fn make(alloc: Global, count: u32) -> Result<Self, AllocError> {
-        let dues = none(alloc, count)?;
+        let dues = no_dues(alloc, count)?;
         let nodes = loops(alloc, count + HEADS)?;
         Ok(HashedWheel {
             now: 0,
@@ -57,7 +54,7 @@ impl Timers for HashedWheel {
     }
 
     fn due(&self, id: u32) -> Option<u64> {
-        read(&self.dues, id)
+        due_at(&self.dues, id)
     }
 
     fn least(&self) -> Option<u64> {
@@ -67,18 +64,4 @@ impl Timers for HashedWheel {
     fn advance(&mut self, t: u64, out: &mut Ids) {
         self.now = take(&mut self.nodes, &mut self.dues, self.now, t, out);
     }
-}
-
-/// As many nodes, each linked to itself.
-#[tactic(auto, unfolding(crate::specs::Wheel::next_in, crate::specs::Wheel::prev_in))]
-fn loops(alloc: Global, count: u32) -> Result<Vec<Node>, AllocError>
-    ensures size { IfOk result (λ nodes. length nodes.items ≡ count) }
-    ensures next { IfOk result (λ nodes. (j : ℕ) → j < count → next_in nodes.items j ≡ j) }
-    ensures prev { IfOk result (λ nodes. (j : ℕ) → j < count → prev_in nodes.items j ≡ j) }
-{
-    let mut nodes = Vec::with_capacity(alloc, count as usize)?;
-    for at in 0..count {
-        nodes.push(Node { next: at, prev: at })?;
-    }
-    Ok(nodes)
 }

@@ -15,9 +15,11 @@ mod place;
 mod plain;
 mod take;
 
+pub use change::detach;
 pub use form::Timers;
 pub use hashed::HashedWheel;
-pub use links::{Node, link, unlink};
+pub use links::{Node, link, loops, unlink};
+pub use list::{due_at, no_dues};
 pub use plain::PlainTimers;
 
 #[cfg(test)]

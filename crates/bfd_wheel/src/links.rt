@@ -1,7 +1,9 @@
 //! Nodes that are linked to both neighbours by indices.
-ghost use Rattle.std.specs.Prelude.{◌≡◌, ◌≢◌, ◌<◌, length};
+ghost use Rattle.std.specs.Prelude.{◌≡◌, ◌≢◌, ℕ, ◌<◌, length, IfOk};
 ghost use Rattle.bfd_wheel.specs.Rings.{Links, Unlinks};
 ghost use Rattle.bfd_wheel.specs.Wheel.{next_in, prev_in};
+
+use std::alloc::{AllocError, Global};
 
 /// The indices of a node's neighbours.
 #[derive(Clone, Copy)]
@@ -42,4 +44,18 @@ pub fn link(nodes: &mut [Node], id: u32, head: u32)
     };
     nodes[first as usize].prev = id;
     nodes[head as usize].next = id;
+}
+
+/// As many nodes, each linked to itself. The only refusal is want of memory.
+#[tactic(auto, unfolding(crate::specs::Wheel::next_in, crate::specs::Wheel::prev_in))]
+pub fn loops(alloc: Global, count: u32) -> Result<Vec<Node>, AllocError>
+    ensures size { IfOk result (λ nodes. length nodes.items ≡ count) }
+    ensures next { IfOk result (λ nodes. (j : ℕ) → j < count → next_in nodes.items j ≡ j) }
+    ensures prev { IfOk result (λ nodes. (j : ℕ) → j < count → prev_in nodes.items j ≡ j) }
+{
+    let mut nodes = Vec::with_capacity(alloc, count as usize)?;
+    for at in 0..count {
+        nodes.push(Node { next: at, prev: at })?;
+    }
+    Ok(nodes)
 }

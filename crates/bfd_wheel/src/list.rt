@@ -5,15 +5,15 @@ ghost use Rattle.bfd_lanes.specs.Places.{never, due_of, without};
 use bfd_lanes::NEVER;
 use std::alloc::{AllocError, Global};
 
-/// A number for each id, none of them a due tick.
-pub(crate) fn none(alloc: Global, count: u32) -> Result<Vec<u64>, AllocError>
+/// `NEVER` for each id. The only refusal is want of memory.
+pub fn no_dues(alloc: Global, count: u32) -> Result<Vec<u64>, AllocError>
     ensures { IfOk result (λ dues. dues.items ≡ replicate count never) }
 {
     vec![in alloc; NEVER; count as usize]
 }
 
 /// The due tick at `id`.
-pub(crate) fn read(dues: &[u64], id: u32) -> Option<u64>
+pub fn due_at(dues: &[u64], id: u32) -> Option<u64>
     requires { id < length dues.now }
     ensures { result ≡ slice_index_or (map due_of dues.now) id None }
 {

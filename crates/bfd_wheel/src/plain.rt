@@ -2,7 +2,7 @@
 ghost use Rattle.std.specs.Prelude.{◌≡◌, ◌+◌, ◌^◌, ◌<◌, ◌≤◌, length, Some, slice_set};
 
 use crate::form::Timers;
-use crate::list::{forget, none, read, write};
+use crate::list::{due_at, forget, no_dues, write};
 use bfd_lanes::{Ids, NEVER, due_ids, least_due};
 use bfd_num::Steps;
 use std::alloc::{AllocError, Global};
@@ -30,7 +30,7 @@ impl Timers for PlainTimers {
     ghost dues = { λ p. p };
 
     fn make(alloc: Global, count: u32) -> Result<Self, AllocError> {
-        let dues = none(alloc, count)?;
+        let dues = no_dues(alloc, count)?;
         Ok(PlainTimers { dues })
     }
 
@@ -50,7 +50,7 @@ impl Timers for PlainTimers {
     }
 
     fn due(&self, id: u32) -> Option<u64> {
-        read(&self.dues, id)
+        due_at(&self.dues, id)
     }
 
     fn least(&self) -> Option<u64> {

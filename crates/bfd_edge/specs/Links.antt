@@ -1,0 +1,71 @@
+-- What a link tells, and what each answer leaves of it.
+use Rattle.std.specs.Prelude.{◌≡◌, ◌⊎◌, ℕ, true, false, List, [], ◌∷◌, ◌++◌, Option, Some, None, Result, Ok, Err}
+use Rattle.bfd_packet.specs.declared.arrival.Arrival.{Arrival}
+use Rattle.bfd_packet.specs.declared.arrival.Datagram.{Datagram}
+use Rattle.bfd_edge.specs.declared.fault.Fault.{Fault}
+use Rattle.bfd_edge.specs.declared.fault.Fault.TheVariants as fault
+use Rattle.bfd_edge.specs.declared.link.LinkCounts.{LinkCounts}
+use Rattle.bfd_edge.specs.declared.link.Received.{Received}
+use Rattle.bfd_edge.specs.declared.link.Received.TheVariants.{Got, Quiet, Ended, Failed, Memory}
+use Rattle.bfd_edge.specs.Faults.{risen}
+
+-- the packets that a link received, each with its moment in microseconds, and those that it sent, in order
+pub record Traffic : Type 0 where
+  pub received : List (ℕ × Arrival)
+  pub sent : List Datagram
+
+-- what a link tells: its counts always, its traffic where it keeps that
+pub record LinkTold : Type 0 where
+  pub traffic : Option Traffic
+  pub counts : LinkCounts
+
+-- of a link that was never called
+abbrev pub no_counts : LinkCounts
+no_counts = record { receive_faults = 0; send_faults = 0; gave = 0; over = false }
+
+-- a link that was never called
+pub record IsNewLink (told : LinkTold) : Type 0 where
+  pub counts : told.counts ≡ no_counts
+  pub traffic : (told.traffic ≡ None) ⊎ (told.traffic ≡ Some (record { received = []; sent = [] }))
+
+-- more was received and sent, where the link keeps that
+abbrev pub more_traffic : List (ℕ × Arrival) → List Datagram → Option Traffic → Option Traffic
+more_traffic received sent None = None
+more_traffic received sent (Some traffic) =
+    Some (record { received = traffic.received ++ received; sent = traffic.sent ++ sent })
+
+-- the packet that an answer brings
+abbrev pub packets_of : Received → List (ℕ × Arrival)
+packets_of (Got moment arrival) = (moment, arrival) ∷ []
+packets_of received = []
+
+abbrev pub counts_after_receive : Received → LinkCounts → LinkCounts
+counts_after_receive (Got moment arrival) counts = record counts { gave = risen counts.gave 1 }
+counts_after_receive Quiet counts = record counts { gave = risen counts.gave 1 }
+counts_after_receive Ended counts = record counts { over = true }
+counts_after_receive Failed counts = record counts { receive_faults = risen counts.receive_faults 1 }
+counts_after_receive Memory counts = counts
+
+abbrev pub counts_after_send : Result (Unit {0}) Fault → LinkCounts → LinkCounts
+counts_after_send (Ok done) counts = counts
+counts_after_send (Err fault.Failed) counts = record counts { send_faults = risen counts.send_faults 1 }
+counts_after_send (Err fault.Memory) counts = counts
+
+-- what a link tells after an answer to a receive
+abbrev pub after_receive : Received → LinkTold → LinkTold
+after_receive received told = record {
+  traffic = more_traffic (packets_of received) [] told.traffic;
+  counts = counts_after_receive received told.counts;
+}
+
+-- the datagram of a send that succeeded
+abbrev pub sent_by : Datagram → Result (Unit {0}) Fault → List Datagram
+sent_by datagram (Ok done) = datagram ∷ []
+sent_by datagram (Err fault) = []
+
+-- what a link tells after an answer to a send
+abbrev pub after_send : Datagram → Result (Unit {0}) Fault → LinkTold → LinkTold
+after_send datagram sent told = record {
+  traffic = more_traffic [] (sent_by datagram sent) told.traffic;
+  counts = counts_after_send sent told.counts;
+}

@@ -1,0 +1,42 @@
+-- What became of each number of the ports.
+use Rattle.std.specs.Prelude.{ℕ, zero, suc, ◌==◌, Bool, true, false, List, [], ◌∷◌, Option, Some, None, if◌then◌else◌}
+use Rattle.bfd_edge.specs.declared.places.Place.{Place}
+use Rattle.bfd_edge.specs.declared.places.Place.TheVariants.{Waiting, Opened, Shut}
+use Rattle.bfd_edge.specs.Links.{LinkTold}
+use Rattle.bfd_edge.specs.Ports.{PortsTold}
+
+-- the place of a number in a list of places: behind its end all are waiting
+abbrev pub place_in : {T : Type 0} → List (Place T) → ℕ → Place T
+place_in [] n = Waiting
+place_in (place ∷ places) zero = place
+place_in (place ∷ places) (suc n) = place_in places n
+
+-- the places with this one for the number
+abbrev pub with_place : {T : Type 0} → ℕ → Place T → (ℕ → Place T) → ℕ → Place T
+with_place number place places n = if n == number then place else places n
+
+-- the number was opened, and may be shut again
+abbrev pub is_opened : {T : Type 0} → Place T → Bool
+is_opened Waiting = false
+is_opened Opened = true
+is_opened (Shut kept) = true
+
+-- the number was shut
+abbrev pub is_shut : {T : Type 0} → Place T → Bool
+is_shut Waiting = false
+is_shut Opened = false
+is_shut (Shut kept) = true
+
+-- what the link of the number told when it was shut, by what was kept of it
+abbrev pub told_in : {T : Type 0} → (T → LinkTold) → Place T → Option LinkTold
+told_in told Waiting = None
+told_in told Opened = None
+told_in told (Shut kept) = Some (told kept)
+
+-- what ports with these places tell
+abbrev pub ports_told : {T : Type 0} → (T → LinkTold) → (ℕ → Place T) → ℕ → PortsTold
+ports_told told places faults = record {
+  opened = λ n. is_opened (places n);
+  shut = λ n. told_in told (places n);
+  faults = faults;
+}

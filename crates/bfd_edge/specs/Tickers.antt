@@ -1,0 +1,38 @@
+-- What a ticker tells, and what each answer leaves of it.
+use Rattle.std.specs.Prelude.{◌≡◌, ℕ, ⊤, Bool, true, List, [], ◌∷◌, ◌++◌, drop, Option, Some, None}
+use Rattle.bfd_edge.specs.declared.ticker.Next.{Next}
+use Rattle.bfd_edge.specs.declared.ticker.Next.TheVariants.{Got, Ended, Failed}
+use Rattle.bfd_edge.specs.Faults.{risen}
+
+-- the ticks that were given, and those that are left, in order
+pub record Ticks : Type 0 where
+  pub given : List ℕ
+  pub left : List ℕ
+
+-- what a ticker tells: its ticks where it keeps them, the rest always
+pub record TickerTold : Type 0 where
+  pub ticks : Option Ticks
+  -- how often it failed
+  pub faults : ℕ
+  -- how many ticks it gave
+  pub gave : ℕ
+  -- whether it answered Ended
+  pub over : Bool
+
+-- one tick more was given, where the ticker keeps them
+abbrev pub one_given : ℕ → Option Ticks → Option Ticks
+one_given tick None = None
+one_given tick (Some ticks) = Some (record { given = ticks.given ++ tick ∷ []; left = drop 1 ticks.left })
+
+-- what a ticker tells after an answer
+abbrev pub after_next : Next → TickerTold → TickerTold
+after_next (Got tick) told = record told { ticks = one_given tick told.ticks; gave = risen told.gave 1 }
+after_next Ended told = record told { over = true }
+after_next Failed told = record told { faults = risen told.faults 1 }
+
+-- a tick is the first of those that are left, and the end comes only where none is left
+abbrev pub IsInOrder : Next → Option Ticks → Type 0
+IsInOrder next None = ⊤
+IsInOrder (Got tick) (Some ticks) = ticks.left ≡ tick ∷ drop 1 ticks.left
+IsInOrder Ended (Some ticks) = ticks.left ≡ []
+IsInOrder Failed (Some ticks) = ⊤

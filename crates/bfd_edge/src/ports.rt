@@ -1,0 +1,33 @@
+// Ports: what links are opened from and shut to.
+
+use crate::fault::Fault;
+use crate::link::Link;
+
+/// Something that opens links by number, as a machine opens sockets.
+///
+/// It always tells which numbers were opened, what the link of each number that was shut told then, and how often opening
+/// failed.
+pub trait Ports {
+    ghost use Rattle.std.specs.Prelude.{◌≡◌, true, false, IfOk};
+    ghost use Rattle.bfd_edge.specs.Links.{IsNewLink};
+    ghost use Rattle.bfd_edge.specs.Ports.{PortsTold, after_open, after_shut};
+
+    /// Its links.
+    type Link: Link + Drop;
+
+    // What it tells.
+    ghost told: { Self → PortsTold };
+
+    /// Opens the link of a number that wasn't opened before. The link is one that was never called.
+    ///
+    /// `Failed` raises the count of faults, and `Memory` leaves it; after both the number isn't opened.
+    fn open(&mut self, number: u32) -> Result<Self::Link, Fault>
+        requires { (told self.old).opened number ≡ false }
+        ensures link { IfOk result (λ link. IsNewLink (Self.Link.told link)) }
+        ensures after { told self.new ≡ after_open number result (told self.old) };
+
+    /// Takes back the link of a number that was opened, and keeps what it tells.
+    fn shut(&mut self, number: u32, link: Self::Link)
+        requires { (told self.old).opened number ≡ true }
+        ensures { told self.new ≡ after_shut number (Self.Link.told link) (told self.old) };
+}

@@ -1,0 +1,34 @@
+-- Rings, and the steps so far with what the ids still weigh.
+use Rattle.std.proofs.Common.{◌≡◌, ◌≢◌, ℕ, ◌+◌, ◌<◌, ◌≤◌, List, sym, subst, arith, slice_index}
+use Rattle.bfd_lanes.specs.Places.{never}
+use Rattle.bfd_wheel.specs.declared.links.Node.{Node}
+use Rattle.bfd_levels.specs.Lists.{loads}
+use Rattle.bfd_levels.specs.Rings.{IsPlaced}
+use Rattle.bfd_levels.proofs.Placing.{renamed}
+use Rattle.bfd_levels.proofs.Loads.{loads_same}
+
+-- s steps were made, and with what the ids still weigh they are at most bound
+pub record IsPaid (n s bound : ℕ) (at : ℕ → ℕ) (dues : List ℕ) (nodes : List Node) : Type 0 where
+  pub placed : IsPlaced n 1026 at dues nodes
+  pub cost : s + loads n at dues ≤ bound
+
+pub paid_begins : (n s : ℕ) (at : ℕ → ℕ) (dues : List ℕ) (nodes : List Node) → IsPlaced n 1026 at dues nodes → IsPaid n s (s + loads n at dues) at dues nodes
+paid_begins n s at dues nodes w = record { placed = w; cost = omega arith }
+
+-- the lists get other names
+pub paid_renamed : (n s bound : ℕ) (at at2 : ℕ → ℕ) (dues : List ℕ) (nodes : List Node) → IsPaid n s bound at dues nodes → ((j : ℕ) → j < n → slice_index dues j ≢ never → at2 j ≡ at j) → IsPaid n s bound at2 dues nodes
+paid_renamed n s bound at at2 dues nodes p same = record {
+  placed = renamed n 1026 0 at dues nodes p.placed at2 same;
+  cost = (let e = loads_same n at at2 dues same in let c = p.cost in omega arith);
+}
+
+paid_by : (n s s2 bound bound2 extra : ℕ) (at at2 : ℕ → ℕ) (dues dues2 : List ℕ) (nodes nodes2 : List Node) → IsPaid n s bound at dues nodes
+    → IsPlaced n 1026 at2 dues2 nodes2 → s2 + loads n at2 dues2 ≤ s + extra + loads n at dues → bound + extra ≤ bound2 → IsPaid n s2 bound2 at2 dues2 nodes2
+paid_by n s s2 bound bound2 extra at at2 dues dues2 nodes nodes2 p w cost more = record { placed = w; cost = (let c = p.cost in omega arith) }
+
+-- the same after a call that was made with k ids, which are n
+pub paid_more : (n k s s2 bound bound2 extra : ℕ) (at at2 : ℕ → ℕ → ℕ) (dues dues2 : List ℕ) (nodes nodes2 : List Node) → k ≡ n → IsPaid n s bound (at n) dues nodes
+    → IsPlaced k 1026 (at2 k) dues2 nodes2 → s2 + loads k (at2 k) dues2 ≤ s + extra + loads k (at k) dues → bound + extra ≤ bound2 → IsPaid n s2 bound2 (at2 n) dues2 nodes2
+paid_more n k s s2 bound bound2 extra at at2 dues dues2 nodes nodes2 same p w cost more =
+    subst (λ (m : ℕ). IsPaid m s2 bound2 (at2 m) dues2 nodes2) same
+    (paid_by k s s2 bound bound2 extra (at k) (at2 k) dues dues2 nodes nodes2 (subst (λ (m : ℕ). IsPaid m s bound (at m) dues nodes) (sym same) p) w cost more)

@@ -1,0 +1,213 @@
+-- Rings behind any heads: a node is taken out, put in or moved, the lists get other names, and the start.
+use Rattle.std.proofs.Common.{◌≡◌, ◌≢◌, inl, inr, ℕ, suc, ◌+◌, ◌<◌, ◌≤◌, Bool, cond, List, length, get_or, sym, ◌∙◌, ap, subst, arith, slice_index, slice_set, refl}
+use Rattle.std.proofs.lemmas.List.{get_or-set_same, get_or-set_other, length-set, get_or_past}
+use Rattle.bfd_lanes.specs.Places.{never}
+use Rattle.bfd_wheel.specs.declared.links.Node.{Node}
+use Rattle.bfd_wheel.specs.Rings.{IsOn, IsRing, Unlinks, Links}
+use Rattle.bfd_wheel.specs.Wheel.{due_in, next_in, prev_in, IsLinked}
+use Rattle.bfd_wheel.proofs.Rings.{under_or_not, TakesOut, PutsIn, ring_without, ring_with, ring_moved}
+use Rattle.bfd_wheel.proofs.Wheels.{below_true, below_false, ranked, ranked_own, ranked_same, ranked_below, start_rank, start_id, start_head, start_below, start_one}
+use Rattle.bfd_levels.specs.Rings.{head_for, IsPlaced}
+use Rattle.bfd_levels.specs.Moves.{Relinks, CanMove}
+
+-- ---- the heads of the nodes
+
+pub head_id : (n : ℕ) (at : ℕ → ℕ) (j : ℕ) → j < n → head_for n at j ≡ at j
+unfolding head_for
+head_id n at j h = ap (λ (b : Bool). cond b (at j) j) (below_true j n h)
+
+pub head_own : (n : ℕ) (at : ℕ → ℕ) (j : ℕ) → n ≤ j → head_for n at j ≡ j
+unfolding head_for
+head_own n at j h = ap (λ (b : Bool). cond b (at j) j) (below_false j n h)
+
+pub head_same : (n : ℕ) (at at2 : ℕ → ℕ) (j : ℕ) → (j < n → at2 j ≡ at j) → head_for n at2 j ≡ head_for n at j
+head_same n at at2 j e = elim (under_or_not j n) [
+  | inl near ↦ head_id n at2 j near ∙ e near ∙ sym (head_id n at j near)
+  | inr far ↦ head_own n at2 j far ∙ sym (head_own n at j far)
+]
+
+pub id_on : (n m : ℕ) (dues : List ℕ) (j : ℕ) → j < n → slice_index dues j ≢ never → IsOn (n + m) (due_in dues) j
+id_on n m dues j near there = record { below = omega arith; there = there }
+
+pub head_on : (n m : ℕ) (dues : List ℕ) (h : ℕ) → length dues ≡ n → n ≤ h → h < n + m → IsOn (n + m) (due_in dues) h
+head_on n m dues h count far near = record { below = near; there = λ e. absurd (let past : get_or dues h 0 ≡ 0 = get_or_past dues h 0 (omega arith) in omega arith) }
+
+-- ---- one id changes: its due tick, its list or both
+
+module _ (n m i : ℕ) (at at2 : ℕ → ℕ) (dues : List ℕ) (nodes nodes2 : List Node) (count : length dues ≡ n) (near : i < n) (same : (j : ℕ) → j ≢ i → at2 j ≡ at j) where
+  pub out_of : Unlinks i (next_in nodes) (prev_in nodes) (next_in nodes2) (prev_in nodes2)
+      → TakesOut i (due_in dues) (head_for n at) (next_in nodes) (prev_in nodes) (due_in (slice_set dues i never)) (head_for n at2) (next_in nodes2) (prev_in nodes2)
+  out_of u = record {
+    gone = get_or-set_same dues i never 0 (omega arith);
+    due_same = λ j ne. get_or-set_other dues i j never 0 ne;
+    home_same = λ j ne. head_same n at at2 j (λ _. same j ne);
+    links = u;
+  }
+
+  pub in_to : (h due top : ℕ) (rank : ℕ → ℕ) → due ≢ never → at2 i ≡ h → Links i h (next_in nodes) (prev_in nodes) (next_in nodes2) (prev_in nodes2)
+      → PutsIn i h top (due_in dues) (head_for n at) (next_in nodes) (prev_in nodes) rank (due_in (slice_set dues i due)) (head_for n at2) (next_in nodes2) (prev_in nodes2) (ranked i top rank)
+  in_to h due top rank there own u =
+      let due_own : due_in (slice_set dues i due) i ≡ due = get_or-set_same dues i due 0 (omega arith) in
+      record {
+        on_now = λ e. there (sym due_own ∙ e);
+        due_same = λ j ne. get_or-set_other dues i j due 0 ne;
+        home_own = head_id n at2 i near ∙ own;
+        home_same = λ j ne. head_same n at at2 j (λ _. same j ne);
+        rank_own = ranked_own i top rank;
+        rank_same = ranked_same i top rank;
+        links = u;
+      }
+
+  -- a node with a due tick is moved to the list of h
+  pub ring_relinked : (h top : ℕ) (rank : ℕ → ℕ) → IsRing n (n + m) (due_in dues) (head_for n at) (next_in nodes) (prev_in nodes) rank → ((j : ℕ) → rank j < top)
+      → slice_index dues i ≢ never → n ≤ h → h < n + m → at2 i ≡ h → Relinks i h (next_in nodes) (prev_in nodes) (next_in nodes2) (prev_in nodes2)
+      → IsRing n (n + m) (due_in dues) (head_for n at2) (next_in nodes2) (prev_in nodes2) (ranked i top rank)
+  ring_relinked h top rank r below there far inside own u =
+      let dues1 = slice_set dues i never in
+      let gone : due_in dues1 i ≡ never = get_or-set_same dues i never 0 (omega arith) in
+      let due_is : (j : ℕ) → j ≢ i → due_in dues1 j ≡ due_in dues j = λ j ne. get_or-set_other dues i j never 0 ne in
+      let mid : IsRing n (n + m) (due_in dues1) (head_for n at) u.next1 u.prev1 rank =
+      ring_without n (n + m) i (due_in dues) (head_for n at) (next_in nodes) (prev_in nodes) rank (due_in dues1) (head_for n at) u.next1 u.prev1 r near (id_on n m dues i near there)
+      (record { gone = gone; due_same = due_is; home_same = λ j ne. refl; links = u.out }) in
+      ring_with n (n + m) i h top (due_in dues1) (head_for n at) u.next1 u.prev1 rank (due_in dues) (head_for n at2) (next_in nodes2) (prev_in nodes2) (ranked i top rank) mid below (omega arith) near gone far
+      (head_on n m dues1 h (length-set dues i never ∙ count) far inside)
+      (record {
+        on_now = there;
+        due_same = λ j ne. sym (due_is j ne);
+        home_own = head_id n at2 i near ∙ own;
+        home_same = λ j ne. head_same n at at2 j (λ _. same j ne);
+        rank_own = ranked_own i top rank;
+        rank_same = ranked_same i top rank;
+        links = u.into;
+      })
+
+-- ---- the rings of a wheel
+
+module _ (n m i : ℕ) (at : ℕ → ℕ) (dues : List ℕ) (nodes : List Node) (w : IsPlaced n m at dues nodes) where
+  -- what a node with a due tick is linked to are nodes
+  pub linked : i < n → slice_index dues i ≢ never → IsLinked i dues nodes
+  linked near there =
+      let on = id_on n m dues i near there in
+      let c = w.count in
+      let s = w.size in
+      let f = (w.links.ring.next_on i on).below in
+      let b = (w.links.ring.prev_on i on).below in
+      record { inside = omega arith; node = omega arith; due = there; next = omega arith; prev = omega arith }
+
+  first_on : (h : ℕ) → n ≤ h → h < n + m → IsOn (n + m) (due_in dues) (next_in nodes h)
+  first_on h far inside = w.links.ring.next_on h (head_on n m dues h w.count far inside)
+
+  -- what is first on a list is a node, and no id that is on no list
+  pub first_linked : (h : ℕ) → slice_index dues i ≡ never → n ≤ h → h < n + m → (next_in nodes h < length nodes) × (next_in nodes h ≢ i)
+  first_linked h off far inside =
+      let on = first_on h far inside in
+      ((let s = w.size in let b = on.below in omega arith), λ e. on.there (ap (due_in dues) e ∙ off))
+
+  -- a node with a due tick may go behind any head
+  pub can_move : i < n → slice_index dues i ≢ never → CanMove i m dues nodes
+  can_move near there =
+      let c = w.count in
+      let z = w.size in
+      let f = w.few in
+      let r = w.links.ring in
+      record {
+        few = omega arith;
+        size = omega arith;
+        linked = linked near there;
+        alone = λ e. absurd (let l = r.falls i near (id_on n m dues i near there) in let same : w.links.rank (next_in nodes i) ≡ w.links.rank i = ap w.links.rank e in omega arith);
+        first = λ h far inside. (let b = (first_on h (omega arith) (omega arith)).below in omega arith);
+        behind = λ h far inside apart e. apart (sym (r.back h (head_on n m dues h w.count (omega arith) (omega arith))) ∙ ap (prev_in nodes) e);
+      }
+
+  -- the lists get other names
+  pub renamed : (at2 : ℕ → ℕ) → ((j : ℕ) → j < n → slice_index dues j ≢ never → at2 j ≡ at j) → IsPlaced n m at2 dues nodes
+  renamed at2 same = record {
+    few = w.few;
+    count = w.count;
+    size = w.size;
+    links = record {
+      rank = w.links.rank;
+      top = w.links.top;
+      below = w.links.below;
+      ring = ring_moved n (n + m) (due_in dues) (head_for n at) (next_in nodes) (prev_in nodes) w.links.rank (head_for n at2) w.links.ring
+          (λ j on. head_same n at at2 j (λ near. same j near on.there))
+          (head_own n at2);
+    };
+  }
+
+  module _ (at2 : ℕ → ℕ) (nodes2 : List Node) (near : i < n) (size : length nodes2 ≡ length nodes) (same : (j : ℕ) → j ≢ i → at2 j ≡ at j) where
+    -- an id loses its due tick
+    pub freed : slice_index dues i ≢ never → Unlinks i (next_in nodes) (prev_in nodes) (next_in nodes2) (prev_in nodes2) → IsPlaced n m at2 (slice_set dues i never) nodes2
+    freed there u = record {
+      few = w.few;
+      count = length-set dues i never ∙ w.count;
+      size = size ∙ w.size;
+      links = record {
+        rank = w.links.rank;
+        top = w.links.top;
+        below = w.links.below;
+        ring = ring_without n (n + m) i (due_in dues) (head_for n at) (next_in nodes) (prev_in nodes) w.links.rank (due_in (slice_set dues i never)) (head_for n at2) (next_in nodes2) (prev_in nodes2) w.links.ring near (id_on n m dues i near there)
+            (out_of n m i at at2 dues nodes nodes2 w.count near same u);
+      };
+    }
+
+    -- an id without one gets a due tick
+    pub filled : (h due : ℕ) → slice_index dues i ≡ never → due ≢ never → n ≤ h → h < n + m → at2 i ≡ h → Links i h (next_in nodes) (prev_in nodes) (next_in nodes2) (prev_in nodes2) → IsPlaced n m at2 (slice_set dues i due) nodes2
+    filled h due off there far inside own u = record {
+      few = w.few;
+      count = length-set dues i due ∙ w.count;
+      size = size ∙ w.size;
+      links = record {
+        rank = ranked i w.links.top w.links.rank;
+        top = suc w.links.top;
+        below = ranked_below i w.links.top w.links.rank w.links.below;
+        ring = ring_with n (n + m) i h w.links.top (due_in dues) (head_for n at) (next_in nodes) (prev_in nodes) w.links.rank (due_in (slice_set dues i due)) (head_for n at2) (next_in nodes2) (prev_in nodes2) (ranked i w.links.top w.links.rank) w.links.ring w.links.below (omega arith) near off far
+            (head_on n m dues h w.count far inside)
+            (in_to n m i at at2 dues nodes nodes2 w.count near same h due w.links.top w.links.rank there own u);
+      };
+    }
+
+    -- an id with a due tick comes to another list
+    pub relinked : (h : ℕ) → slice_index dues i ≢ never → n ≤ h → h < n + m → at2 i ≡ h → Relinks i h (next_in nodes) (prev_in nodes) (next_in nodes2) (prev_in nodes2) → IsPlaced n m at2 dues nodes2
+    relinked h there far inside own u = record {
+      few = w.few;
+      count = w.count;
+      size = size ∙ w.size;
+      links = record {
+        rank = ranked i w.links.top w.links.rank;
+        top = suc w.links.top;
+        below = ranked_below i w.links.top w.links.rank w.links.below;
+        ring = ring_relinked n m i at at2 dues nodes nodes2 w.count near same h w.links.top w.links.rank w.links.ring w.links.below there far inside own u;
+      };
+    }
+
+-- ---- the start
+
+-- each node is linked to itself alone
+pub start : (n m : ℕ) (at : ℕ → ℕ) (dues : List ℕ) (nodes : List Node) → n ≤ 65536 → length dues ≡ n → ((j : ℕ) → j < n → slice_index dues j ≡ never) → length nodes ≡ n + m → ((j : ℕ) → j < n + m → next_in nodes j ≡ j) → ((j : ℕ) → j < n + m → prev_in nodes j ≡ j) → IsPlaced n m at dues nodes
+start n m at dues nodes few count none size next prev =
+    let far : (j : ℕ) → IsOn (n + m) (due_in dues) j → n ≤ j = λ j on. elim (under_or_not j n) [ inl near ↦ absurd (on.there (none j near)) | inr h ↦ h ] in
+    record {
+      few = few;
+      count = count;
+      size = size;
+      links = record {
+        rank = start_rank n;
+        top = n + 1;
+        below = start_below n;
+        ring = record {
+          next_on = λ j on. subst (IsOn (n + m) (due_in dues)) (sym (next j on.below)) on;
+          prev_on = λ j on. subst (IsOn (n + m) (due_in dues)) (sym (prev j on.below)) on;
+          next_home = λ j on. ap (head_for n at) (next j on.below);
+          prev_home = λ j on. ap (head_for n at) (prev j on.below);
+          back = λ j on. ap (prev_in nodes) (next j on.below) ∙ prev j on.below;
+          forth = λ j on. ap (next_in nodes) (prev j on.below) ∙ next j on.below;
+          head_home = head_own n at;
+          head_rank = start_head n;
+          id_rank = λ j near. (let e = start_id n j near in omega arith);
+          falls = λ j near on. absurd (on.there (none j near));
+          one = start_one n;
+          no_gap = λ c j onc on same under. (let e = start_head n j (far j on) in omega arith);
+        };
+      };
+    }

@@ -1,0 +1,17 @@
+use Rattle.std.proofs.Common.{length, map, refl, ap, ◌∙◌, arith}
+use Rattle.bfd_lanes.specs.Places.{due_of, come}
+use Rattle.bfd_wheel.specs.Taken.{times}
+use Rattle.bfd_wheel.proofs.Taking.{above_all, left_is}
+use Rattle.bfd_wheel.proofs.Order.{times_come, appended_from}
+use Rattle.bfd_levels.proofs.jump.jump.Goals as goal
+
+pub detach_all-requires-clause-ids : goal.detach_all-requires-clause-ids
+detach_all-requires-clause-ids g c = λ x.
+    ap (times x) (appended_from (length c.items-from.result.now) c.args.out.now.items (come c.args.t (map due_of c.args.dues.now)) c.items.result.now (c.items.ensures ∙ c.due_ids.ensures.items) (ap length c.items-from.ensures))
+    ∙ times_come c.args.t c.args.dues.now x (let h = c.requires.t in omega arith)
+
+pub settle_all-requires-clause-above : goal.settle_all-requires-clause-above
+settle_all-requires-clause-above g c = above_all c.args.t (length c.detach_all.new.dues) c.detach_all.new.dues refl c.detach_all.ensures.left
+
+pub returns-clause-dues : goal.returns-clause-dues
+returns-clause-dues g c = left_is c.args.t c.args.dues.now c.detach_all.new.dues (let h = c.requires.t in omega arith) c.detach_all.auto.dues c.detach_all.ensures.same_or_gone c.detach_all.ensures.left

@@ -1,0 +1,5 @@
+pub mod Height
+pub mod Rings
+pub mod Lists
+pub mod Moves
+pub mod Calls

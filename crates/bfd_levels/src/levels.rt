@@ -1,0 +1,154 @@
+//! Timers as a wheel of levels.
+ghost use Rattle.std.specs.Prelude.{◌≡◌, ℕ, ◌+◌, ◌-◌, ◌*◌, ◌^◌, ◌++◌, ◌≤◌, ◌<◌, max, map, length, replicate, None, Some, IfOk, slice_set};
+ghost use Rattle.bfd_lanes.specs.Held.{room_of};
+ghost use Rattle.bfd_lanes.specs.Places.{come, without};
+ghost use Rattle.bfd_levels.specs.Height.{potential_of};
+
+use crate::advance::take;
+use crate::change::{change, free};
+use crate::place::HEADS;
+use bfd_lanes::{Ids, least_due};
+use bfd_num::Steps;
+use bfd_wheel::{Node, Timers, due_at, loops, no_dues};
+use std::alloc::{AllocError, Global};
+use std::marker::{Brand, Model};
+use std::sync::ledger::{Blank, Ledger};
+
+/// A wheel of four levels of 256 slots, an overflow list and an overdue list: each is a ring of nodes through a head,
+/// and each id with a due tick stands on one of them. `clock` is the greatest tick that the wheel was advanced to.
+#[derive(Drop)]
+pub struct Levels {
+    clock: u64,
+    dues: Vec<u64>,
+    nodes: Vec<Node>,
+}
+
+impl Model for Levels {
+    ghost use Rattle.std.specs.Prelude.{map, length};
+    ghost use Rattle.bfd_lanes.specs.Places.{due_of};
+    ghost use Rattle.bfd_levels.specs.Height.{Clocked};
+    ghost use Rattle.bfd_levels.specs.Lists.{IsLevels};
+
+    ghost Value = { Clocked };
+
+    ghost view = { λ l. record { clock = l.clock; dues = map due_of l.dues.items } };
+
+    ghost invariant = { λ l. IsLevels (length l.dues.items) l.clock l.dues.items l.nodes.items };
+}
+
+impl Timers for Levels {
+    ghost dues = { λ l. l.dues };
+
+    fn make(alloc: Global, count: u32) -> Result<Self, AllocError>
+        requires { count ≤ 65536 }
+        ensures { IfOk result (λ levels. levels ≡ record { clock = 0; dues = replicate count None }) }
+    {
+        let dues = no_dues(alloc, count)?;
+        let nodes = loops(alloc, count + HEADS)?;
+        Ok(Levels {
+            clock: 0,
+            dues,
+            nodes,
+        })
+    }
+
+    fn set<L: Ledger>(&mut self, id: u32, due: u64, steps: &mut Steps<L>)
+        requires id { id < length self.old.dues }
+        requires due { due < 2 ^ 60 }
+        ensures dues { self.new.dues ≡ slice_set self.old.dues id (Some due) }
+        ensures clock { self.new.clock ≡ self.old.clock }
+        ensures rises { potential_of self.new ≤ potential_of self.old + 9 }
+        ensures cost { steps.new ≤ steps.old + 2 }
+    {
+        change(&mut self.nodes, &mut self.dues, self.clock, id, due, steps);
+    }
+
+    fn clear<L: Ledger>(&mut self, id: u32, steps: &mut Steps<L>)
+        requires id { id < length self.old.dues }
+        ensures dues { self.new.dues ≡ slice_set self.old.dues id None }
+        ensures clock { self.new.clock ≡ self.old.clock }
+        ensures falls { potential_of self.new ≤ potential_of self.old }
+        ensures cost { steps.new ≤ steps.old + 1 }
+    {
+        free(&mut self.nodes, &mut self.dues, id, steps);
+    }
+
+    fn due(&self, id: u32) -> Option<u64> {
+        due_at(&self.dues, id)
+    }
+
+    fn least(&self) -> Option<u64> {
+        least_due(&self.dues)
+    }
+
+    fn advance(&mut self, t: u64, out: &mut Ids)
+        requires t { t < 2 ^ 60 }
+        requires room { length self.old.dues ≤ out.old.spare }
+        ensures items { out.new.items ≡ out.old.items ++ come t self.old.dues }
+        ensures room { room_of out.new ≡ room_of out.old }
+        ensures dues { self.new.dues ≡ map (without t) self.old.dues }
+        ensures clock { self.new.clock ≡ max self.old.clock t }
+    {
+        advance_uncounted::<Brand>(self, t, out, Blank::new(1));
+    }
+}
+
+impl Levels {
+    /// The greatest tick that the wheel was advanced to, 0 at first.
+    pub fn now(&self) -> u64
+        ensures { result ≡ self.now.clock }
+    {
+        self.clock
+    }
+
+    /// `advance` with its steps counted: one for each list that is looked at, one for each id that is taken, and two
+    /// for each that is moved to another list. Moves down are paid for by what the potential falls, so that forward an
+    /// advance takes two steps for each tick and five more beyond that, and back one.
+    #[tactic(auto, using(crate::proofs::Potentials::advance_falls))]
+    pub fn advance_counted<L: Ledger>(&mut self, t: u64, out: &mut Ids, steps: &mut Steps<L>)
+        requires t { t < 2 ^ 60 }
+        requires room { length self.old.dues ≤ out.old.spare }
+        ensures items { out.new.items ≡ out.old.items ++ come t self.old.dues }
+        ensures room { room_of out.new ≡ room_of out.old }
+        ensures dues { self.new.dues ≡ map (without t) self.old.dues }
+        ensures clock { self.new.clock ≡ max self.old.clock t }
+        ensures falls { potential_of self.new ≤ potential_of self.old }
+        ensures forward { self.old.clock ≤ t → steps.new ≤ steps.old
+            + (potential_of self.old - potential_of self.new + 2 * (t - self.old.clock) + 5) }
+        ensures back { t < self.old.clock → steps.new ≤ steps.old
+            + (potential_of self.old - potential_of self.new + 1) }
+    {
+        self.advance_paid(t, out, steps);
+    }
+
+    /// The same, where what is left of the potential is added to the steps.
+    fn advance_paid<L: Ledger>(&mut self, t: u64, out: &mut Ids, steps: &mut Steps<L>)
+        requires t { t < 2 ^ 60 }
+        requires room { length self.old.dues ≤ out.old.spare }
+        ensures items { out.new.items ≡ out.old.items ++ come t self.old.dues }
+        ensures room { room_of out.new ≡ room_of out.old }
+        ensures dues { self.new.dues ≡ map (without t) self.old.dues }
+        ensures clock { self.new.clock ≡ max self.old.clock t }
+        ensures forward { self.old.clock ≤ t → steps.new + potential_of self.new
+            ≤ steps.old + (2 * (t - self.old.clock) + 5) + potential_of self.old }
+        ensures back { t < self.old.clock → steps.new + potential_of self.new
+            ≤ steps.old + 1 + potential_of self.old }
+    {
+        self.clock = take(&mut self.nodes, &mut self.dues, self.clock, t, out, steps);
+    }
+}
+
+/// An advance with a counter of its own.
+fn advance_uncounted<L: Ledger>(levels: &mut Levels, t: u64, out: &mut Ids, blank: Blank)
+    requires t { t < 2 ^ 60 }
+    requires room { length levels.old.dues ≤ out.old.spare }
+    requires name { blank.name ≡ L.name }
+    requires parts { blank.parts ≡ L.parts }
+    requires some { 0 < blank.parts }
+    ensures items { out.new.items ≡ out.old.items ++ come t levels.old.dues }
+    ensures room { room_of out.new ≡ room_of out.old }
+    ensures dues { levels.new.dues ≡ map (without t) levels.old.dues }
+    ensures clock { levels.new.clock ≡ max levels.old.clock t }
+{
+    levels.advance_counted(t, out, &mut Steps::<L>::new(blank));
+}

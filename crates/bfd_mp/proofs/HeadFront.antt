@@ -1,0 +1,63 @@
+-- What was put out before stays in front of what a head's rules put out, and changes nothing else of them.
+use Rattle.std.proofs.Common.{◌≡◌, ◌++◌, ℕ, Bool, true, false, List, refl, append_assoc, is_some, if◌then◌else◌}
+use Rattle.bfd_packet.specs.declared.arrival.Datagram.{Datagram}
+use Rattle.bfd_num.specs.Numbers.{floor_tick}
+use Rattle.bfd_num.specs.Due.{has_come}
+use Rattle.bfd_rules.specs.declared.commands.Cmd.{Cmd}
+use Rattle.bfd_rules.specs.declared.outputs.Out.{Out}
+use Rattle.bfd_rules.specs.declared.variables.Vars.{Vars}
+use Rattle.bfd_rules.specs.Course.{Course, changes, sends, is_untold, based, redrawn}
+use Rattle.bfd_mp.specs.declared.config.HeadConfig.{HeadConfig}
+use Rattle.bfd_mp.specs.Transmit.{transmits}
+use Rattle.bfd_mp.specs.HeadSettle as settling
+use Rattle.bfd_mp.specs.Command.{head_refusal, head_commanded, head_done}
+use Rattle.bfd_mp.specs.HeadFinish as finishing
+
+-- the course with these outputs in front
+abbrev pub after : List Out → Course → Course
+after os s = record s { outs = os ++ s.outs }
+
+-- a choice between two courses
+pub either : (os : List Out) (b : Bool) (x y x' y' : Course) → x' ≡ after os x → y' ≡ after os y
+    → (if b then x' else y') ≡ after os (if b then x else y)
+either os true x y x' y' hx hy = hx
+either os false x y x' y' hx hy = hy
+
+pub changes-after : (discr : ℕ) (v : Vars) (os : List Out) (s : Course) → changes discr v (after os s) ≡ after os (changes discr v s)
+unfolding changes
+changes-after discr v os s = rw append_assoc refl
+
+sends-after : (discr : ℕ) (datagram : Datagram) (os : List Out) (s : Course) → sends discr datagram (after os s) ≡ after os (sends discr datagram s)
+unfolding sends
+sends-after discr datagram os s = rw append_assoc refl
+
+transmits-after : (c : HeadConfig) (poll : Bool) (os : List Out) (s : Course) → transmits c poll (after os s) ≡ after os (transmits c poll s)
+unfolding transmits
+transmits-after c poll os s = sends-after c.discr _ os s
+
+-- settling
+
+periodic_packet-after : (c : HeadConfig) (eff : ℕ) (os : List Out) (s : Course) → settling.periodic_packet c eff (after os s) ≡ after os (settling.periodic_packet c eff s)
+unfolding settling.periodic_packet
+periodic_packet-after c eff os s = rw transmits-after refl
+
+pub settle-after : (c : HeadConfig) (limit eff : ℕ) (os : List Out) (s : Course) → settling.settle c limit eff (after os s) ≡ after os (settling.settle c limit eff s)
+unfolding settling.settle
+settle-after c limit eff os s = either os (has_come (floor_tick limit) s.vars.tx_due) _ s _ _ (periodic_packet-after c eff os s) refl
+
+-- commands and the end of an event
+
+pub commanded-after : (c : HeadConfig) (cmd : Cmd) (os : List Out) (s : Course) → head_commanded c cmd (after os s) ≡ after os (head_commanded c cmd s)
+unfolding head_commanded
+commanded-after c cmd os s = either os (is_some (head_refusal s.vars cmd)) s _ _ _ refl (changes-after c.discr (head_done cmd s.vars) os s)
+
+told-after : (c : HeadConfig) (eff : ℕ) (os : List Out) (s : Course) → based eff (transmits c false (after os s)) ≡ after os (based eff (transmits c false s))
+told-after c eff os s = rw transmits-after refl
+
+extra-after : (c : HeadConfig) (eff : ℕ) (os : List Out) (s : Course) → finishing.extra c eff (after os s) ≡ after os (finishing.extra c eff s)
+unfolding finishing.extra
+extra-after c eff os s = either os (is_untold true s.mark s.vars) _ s _ _ (told-after c eff os s) refl
+
+pub finish-after : (c : HeadConfig) (eff : ℕ) (os : List Out) (s : Course) → finishing.finish c eff (after os s) ≡ after os (finishing.finish c eff s)
+unfolding finishing.finish redrawn
+finish-after c eff os s = rw extra-after refl

@@ -1,0 +1,10 @@
+-- A command that isn't refused keeps the variables sound.
+use Rattle.std.proofs.Common.{sym, subst}
+use Rattle.bfd_rules.specs.declared.variables.Vars.{Vars}
+use Rattle.bfd_mp.specs.Sound.{IsTailSound}
+use Rattle.bfd_mp.proofs.commanding.commands_tail.Goals as goal
+
+pub returns-clause-sound : goal.returns-clause-sound
+returns-clause-sound c =
+    subst (λ (v : Vars). IsTailSound c.args.config.now v) (sym c.changes.ensures.vars)
+    (c.tail_done-after.ensures.sound c.args.config.now c.requires.sound)

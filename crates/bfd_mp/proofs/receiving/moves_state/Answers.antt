@@ -1,0 +1,10 @@
+-- The state machine keeps the variables sound.
+use Rattle.std.proofs.Common.{sym, subst}
+use Rattle.bfd_rules.specs.declared.variables.Vars.{Vars}
+use Rattle.bfd_mp.specs.Sound.{IsTailSound}
+use Rattle.bfd_mp.proofs.receiving.moves_state.Goals as goal
+
+pub returns-clause-sound : goal.returns-clause-sound
+returns-clause-sound c =
+    subst (λ (v : Vars). IsTailSound c.args.config.now v) (sym c.changes.ensures.vars)
+    (c.machine-after.ensures.sound c.args.config.now c.requires.sound)

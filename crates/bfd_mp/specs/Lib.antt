@@ -1,0 +1,12 @@
+pub mod Waiting
+pub mod Counting
+pub mod Sound
+pub mod Transmit
+pub mod HeadSettle
+pub mod HeadFinish
+pub mod TailSettle
+pub mod TailReceive
+pub mod Command
+pub mod Machine
+pub mod Over
+pub mod Names

@@ -1,0 +1,202 @@
+// A link over a UDP socket.
+ghost use Rattle.std.specs.Prelude.{◌≡◌, ◌≢◌, ◌↔◌, ◌<◌, ◌≤◌, ◌-◌, ◌^◌, false, true, length, Some, IfOk, Err};
+ghost use Rattle.bfd_edge.specs.Links.{after_receive, after_send, no_counts};
+ghost use Rattle.bfd_net.specs.Hearing.{is_local_addr};
+ghost use Rattle.bfd_net.specs.Sockets.{link_told, is_done, quiets_after, CameTo};
+
+use crate::clock::SinceMade;
+use crate::hearing::is_local;
+use bfd_edge::{Fault, Link, LinkCounts, Received};
+use bfd_packet::{Addr, Arrival, Datagram, Payload, Port};
+use std::alloc::Global;
+use std::io;
+use std::io::ErrorKind;
+use std::marker::Model;
+use std::net::{Ipv4Addr, SocketAddr, SocketAddrV4, UdpSocket};
+use std::time::Clock;
+
+/// How many bytes of a packet are read: no more are kept.
+const KEPT: usize = 256;
+
+/// How many answers in a row may be Quiet before the link is over.
+const MOST_QUIETS: u32 = 500;
+
+/// How often a receive that a signal interrupts is tried.
+const TRIES: u32 = 16;
+
+/// A link over a UDP socket, which [`crate::UdpPorts`] opens. Contracts see it as the record `UdpHeld`.
+///
+/// It is Quiet where no packet came for 20 milliseconds, and Ended after 500 Quiets in a row. A link that only sends is Ended
+/// at once.
+#[derive(Drop)]
+pub struct UdpLink<R: Clock> {
+    socket: UdpSocket,
+    clock: SinceMade<R>,
+    alloc: Global,
+    hears: Option<(Port, u32)>,
+    quiets: u32,
+    counts: LinkCounts,
+}
+
+impl<R: Clock> Model for UdpLink<R> {
+    ghost use Rattle.std.specs.Prelude.{◌≤◌};
+    ghost use Rattle.bfd_net.specs.Sockets.{UdpHeld};
+
+    ghost Value = { UdpHeld };
+
+    ghost view = { λ l. record { hears = l.hears; quiets = l.quiets; counts = l.counts } };
+
+    ghost invariant = { λ l. l.quiets ≤ 500 };
+}
+
+impl<R: Clock> UdpLink<R> {
+    /// A link over this socket, which hears this port and address.
+    pub(crate) fn over(
+        socket: UdpSocket,
+        clock: SinceMade<R>,
+        alloc: Global,
+        hears: Option<(Port, u32)>,
+    ) -> Self
+        ensures { result ≡ record { hears = hears; quiets = 0; counts = no_counts } }
+    {
+        UdpLink {
+            socket,
+            clock,
+            alloc,
+            hears,
+            quiets: 0,
+            counts: LinkCounts::new(),
+        }
+    }
+
+    /// What the link has counted.
+    pub fn counts(&self) -> LinkCounts
+        ensures { result ≡ self.now.counts }
+    {
+        self.counts
+    }
+}
+
+/// Waits for a packet, and again where a signal interrupts that.
+fn listen(socket: &UdpSocket, buf: &mut [u8]) -> io::Result<(usize, SocketAddr)>
+    ensures { IfOk result (λ came. came.0 ≤ length buf.new) }
+{
+    for _ in 1..TRIES {
+        match socket.recv_from(buf) {
+            Err(error) if error.kind() == ErrorKind::Interrupted => {}
+            came => return came,
+        }
+    }
+    socket.recv_from(buf)
+}
+
+/// Waits for a packet to this port and address.
+fn hear<R: Clock>(
+    socket: &UdpSocket,
+    clock: &SinceMade<R>,
+    alloc: Global,
+    port: Port,
+    address: u32,
+) -> Received
+    ensures came { CameTo (Some (port, address)) result }
+    ensures goes_on { result ≢ Received.Ended }
+{
+    let mut buf = [0u8; KEPT];
+    let (count, from) = match listen(socket, &mut buf) {
+        Ok((count, SocketAddr::V4(from))) => (count, from),
+        Ok((_, SocketAddr::V6(_))) => return Received::Failed,
+        Err(error) => {
+            return match error.kind() {
+                ErrorKind::WouldBlock | ErrorKind::TimedOut => Received::Quiet,
+                _ => Received::Failed,
+            };
+        }
+    };
+    let Some(moment) = clock.moment() else {
+        return Received::Failed;
+    };
+    match Payload::keep(alloc, &buf[..count]) {
+        Ok(payload) => Received::Got {
+            moment,
+            arrival: Arrival {
+                port,
+                iface: 1,
+                src: Addr::V4(from.ip().to_bits()),
+                sport: from.port(),
+                dst: Addr::V4(address),
+                ttl: 255,
+                payload,
+            },
+        },
+        Err(_) => Received::Memory,
+    }
+}
+
+/// Sends a packet to one of this machine's own addresses.
+fn put(socket: &UdpSocket, datagram: &Datagram) -> Result<(), Fault>
+    ensures local { is_local_addr datagram.now.dst ≡ false → result ≡ Err Fault.Failed }
+    ensures no_memory_taken { result ≢ Err Fault.Memory }
+{
+    if !is_local(&datagram.dst) {
+        return Err(Fault::Failed);
+    }
+    let Addr::V4(address) = datagram.dst else {
+        return Err(Fault::Failed);
+    };
+    let to = SocketAddrV4::new(Ipv4Addr::from_bits(address), datagram.dport);
+    let bytes = datagram.bytes.as_slice();
+    match socket.send_to(bytes, to) {
+        Ok(count) if count == bytes.len() => Ok(()),
+        _ => Err(Fault::Failed),
+    }
+}
+
+/// How many answers were Quiet in a row after this one.
+fn quiets_now(received: &Received, quiets: u32) -> u32
+    requires { quiets < 2 ^ 32 - 1 }
+    ensures { result ≡ quiets_after received.now quiets }
+{
+    match received {
+        Received::Got { .. } | Received::Failed => 0,
+        Received::Quiet => quiets + 1,
+        Received::Ended | Received::Memory => quiets,
+    }
+}
+
+impl<R: Clock> Link for UdpLink<R> {
+    ghost told = { link_told };
+
+    /// Waits for a packet, for at most 20 milliseconds. Each that comes has interface 1, TTL 255, the port and the address that
+    /// the link hears, its first 256 bytes, and the microseconds since the ports were made as its moment. Where the clock can't
+    /// be read, and for every other error of the socket, the answer is `Failed`.
+    fn receive(&mut self) -> Received
+        ensures after { link_told self.new ≡ after_receive result (link_told self.old) }
+        ensures ended { (result ≡ Received.Ended) ↔ (is_done self.old.hears self.old.quiets ≡ true) }
+        ensures came { CameTo self.old.hears result }
+        ensures quiets { self.new.quiets ≡ quiets_after result self.old.quiets }
+        ensures hears { self.new.hears ≡ self.old.hears }
+    {
+        let received = match self.hears {
+            Some((port, address)) if self.quiets < MOST_QUIETS => {
+                hear(&self.socket, &self.clock, self.alloc, port, address)
+            }
+            _ => Received::Ended,
+        };
+        self.quiets = quiets_now(&received, self.quiets);
+        self.counts.note_received(&received);
+        received
+    }
+
+    /// Sends a packet from the link's own port, with TTL 255. An address outside 127.0.0.0 to 127.255.255.255 is `Failed`, and
+    /// so is every error of the socket.
+    fn send(&mut self, datagram: &Datagram) -> Result<(), Fault>
+        ensures after { link_told self.new ≡ after_send datagram.now result (link_told self.old) }
+        ensures local { is_local_addr datagram.now.dst ≡ false → result ≡ Err Fault.Failed }
+        ensures no_memory_taken { result ≢ Err Fault.Memory }
+        ensures hears { (self.new.hears ≡ self.old.hears) × (self.new.quiets ≡ self.old.quiets) }
+    {
+        let sent = put(&self.socket, datagram);
+        self.counts.note_sent(&sent);
+        sent
+    }
+}

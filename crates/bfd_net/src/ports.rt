@@ -1,0 +1,131 @@
+// Ports over UDP.
+ghost use Rattle.std.specs.Prelude.{◌≡◌, [], false, true, IfOk, IfSome};
+ghost use Rattle.bfd_edge.specs.Links.{IsNewLink, no_counts};
+ghost use Rattle.bfd_edge.specs.Ports.{after_open, after_shut};
+ghost use Rattle.bfd_net.specs.Hearing.{hears_of};
+ghost use Rattle.bfd_net.specs.Sockets.{link_told, ports_told_of};
+
+use crate::clock::SinceMade;
+use crate::hearing::{address_of_link, port_of_link, udp_port};
+use crate::link::UdpLink;
+use bfd_edge::{Fault, LinkCounts, Places, Ports};
+use bfd_packet::Port;
+use std::alloc::Global;
+use std::io;
+use std::marker::Model;
+use std::net::{Ipv4Addr, Net, SocketAddr, SocketAddrV4, UdpSocket};
+use std::time::{Clock, Duration};
+
+/// How long a receive waits for a packet.
+const WAIT: u64 = 20;
+
+/// The address that link 0 sends from, 127.0.0.1.
+const LOCALHOST: u32 = 0x7f00_0001;
+
+/// The last link: that of port Answer on 127.0.0.255.
+const LAST_LINK: u32 = 1275;
+
+/// Ports that open links over UDP on 127.0.0.0/8. They keep what the links that were shut counted. Contracts see them as the
+/// record `UdpPortsHeld`.
+#[derive(Drop)]
+pub struct UdpPorts<R: Net + Clock + Copy> {
+    rt: R,
+    clock: SinceMade<R>,
+    alloc: Global,
+    places: Places<LinkCounts>,
+    faults: u64,
+}
+
+impl<R: Net + Clock + Copy> Model for UdpPorts<R> {
+    ghost use Rattle.bfd_net.specs.Sockets.{UdpPortsHeld};
+
+    ghost Value = { UdpPortsHeld };
+
+    ghost view = { λ p. record { places = p.places; faults = p.faults } };
+}
+
+impl<R: Net + Clock + Copy> UdpPorts<R> {
+    /// Ports of which no number was opened. The moments of packets count from here.
+    pub fn make(rt: R, alloc: Global) -> Self
+        ensures { result ≡ record { places = []; faults = 0 } }
+    {
+        UdpPorts {
+            rt,
+            clock: SinceMade::now(rt),
+            alloc,
+            places: Places::new(alloc),
+            faults: 0,
+        }
+    }
+}
+
+/// A socket on this address and port, which waits for packets for 20 milliseconds and sends with TTL 255 (RFC 5881 section 5).
+fn bound(net: &impl Net, address: u32, port: u16) -> io::Result<UdpSocket> {
+    let address = SocketAddrV4::new(Ipv4Addr::from_bits(address), port);
+    let socket = UdpSocket::bind(net, SocketAddr::V4(address))?;
+    socket.set_read_timeout(Some(Duration::from_millis(WAIT)))?;
+    socket.set_ttl(255)?;
+    Ok(socket)
+}
+
+/// The port and the address that the link of this number hears. Link 0 only sends.
+fn hearing(number: u32) -> Option<(Port, u32)>
+    ensures { result ≡ hears_of number }
+{
+    if number == 0 {
+        None
+    } else {
+        Some((port_of_link(number), address_of_link(number)))
+    }
+}
+
+/// The socket of a link that hears this.
+fn socket_of(net: &impl Net, hears: Option<(Port, u32)>) -> io::Result<UdpSocket> {
+    match hears {
+        Some((port, address)) => bound(net, address, udp_port(port)),
+        None => bound(net, LOCALHOST, 0),
+    }
+}
+
+impl<R: Net + Clock + Copy> UdpPorts<R> {
+    /// The link of this number over a socket of its own.
+    fn link(&self, number: u32) -> Option<UdpLink<R>>
+        ensures { IfSome result (λ link. link ≡ record { hears = hears_of number; quiets = 0; counts = no_counts }) }
+    {
+        if number > LAST_LINK {
+            return None;
+        }
+        let hears = hearing(number);
+        let socket = socket_of(&self.rt, hears).ok()?;
+        Some(UdpLink::over(socket, self.clock, self.alloc, hears))
+    }
+}
+
+impl<R: Net + Clock + Copy> Ports for UdpPorts<R> {
+    type Link = UdpLink<R>;
+
+    ghost told = { ports_told_of };
+
+    /// Opens the link of this number. `Failed` comes where its socket can't be had, as where another has its port, and for a
+    /// number above 1,275, for which 127.0.0.0/24 has no address.
+    fn open(&mut self, number: u32) -> Result<UdpLink<R>, Fault>
+        requires { (ports_told_of self.old).opened number ≡ false }
+        ensures link { IfOk result (λ link. IsNewLink (link_told link)) }
+        ensures after { ports_told_of self.new ≡ after_open number result (ports_told_of self.old) }
+        ensures hears { IfOk result (λ link. (link.hears ≡ hears_of number) × (link.quiets ≡ 0)) }
+    {
+        let Some(link) = self.link(number) else {
+            self.faults = self.faults.saturating_add(1);
+            return Err(Fault::Failed);
+        };
+        match self.places.open(number) {
+            Ok(()) => Ok(link),
+            Err(_) => Err(Fault::Memory),
+        }
+    }
+
+    /// Closes the link's socket, and keeps what it counted.
+    fn shut(&mut self, number: u32, link: UdpLink<R>) {
+        self.places.shut(number, link.counts());
+    }
+}
