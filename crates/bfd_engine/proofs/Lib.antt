@@ -1,1 +1,7 @@
 pub mod Rooms
+pub mod Places
+pub mod Sharing
+pub mod Parts
+pub mod Tables
+pub mod Reaching
+pub mod Turning

@@ -1,8 +1,16 @@
 //! Shards behind ruled locks: what a daemon embeds.
 #![tactic(auto)]
 
+mod dealing;
+mod engine;
+mod fault;
 mod kept;
+mod pass;
+mod receive;
 mod turn;
 
+pub use engine::Engine;
+pub use fault::EngineFault;
 pub use kept::{Base, Kept};
-pub use turn::TurnFault;
+pub use pass::EnginePass;
+

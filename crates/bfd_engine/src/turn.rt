@@ -37,7 +37,7 @@ pub(crate) fn turn_with<W: Timers, R: Wait, L: Ledger>(
     requires of { pass.0 ≡ lock.now }
     requires can { CanHappen (configs_in pass.1.base) event }
     requires room { room_in (configs_in pass.1.base) event ≤ outs.old.spare }
-    ensures of { result.0.0 ≡ lock.now }
+    ensures of { result.0.0 ≡ pass.0 }
     ensures same { IsSame pass.1 result.0.1 }
     ensures turned { IfOk result.1 (λ answer. HasTurned pass.1 event result.0.1 outs.old.items outs.new.items answer) }
     ensures fault { IfErr result.1 (λ fault. HasLooked pass.1 result.0.1 × IsCause fault result.0.1) }
