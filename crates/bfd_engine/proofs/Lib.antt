@@ -4,4 +4,5 @@ pub mod Sharing
 pub mod Parts
 pub mod Tables
 pub mod Reaching
+pub mod Opening
 pub mod Turning

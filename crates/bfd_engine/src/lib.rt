@@ -5,12 +5,13 @@ mod dealing;
 mod engine;
 mod fault;
 mod kept;
+mod open;
 mod pass;
 mod receive;
 mod turn;
 
 pub use engine::Engine;
-pub use fault::EngineFault;
+pub use fault::{EngineFault, OpenFault};
 pub use kept::{Base, Kept};
 pub use pass::EnginePass;
 
