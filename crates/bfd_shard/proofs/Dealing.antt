@@ -1,7 +1,7 @@
 -- A session's own events are all that it is made of.
-use Rattle.std.proofs.Common.{◌≡◌, ◌≢◌, ◌⊎◌, inl, inr, ℕ, ◌+◌, ◌-◌, ◌*◌, ◌/◌, ◌%◌, ◌<◌, ◌≤◌, Bool, true, false, List, [], ◌∷◌, Option, Some, None, refl, ap, sym, ◌∙◌, arith, max}
+use Rattle.std.proofs.Common.{◌≡◌, ◌≢◌, ◌⊎◌, inl, inr, ℕ, ◌+◌, ◌*◌, ◌/◌, ◌%◌, Bool, true, false, List, [], ◌∷◌, Some, None, refl, ap, sym, ◌∙◌, arith, max}
 use Rattle.std.specs.Prelude.{if◌then◌else◌, ◌==◌}
-use Rattle.std.specs.List.{filter_map, cons_option}
+use Rattle.std.specs.List.{cons_option}
 use Rattle.std.proofs.lemmas.Bool.Decides.{nat_tests}
 use Rattle.std.proofs.lemmas.Nat.{div-add-mod'}
 use Rattle.bfd_session.specs.declared.event.SessionConfig.{SessionConfig}
@@ -11,15 +11,15 @@ use Rattle.bfd_session.specs.Kinds.{Running}
 use Rattle.bfd_session.specs.Step.{started}
 use Rattle.bfd_shard.specs.declared.entry.ShardEvent.{ShardEvent}
 use Rattle.bfd_shard.specs.declared.entry.ShardEvent.TheVariants.{Own, Tick}
-use Rattle.bfd_shard.specs.Dealing.{own_event, own_events, event_in, history_of}
-use Rattle.bfd_shard.specs.History.{later, last_from, last_tick, after, run_from, run}
+use Rattle.bfd_shard.specs.Dealing.{own_events, history_of}
+use Rattle.bfd_shard.specs.History.{last_from, last_tick, run_from, run}
 
 -- a session is made of its own events
 
 own_first : (p q m last : ℕ) (ev : Event) (es : List ShardEvent) (s : Running) (b : Bool)
     → ((t : Running) → run_from p last es t ≡ run_from 0 last (own_events p es) t)
     → run_from p last es (if b then stepped m last ev s else s)
-      ≡ run_from 0 last (cons_option (if b then Some (Own 0 m ev) else None) (own_events p es)) s
+    ≡ run_from 0 last (cons_option (if b then Some (Own 0 m ev) else None) (own_events p es)) s
 unfolding run_from
 own_first p q m last ev es s true rest = rest (stepped m last ev s)
 own_first p q m last ev es s false rest = rest s
@@ -72,7 +72,7 @@ own_dealt : (n k j m : ℕ) (ev : Event) (es : List ShardEvent) (b : Bool) → (
     → own_events (k / n) (cons_option (if b then Some (Own (j / n) m ev) else None) (history_of n (k % n) es)) ≡ own_events k (Own j m ev ∷ es)
 own_dealt n k j m ev es true is rest =
     ap (λ (b : Bool). cons_option (if b then Some (Own 0 m ev) else None) (own_events (k / n) (history_of n (k % n) es)))
-      (same_places j k n (told (j % n) (k % n) is))
+    (same_places j k n (told (j % n) (k % n) is))
     ∙ ap (cons_option (if j == k then Some (Own 0 m ev) else None)) rest
 own_dealt n k j m ev es false is rest =
     rest ∙ ap (λ (b : Bool). cons_option (if b then Some (Own 0 m ev) else None) (own_events k es)) (sym (other_shard j k n is))

@@ -31,7 +31,7 @@ module _ (laws : Expires) (last : ℕ) where
   forgets_one : (s : Running) → IsSound s → forgets (s, ticked last s) ≡ has_expired last s
   forgets_one s sound =
       forgot s.vars.heard (detects s) (1000 * last) (is_none (ticked last s).vars.heard)
-        (laws.expires s (1000 * last) (max (1000 * last) s.vars.at)) (laws.heard s sound)
+      (laws.expires s (1000 * last) (max (1000 * last) s.vars.at)) (laws.heard s sound)
 
   forgets_all : (n : ℕ) (ss : List Running) → AllByRecursion IsSound ss → places forgets n (zip ss (map (ticked last) ss)) ≡ places (has_expired last) n ss
   forgets_all n [] sound = refl
@@ -47,7 +47,7 @@ tick_expires laws cs es t sound =
 
 -- the law of expiry, of one event of a shard
 pub exactly : ((cs : List SessionConfig) (es : List ShardEvent) (t : ℕ) → AllByRecursion IsSound (runs es cs)
-      → forgotten (runs es cs) (runs (es ++ Tick t ∷ []) cs) ≡ expired cs es t)
+    → forgotten (runs es cs) (runs (es ++ Tick t ∷ []) cs) ≡ expired cs es t)
     → (shard : Shard) (e : ShardEvent) (after : List Running) → IsShard shard → after ≡ moved shard.last e shard.sessions → IsExact shard e after
 exactly law shard (Own place moment event) after s m = tt
 exactly law shard (Tick t) after s m =

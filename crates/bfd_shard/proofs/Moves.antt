@@ -1,5 +1,5 @@
 -- One session of a list changes.
-use Rattle.std.proofs.Common.{◌≡◌, ◌<◌, ℕ, zero, suc, List, [], ◌∷◌, length, map, set, get_or, refl, sym, ap, subst, Option, None, Some, arith}
+use Rattle.std.proofs.Common.{◌≡◌, ◌<◌, ℕ, zero, suc, List, [], ◌∷◌, length, map, set, get_or, refl, sym, ap, subst, Some, arith}
 use Rattle.std.specs.Prelude.{slice_get, unwrap_or}
 use Rattle.std.specs.List.{AllByRecursion}
 use Rattle.std.proofs.lemmas.List.{map-set}
@@ -11,7 +11,7 @@ use Rattle.bfd_session.specs.Reaching.{Stands}
 use Rattle.bfd_session.specs.Step.{CanTake}
 use Rattle.bfd_shard.specs.declared.entry.ShardEvent.{ShardEvent}
 use Rattle.bfd_shard.specs.declared.entry.ShardEvent.TheVariants.{Own, Tick}
-use Rattle.bfd_shard.specs.Shard.{IsTaken, CanHappen}
+use Rattle.bfd_shard.specs.Shard.{CanHappen}
 use Rattle.bfd_shard.specs.Inside.{MayCome}
 
 -- the due ticks then change at its place

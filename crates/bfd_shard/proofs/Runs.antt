@@ -1,6 +1,6 @@
 -- A history that grows by one event.
 use Rattle.std.proofs.Common.{◌≡◌, ◌≢◌, ◌⊎◌, inl, inr, ℕ, ◌+◌, ◌<◌, ◌≤◌, refl, sym, ◌∙◌, ap, subst, List, [], ◌∷◌, ◌++◌, length, length-append, map, max, get_or, set, Option, None, Some, Bool, true, false, arith, get_or-set_same, get_or-set_other, length-set, zero, suc, ext_get_or}
-use Rattle.std.specs.Prelude.{if◌then◌else◌, ◌==◌, slice_get, slice_set, unwrap_or}
+use Rattle.std.specs.Prelude.{if◌then◌else◌, ◌==◌, slice_get, unwrap_or}
 use Rattle.std.specs.List.{AllByRecursion}
 use Rattle.std.proofs.lemmas.List.{get_or-map, length-map, map-append}
 use Rattle.std.proofs.lemmas.Bool.Decides.{nat_tests}
@@ -8,14 +8,13 @@ use Rattle.bfd_num.specs.Numbers.{greatest_tick}
 use Rattle.bfd_session.specs.declared.event.SessionConfig.{SessionConfig}
 use Rattle.bfd_session.specs.declared.event.Event.{Event}
 use Rattle.bfd_session.specs.Alone.{stepped, ticked}
-use Rattle.bfd_session.specs.Due.{due}
 use Rattle.bfd_session.specs.Kinds.{Running, configs_of}
 use Rattle.bfd_session.specs.Step.{IsSound, started}
 use Rattle.bfd_shard.specs.declared.entry.ShardEvent.{ShardEvent}
 use Rattle.bfd_shard.specs.declared.entry.ShardEvent.TheVariants.{Own, Tick}
 use Rattle.bfd_shard.specs.declared.entry.Entry.{Entry}
 use Rattle.bfd_shard.specs.History.{events_of, later, last_from, last_tick, after, run_from, run, runs_from, runs, moved, own_moved}
-use Rattle.bfd_shard.specs.Shard.{Shard, shard_of, IsShard, IsHistory, CanHappen}
+use Rattle.bfd_shard.specs.Shard.{shard_of, IsShard, IsHistory, CanHappen}
 use Rattle.bfd_shard.proofs.Moves.{session_at, stands_below}
 use Rattle.bfd_shard.proofs.Ticks.{nobody}
 
@@ -122,11 +121,11 @@ runs_more es e cs =
     let long : length (runs es cs) ≡ length cs = runs_long 0 es cs in
     let grown : length (runs (es ++ e ∷ []) cs) ≡ length cs = runs_long 0 (es ++ e ∷ []) cs in
     ext_get_or nobody (runs (es ++ e ∷ []) cs) (moved (last_tick es) e (runs es cs))
-      (let l = moved_long (last_tick es) e (runs es cs) in omega arith)
-      (λ k h. runs_at 0 (es ++ e ∷ []) cs k k c nobody (omega arith) (omega arith)
-      ∙ (run_more k 0 es e (started (get_or cs k c))
-      ∙ (ap (after k (last_tick es) e) (sym (runs_at 0 es cs k k c nobody (omega arith) (omega arith)))
-      ∙ sym (moved_at (last_tick es) e (runs es cs) k nobody (omega arith)))))
+    (let l = moved_long (last_tick es) e (runs es cs) in omega arith)
+    (λ k h. runs_at 0 (es ++ e ∷ []) cs k k c nobody (omega arith) (omega arith)
+    ∙ (run_more k 0 es e (started (get_or cs k c))
+    ∙ (ap (after k (last_tick es) e) (sym (runs_at 0 es cs k k c nobody (omega arith) (omega arith)))
+    ∙ sym (moved_at (last_tick es) e (runs es cs) k nobody (omega arith)))))
 
 -- no event changes the configuration of a session
 after_config : (p last : ℕ) (e : ShardEvent) (s : Running) → (after p last e s).config ≡ s.config

@@ -8,8 +8,8 @@ use Rattle.bfd_session.specs.Due.{due}
 use Rattle.bfd_session.specs.Kinds.{Running, configs_of}
 use Rattle.bfd_session.specs.Step.{IsSound, started}
 use Rattle.bfd_shard.specs.declared.entry.Entry.{Entry}
-use Rattle.bfd_shard.specs.History.{events_of, last_from, run_from, runs_from, runs}
-use Rattle.bfd_shard.specs.Shard.{shard_of, IsShard, IsTimed, IsHistory}
+use Rattle.bfd_shard.specs.History.{last_from, run_from, runs_from, runs}
+use Rattle.bfd_shard.specs.Shard.{shard_of, IsShard, IsTimed}
 
 -- one more of a list stands in for the other's
 stands_in : {A B : Type 0} (f : A → B) (xs : List A) (ys : List B) (i : ℕ) (d : A) → i < length xs → length ys ≡ length xs

@@ -55,7 +55,7 @@ module _ (idles : Idles) (d : Running) (last : ℕ) where
   -- a session with nothing due is as a tick leaves it
   at_rest : (pre ss : List Running) (dpre dss : List (Option ℕ)) (outs : List Out) (s : Running) → IsSound s → has_come last (due s) ≡ false
       → tour (pre ++ s ∷ ss) (dpre ++ without last (due s) ∷ dss) outs
-        ≡ tour (pre ++ ticked last s ∷ ss) (dpre ++ due (ticked last s) ∷ dss) (outs ++ tick_items last s)
+      ≡ tour (pre ++ ticked last s ∷ ss) (dpre ++ due (ticked last s) ∷ dss) (outs ++ tick_items last s)
   at_rest pre ss dpre dss outs s sound nothing =
       let still : s ≡ ticked last s = sym (idles.session s last (max (1000 * last) s.vars.at) sound nothing) in
       let left : without last (due s) ≡ due s = rw nothing refl in
@@ -67,20 +67,20 @@ module _ (idles : Idles) (d : Running) (last : ℕ) where
 
   visit_seam : (pre ss : List Running) (dpre dss : List (Option ℕ)) (outs : List Out) (s : Running) (x : Option ℕ) → length dpre ≡ length pre
       → visit d last (length pre) (tour (pre ++ s ∷ ss) (dpre ++ x ∷ dss) outs)
-        ≡ tour (pre ++ ticked last s ∷ ss) (dpre ++ due (ticked last s) ∷ dss) (outs ++ tick_items last s)
+      ≡ tour (pre ++ ticked last s ∷ ss) (dpre ++ due (ticked last s) ∷ dss) (outs ++ tick_items last s)
   unfolding visit
   visit_seam pre ss dpre dss outs s x e =
       let at : get_or (pre ++ s ∷ ss) (length pre) d ≡ s = get_or-append_seam pre s ss d in
       ap (λ (z : Running). tour (set (pre ++ s ∷ ss) (length pre) (ticked last z)) (set (dpre ++ x ∷ dss) (length pre) (due (ticked last z))) (outs ++ tick_items last z)) at
       ∙ (ap (λ r. tour r (set (dpre ++ x ∷ dss) (length pre) (due (ticked last s))) (outs ++ tick_items last s)) (set-append_seam pre s ss (ticked last s))
       ∙ ap (λ r. tour (pre ++ ticked last s ∷ ss) r (outs ++ tick_items last s))
-        (ap (λ k. set (dpre ++ x ∷ dss) k (due (ticked last s))) (sym e) ∙ set-append_seam dpre x dss (due (ticked last s))))
+      (ap (λ k. set (dpre ++ x ∷ dss) k (due (ticked last s))) (sym e) ∙ set-append_seam dpre x dss (due (ticked last s))))
 
   -- the session at the seam is among those that are visited, or rests
   passes : (b : Bool) (ks : List ℕ) (n : ℕ) (pre ss : List Running) (dpre dss : List (Option ℕ)) (outs : List Out) (s : Running)
       → length pre ≡ n → length dpre ≡ n → IsSound s → has_come last (due s) ≡ b
       → visits d last (if b then n ∷ ks else ks) (tour (pre ++ s ∷ ss) (dpre ++ without last (due s) ∷ dss) outs)
-        ≡ visits d last ks (tour (pre ++ ticked last s ∷ ss) (dpre ++ due (ticked last s) ∷ dss) (outs ++ tick_items last s))
+      ≡ visits d last ks (tour (pre ++ ticked last s ∷ ss) (dpre ++ due (ticked last s) ∷ dss) (outs ++ tick_items last s))
   unfolding visits
   passes true ks n pre ss dpre dss outs s e f sound is =
       ap (visits d last ks)
@@ -90,7 +90,7 @@ module _ (idles : Idles) (d : Running) (last : ℕ) where
 
   pub all_ticked : (n : ℕ) (pre ss : List Running) (dpre : List (Option ℕ)) (outs : List Out) → length pre ≡ n → length dpre ≡ n → AllByRecursion IsSound ss
       → visits d last (places (has_come last) n (map due ss)) (tour (pre ++ ss) (dpre ++ map (without last) (map due ss)) outs)
-        ≡ tour (pre ++ map (ticked last) ss) (dpre ++ map due (map (ticked last) ss)) (outs ++ flat_map (tick_items last) ss)
+      ≡ tour (pre ++ map (ticked last) ss) (dpre ++ map due (map (ticked last) ss)) (outs ++ flat_map (tick_items last) ss)
   unfolding visits
   all_ticked n pre [] dpre outs e f sound = ap (tour (pre ++ []) (dpre ++ [])) (sym (append-nil outs))
   all_ticked n pre (s ∷ ss) dpre outs e f sound =
@@ -100,7 +100,7 @@ module _ (idles : Idles) (d : Running) (last : ℕ) where
       passes (has_come last (due s)) ks n pre ss dpre (map (without last) (map due ss)) outs s e f sound.0 refl
       ∙ (ap (visits d last ks) (regrouped pre ss dpre (map (without last) (map due ss)) t (due t) told)
       ∙ (all_ticked (n + 1) (pre ++ t ∷ []) ss (dpre ++ due t ∷ []) told
-        (omega (arith, length-append pre (t ∷ []))) (omega (arith, length-append dpre (due t ∷ []))) sound.1
+      (omega (arith, length-append pre (t ∷ []))) (omega (arith, length-append dpre (due t ∷ []))) sound.1
       ∙ (sym (regrouped pre (map (ticked last) ss) dpre (map due (map (ticked last) ss)) t (due t) (told ++ flat_map (tick_items last) ss))
       ∙ ap (tour (pre ++ map (ticked last) (s ∷ ss)) (dpre ++ map due (map (ticked last) (s ∷ ss)))) (append_assoc outs (tick_items last s) (flat_map (tick_items last) ss)))))
 
@@ -191,7 +191,7 @@ pub quiet_first : (last : ℕ) (ks : List ℕ) (ss : List Running) → ks ≡ pl
 quiet_first last ks ss e = λ k d h away.
     (ap (has_come last) (sym (get_or-map due ss k d (due d) h))
     ∙ passed_over (has_come last) (map due ss) 0 k k (due d) (let l = length-map ss due in omega arith) (omega arith)
-      (subst (λ (xs : List ℕ). IsAway k 0 xs) e away))
+    (subst (λ (xs : List ℕ). IsAway k 0 xs) e away))
 
 -- one place more of the list is visited
 pub visits_more : (d : Running) (last : ℕ) (ks : List ℕ) (i k : ℕ) (ss ss2 : List Running) (ds ds2 : List (Option ℕ)) (outs outs2 : List Out)

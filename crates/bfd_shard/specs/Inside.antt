@@ -1,5 +1,5 @@
 -- What the parts of a shard hand to one another.
-use Rattle.std.specs.Prelude.{ℕ, List}
+use Rattle.std.specs.Prelude.{List}
 use Rattle.bfd_session.specs.Kinds.{Running}
 use Rattle.bfd_session.specs.Reaching.{Stands}
 use Rattle.bfd_shard.specs.declared.entry.ShardEvent.{ShardEvent}

@@ -12,7 +12,7 @@ use Rattle.bfd_session.specs.Step.{IsSound, CanTake}
 use Rattle.bfd_shard.specs.declared.entry.ShardEvent.{ShardEvent}
 use Rattle.bfd_shard.specs.declared.entry.ShardEvent.TheVariants.{Own, Tick}
 use Rattle.bfd_shard.specs.declared.entry.Entry.{Entry}
-use Rattle.bfd_shard.specs.History.{events_of, last_tick, later, runs}
+use Rattle.bfd_shard.specs.History.{events_of, last_tick, runs}
 
 -- a shard, as its callers see it; room is for how many entries more the journal's memory is there
 pub record Shard : Type 0 where

@@ -14,7 +14,12 @@ use bfd_wheel::Timers;
 use std::sync::ledger::Ledger;
 
 /// Keeps the due tick of the session at a place, in place of the one that the timers had: at most 2 steps.
-pub(crate) fn keep_due<W: Timers, L: Ledger>(timers: &mut W, place: u32, due: Option<u64>, steps: &mut Steps<L>)
+pub(crate) fn keep_due<W: Timers, L: Ledger>(
+    timers: &mut W,
+    place: u32,
+    due: Option<u64>,
+    steps: &mut Steps<L>,
+)
     requires place { place < length (W.dues timers.old) }
     requires due { IfSome due (λ t. t < moment_bound) }
     ensures dues { W.dues timers.new ≡ slice_set (W.dues timers.old) place due }

@@ -85,7 +85,16 @@ fn act<W: Timers, L: Ledger>(
             moment,
             event,
         } => {
-            let answer = step_at(sessions, timers, last, *place, moment.get(), event, outs, steps);
+            let answer = step_at(
+                sessions,
+                timers,
+                last,
+                *place,
+                moment.get(),
+                event,
+                outs,
+                steps,
+            );
             (last, answer)
         }
         ShardEvent::Tick(t) => {
@@ -109,7 +118,11 @@ fn takes_at(sessions: &[Session], place: u32, event: &Event) -> bool
 impl<W: Timers> ShardState<W> {
     /// A shard of the sessions with these configurations, at most 65,536 and each within its ranges: all stand at the start,
     /// the last tick is 0, and the journal is empty and takes `limit` entries. It is refused only for want of memory.
-    pub fn make(alloc: Global, configs: Vec<SessionConfig>, limit: usize) -> Result<ShardState<W>, AllocError>
+    pub fn make(
+        alloc: Global,
+        configs: Vec<SessionConfig>,
+        limit: usize,
+    ) -> Result<ShardState<W>, AllocError>
         requires few { length configs.items ≤ 65536 }
         requires fit { AreFit configs.items }
         ensures sessions { IfOk result (λ shard. shard.sessions ≡ map started configs.items) }
@@ -142,8 +155,8 @@ impl<W: Timers> ShardState<W> {
         }
     }
 
-    /// Makes room for one entry more in the journal, where it is below its limit; nothing else changes. It is refused only
-    /// for want of memory, and then nothing changes at all.
+    /// Makes room for one entry more in the journal, where it is below its limit. Nothing else changes, also where it is
+    /// refused, which it is only for want of memory.
     pub fn prepare(&mut self) -> Result<(), AllocError>
         ensures ready { OnOk result (length self.new.journal < self.new.limit → 0 < self.new.room) }
         ensures sessions { self.new.sessions ≡ self.old.sessions }
@@ -187,6 +200,7 @@ impl<W: Timers> ShardState<W> {
         ensures answer { IfOk result (λ answer. answer ≡ (outcome_of self.old.last event self.old.sessions).answer) }
         ensures over { OnOk result (IsOver self.new.last event self.new.sessions) }
         ensures exact { OnOk result (IsExact self.old event self.new.sessions) }
+        ensures stood { IsShard self.old }
         ensures kept { IsShard self.new }
         ensures spare { outs.old.spare ≤ outs.new.spare + room_for self.old.sessions event }
         ensures outs_room { outs.new.room ≡ outs.old.room }

@@ -14,7 +14,10 @@ use std::marker::Brand;
 use std::sync::ledger::{Blank, Ledger};
 
 /// The sessions at the start.
-pub(crate) fn sessions_of(alloc: Global, configs: Vec<SessionConfig>) -> Result<Vec<Session>, AllocError>
+pub(crate) fn sessions_of(
+    alloc: Global,
+    configs: Vec<SessionConfig>,
+) -> Result<Vec<Session>, AllocError>
     requires { AreFit configs.items }
     ensures sessions { IfOk result (λ sessions. sessions.items ≡ map started configs.items) }
     ensures sound { IfOk result (λ sessions. AllByRecursion IsSound sessions.items) }

@@ -3,7 +3,8 @@ ghost use Rattle.std.specs.Prelude.{◌≡◌, ◌<◌, ◌≤◌, IfOk, length}
 ghost use Rattle.bfd_session.specs.Rows.{AreFit};
 ghost use Rattle.bfd_session.specs.Step.{IsFit};
 
-use crate::{Full, ShardEvent, ShardState};
+use crate::start::sessions_of;
+use crate::{Entry, Full, ShardEvent, ShardState};
 use bfd_num::{Moment, Steps, Tick, next_j};
 use bfd_packet::{Addr, Arrival, Payload, Port};
 use bfd_rules::{Cmd, Config, Out, Outs, Role, Vars};
@@ -83,77 +84,53 @@ fn tick(t: u64) -> Option<ShardEvent> {
     Some(ShardEvent::Tick(Tick::new(t)?))
 }
 
-/// A shard with room for one entry takes one, and then answers that it is full.
+/// What a row asks of a shard: how many entries its journal has, its last tick, and the effective moment of the last own
+/// event of the session at this place.
+fn seen<W: Timers>(shard: &ShardState<W>, place: usize) -> (usize, u64, u64) {
+    let at = match shard.sessions().get(place) {
+        Some(session) => session.vars().at,
+        None => 0,
+    };
+    (shard.journal().len(), shard.last().get(), at)
+}
+
+/// A shard with room for one entry takes one, and then answers that it is full and is as before.
 fn fills<W: Timers, L: Ledger, R: Abort>(
     rt: &R,
-    mut shard: ShardState<W>,
-    mut outs: Outs,
-    blank: Blank,
-) -> Option<()>
-    requires name { blank.name ≡ L.name }
-    requires parts { blank.parts ≡ L.parts }
-    requires some { 0 < blank.parts }
-{
-    let mut steps = Steps::<L>::new(blank);
-    let answer = play(&mut shard, question(3, 2500)?, &mut outs, &mut steps)?;
-    assert!(*rt; matches!(answer, Ok(Answer::Shown(_))));
-    for event in [question(3, 9000)?, tick(9)?] {
-        let answer = play(&mut shard, event, &mut outs, &mut steps)?;
-        assert_eq!(*rt; answer, Err(Full(1)));
-        assert_eq!(*rt; shard.journal().len(), 1);
-        assert_eq!(*rt; shard.last().get(), 0);
-        assert_eq!(*rt; outs.items().len(), 0);
-        assert_eq!(*rt; shard.sessions().get(3)?.vars().at, 2500);
-    }
-    let entry = shard.journal().first()?;
-    assert_eq!(*rt; entry.caller, 7);
-    assert!(*rt; matches!(entry.event, ShardEvent::Own { place: 3, .. }));
-    assert!(*rt; !shard.takes(&question(4, 0)?));
+    shard: &mut ShardState<W>,
+    outs: &mut Outs,
+    steps: &mut Steps<L>,
+) -> Option<()> {
+    play(shard, question(3, 2500)?, outs, steps)?.ok()?;
+    assert_eq!(*rt; seen(shard, 3), (1, 0, 2500));
+    let again = play(shard, question(3, 9000)?, outs, steps);
+    assert_eq!(*rt; again, Some(Err(Full(1))));
+    assert_eq!(*rt; play(shard, tick(9)?, outs, steps), Some(Err(Full(1))));
+    assert_eq!(*rt; seen(shard, 3), (1, 0, 2500));
+    assert_eq!(*rt; outs.items().len(), 0);
     Some(())
 }
 
-#[test]
-fn full(rt: HostRuntime) -> Result<(), Fail> {
-    let shard = ShardState::<HashedWheel>::make(rt.alloc(), configs(rt.alloc())?, 1)?;
-    let outs = Outs::make(rt.alloc(), 25)?;
-    let done = fills::<HashedWheel, Brand, HostRuntime>(&rt, shard, outs, Blank::new(1));
-    assert!(rt; done.is_some());
-    Ok(())
-}
-
-/// A tick below the last tick counts as the last tick: what has come due since is done by it, and an own event has no
-/// effective moment before it.
+/// A tick below the last tick counts as the last tick: it sends nothing again, and an own event after it has no effective
+/// moment before the last tick.
 fn goes_back<W: Timers, L: Ledger, R: Abort>(
     rt: &R,
-    mut shard: ShardState<W>,
-    mut outs: Outs,
-    blank: Blank,
-) -> Option<()>
-    requires name { blank.name ≡ L.name }
-    requires parts { blank.parts ≡ L.parts }
-    requires some { 0 < blank.parts }
-{
-    let mut steps = Steps::<L>::new(blank);
-    // a Down session sends once a second, and its first packet is due within the first: three of the four are active
-    for (t, last, sent) in [(2000, 2000, 3), (1000, 2000, 0), (2000, 2000, 0)] {
-        let answer = play(&mut shard, tick(t)?, &mut outs, &mut steps)?;
-        assert_eq!(*rt; answer, Ok(Answer::Ticked));
-        assert_eq!(*rt; shard.last().get(), last, "after {t}");
+    shard: &mut ShardState<W>,
+    outs: &mut Outs,
+    steps: &mut Steps<L>,
+) -> Option<()> {
+    // a Down session sends within its first second: three of the four are active
+    for (t, sent) in [(2000, 3), (1000, 0), (2000, 0)] {
+        assert_eq!(*rt;
+            play(shard, tick(t)?, outs, steps),
+            Some(Ok(Answer::Ticked))
+        );
         assert_eq!(*rt; outs.items().len(), sent, "at {t}");
+        assert_eq!(*rt; seen(shard, 2).1, 2000, "at {t}");
     }
-    play(&mut shard, question(2, 5)?, &mut outs, &mut steps)?.ok()?;
-    assert_eq!(*rt; shard.sessions().get(2)?.vars().at, 2_000_000);
-    assert_eq!(*rt; shard.journal().len(), 4);
+    play(shard, question(2, 5)?, outs, steps)?.ok()?;
+    assert_eq!(*rt; seen(shard, 2), (4, 2000, 2_000_000));
     Some(())
-}
-
-#[test]
-fn back(rt: HostRuntime) -> Result<(), Fail> {
-    let shard = ShardState::<HashedWheel>::make(rt.alloc(), configs(rt.alloc())?, 9)?;
-    let outs = Outs::make(rt.alloc(), 25)?;
-    let done = goes_back::<HashedWheel, Brand, HostRuntime>(&rt, shard, outs, Blank::new(1));
-    assert!(rt; done.is_some());
-    Ok(())
 }
 
 /// A packet for a session of `configs`: a state, flags, numbers and a discriminator that are drawn.
@@ -295,75 +272,133 @@ fn same_vars(v: &Vars, w: &Vars) -> bool {
         && v.at == w.at
 }
 
-/// How many of some thousand drawn events the shard takes; each gives what it gives on the plain list.
+/// The outputs are the same, in their order.
+fn same_outs(a: &[Out], b: &[Out]) -> bool {
+    if a.len() != b.len() {
+        return false;
+    }
+    for i in 0..a.len() {
+        if !same_out(&a[i], &b[i]) {
+            return false;
+        }
+    }
+    true
+}
+
+/// The sessions are the same.
+fn same_sessions(a: &[Session], b: &[Session]) -> bool {
+    if a.len() != b.len() {
+        return false;
+    }
+    for i in 0..a.len() {
+        if !same_vars(a[i].vars(), b[i].vars()) {
+            return false;
+        }
+    }
+    true
+}
+
+/// An event gives on the shard what it gives on the plain list, and leaves the same sessions.
+fn agree<W: Timers, L: Ledger>(
+    shard: &mut ShardState<W>,
+    list: &mut Vec<Session>,
+    last: &mut Tick,
+    event: ShardEvent,
+    outs: &mut Outs,
+    outs2: &mut Outs,
+    steps: &mut Steps<L>,
+) -> bool {
+    let wanted = on_list(list, last, &event, outs2);
+    let answer = match play(shard, event, outs, steps) {
+        Some(answer) => answer.ok(),
+        None => return wanted.is_none(),
+    };
+    answer == wanted
+        && same_outs(outs.items(), outs2.items())
+        && same_sessions(shard.sessions(), list)
+        && shard.last() == *last
+}
+
+/// Drawn events, each of which gives what it gives on the plain list.
 fn beside_a_list<W: Timers, L: Ledger, R: Abort>(
     rt: &R,
     alloc: Global,
-    mut shard: ShardState<W>,
-    mut list: Vec<Session>,
-    mut outs: Outs,
-    mut outs2: Outs,
-    blank: Blank,
-) -> Result<usize, AllocError>
+    shard: &mut ShardState<W>,
+    list: &mut Vec<Session>,
+    outs: &mut Outs,
+    steps: &mut Steps<L>,
+) -> Result<(), AllocError> {
+    let mut outs2 = Outs::make(alloc, 25)?;
+    let mut last = Tick::new(0).unwrap();
+    let mut j = 1;
+    for round in 0..10_000 {
+        j = next_j(j);
+        if let Some(event) = drawn(alloc, j, 7_000 * round)? {
+            let agreed = agree(shard, list, &mut last, event, outs, &mut outs2, steps);
+            assert!(*rt; agreed, "in {round}");
+        }
+    }
+    Ok(())
+}
+
+/// An equal entry.
+fn same_entry(a: &Entry, b: &Entry) -> bool {
+    a.caller == b.caller
+        && match (&a.event, &b.event) {
+            (ShardEvent::Tick(t), ShardEvent::Tick(u)) => t == u,
+            (
+                ShardEvent::Own { place, moment, .. },
+                ShardEvent::Own {
+                    place: place2,
+                    moment: moment2,
+                    ..
+                },
+            ) => place == place2 && moment == moment2,
+            _ => false,
+        }
+}
+
+/// How many entries the journal has; each has an equal copy.
+fn copied<R: Abort>(rt: &R, alloc: Global, journal: &[Entry]) -> Result<usize, AllocError> {
+    for entry in journal {
+        let copy = entry.copy(alloc)?;
+        assert!(*rt; same_entry(&copy, entry));
+    }
+    Ok(journal.len())
+}
+
+/// The rows and the drawn events on one form of timers.
+fn on_form<W: Timers, L: Ledger, R: Abort>(
+    rt: &R,
+    alloc: Global,
+    steps: &mut Steps<L>,
+) -> Result<(), AllocError> {
+    let mut outs = Outs::make(alloc, 25)?;
+    let mut shard = ShardState::<W>::make(alloc, configs(alloc)?, 1)?;
+    assert!(*rt; fills(rt, &mut shard, &mut outs, steps).is_some());
+    let mut shard = ShardState::<W>::make(alloc, configs(alloc)?, 4)?;
+    assert!(*rt; goes_back(rt, &mut shard, &mut outs, steps).is_some());
+    let mut shard = ShardState::<W>::make(alloc, configs(alloc)?, 10_000)?;
+    let mut list = sessions_of(alloc, configs(alloc)?)?;
+    beside_a_list(rt, alloc, &mut shard, &mut list, &mut outs, steps)?;
+    let taken = copied(rt, alloc, shard.journal())?;
+    assert!(*rt; 9_000 < taken, "only {taken} taken");
+    Ok(())
+}
+
+/// Both forms of timers, with one counter.
+fn on_both<L: Ledger, R: Abort>(rt: &R, alloc: Global, blank: Blank) -> Result<(), AllocError>
     requires name { blank.name ≡ L.name }
     requires parts { blank.parts ≡ L.parts }
     requires some { 0 < blank.parts }
 {
     let mut steps = Steps::<L>::new(blank);
-    let mut last = Tick::new(0).unwrap();
-    let mut j = 1;
-    for round in 0..10_000 {
-        j = next_j(j);
-        let event = match drawn(alloc, j, 7_000 * round)? {
-            Some(event) => event,
-            None => continue,
-        };
-        let wanted = on_list(&mut list, &mut last, &event, &mut outs2);
-        let answer = play(&mut shard, event, &mut outs, &mut steps);
-        assert_eq!(*rt; answer.is_some(), wanted.is_some(), "in {round}");
-        if let Some(answer) = answer {
-            assert_eq!(*rt; answer.ok(), wanted, "in {round}");
-            assert_eq!(*rt; outs.items().len(), outs2.items().len(), "in {round}");
-            for (a, b) in outs.items().iter().zip(outs2.items()) {
-                assert!(*rt; same_out(a, b), "in {round}");
-            }
-            for (s, t) in shard.sessions().iter().zip(list.iter()) {
-                assert!(*rt; same_vars(s.vars(), t.vars()), "in {round}");
-            }
-        }
-        assert_eq!(*rt; shard.last().get(), last.get());
-    }
-    let mut copied = 0;
-    for entry in shard.journal() {
-        let copy = entry.copy(alloc)?;
-        assert_eq!(*rt; copy.caller, entry.caller);
-        copied += 1;
-    }
-    Ok(copied)
-}
-
-/// The sessions of `configs`, by themselves.
-fn sessions(alloc: Global) -> Result<Vec<Session>, AllocError> {
-    let mut list = Vec::new(alloc);
-    list.push(Session::make(config(1, true, 10_000, 3)))?;
-    list.push(Session::make(config(2, true, 1_000_000, 1)))?;
-    list.push(Session::make(config(3, false, 50_000, 2)))?;
-    list.push(Session::make(config(4, true, 300_000, 3)))?;
-    Ok(list)
-}
-
-/// The drawn events on one form of timers.
-fn on_form<W: Timers, R: Abort>(rt: &R, alloc: Global) -> Result<usize, AllocError> {
-    let shard = ShardState::<W>::make(alloc, configs(alloc)?, 10_000)?;
-    let outs = Outs::make(alloc, 25)?;
-    let outs2 = Outs::make(alloc, 25)?;
-    beside_a_list::<W, Brand, R>(rt, alloc, shard, sessions(alloc)?, outs, outs2, Blank::new(1))
+    on_form::<PlainTimers, L, R>(rt, alloc, &mut steps)?;
+    on_form::<HashedWheel, L, R>(rt, alloc, &mut steps)
 }
 
 #[test]
-fn drawn_events(rt: HostRuntime) -> Result<(), Fail> {
-    let plain = on_form::<PlainTimers, HostRuntime>(&rt, rt.alloc())?;
-    assert!(rt; 9_000 < plain, "only {plain} taken");
-    assert_eq!(rt; on_form::<HashedWheel, HostRuntime>(&rt, rt.alloc())?, plain);
+fn both_forms(rt: HostRuntime) -> Result<(), Fail> {
+    on_both::<Brand, HostRuntime>(&rt, rt.alloc(), Blank::new(1))?;
     Ok(())
 }

@@ -1,5 +1,5 @@
 -- One due tick more is kept.
-use Rattle.std.proofs.Common.{◌≡◌, ◌∙◌, ap, arith, set, length, length-set}
+use Rattle.std.proofs.Common.{◌∙◌, ap, arith, set, length, length-set}
 use Rattle.bfd_session.specs.Due.{due}
 use Rattle.bfd_shard.proofs.Setting.{due_more}
 use Rattle.bfd_shard.proofs.start.keep_all.Goals as goal
@@ -12,5 +12,5 @@ loop-place-preserved g c =
       kept = c.keep_due.ensures.dues
           ∙ (ap (set (dues c.loop-place.timers) c.loop-place.place) (c.due-due.ensures.value ∙ ap due c.index-sessions-place.is)
           ∙ due_more c.args.sessions.now (dues c.args.timers.now) (dues c.loop-place.timers) c.loop-place.place c.index-sessions-place.result
-            (omega (arith, c.loop-place-test.true, c.loop-place-test.true)) c.requires.long c.loop-place.invariant.kept);
+          (omega (arith, c.loop-place-test.true, c.loop-place-test.true)) c.requires.long c.loop-place.invariant.kept);
     }

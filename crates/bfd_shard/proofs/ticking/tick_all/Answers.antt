@@ -1,15 +1,15 @@
 -- The ids that the timers give are the places of the sessions that are due, and ticking these is ticking all.
-use Rattle.std.proofs.Common.{◌≡◌, ℕ, ◌+◌, ◌*◌, ◌<◌, ◌≤◌, ◌++◌, refl, sym, ◌∙◌, ap, [], length, get_or, map, arith, List, Option, subst, length-set}
+use Rattle.std.proofs.Common.{◌≡◌, ℕ, ◌<◌, ◌≤◌, ◌++◌, refl, sym, ◌∙◌, ap, [], length, get_or, map, arith, List, Option, subst, length-set}
 use Rattle.std.proofs.lemmas.List.{length-map}
 use Rattle.std.specs.List.{flat_map, AllByRecursion}
 use Rattle.bfd_num.specs.Due.{has_come}
-use Rattle.bfd_lanes.specs.Held.{Held, room_of}
+use Rattle.bfd_lanes.specs.Held.{Held}
 use Rattle.bfd_lanes.specs.Places.{places, come, without}
 use Rattle.bfd_session.specs.Alone.{ticked, tick_items}
 use Rattle.bfd_session.specs.Due.{due}
 use Rattle.bfd_session.specs.Kinds.{Running}
-use Rattle.bfd_session.specs.Step.{IsSound, started}
-use Rattle.bfd_shard.proofs.Ticks.{nobody, Tour, tour, visits, visits_more, visits_done, quiet_first, quiet_more, quiet_all, in_range, no_more, all_sound}
+use Rattle.bfd_session.specs.Step.{IsSound}
+use Rattle.bfd_shard.proofs.Ticks.{nobody, Tour, tour, visits_more, visits_done, quiet_first, quiet_more, quiet_all, in_range, no_more, all_sound}
 use Rattle.bfd_shard.proofs.ticking.tick_all.Goals as goal
 use Rattle.bfd_shard.proofs.ticking.tick_all.Given.{Over}
 
@@ -79,13 +79,13 @@ loop-i-preserved g c =
 -- what the loop leaves
 left : (g : Over) (c : goal.After-loop-i g) → tour c.loop-i.sessions.items (g.W.Timers.dues c.loop-i.timers) c.loop-i.outs.items
     ≡ tour (map (ticked c.args.last) c.args.sessions.now.items) (map due (map (ticked c.args.last) c.args.sessions.now.items))
-      (c.args.outs.now.items ++ flat_map (tick_items c.args.last) c.args.sessions.now.items)
+    (c.args.outs.now.items ++ flat_map (tick_items c.args.last) c.args.sessions.now.items)
 left g c =
     let e = ids_are c.args.last c.args.sessions.now.items _ _ c.clear.new.self c.advance.new.out c.clear.ensures c.advance.ensures.items c.requires.dues in
     let same : length c.items-i-end.result.now ≡ length c.advance.new.out.items = ap length c.items-i-end.ensures in
     visits_done (record { session = c.tick_laws.ensures.session; outs = c.tick_laws.ensures.outs }) nobody c.args.last c.advance.new.out.items c.loop-i.i
-      c.args.sessions.now.items c.loop-i.sessions.items (g.W.Timers.dues c.advance.new.self) (g.W.Timers.dues c.loop-i.timers) c.args.outs.now.items c.loop-i.outs.items
-      c.requires.sound (omega (arith, c.loop-i-test.false)) e (c.advance.ensures.dues ∙ ap (map (without c.args.last)) c.requires.dues) (c.loop-i.invariant.whole nobody)
+    c.args.sessions.now.items c.loop-i.sessions.items (g.W.Timers.dues c.advance.new.self) (g.W.Timers.dues c.loop-i.timers) c.args.outs.now.items c.loop-i.outs.items
+    c.requires.sound (omega (arith, c.loop-i-test.false)) e (c.advance.ensures.dues ∙ ap (map (without c.args.last)) c.requires.dues) (c.loop-i.invariant.whole nobody)
 
 pub returns-clause-sessions : goal.returns-clause-sessions
 returns-clause-sessions g c = ap (λ (w : Tour). w.sessions) (left g c)

@@ -1,5 +1,5 @@
 -- The event leaves a shard.
-use Rattle.std.proofs.Common.{◌≡◌, ◌<◌, ◌≤◌, ◌≢◌, ℕ, List, ◌++◌, ◌∷◌, [], length, map, sym, ◌∙◌, ap, subst, arith, rules, Option}
+use Rattle.std.proofs.Common.{◌≡◌, ◌≤◌, ◌≢◌, ℕ, List, ◌++◌, ◌∷◌, [], length, map, sym, ◌∙◌, ap, subst, arith, rules, Option}
 use Rattle.std.specs.List.{AllByRecursion}
 use Rattle.bfd_num.specs.Numbers.{greatest_tick}
 use Rattle.bfd_lanes.specs.Held.{Held, room_of}
@@ -41,10 +41,10 @@ invariant_of-self g c =
     let a = c.act-last.ensures in
     let inside = c.self.inside in
     grown inside.last c.act-last.result.0 inside.limit _ _ (record { caller = c.args.caller; event = c.args.event }) inside.sessions.items c.act-last.new.sessions.items
-      inside.journal.items c.push_reserved.new.self.items (g.W.Timers.dues inside.timers) (g.W.Timers.dues c.act-last.new.timers) inside.ids c.act-last.new.ids
-      c.self.invariant a.last a.early (search rules)
-      (subst (λ (ss : List Running). CanHappen (configs_of ss) c.args.event) (sym (ap (λ (s : Shard). s.sessions) c.self.view_is)) c.requires.can)
-      a.sessions a.sound a.dues c.push_reserved.ensures.items a.ids
+    inside.journal.items c.push_reserved.new.self.items (g.W.Timers.dues inside.timers) (g.W.Timers.dues c.act-last.new.timers) inside.ids c.act-last.new.ids
+    c.self.invariant a.last a.early (search rules)
+    (subst (λ (ss : List Running). CanHappen (configs_of ss) c.args.event) (sym (ap (λ (s : Shard). s.sessions) c.self.view_is)) c.requires.can)
+    a.sessions a.sound a.dues c.push_reserved.ensures.items a.ids
 
 pub returns-clause-configs : goal.returns-clause-configs
 returns-clause-configs g c =
@@ -59,3 +59,6 @@ returns-clause-exact g c =
 
 pub returns-clause-kept : goal.returns-clause-kept
 returns-clause-kept g c = (invariant_of-self g c).shown
+
+pub returns-clause-stood : goal.returns-clause-stood
+returns-clause-stood g c = subst IsShard c.self.view_is c.self.invariant.shown
