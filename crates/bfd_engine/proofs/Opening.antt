@@ -1,5 +1,5 @@
 -- Shards that are opened one after another.
-use Rattle.std.proofs.Common.{◌≡◌, ◌≢◌, ℕ, zero, suc, ◌+◌, ◌<◌, ◌≤◌, List, [], ◌∷◌, ◌++◌, length, map, length-append, Option, Some, None, slice_get, get_or, Result, Ok, Err, IfOk, refl, ap, sym, ◌∙◌, subst, arith}
+use Rattle.std.proofs.Common.{◌≡◌, ℕ, zero, suc, ◌<◌, ◌≤◌, List, [], ◌∷◌, ◌++◌, length, map, length-append, Some, None, slice_get, get_or, Result, Ok, Err, IfOk, refl, ap, sym, ◌∙◌, subst, arith}
 use Rattle.std.specs.List.{AllByRecursion}
 use Rattle.std.proofs.lemmas.List.{map-append}
 use mathlib.Core.Logic.{dite}
@@ -8,13 +8,12 @@ use Rattle.bfd_demux.specs.Rows.{build_fault}
 use Rattle.bfd_session.specs.declared.event.SessionConfig.{SessionConfig}
 use Rattle.bfd_session.specs.Kinds.{Running, configs_of, discr_of}
 use Rattle.bfd_session.specs.Step.{IsFit, started}
-use Rattle.bfd_session.specs.Rows.{AreFit, rows_of, row_of_reflector, table_of}
+use Rattle.bfd_session.specs.Rows.{AreFit, table_of}
 use Rattle.bfd_sbfd.specs.declared.reflecting.Reflector.{Reflector}
 use Rattle.bfd_turn.specs.Passes.{TableId, opened}
 use Rattle.bfd_demux.specs.declared.row.Row.{Row}
 use Rattle.bfd_engine.specs.declared.kept.Base.{Base}
-use Rattle.bfd_engine.specs.Turned.{OfShard}
-use Rattle.bfd_engine.specs.Engines.{Shards, Held, Knows, AllOf, IsOf, AllThere, IsEngine, share, configs_at, base_at}
+use Rattle.bfd_engine.specs.Engines.{Shards, Held, AllOf, IsOf, AllThere, IsEngine, share, configs_at}
 use Rattle.bfd_engine.specs.Calls.{seen_of, word_of, taken_of, made_of, kept_of}
 use Rattle.bfd_engine.specs.Opening.{IsSorted, IsNewPass, opened_base, IsNewShard, MayOpen, ArePassed, IsOpened, AreOpened}
 use Rattle.bfd_engine.proofs.Places.{K, within, last_here, front_here, same_some, same_held}
@@ -23,7 +22,9 @@ use Rattle.bfd_engine.proofs.Tables.{few_rows, ascending, pool_ascending}
 
 pub none_opened : (limit : ℕ) (locks : List TableId) (passes : List Held) (sizes : List ℕ) → locks ≡ [] → passes ≡ [] → sizes ≡ [] → AreOpened limit [] locks passes sizes
 none_opened limit locks passes sizes e f g = record {
-  locks_long = ap length e; passes_long = ap length f; sizes_long = ap length g;
+  locks_long = ap length e;
+  passes_long = ap length f;
+  sizes_long = ap length g;
   each = λ k configs h. absurd (let i = within [] k configs h in omega (arith, i));
 }
 
@@ -37,20 +38,20 @@ more_opened limit parts part locks locks2 passes passes2 sizes sizes2 lock pass 
   sizes_long = (let a = o.sizes_long in omega (arith, ap length g, length-append sizes (size ∷ []), length-append parts (part ∷ []), a));
   each = λ k configs h. dite (ℕ_discrete k (length parts))
       (λ here.
-          let same : part ≡ configs = same_some part configs (sym (last_here parts part k here) ∙ h) in record {
-            id = lock;
-            lock_is = ap (λ xs. slice_get xs k) e ∙ last_here locks lock k (here ∙ sym o.locks_long);
-            pass_is = ap (λ xs. slice_get xs k) f ∙ (last_here passes (Some pass) k (here ∙ sym o.passes_long) ∙ (ap (λ p. Some (Some p)) new ∙ ap (λ cs. Some (Some (lock, opened (opened_base limit cs) 0))) same));
-            size_is = ap (λ xs. slice_get xs k) g ∙ (last_here sizes size k (here ∙ sym o.sizes_long) ∙ (ap Some is ∙ ap (λ cs. Some (length cs)) same));
-          })
+      let same : part ≡ configs = same_some part configs (sym (last_here parts part k here) ∙ h) in record {
+        id = lock;
+        lock_is = ap (λ xs. slice_get xs k) e ∙ last_here locks lock k (here ∙ sym o.locks_long);
+        pass_is = ap (λ xs. slice_get xs k) f ∙ (last_here passes (Some pass) k (here ∙ sym o.passes_long) ∙ (ap (λ p. Some (Some p)) new ∙ ap (λ cs. Some (Some (lock, opened (opened_base limit cs) 0))) same));
+        size_is = ap (λ xs. slice_get xs k) g ∙ (last_here sizes size k (here ∙ sym o.sizes_long) ∙ (ap Some is ∙ ap (λ cs. Some (length cs)) same));
+      })
       (λ other.
-          let inside : k < length parts = (let i = within (parts ++ part ∷ []) k configs h in omega (arith, i, length-append parts (part ∷ []))) in
-          let old : IsOpened limit configs (slice_get locks k) (slice_get passes k) (slice_get sizes k) = o.each k configs (sym (front_here parts part k inside) ∙ h) in record {
-            id = old.id;
-            lock_is = ap (λ xs. slice_get xs k) e ∙ (front_here locks lock k (let a = o.locks_long in omega (arith, a, inside)) ∙ old.lock_is);
-            pass_is = ap (λ xs. slice_get xs k) f ∙ (front_here passes (Some pass) k (let a = o.passes_long in omega (arith, a, inside)) ∙ old.pass_is);
-            size_is = ap (λ xs. slice_get xs k) g ∙ (front_here sizes size k (let a = o.sizes_long in omega (arith, a, inside)) ∙ old.size_is);
-          });
+      let inside : k < length parts = (let i = within (parts ++ part ∷ []) k configs h in omega (arith, i, length-append parts (part ∷ []))) in
+      let old : IsOpened limit configs (slice_get locks k) (slice_get passes k) (slice_get sizes k) = o.each k configs (sym (front_here parts part k inside) ∙ h) in record {
+        id = old.id;
+        lock_is = ap (λ xs. slice_get xs k) e ∙ (front_here locks lock k (let a = o.locks_long in omega (arith, a, inside)) ∙ old.lock_is);
+        pass_is = ap (λ xs. slice_get xs k) f ∙ (front_here passes (Some pass) k (let a = o.passes_long in omega (arith, a, inside)) ∙ old.pass_is);
+        size_is = ap (λ xs. slice_get xs k) g ∙ (front_here sizes size k (let a = o.sizes_long in omega (arith, a, inside)) ∙ old.size_is);
+      });
 }
 
 -- the same where a part is a vector

@@ -1,5 +1,5 @@
 -- Passes at their places.
-use Rattle.std.proofs.Common.{◌≡◌, ◌≢◌, ℕ, zero, suc, ◌+◌, ◌<◌, ◌≤◌, List, [], ◌∷◌, ◌++◌, length, set, length-set, Option, Some, None, slice_get, refl, ap, sym, ◌∙◌, arith}
+use Rattle.std.proofs.Common.{◌≡◌, ◌≢◌, ℕ, zero, suc, ◌<◌, List, [], ◌∷◌, ◌++◌, length, set, length-set, Option, Some, None, slice_get, refl, ap, sym, ◌∙◌, arith}
 use mathlib.Core.Logic.{dite}
 use native.Mathlib.Decide.{ℕ_discrete}
 use Rattle.bfd_turn.specs.Passes.{TableId}
@@ -51,11 +51,11 @@ of_set engine ps at p q here same base of = record {
   long = length-set ps at (Some q) ∙ of.long;
   lock = λ k r e. dite (ℕ_discrete k at)
       (λ is. let qr : q ≡ r = same_held q r (slice_get (set ps at (Some q)) at) (set_here ps at (Some q) (within ps at (Some p) here)) (ap (slice_get (set ps at (Some q))) (sym is) ∙ e) in
-          ap (slice_get engine.locks) is ∙ (of.lock at p here ∙ ap Some (sym same ∙ ap (λ (x : K). x.0) qr)))
+      ap (slice_get engine.locks) is ∙ (of.lock at p here ∙ ap Some (sym same ∙ ap (λ (x : K). x.0) qr)))
       (λ other. of.lock k r (sym (set_else ps at k (Some q) other) ∙ e));
   base_is = λ k r e. dite (ℕ_discrete k at)
       (λ is. let qr : q ≡ r = same_held q r (slice_get (set ps at (Some q)) at) (set_here ps at (Some q) (within ps at (Some p) here)) (ap (slice_get (set ps at (Some q))) (sym is) ∙ e) in
-          ap (λ (x : K). x.1.base) (sym qr) ∙ (base ∙ (of.base_is at p here ∙ ap (λ s. Some (base_at engine s)) (sym is))))
+      ap (λ (x : K). x.1.base) (sym qr) ∙ (base ∙ (of.base_is at p here ∙ ap (λ s. Some (base_at engine s)) (sym is))))
       (λ other. of.base_is k r (sym (set_else ps at k (Some q) other) ∙ e));
 }
 

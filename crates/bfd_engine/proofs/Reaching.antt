@@ -1,5 +1,5 @@
 -- An arrival that fails no test of a table with reflectors is for a session that takes it, or for a reflector.
-use Rattle.std.proofs.Common.{◌≡◌, ◌≢◌, ◌<◌, ◌*◌, ◌+◌, ◌/◌, ◌%◌, ◌==◌, ◌++◌, ◌&&◌, ℕ, zero, suc, Bool, true, false, List, [], ◌∷◌, length, map, refl, sym, ap, ◌∙◌, subst, Option, None, Some, arith, if◌then◌else◌, append-nil}
+use Rattle.std.proofs.Common.{◌≡◌, ◌<◌, ◌/◌, ◌%◌, ◌==◌, ◌++◌, ◌&&◌, ℕ, zero, suc, Bool, true, false, List, [], ◌∷◌, length, map, refl, sym, ap, ◌∙◌, subst, Option, None, Some, if◌then◌else◌, append-nil}
 use Rattle.std.specs.Prelude.{slice_get, unwrap_or, nat_lt}
 use Rattle.std.specs.List.{filter}
 use Rattle.std.specs.Option.{option_map}
@@ -11,19 +11,17 @@ use Rattle.bfd_packet.specs.Layout.{fields_of, word_at}
 use Rattle.bfd_demux.specs.declared.row.Row.{Row}
 use Rattle.bfd_demux.specs.declared.target.Target.{Target}
 use Rattle.bfd_demux.specs.declared.target.Target.TheVariants.{Session, Reflector as ToReflector, Echo}
-use Rattle.bfd_demux.specs.Table.{how_many}
 use Rattle.bfd_demux.specs.Selection.{first_header_failing, names_on, is_multipoint, only, the_one, is_session, session_index, target_on, target_of}
 use Rattle.bfd_sbfd.specs.declared.reflecting.Reflector.{Reflector}
 use Rattle.bfd_session.specs.declared.event.SessionConfig.{SessionConfig}
 use Rattle.bfd_session.specs.declared.event.Event.{Event}
 use Rattle.bfd_session.specs.declared.event.Event.TheVariants.{Packet, Returned}
 use Rattle.bfd_session.specs.Kinds.{Running, configs_of}
-use Rattle.bfd_session.specs.Step.{CanTake, started}
+use Rattle.bfd_session.specs.Step.{started}
 use Rattle.bfd_session.specs.Rows.{Ascends, rows_of, row_of_reflector, table_of}
 use Rattle.bfd_session.specs.Reaching.{Stands, Reaches}
 use Rattle.bfd_session.proofs.Reach.{reaches}
-use Rattle.bfd_shard.specs.Shard.{IsTaken, CanHappen}
-use Rattle.bfd_shard.specs.declared.entry.ShardEvent.TheVariants.{Own}
+use Rattle.bfd_shard.specs.Shard.{IsTaken}
 use Rattle.bfd_engine.specs.Engines.{Shards, share, configs_at}
 use Rattle.bfd_engine.specs.Inside.{Arrives}
 use Rattle.bfd_engine.proofs.Sharing.{share_at}

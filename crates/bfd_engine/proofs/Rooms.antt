@@ -1,7 +1,6 @@
 -- The room that an event asks for, by a shard's configurations and by its sessions.
-use Rattle.std.proofs.Common.{◌≡◌, ◌≤◌, ◌*◌, ◌∙◌, ℕ, List, sym, ap, refl, arith, length, Option, Some}
+use Rattle.std.proofs.Common.{◌≡◌, ◌*◌, ◌∙◌, ℕ, List, sym, ap, refl, Option, Some}
 use Rattle.std.proofs.lemmas.List.{length-map}
-use Rattle.bfd_session.specs.declared.event.SessionConfig.{SessionConfig}
 use Rattle.bfd_session.specs.Kinds.{Running, configs_of}
 use Rattle.bfd_shard.specs.declared.entry.ShardEvent.{ShardEvent}
 use Rattle.bfd_shard.specs.declared.entry.ShardEvent.TheVariants.{Own, Tick}

@@ -1,6 +1,6 @@
 -- A list that is dealt out in turn.
-use Rattle.std.proofs.Common.{◌≡◌, ◌≢◌, ◌==◌, ℕ, zero, suc, ◌+◌, ◌-◌, ◌*◌, ◌<◌, ◌≤◌, List, [], ◌∷◌, ◌++◌, length, refl, ap, sym, ◌∙◌, append_assoc, append-nil, arith, Option, Some, None, if◌then◌else◌, subst}
-use Rattle.std.specs.Prelude.{slice_get, slice_index_or, nat_lt}
+use Rattle.std.proofs.Common.{◌≡◌, ◌≢◌, ◌==◌, ℕ, zero, suc, ◌+◌, ◌-◌, ◌*◌, ◌<◌, ◌≤◌, List, [], ◌∷◌, ◌++◌, length, refl, ap, sym, ◌∙◌, append_assoc, append-nil, arith, if◌then◌else◌}
+use Rattle.std.specs.Prelude.{slice_get, nat_lt}
 use Rattle.std.proofs.lemmas.Bool.Decides.{nat_tests}
 use Rattle.std.specs.List.{AllByRecursion}
 use Rattle.bfd_engine.specs.Engines.{share}
@@ -77,8 +77,10 @@ module _ {A : Type 0} where
       → Shares n next r part left all → Shares n next2 r part2 rest all
   shares_own n next next2 r x part part2 rest left all split at within is pushed s =
       let g : gap n next2 r ≡ n - 1 = grind (arith, nat_tests) in
-      record { whole = ap (λ p. p ++ share n (gap n next2 r) rest) pushed ∙ (ap (λ i. (part ++ x ∷ []) ++ share n i rest) g
-          ∙ (append_assoc part (x ∷ []) (share n (n - 1) rest) ∙ (ap (λ l. part ++ l) (sym (share_here n next r x rest at)) ∙ (ap (λ l. part ++ share n (gap n next r) l) (sym split) ∙ s.whole)))) }
+      record {
+        whole = ap (λ p. p ++ share n (gap n next2 r) rest) pushed ∙ (ap (λ i. (part ++ x ∷ []) ++ share n i rest) g
+            ∙ (append_assoc part (x ∷ []) (share n (n - 1) rest) ∙ (ap (λ l. part ++ l) (sym (share_here n next r x rest at)) ∙ (ap (λ l. part ++ share n (gap n next r) l) (sym split) ∙ s.whole))));
+      }
 
   pub shares_other : (n next next2 r : ℕ) (x : A) (part part2 rest left all : List A) → left ≡ x ∷ rest → r ≢ next → r < n → next < n → next2 ≡ (if next + 1 == n then 0 else next + 1) → part2 ≡ part
       → Shares n next r part left all → Shares n next2 r part2 rest all

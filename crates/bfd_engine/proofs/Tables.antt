@@ -1,18 +1,17 @@
 -- Rows that make a table differ in their discriminators.
-use Rattle.std.proofs.Common.{◌≡◌, ◌<◌, ◌≤◌, ◌==◌, ◌++◌, ◌+◌, ℕ, suc, Bool, true, false, List, [], ◌∷◌, length, map, refl, sym, ap, ◌∙◌, subst, Option, None, Some, arith, if◌then◌else◌}
+use Rattle.std.proofs.Common.{◌≡◌, ◌<◌, ◌≤◌, ◌==◌, ◌++◌, ◌+◌, ℕ, Bool, true, false, List, [], ◌∷◌, length, map, refl, Option, None, Some, arith, if◌then◌else◌}
 use Rattle.std.specs.Prelude.{nat_lt, position}
 use Rattle.std.specs.List.{position_from, AllByRecursion}
 use Rattle.std.specs.Option.{option_map, option_or}
 use Rattle.std.proofs.lemmas.Bool.Decides.{nat_tests}
 use Rattle.bfd_demux.specs.declared.row.Row.{Row}
 use Rattle.bfd_demux.specs.declared.fault.BuildFault.{BuildFault}
-use Rattle.bfd_demux.specs.declared.fault.BuildFault.TheVariants.{SameDiscr, SameAddresses, ZeroDiscr, TooMany}
-use Rattle.bfd_demux.specs.Rows.{same_discr, same_addresses, repeat_after, first_repeat, pair_fault, early_fault, build_fault}
+use Rattle.bfd_demux.specs.declared.fault.BuildFault.TheVariants.{SameDiscr, ZeroDiscr, TooMany}
+use Rattle.bfd_demux.specs.Rows.{same_discr, repeat_after, first_repeat, pair_fault, early_fault, build_fault}
 use Rattle.bfd_session.specs.declared.event.SessionConfig.{SessionConfig}
 use Rattle.bfd_session.specs.declared.event.SessionConfig.TheVariants.{Pair}
 use Rattle.bfd_session.specs.Kinds.{discr_of}
 use Rattle.bfd_session.specs.Rows.{Ascends, row_of, rows_of, row_of_reflector, table_of}
-use Rattle.bfd_session.proofs.Places.{row_discr}
 use Rattle.bfd_sbfd.specs.declared.reflecting.Reflector.{Reflector}
 use Rattle.bfd_sbfd.specs.Reflect.{Ascends as PoolAscends}
 use Rattle.bfd_engine.specs.Opening.{Climbs}

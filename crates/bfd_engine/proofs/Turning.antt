@@ -1,22 +1,19 @@
 -- What one turn of a shard leaves of a caller's passes.
-use Rattle.std.proofs.Common.{◌≡◌, ◌≢◌, ℕ, ◌+◌, ◌<◌, ◌≤◌, List, [], ◌∷◌, ◌++◌, length, set, Option, Some, None, Result, Ok, Err, IfOk, IfErr, OnErr, slice_get, refl, ap, sym, ◌∙◌, subst, append-nil, arith}
+use Rattle.std.proofs.Common.{◌≡◌, ◌≢◌, ℕ, List, [], ◌∷◌, ◌++◌, length, set, Option, Some, Result, Ok, Err, IfOk, IfErr, OnErr, slice_get, refl, ap, sym, ◌∙◌, subst, append-nil, arith}
 use mathlib.Core.Logic.{dite}
 use native.Mathlib.Decide.{ℕ_discrete}
 use Rattle.bfd_rules.specs.Course.{Outputs}
 use Rattle.bfd_rules.specs.declared.outputs.Out.{Out}
 use Rattle.bfd_session.specs.declared.event.Answer.{Answer}
-use Rattle.bfd_session.specs.declared.event.SessionConfig.{SessionConfig}
 use Rattle.bfd_shard.specs.declared.entry.Entry.{Entry}
 use Rattle.bfd_shard.specs.declared.entry.ShardEvent.{ShardEvent}
 use Rattle.bfd_turn.specs.Lists.{calls}
-use Rattle.bfd_turn.specs.Passes.{TableId}
-use Rattle.bfd_engine.specs.declared.kept.Base.{Base}
 use Rattle.bfd_engine.specs.declared.turn.TurnFault.{TurnFault}
 use Rattle.bfd_engine.specs.declared.turn.TurnFault.TheVariants.{Memory, Full, Spent}
 use Rattle.bfd_engine.specs.declared.fault.EngineFault.{EngineFault}
-use Rattle.bfd_engine.specs.Turned.{OfShard, by, entry_of, configs_in, limit_in, given_after, IsSame, HasTurned, HasLooked, IsCause as IsTurnCause}
+use Rattle.bfd_engine.specs.Turned.{by, entry_of, configs_in, limit_in, given_after, IsSame, HasTurned, HasLooked, IsCause as IsTurnCause}
 use Rattle.bfd_engine.specs.Engines.{Shards, Held, Knows, base_at, configs_at}
-use Rattle.bfd_engine.specs.Calls.{seen_of, seen_at, word_of, word_at, taken_of, taken_at, made_of, made_at, kept_of, kept_at, Turned, IsCause, fault_of, Turns, IsCall, IsFailed, IsDone}
+use Rattle.bfd_engine.specs.Calls.{seen_of, seen_at, word_of, taken_of, made_of, kept_of, Turned, IsCause, fault_of, IsCall, IsFailed}
 use Rattle.bfd_engine.proofs.Places.{K, within, set_here, set_else}
 
 at_place : (k l : Knows) (s : ℕ) (p q : K) → slice_get k.1 s ≡ Some (Some p) → l ≡ (k.0, set k.1 s (Some q)) → slice_get l.1 s ≡ Some (Some q)
@@ -64,7 +61,6 @@ failed engine k l s p q outs outs2 fault here is num same looked told cause = re
   told = told;
   cause = cause;
 }
-
 
 fault_by : (engine : Shards) (k l : Knows) (s : ℕ) (p q : K) (outs outs2 : List Out) (fault : TurnFault) → slice_get k.1 s ≡ Some (Some p) → p.1.base ≡ Some (base_at engine s)
     → l ≡ (k.0, set k.1 s (Some q)) → p.1.number ≡ k.0 → IsSame p.1 q.1 → HasLooked p.1 q.1 → IsTurnCause fault q.1 → outs2 ≡ outs

@@ -1,6 +1,5 @@
 -- What clauses see of an engine, and of a caller's pass over its shards.
-use Rattle.std.specs.Prelude.{ℕ, zero, suc, ◌≡◌, ◌≤◌, ◌<◌, ◌-◌, List, [], ◌∷◌, length, map, slice_get, Option, None, Some}
-use Rattle.std.specs.List.{AllByRecursion}
+use Rattle.std.specs.Prelude.{ℕ, zero, suc, ◌≡◌, ◌≤◌, ◌<◌, ◌-◌, List, [], ◌∷◌, length, map, slice_get, Option, Some}
 use Rattle.bfd_turn.specs.Passes.{TableId}
 use Rattle.bfd_demux.specs.declared.row.Row.{Row}
 use Rattle.bfd_sbfd.specs.declared.reflecting.Reflector.{Reflector}
@@ -8,8 +7,6 @@ use Rattle.bfd_sbfd.specs.Reflect.{Ascends as PoolAscends}
 use Rattle.bfd_session.specs.declared.event.SessionConfig.{SessionConfig}
 use Rattle.bfd_session.specs.Kinds.{discr_of}
 use Rattle.bfd_session.specs.Rows.{Ascends, table_of}
-use Rattle.bfd_turn.specs.declared.view.Known.{Known}
-use Rattle.bfd_shard.specs.declared.entry.Entry.{Entry}
 use Rattle.bfd_engine.specs.declared.kept.Base.{Base}
 use Rattle.bfd_engine.specs.Turned.{OfShard}
 

@@ -1,5 +1,5 @@
 -- What the parts of an engine hand to one another.
-use Rattle.std.specs.Prelude.{ℕ, List}
+use Rattle.std.specs.Prelude.{List}
 use Rattle.bfd_packet.specs.declared.arrival.Arrival.{Arrival}
 use Rattle.bfd_demux.specs.declared.target.Target.{Target}
 use Rattle.bfd_demux.specs.declared.target.Target.TheVariants.{Session, Reflector, Echo}

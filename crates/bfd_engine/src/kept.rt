@@ -21,6 +21,7 @@ pub struct Kept<W: Timers> {
 
 impl<W: Timers> Recorded for Kept<W> {
     type Note = Entry;
+
     type Base = Base;
 
     ghost use Rattle.bfd_session.specs.Kinds.{configs_of};

@@ -24,4 +24,3 @@ pub use engine::Engine;
 pub use fault::{EngineFault, OpenFault};
 pub use kept::{Base, Kept};
 pub use pass::EnginePass;
-

@@ -34,7 +34,9 @@ fn row_of_reflector(reflector: &Reflector) -> Row
 fn reflector_rows(alloc: Global, pool: &[Reflector]) -> Result<Vec<Row>, AllocError>
     ensures { IfOk result (λ list. list.items ≡ map rows.row_of_reflector pool.now) }
 {
-    pool.iter().map(|reflector| row_of_reflector(reflector)).collect(alloc)
+    pool.iter()
+        .map(|reflector| row_of_reflector(reflector))
+        .collect(alloc)
 }
 
 /// The rows of the sessions, and then of the reflectors.
@@ -59,11 +61,7 @@ fn discrs_of(alloc: Global, configs: &[SessionConfig]) -> Result<Vec<u32>, Alloc
 }
 
 /// The table of the sessions and reflectors, or what is wrong with it.
-fn plan(
-    alloc: Global,
-    configs: &[SessionConfig],
-    pool: &[Reflector],
-) -> Result<Demux, OpenFault>
+fn plan(alloc: Global, configs: &[SessionConfig], pool: &[Reflector]) -> Result<Demux, OpenFault>
     ensures { MatchResult result (λ demux. (demux ≡ table_of configs.now pool.now) × (build_fault (table_of configs.now pool.now) ≡ None)) (IsOpenFault (table_of configs.now pool.now)) }
 {
     let Ok(list) = table(alloc, configs, pool) else {

@@ -1,5 +1,5 @@
 -- One shard more.
-use Rattle.std.proofs.Common.{rules, ◌≡◌, ◌∷◌, ◌++◌, [], map, ap, sym, subst, ◌∙◌, append_assoc}
+use Rattle.std.proofs.Common.{rules, ◌∷◌, ◌++◌, [], map, ap, sym, subst, ◌∙◌, append_assoc}
 use Rattle.bfd_engine.specs.Opening.{ArePassed}
 use Rattle.bfd_engine.proofs.Opening.{more_parts}
 use Rattle.bfd_engine.proofs.open.open_shards.Goals as goal

@@ -1,4 +1,4 @@
-use Rattle.std.proofs.Common.{◌≡◌, ◌++◌, length, map}
+use Rattle.std.proofs.Common.{◌≡◌, ◌++◌, map}
 use Rattle.bfd_engine.specs.Opening.{ArePassed, AreOpened}
 use Rattle.bfd_engine.proofs.open.open_shards.Given as goal
 

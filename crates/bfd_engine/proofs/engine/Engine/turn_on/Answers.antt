@@ -1,5 +1,5 @@
 -- The turn's pass is put back in its place.
-use Rattle.std.proofs.Common.{◌≡◌, Some, None, slice_set, set-set, sym, ap, refl, ◌∙◌, subst}
+use Rattle.std.proofs.Common.{◌≡◌, Some, slice_set, set-set, sym, ap, refl, subst}
 use Rattle.bfd_engine.specs.Engines.{Knows, IsOf, AllThere}
 use Rattle.bfd_engine.proofs.Places.{of_set, there_set}
 use Rattle.bfd_engine.proofs.Turning.{call_done, fault_done}
