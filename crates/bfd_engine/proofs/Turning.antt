@@ -66,7 +66,8 @@ fault_by : (engine : Shards) (k l : Knows) (s : ℕ) (p q : K) (outs outs2 : Lis
     → l ≡ (k.0, set k.1 s (Some q)) → p.1.number ≡ k.0 → IsSame p.1 q.1 → HasLooked p.1 q.1 → IsTurnCause fault q.1 → outs2 ≡ outs
     → IsFailed engine s k l outs outs2 (fault_of s fault)
 fault_by engine k l s p q outs outs2 Memory here base is num same looked cause told =
-    failed engine k l s p q outs outs2 (fault_of s Memory) here is num same looked told tt
+    failed engine k l s p q outs outs2 (fault_of s Memory) here is num same looked told
+    (let a = ap (λ h. length (seen_of h)) (at_place k l s p q here is) in let b = limit_is engine s p q base same in omega (arith, a, b, cause))
 fault_by engine k l s p q outs outs2 (Full n) here base is num same looked cause told =
     failed engine k l s p q outs outs2 (fault_of s (Full n)) here is num same looked told
     (refl, cause.1 ∙ limit_is engine s p q base same, ap (λ h. length (seen_of h)) (at_place k l s p q here is) ∙ cause.0)

@@ -1,6 +1,6 @@
 -- What a call of an engine comes to, and what it leaves. A caller's pass is spoken of by total functions of the shard's
 -- number: where it has no pass of a shard they are empty or 0.
-use Rattle.std.specs.Prelude.{ℕ, ◌≡◌, ◌≢◌, ◌≤◌, ◌+◌, ◌/◌, ◌%◌, ◌++◌, List, [], ◌∷◌, length, slice_get, Option, None, Some, Result, Ok, Err}
+use Rattle.std.specs.Prelude.{ℕ, ◌≡◌, ◌≢◌, ◌≤◌, ◌<◌, ◌+◌, ◌/◌, ◌%◌, ◌++◌, List, [], ◌∷◌, length, slice_get, Option, None, Some, Result, Ok, Err}
 use Rattle.bfd_packet.specs.declared.arrival.Arrival.{Arrival}
 use Rattle.bfd_packet.specs.declared.arrival.Datagram.{Datagram}
 use Rattle.bfd_packet.specs.declared.discard.Test.{Test}
@@ -88,9 +88,10 @@ pub record Turned (k l : Knows) (shard : ℕ) (between new : List Entry) : Type 
   pub made : (r : ℕ) → made_at l r ≡ made_at k r
   pub kept : (r : ℕ) → kept_at l r ≡ kept_at k r
 
--- why a turn added no entry: the shard's journal that was seen is at its limit, or the lock's last word was met
+-- why a turn added no entry: no memory, with a journal below its limit; the shard's journal that was seen is at its limit; or the
+-- lock's last word was met
 abbrev pub IsCause : EngineFault → Shards → ℕ → Knows → Type 0
-IsCause Memory engine shard l = Unit {0}
+IsCause Memory engine shard l = length (seen_at l shard) < engine.limit
 IsCause (Full at n) engine shard l = (at ≡ shard) × (n ≡ engine.limit) × (length (seen_at l shard) ≡ n)
 IsCause (Spent at word) engine shard l = (at ≡ shard) × (word ≡ last_word) × (word_at l shard ≡ word)
 

@@ -1,5 +1,5 @@
 -- What one turn of a shard shows to the caller that took it.
-use Rattle.std.specs.Prelude.{ℕ, ◌≡◌, ◌≤◌, ◌+◌, ◌*◌, ◌++◌, List, [], ◌∷◌, length, Option, None, Some}
+use Rattle.std.specs.Prelude.{ℕ, ◌≡◌, ◌≤◌, ◌<◌, ◌+◌, ◌*◌, ◌++◌, List, [], ◌∷◌, length, Option, None, Some}
 use Rattle.bfd_rules.specs.declared.outputs.Out.{Out}
 use Rattle.bfd_session.specs.Alone.{Outcome}
 use Rattle.bfd_session.specs.declared.event.Answer.{Answer}
@@ -71,8 +71,9 @@ pub record HasLooked (p q : OfShard) : Type 0 where
   pub others : calls by p.number between ≡ []
   pub seen : q.seen ≡ p.seen ++ between
 
--- why a turn added no entry: the journal that was seen is at its limit, or the last word was met
+-- why a turn added no entry: no memory, with a journal below its limit; a journal that was seen to be at its limit; or the last
+-- word was met
 abbrev pub IsCause : TurnFault → OfShard → Type 0
-IsCause Memory q = Unit {0}
+IsCause Memory q = length q.seen < limit_in q.base
 IsCause (Full n) q = (length q.seen ≡ n) × (n ≡ limit_in q.base)
 IsCause (Spent word) q = (word ≡ last_word) × (q.word ≡ word)
