@@ -156,9 +156,10 @@ impl<W: Timers> ShardState<W> {
     }
 
     /// Makes room for one entry more in the journal, where it is below its limit. Nothing else changes, also where it is
-    /// refused, which it is only for want of memory.
+    /// refused, which it is only for want of memory, and only below the limit.
     pub fn prepare(&mut self) -> Result<(), AllocError>
         ensures ready { OnOk result (length self.new.journal < self.new.limit → 0 < self.new.room) }
+        ensures below { OnErr result (length self.new.journal < self.new.limit) }
         ensures sessions { self.new.sessions ≡ self.old.sessions }
         ensures last { self.new.last ≡ self.old.last }
         ensures journal { self.new.journal ≡ self.old.journal }

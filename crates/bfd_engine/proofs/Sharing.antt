@@ -1,0 +1,93 @@
+-- A list that is dealt out in turn.
+use Rattle.std.proofs.Common.{◌≡◌, ◌≢◌, ◌==◌, ℕ, zero, suc, ◌+◌, ◌-◌, ◌*◌, ◌<◌, ◌≤◌, List, [], ◌∷◌, ◌++◌, length, refl, ap, sym, ◌∙◌, append_assoc, append-nil, arith, if◌then◌else◌}
+use Rattle.std.specs.Prelude.{slice_get, nat_lt}
+use Rattle.std.proofs.lemmas.Bool.Decides.{nat_tests}
+use Rattle.std.specs.List.{AllByRecursion}
+use Rattle.bfd_engine.specs.Engines.{share}
+
+module _ {A : Type 0} where
+  none_at : (xs : List A) (p q : ℕ) → length xs ≡ 0 → slice_get xs p ≡ slice_get xs q
+  none_at [] zero zero h = refl
+  none_at [] zero (suc q) h = refl
+  none_at [] (suc p) zero h = refl
+  none_at [] (suc p) (suc q) h = refl
+  none_at (x ∷ xs) p q h = absurd (omega (arith, h))
+
+times_more : (p n : ℕ) → suc p * n ≡ p * n + n
+times_more p n = grind arith
+
+start_at : (n : ℕ) → 0 ≡ 0 * n + 0
+start_at n = grind arith
+
+next_at : (n p : ℕ) → 0 < n → suc (p * n + (n - 1)) ≡ suc p * n + 0
+next_at n p pos = let e = times_more p n in omega (arith, e, pos)
+
+skip_at : (a c : ℕ) → suc (a + c) ≡ a + suc c
+skip_at a c = omega arith
+
+module _ {A : Type 0} where
+  -- the element at a place of a share stands there in the whole list
+  pub share_at : (n c p : ℕ) (xs : List A) → 0 < n → slice_get (share n c xs) p ≡ slice_get xs (p * n + c)
+  unfolding share
+  share_at n c p [] pos = none_at [] p (p * n + c) refl
+  share_at n zero zero (x ∷ xs) pos = ap (slice_get (x ∷ xs)) (start_at n)
+  share_at n zero (suc p) (x ∷ xs) pos = share_at n (n - 1) p xs pos ∙ ap (slice_get (x ∷ xs)) (next_at n p pos)
+  share_at n (suc c) p (x ∷ xs) pos = share_at n c p xs pos ∙ ap (slice_get (x ∷ xs)) (skip_at (p * n) c)
+
+  pub all_share : (P : A → Type 0) (n c : ℕ) (xs : List A) → AllByRecursion P xs → AllByRecursion P (share n c xs)
+  unfolding share
+  all_share P n c [] h = tt
+  all_share P n zero (x ∷ xs) h = (h.0, all_share P n (n - 1) xs h.1)
+  all_share P n (suc c) (x ∷ xs) h = all_share P n c xs h.1
+
+  pub few_share : (n c : ℕ) (xs : List A) → length (share n c xs) ≤ length xs
+  unfolding share
+  few_share n c [] = omega arith
+  few_share n zero (x ∷ xs) = let r = few_share n (n - 1) xs in omega arith
+  few_share n (suc c) (x ∷ xs) = let r = few_share n c xs in omega arith
+
+  share_none : (n c : ℕ) (xs : List A) → xs ≡ [] → share n c xs ≡ []
+  unfolding share
+  share_none n c [] e = refl
+  share_none n c (x ∷ xs) e = cc
+
+-- how many are passed over before the shard's next, where `next` is the shard whose turn it is
+abbrev pub gap : ℕ → ℕ → ℕ → ℕ
+gap n next shard = if nat_lt shard next then shard + n - next else shard - next
+
+module _ {A : Type 0} where
+  -- the part so far, and what is to come of the rest, make up the whole share
+  pub record Shares (n next r : ℕ) (part rest all : List A) : Type 0 where
+    pub whole : part ++ share n (gap n next r) rest ≡ share n r all
+
+  share_here : (n next r : ℕ) (x : A) (rest : List A) → r ≡ next → share n (gap n next r) (x ∷ rest) ≡ x ∷ share n (n - 1) rest
+  unfolding share
+  share_here n next r x rest e = let g : gap n next r ≡ 0 = grind (arith, nat_tests) in ap (λ i. share n i (x ∷ rest)) g
+
+  share_past : (n next next2 r : ℕ) (x : A) (rest : List A) → gap n next r ≡ suc (gap n next2 r) → share n (gap n next r) (x ∷ rest) ≡ share n (gap n next2 r) rest
+  unfolding share
+  share_past n next next2 r x rest e = ap (λ i. share n i (x ∷ rest)) e
+
+  pub shares_none : (n r : ℕ) (part rest all : List A) → part ≡ [] → rest ≡ all → Shares n 0 r part rest all
+  shares_none n r part rest all e is =
+      let g : gap n 0 r ≡ r = grind (arith, nat_tests) in
+      record { whole = ap (λ p. p ++ share n (gap n 0 r) rest) e ∙ (ap (λ i. share n i rest) g ∙ ap (share n r) is) }
+
+  pub shares_own : (n next next2 r : ℕ) (x : A) (part part2 rest left all : List A) → left ≡ x ∷ rest → r ≡ next → next < n → next2 ≡ (if next + 1 == n then 0 else next + 1) → part2 ≡ part ++ x ∷ []
+      → Shares n next r part left all → Shares n next2 r part2 rest all
+  shares_own n next next2 r x part part2 rest left all split at within is pushed s =
+      let g : gap n next2 r ≡ n - 1 = grind (arith, nat_tests) in
+      record {
+        whole = ap (λ p. p ++ share n (gap n next2 r) rest) pushed ∙ (ap (λ i. (part ++ x ∷ []) ++ share n i rest) g
+            ∙ (append_assoc part (x ∷ []) (share n (n - 1) rest) ∙ (ap (λ l. part ++ l) (sym (share_here n next r x rest at)) ∙ (ap (λ l. part ++ share n (gap n next r) l) (sym split) ∙ s.whole))));
+      }
+
+  pub shares_other : (n next next2 r : ℕ) (x : A) (part part2 rest left all : List A) → left ≡ x ∷ rest → r ≢ next → r < n → next < n → next2 ≡ (if next + 1 == n then 0 else next + 1) → part2 ≡ part
+      → Shares n next r part left all → Shares n next2 r part2 rest all
+  shares_other n next next2 r x part part2 rest left all split off inside within is same s =
+      let g : gap n next r ≡ suc (gap n next2 r) = grind (arith, nat_tests) in
+      record { whole = ap (λ p. p ++ share n (gap n next2 r) rest) same ∙ (ap (λ l. part ++ l) (sym (share_past n next next2 r x rest g)) ∙ (ap (λ l. part ++ share n (gap n next r) l) (sym split) ∙ s.whole)) }
+
+  pub shares_all : (n next r : ℕ) (part rest all : List A) → rest ≡ [] → Shares n next r part rest all → part ≡ share n r all
+  shares_all n next r part rest all e s =
+      sym (ap (λ l. part ++ l) (share_none n (gap n next r) rest e) ∙ append-nil part) ∙ s.whole

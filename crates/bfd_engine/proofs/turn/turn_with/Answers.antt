@@ -1,0 +1,31 @@
+-- The room for the outputs.
+use Rattle.std.proofs.Common.{rules, sym, length, ◌<◌, ◌≡◌, ◌∙◌, ap, arith}
+use Rattle.bfd_engine.specs.Turned.{configs_in, limit_in, room_in}
+use Rattle.bfd_shard.specs.Shard.{room_for}
+use Rattle.bfd_engine.proofs.Rooms.{room_by}
+use Rattle.bfd_engine.proofs.turn.turn_with.Goals as goal
+
+pub apply-requires-clause-room : goal.apply-requires-clause-room
+apply-requires-clause-room g c =
+    let same : c.prepare.new.self.sessions ≡ c.in-Ok.turn.2.shard.sessions = c.prepare.ensures.sessions ∙ ap (λ k. k.shard.sessions) c.value-kept.ensures.value in
+    let is : room_in (configs_in c.args.pass.1.base) c.args.event ≡ room_for c.prepare.new.self.sessions c.args.event =
+    room_by c.prepare.new.self.sessions c.in-Ok.turn.2.shard.sessions c.in-Ok.turn.2.shard.limit c.args.pass.1.base c.args.event same c.in-Ok.ensures.1.base_is in
+    omega (arith, is, c.requires.room)
+
+pub returns-in-Ok-apply-clause-spare : goal.returns-in-Ok-apply-clause-spare
+returns-in-Ok-apply-clause-spare g c =
+    let same : c.prepare.new.self.sessions ≡ c.in-Ok.turn.2.shard.sessions = c.prepare.ensures.sessions ∙ ap (λ k. k.shard.sessions) c.value-kept.ensures.value in
+    let is : room_in (configs_in c.args.pass.1.base) c.args.event ≡ room_for c.prepare.new.self.sessions c.args.event =
+    room_by c.prepare.new.self.sessions c.in-Ok.turn.2.shard.sessions c.in-Ok.turn.2.shard.limit c.args.pass.1.base c.args.event same c.in-Ok.ensures.1.base_is in
+    omega (arith, is, c.in-Ok-apply.ensures.spare)
+
+pub returns-then-is_err-clause-fault : goal.returns-then-is_err-clause-fault
+returns-then-is_err-clause-fault g c =
+    let l = c.in-Ok.ensures.1 in
+    let kept : c.prepare.new.self.journal ≡ c.in-Ok.turn.2.shard.journal = c.prepare.ensures.journal ∙ ap (λ k. k.shard.journal) c.value-kept.ensures.value in
+    let seen : c.done.result.1.seen ≡ c.prepare.new.self.journal = ap (λ p. p.1.seen) c.done.ensures in
+    let bound : limit_in c.done.result.1.base ≡ c.prepare.new.self.limit =
+    ap (λ p. limit_in p.1.base) c.done.ensures ∙ (ap (λ w. limit_in w.base) l.same ∙ (ap limit_in (sym l.base_is)
+    ∙ (ap (λ k. k.shard.limit) (sym c.value-kept.ensures.value) ∙ sym c.prepare.ensures.limit))) in
+    let below : length c.prepare.new.self.journal < c.prepare.new.self.limit = search rules in
+    (record { between = l.adds.0; others = l.adds.2; seen = seen ∙ (kept ∙ l.adds.1) }, omega (arith, ap length seen, bound, below))

@@ -1,0 +1,79 @@
+-- What one turn of a shard shows to the caller that took it.
+use Rattle.std.specs.Prelude.{ℕ, ◌≡◌, ◌≤◌, ◌<◌, ◌+◌, ◌*◌, ◌++◌, List, [], ◌∷◌, length, Option, None, Some}
+use Rattle.bfd_rules.specs.declared.outputs.Out.{Out}
+use Rattle.bfd_session.specs.Alone.{Outcome}
+use Rattle.bfd_session.specs.declared.event.Answer.{Answer}
+use Rattle.bfd_session.specs.declared.event.SessionConfig.{SessionConfig}
+use Rattle.bfd_shard.specs.declared.entry.Entry.{Entry}
+use Rattle.bfd_shard.specs.declared.entry.ShardEvent.{ShardEvent}
+use Rattle.bfd_shard.specs.declared.entry.ShardEvent.TheVariants.{Own, Tick}
+use Rattle.bfd_shard.specs.History.{events_of, last_tick, runs, outcome_of}
+use Rattle.bfd_turn.specs.Lists.{calls}
+use Rattle.bfd_turn.specs.declared.view.Known.{Known}
+use Rattle.bfd_turn.specs.Passes.{last_word}
+use Rattle.bfd_engine.specs.declared.kept.Base.{Base}
+use Rattle.bfd_engine.specs.declared.turn.TurnFault.{TurnFault}
+use Rattle.bfd_engine.specs.declared.turn.TurnFault.TheVariants.{Memory, Full, Spent}
+
+-- what a pass knows of a shard
+abbrev pub OfShard : Type 0
+OfShard = Known Entry Base
+
+-- the caller that brought an entry
+abbrev pub by : Entry → ℕ
+by entry = entry.caller
+
+-- an entry
+abbrev pub entry_of : ℕ → ShardEvent → Entry
+entry_of caller event = record { caller = caller; event = event }
+
+-- the configurations of a shard's sessions
+abbrev pub configs_in : Option Base → List SessionConfig
+configs_in None = []
+configs_in (Some base) = base.configs
+
+-- how many entries its journal takes
+abbrev pub limit_in : Option Base → ℕ
+limit_in None = 0
+limit_in (Some base) = base.limit
+
+-- how many outputs an event may give in a shard of these sessions: five for an own event, five for each session at a tick
+abbrev pub room_in : List SessionConfig → ShardEvent → ℕ
+room_in configs (Own place moment event) = 5
+room_in configs (Tick t) = 5 * length configs
+
+-- the outputs and the answer of an event that comes after these entries, in a shard of sessions with these configurations
+abbrev pub given_after : List SessionConfig → List Entry → ShardEvent → Outcome
+given_after configs before event = outcome_of (last_tick (events_of before)) event (runs (events_of before) configs)
+
+-- what no turn of the shard changes in what the pass p knows, which is q after it; the word that it has met doesn't fall, and
+-- it has given back one turn at most
+pub record IsSame (p q : OfShard) : Type 0 where
+  pub number : q.number ≡ p.number
+  pub base_is : q.base ≡ p.base
+  pub made : q.made ≡ p.made
+  pub joined : q.joined ≡ p.joined
+  pub word : p.word ≤ q.word
+  pub taken : q.taken ≤ p.taken + 1
+
+-- q has seen what p had, then entries of other callers alone, and last this very event, of its own; the outputs that were
+-- appended and the answer are those of that last entry after the entries before it
+pub record HasTurned (p : OfShard) (event : ShardEvent) (q : OfShard) (outs outs2 : List Out) (answer : Answer) : Type 0 where
+  pub between : List Entry
+  pub others : calls by p.number between ≡ []
+  pub seen : q.seen ≡ (p.seen ++ between) ++ entry_of p.number event ∷ []
+  pub told : outs2 ≡ outs ++ (given_after (configs_in p.base) (p.seen ++ between) event).items
+  pub answered : answer ≡ (given_after (configs_in p.base) (p.seen ++ between) event).answer
+
+-- q has seen what p had, and then entries of other callers alone
+pub record HasLooked (p q : OfShard) : Type 0 where
+  pub between : List Entry
+  pub others : calls by p.number between ≡ []
+  pub seen : q.seen ≡ p.seen ++ between
+
+-- why a turn added no entry: no memory, with a journal below its limit; a journal that was seen to be at its limit; or the last
+-- word was met
+abbrev pub IsCause : TurnFault → OfShard → Type 0
+IsCause Memory q = length q.seen < limit_in q.base
+IsCause (Full n) q = (length q.seen ≡ n) × (n ≡ limit_in q.base)
+IsCause (Spent word) q = (word ≡ last_word) × (q.word ≡ word)

@@ -1,0 +1,166 @@
+//! Opening an engine.
+ghost use Rattle.std.specs.Prelude.{◌≡◌, ◌≤◌, ◌<◌, None, IfOk, MatchResult, length, map, slice_index_or, []};
+ghost use Rattle.bfd_demux.specs.Rows.{build_fault};
+ghost use Rattle.bfd_session.specs.Kinds.{discr_of};
+ghost use Rattle.bfd_session.specs.Rows as rows;
+ghost use Rattle.bfd_session.specs.Rows.{AreFit, table_of};
+ghost use Rattle.bfd_engine.specs.Opening.{IsSorted, IsNewPass, IsOpenFault, IsNewShard, ArePassed, AreOpened};
+
+use crate::dealing::deal;
+use crate::engine::Engine;
+use crate::fault::OpenFault;
+use crate::kept::{Base, Kept};
+use crate::pass::EnginePass;
+use bfd_demux::{BuildFault, Demux, Row, RowKind};
+use bfd_sbfd::Reflector;
+use bfd_session::{SessionConfig, rows_of};
+use bfd_shard::{Entry, ShardState};
+use bfd_turn::{Pass, TurnLock};
+use bfd_wheel::Timers;
+use std::alloc::{AllocError, Global};
+use std::snapshot::Snapshot;
+
+/// The row of a reflector.
+fn row_of_reflector(reflector: &Reflector) -> Row
+    ensures { result ≡ rows.row_of_reflector reflector.now }
+{
+    Row {
+        discr: reflector.discr,
+        kind: RowKind::Reflect,
+    }
+}
+
+/// The rows of the reflectors, in their order.
+fn reflector_rows(alloc: Global, pool: &[Reflector]) -> Result<Vec<Row>, AllocError>
+    ensures { IfOk result (λ list. list.items ≡ map rows.row_of_reflector pool.now) }
+{
+    pool.iter()
+        .map(|reflector| row_of_reflector(reflector))
+        .collect(alloc)
+}
+
+/// The rows of the sessions, and then of the reflectors.
+fn table(
+    alloc: Global,
+    configs: &[SessionConfig],
+    pool: &[Reflector],
+) -> Result<Vec<Row>, AllocError>
+    ensures { IfOk result (λ list. list.items ≡ table_of configs.now pool.now) }
+{
+    let mut list = rows_of(alloc, configs)?;
+    let mut reflectors = reflector_rows(alloc, pool)?;
+    list.append(&mut reflectors)?;
+    Ok(list)
+}
+
+/// The discriminators of the sessions.
+fn discrs_of(alloc: Global, configs: &[SessionConfig]) -> Result<Vec<u32>, AllocError>
+    ensures { IfOk result (λ list. list.items ≡ map discr_of configs.now) }
+{
+    configs.iter().map(|config| config.discr()).collect(alloc)
+}
+
+/// The table of the sessions and reflectors, or what is wrong with it.
+fn plan(alloc: Global, configs: &[SessionConfig], pool: &[Reflector]) -> Result<Demux, OpenFault>
+    ensures { MatchResult result (λ demux. (demux ≡ table_of configs.now pool.now) × (build_fault (table_of configs.now pool.now) ≡ None)) (IsOpenFault (table_of configs.now pool.now)) }
+{
+    let Ok(list) = table(alloc, configs, pool) else {
+        return Err(OpenFault::Memory);
+    };
+    match Demux::build(alloc, list.as_slice()) {
+        Ok(demux) => Ok(demux),
+        Err(BuildFault::Memory) => Err(OpenFault::Memory),
+        Err(fault) => Err(OpenFault::Build(fault)),
+    }
+}
+
+/// What the shards are opened as: their locks, the passes of caller 0, and how many sessions each has.
+type Opened<W> = (
+    Vec<TurnLock<Kept<W>>>,
+    Vec<Option<Pass<Entry, Base>>>,
+    Vec<usize>,
+);
+
+/// A shard of these sessions, behind its lock.
+fn open_shard<W: Timers>(
+    alloc: Global,
+    configs: Vec<SessionConfig>,
+    limit: usize,
+) -> Result<(TurnLock<Kept<W>>, Pass<Entry, Base>), AllocError>
+    requires few { length configs.items ≤ 65536 }
+    requires fit { AreFit configs.items }
+    ensures { IfOk result (λ r. IsNewShard limit configs.items r.0 r.1) }
+{
+    let shard = ShardState::make(alloc, configs, limit)?;
+    TurnLock::new(alloc, Kept { shard }, 0)
+}
+
+/// A shard for each part.
+fn open_shards<W: Timers>(
+    alloc: Global,
+    parts: Vec<Vec<SessionConfig>>,
+    limit: usize,
+) -> Result<Opened<W>, AllocError>
+    requires fit { ArePassed (map (λ q. q.items) parts.items) }
+    ensures { IfOk result (λ r. AreOpened limit (map (λ q. q.items) parts.items) r.0.items r.1.items r.2.items) }
+{
+    let mut locks = Vec::new(alloc);
+    let mut passes = Vec::new(alloc);
+    let mut sizes = Vec::new(alloc);
+    for part in parts {
+        let size = part.len();
+        let (lock, pass) = open_shard(alloc, part, limit)?;
+        locks.push(lock)?;
+        passes.push(Some(pass))?;
+        sizes.push(size)?;
+    }
+    Ok((locks, passes, sizes))
+}
+
+impl<W: Timers> Engine<W> {
+    /// An engine of 1 to 64 shards, and the pass of caller 0. The sessions and the reflectors each stand in ascending order of
+    /// discriminator, and each configuration is within its ranges. Session k of the list lives in shard k % shards, at place
+    /// k / shards, and each shard's journal takes `limit` entries.
+    ///
+    /// Build comes exactly where the rows of the sessions, and then of the reflectors, make no table, with what is wrong with
+    /// them; Memory for want of memory alone.
+    pub fn open(
+        alloc: Global,
+        configs: Vec<SessionConfig>,
+        pool: Vec<Reflector>,
+        shards: u32,
+        limit: usize,
+    ) -> Result<(Engine<W>, EnginePass), OpenFault>
+        requires shards { (0 < shards) × (shards ≤ 64) }
+        requires sorted { IsSorted configs.items pool.items }
+        requires fit { AreFit configs.items }
+        ensures shards { IfOk result (λ r. length r.0.locks ≡ shards) }
+        ensures configs { IfOk result (λ r. r.0.configs ≡ configs.items) }
+        ensures pool { IfOk result (λ r. r.0.pool ≡ pool.items) }
+        ensures limit { IfOk result (λ r. r.0.limit ≡ limit) }
+        ensures pass { IfOk result (λ r. IsNewPass r.0 r.1) }
+        ensures fault { MatchResult result (λ _. build_fault (table_of configs.items pool.items) ≡ None) (IsOpenFault (table_of configs.items pool.items)) }
+    {
+        let demux = plan(alloc, configs.as_slice(), pool.as_slice())?;
+        let Ok(discrs) = discrs_of(alloc, configs.as_slice()) else {
+            return Err(OpenFault::Memory);
+        };
+        let known = Snapshot::of(&configs);
+        let Ok(parts) = deal(alloc, configs, shards as usize) else {
+            return Err(OpenFault::Memory);
+        };
+        let Ok((locks, passes, sizes)) = open_shards(alloc, parts, limit) else {
+            return Err(OpenFault::Memory);
+        };
+        let engine = Engine {
+            locks,
+            demux,
+            pool,
+            discrs,
+            sizes,
+            limit,
+            configs: known,
+        };
+        Ok((engine, EnginePass { passes, number: 0 }))
+    }
+}
