@@ -1,9 +1,10 @@
 //! An initiator as its calls see it.
-ghost use Rattle.std.specs.Prelude.{◌≡◌, ◌<◌, ◌≤◌, ◌+◌, None, ℕ};
+ghost use Rattle.std.specs.Prelude.{◌≡◌, ◌<◌, ◌≤◌, ◌+◌, ◌^◌, None, ℕ};
 ghost use Rattle.std.specs.Result.{result_err};
 ghost use Rattle.std.specs.Option.{ForSome};
 ghost use Rattle.bfd_num.specs.Numbers.{moment_bound};
 ghost use Rattle.bfd_packet.specs.declared.arrival.Port.TheVariants.{Answer};
+ghost use Rattle.bfd_packet.specs.Layout.{fields_of};
 ghost use Rattle.bfd_packet.specs.HeaderTests.{first_failing};
 ghost use Rattle.bfd_rules.specs.Course.{course, begins as begins_of, stamped as stamped_of};
 ghost use Rattle.bfd_sbfd.specs.declared.config.SeekConfig.{SeekConfig as ConfigOf};
@@ -178,6 +179,7 @@ impl Initiator {
         ensures course { course self.new.vars mark.new outs.new.items
             ≡ receive.received self.old.config eff raw.now (course self.old.vars mark.old outs.old.items) }
         ensures verdict { result ≡ receive.verdict_on raw.now self.old.vars }
+        ensures sized { (fields_of raw.now).min_rx < 2 ^ 32 }
         ensures spare { outs.old.spare ≤ outs.new.spare + 1 }
         ensures room { outs.new.room ≡ outs.old.room }
     {

@@ -101,7 +101,8 @@ fn accepts(
 /// The fields of a packet that passes the header tests of the initiators' port.
 fn fields(raw: &[u8]) -> Control
     requires { first_failing Answer raw.now ≡ None }
-    ensures { result ≡ fields_of raw.now }
+    ensures fields { result ≡ fields_of raw.now }
+    ensures sized { result.min_rx < 2 ^ 32 }
 {
     match read(Port::Answer, raw) {
         Ok(packet) => packet,
@@ -126,6 +127,7 @@ pub fn receives(
     ensures steady { IsSeekSteady config.now vars.new }
     ensures course { (m : Mark) → course vars.new m outs.new.items ≡ receive.received config.now eff raw.now (course vars.old m outs.old.items) }
     ensures verdict { result ≡ receive.verdict_on raw.now vars.old }
+    ensures sized { (fields_of raw.now).min_rx < 2 ^ 32 }
     ensures spare { outs.old.spare ≤ outs.new.spare + 1 }
     ensures room { outs.new.room ≡ outs.old.room }
 {

@@ -3,7 +3,7 @@
 use Rattle.std.specs.Prelude.{ℕ, ◌||◌, Bool, false, Option, None, Some, List, [], ◌∷◌, ◌++◌, take, find}
 use Rattle.bfd_packet.specs.declared.arrival.Arrival.{Arrival}
 use Rattle.bfd_packet.specs.declared.discard.Test.{Test}
-use Rattle.bfd_packet.specs.declared.discard.Test.TheVariants.{AdminDown}
+use Rattle.bfd_packet.specs.declared.discard.Test.TheVariants.{AuthUnexpected, AdminDown}
 use Rattle.bfd_packet.specs.declared.keys.SeqState.{SeqState}
 use Rattle.bfd_packet.specs.KeyChain.{KeyChain}
 use Rattle.bfd_packet.specs.Layout.{fields_of}
@@ -17,7 +17,7 @@ use Rattle.bfd_p2p.specs.Receive as receive
 use Rattle.bfd_demux.specs.declared.row.Row.{Row}
 use Rattle.bfd_demux.specs.Selection.{is_multipoint, table_fails, tests_on_header, tests_on_table}
 use Rattle.bfd_session.specs.declared.event.SessionConfig.{SessionConfig}
-use Rattle.bfd_session.specs.declared.event.SessionConfig.TheVariants.{Pair}
+use Rattle.bfd_session.specs.declared.event.SessionConfig.TheVariants.{Pair, Seek, Head, Tail}
 use Rattle.bfd_session.specs.declared.event.Answer.{Answer}
 use Rattle.bfd_session.specs.declared.event.Answer.TheVariants.{Handled, Dropped}
 use Rattle.bfd_session.specs.Kinds.{Running}
@@ -38,13 +38,25 @@ pair_fails c v ttl raw test =
 abbrev pub pair_tests : List Test
 pair_tests = receive.session_tests ++ (section_tests ++ AdminDown ∷ [])
 
--- the sentence of each test of a session
+-- the sentence of each test of a session that uses no authentication and looks at no TTL
+abbrev pub plain_fails : Vars → List ℕ → Test → Bool
+plain_fails v raw AuthUnexpected = (fields_of raw).auth
+plain_fails v raw AdminDown = is_admin_down v.state
+plain_fails v raw test = false
+
+-- the sentence of each test of a session; no packet is a head's
 abbrev pub own_fails : SessionConfig → Vars → Arrival → Test → Bool
 own_fails (Pair c) v arrival test = pair_fails c v arrival.ttl arrival.payload test
+own_fails (Seek c) v arrival test = plain_fails v arrival.payload test
+own_fails (Head c) v arrival test = false
+own_fails (Tail c) v arrival test = plain_fails v arrival.payload test
 
--- the tests of a session
+-- the tests of a session: of an initiator (RFC 7880 section 7.3) and of a tail (RFC 8562 section 5.13) the A bit and AdminDown
 abbrev pub own_tests : SessionConfig → List Test
 own_tests (Pair c) = pair_tests
+own_tests (Seek c) = AuthUnexpected ∷ AdminDown ∷ []
+own_tests (Head c) = []
+own_tests (Tail c) = AuthUnexpected ∷ AdminDown ∷ []
 
 -- the first of them that fails
 abbrev pub first_own_failing : SessionConfig → Vars → Arrival → Option Test
@@ -70,7 +82,7 @@ test_of (Discarded test) = Some test
 
 -- the variables by which an own event's packet is judged: those after settling
 abbrev pub judging : ℕ → Running → Vars
-judging eff s = (settled s.config eff eff (begun (Some eff) s.vars [])).vars
+judging eff s = (settled s.config eff eff (begun (Some eff) s [])).course.vars
 
 -- the answer to a packet, by the first test of the session that fails
 abbrev pub answer_by : Option Test → Answer

@@ -1,5 +1,7 @@
 pub mod Kinds
+pub mod Echoing
 pub mod Due
+pub mod Showing
 pub mod Step
 pub mod Alone
 pub mod Rows

@@ -7,10 +7,10 @@ use Rattle.bfd_rules.specs.declared.config.Role.TheVariants.{Single, Multi}
 use Rattle.bfd_sbfd.specs.declared.reflecting.Reflector.{Reflector}
 use Rattle.bfd_demux.specs.declared.row.Row.{Row}
 use Rattle.bfd_demux.specs.declared.row.RowKind.{RowKind}
-use Rattle.bfd_demux.specs.declared.row.RowKind.TheVariants.{Single as SingleRow, Multi as MultiRow, Reflect as ReflectRow}
+use Rattle.bfd_demux.specs.declared.row.RowKind.TheVariants.{Single as SingleRow, Multi as MultiRow, Seek as SeekRow, Reflect as ReflectRow, Head as HeadRow, Tail as TailRow}
 use Rattle.bfd_demux.specs.Rows.{same_addresses}
 use Rattle.bfd_session.specs.declared.event.SessionConfig.{SessionConfig}
-use Rattle.bfd_session.specs.declared.event.SessionConfig.TheVariants.{Pair}
+use Rattle.bfd_session.specs.declared.event.SessionConfig.TheVariants.{Pair, Seek, Head, Tail}
 use Rattle.bfd_session.specs.Kinds.{discr_of}
 use Rattle.bfd_session.specs.Step.{IsFit}
 
@@ -19,9 +19,17 @@ abbrev pub kind_of : Role → ℕ → Addr → Addr → RowKind
 kind_of Single iface local remote = SingleRow iface local remote
 kind_of Multi iface local remote = MultiRow local remote
 
+-- what a session's packets are told by: an initiator's by Your Discriminator alone (RFC 7880 section 7.3), a tail's by the head,
+-- the interface, the group and the source (RFC 8562 section 5.7); a head has none
+abbrev pub row_kind : SessionConfig → RowKind
+row_kind (Pair c) = kind_of c.role c.iface c.local c.remote
+row_kind (Seek c) = SeekRow
+row_kind (Head c) = HeadRow
+row_kind (Tail c) = TailRow c.head c.iface c.group c.source
+
 -- the row of a session
 abbrev pub row_of : SessionConfig → Row
-row_of (Pair c) = record { discr = c.discr; kind = kind_of c.role c.iface c.local c.remote }
+row_of c = record { discr = discr_of c; kind = row_kind c }
 
 -- the rows of sessions, in their order
 abbrev pub rows_of : List SessionConfig → List Row
@@ -36,7 +44,7 @@ abbrev pub table_of : List SessionConfig → List Reflector → List Row
 table_of configs pool = rows_of configs ++ map row_of_reflector pool
 
 -- two sessions have the same selecting addresses: a packet without Your Discriminator can't tell them apart (RFC 5881
--- section 3, RFC 5883 section 4)
+-- section 3, RFC 5883 section 4, RFC 8562 section 5.7)
 abbrev pub same_selector : SessionConfig → SessionConfig → Bool
 same_selector c d = same_addresses (row_of c) (row_of d)
 

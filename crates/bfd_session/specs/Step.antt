@@ -1,55 +1,80 @@
 -- One event of a session: what has come due, the event's own rules, and the end of the event.
-use Rattle.std.specs.Prelude.{◌≡◌, ℕ, Bool, true, false, Option, None, Some, List, []}
+use Rattle.std.specs.Prelude.{◌≡◌, ◌<◌, ◌^◌, ◌↔◌, ℕ, Bool, true, false, Option, None, Some, IsSome, IsTrue, IfSome, List, []}
 use Rattle.bfd_packet.specs.declared.discard.Test.TheVariants.{EchoStale}
 use Rattle.bfd_packet.specs.declared.arrival.Arrival.{Arrival}
+use Rattle.bfd_packet.specs.declared.arrival.Port.{Port}
+use Rattle.bfd_packet.specs.declared.arrival.Port.TheVariants.{Single as SinglePort, Answer as AnswerPort}
+use Rattle.bfd_packet.specs.declared.control.Control.{Control}
 use Rattle.bfd_packet.specs.Layout.{fields_of}
 use Rattle.bfd_packet.specs.HeaderTests.{first_failing}
 use Rattle.bfd_rules.specs.declared.commands.Cmd.{Cmd}
-use Rattle.bfd_rules.specs.declared.commands.Cmd.TheVariants.{EchoEvery}
 use Rattle.bfd_rules.specs.declared.commands.Refusal.{Refusal}
 use Rattle.bfd_rules.specs.declared.config.Config.{Config}
 use Rattle.bfd_rules.specs.declared.outputs.Out.{Out}
-use Rattle.bfd_rules.specs.declared.variables.Poll.{Poll}
-use Rattle.bfd_rules.specs.declared.variables.Poll.TheVariants.{Idle, Wanted, Running as UnderWay}
 use Rattle.bfd_rules.specs.declared.variables.Vars.{Vars}
-use Rattle.bfd_rules.specs.Quantities.{adv_tx, detection_time}
 use Rattle.bfd_rules.specs.Course.{Course, course, begins, stamped}
 use Rattle.bfd_rules.specs.Sound as pair
 use Rattle.bfd_rules.specs.declared.verdict.Verdict.{Verdict}
 use Rattle.bfd_rules.specs.declared.verdict.Verdict.TheVariants.{Accepted, Dropped as Discarded}
 use Rattle.bfd_p2p.specs.Port.{port_of}
 use Rattle.bfd_p2p.specs.Settle as pair_settle
-use Rattle.bfd_p2p.specs.Receive.{IsSized, received, verdict_on}
-use Rattle.bfd_p2p.specs.Command.{commanded, refusal}
+use Rattle.bfd_p2p.specs.Receive as pair_receive
+use Rattle.bfd_p2p.specs.Command as pair_command
 use Rattle.bfd_p2p.specs.Finish as pair_finish
 use Rattle.bfd_p2p.specs.Machine as pair_machine
+use Rattle.bfd_sbfd.specs.Sound as seek
+use Rattle.bfd_sbfd.specs.Settle as seek_settle
+use Rattle.bfd_sbfd.specs.Receive as seek_receive
+use Rattle.bfd_sbfd.specs.Command as seek_command
+use Rattle.bfd_sbfd.specs.Finish as seek_finish
+use Rattle.bfd_sbfd.specs.Machine as seek_machine
+use Rattle.bfd_mp.specs.Sound as tree
+use Rattle.bfd_mp.specs.HeadSettle as head_settle
+use Rattle.bfd_mp.specs.HeadFinish as head_finish
+use Rattle.bfd_mp.specs.TailSettle as tail_settle
+use Rattle.bfd_mp.specs.TailReceive as tail_receive
+use Rattle.bfd_mp.specs.Command as tree_command
+use Rattle.bfd_mp.specs.Machine as tree_machine
+use Rattle.bfd_echo.specs.Rules.{HasMoments}
 use Rattle.bfd_session.specs.declared.event.SessionConfig.{SessionConfig}
-use Rattle.bfd_session.specs.declared.event.SessionConfig.TheVariants.{Pair}
+use Rattle.bfd_session.specs.declared.event.SessionConfig.TheVariants.{Pair, Seek, Head, Tail}
 use Rattle.bfd_session.specs.declared.event.Event.{Event}
 use Rattle.bfd_session.specs.declared.event.Event.TheVariants.{Packet, Returned, Command, Show}
 use Rattle.bfd_session.specs.declared.event.Answer.{Answer}
 use Rattle.bfd_session.specs.declared.event.Answer.TheVariants.{Handled, Dropped, Refused, Shown as Showing}
-use Rattle.bfd_session.specs.declared.event.Shown.{Shown}
-use Rattle.bfd_session.specs.Kinds.{Running}
-
--- a configuration of a point-to-point session within its ranges, with no Echo function, which isn't built
-pub record IsPairFit (c : Config) : Type 0 where
-  pub config : pair.IsConfig c
-  pub no_echo : c.echo ≡ 0
+use Rattle.bfd_session.specs.Kinds.{Running, Flow, flow, along, left_by}
+use Rattle.bfd_session.specs.Echoing.{should_echo, echoing, settles_echo, is_awaited, takes_back, turns_echo}
+use Rattle.bfd_session.specs.Showing.{shown}
 
 -- a configuration that a session may have
 abbrev pub IsFit : SessionConfig → Type 0
-IsFit (Pair c) = IsPairFit c
+IsFit (Pair c) = pair.IsConfig c
+IsFit (Seek c) = seek.IsSeekConfig c
+IsFit (Head c) = tree.IsHeadConfig c
+IsFit (Tail c) = tree.IsTailConfig c
 
--- a point-to-point session between events: sound variables, and no Echo function
+-- a point-to-point session between events: sound variables, and an Echo function exactly where one should run
 pub record IsPairSound (c : Config) (s : Running) : Type 0 where
   pub vars : pair.IsSound c s.vars
-  pub no_echo : s.echo ≡ None
+  pub echoes : IsSome s.echo ↔ IsTrue (should_echo c s.vars)
+  pub moments : IfSome s.echo HasMoments
+
+-- no other session has one
+pub record IsEcholess (s : Running) : Type 0 where
+  pub none : s.echo ≡ None
   pub none_sent : s.echo_next ≡ 0
+
+-- an initiator, a head and a tail between events
+pub record IsPlainSound (IsVars : Vars → Type 0) (s : Running) : Type 0 where
+  pub vars : IsVars s.vars
+  pub echoless : IsEcholess s
 
 -- a session between events
 abbrev pub sound_by : SessionConfig → Running → Type 0
 sound_by (Pair c) s = IsPairSound c s
+sound_by (Seek c) s = IsPlainSound (seek.IsSeekSound c) s
+sound_by (Head c) s = IsPlainSound tree.IsHeadSound s
+sound_by (Tail c) s = IsPlainSound (tree.IsTailSound c) s
 
 abbrev pub IsSound : Running → Type 0
 IsSound s = sound_by s.config s
@@ -57,107 +82,113 @@ IsSound s = sound_by s.config s
 -- the variables at the start
 abbrev pub made : SessionConfig → Vars
 made (Pair c) = pair_machine.made c
+made (Seek c) = seek_machine.made c
+made (Head c) = tree_machine.head_made c
+made (Tail c) = tree_machine.tail_made c
 
 -- a session at the start
 abbrev pub started : SessionConfig → Running
 started c = record { config = c; vars = made c; echo = None; echo_next = 0 }
 
--- a packet for a session of this configuration: it came on the session's port, passes the port's header tests and
--- has M clear; one with M set is for a tail (RFC 8562)
-pub record IsFor (c : Config) (arrival : Arrival) : Type 0 where
-  pub port : arrival.port ≡ port_of c.role
+-- a control packet on this port, with M set or clear, that passes the port's header tests
+pub record IsFor (on : Port) (set : Bool) (arrival : Arrival) : Type 0 where
+  pub port : arrival.port ≡ on
   pub header : first_failing arrival.port arrival.payload ≡ None
-  pub plain : (fields_of arrival.payload).multi ≡ false
+  pub multi : (fields_of arrival.payload).multi ≡ set
 
--- a command of the Echo function
-abbrev pub is_echo_command : Cmd → Bool
-is_echo_command (EchoEvery n) = true
-is_echo_command cmd = false
+-- a packet that a session may be handed: one with M set is for a tail (RFC 8562), and a head hears nothing
+abbrev pub TakesPacket : SessionConfig → Arrival → Type 0
+TakesPacket (Pair c) arrival = IsFor (port_of c.role) false arrival
+TakesPacket (Seek c) arrival = IsFor AnswerPort false arrival
+TakesPacket (Head c) arrival = ⊥
+TakesPacket (Tail c) arrival = IsFor SinglePort true arrival
 
--- an event that may be handed to a session: a packet is for it, and a command isn't one of the Echo function, which isn't
--- built
+-- an event that a session may be handed
 abbrev pub CanTake : SessionConfig → Event → Type 0
-CanTake (Pair c) (Packet arrival) = IsFor c arrival
-CanTake (Pair c) (Returned sequence) = Unit {0}
-CanTake (Pair c) (Command cmd) = is_echo_command cmd ≡ false
-CanTake (Pair c) Show = Unit {0}
+CanTake c (Packet arrival) = TakesPacket c arrival
+CanTake c event = Unit {0}
 
--- the numbers of a packet fit their fields; every packet of bytes is such
-abbrev pub HasSize : Event → Type 0
-HasSize (Packet arrival) = IsSized (fields_of arrival.payload)
-HasSize event = Unit {0}
+-- the numbers of a packet that the session keeps fit their fields; those of every packet of bytes do
+abbrev pub FitsFields : SessionConfig → Control → Type 0
+FitsFields (Pair c) packet = pair_receive.IsSized packet
+FitsFields (Seek c) packet = packet.min_rx < 2 ^ 32
+FitsFields (Head c) packet = Unit {0}
+FitsFields (Tail c) packet = tail_receive.IsSized packet
 
--- what has come due by the limit is done: detection, sequence, periodic
--- (the Echo function's failure and sending follow here, with it)
-abbrev pub settled : SessionConfig → ℕ → ℕ → Course → Course
-settled (Pair c) limit eff s = pair_settle.settle c limit eff s
+abbrev pub HasSize : SessionConfig → Event → Type 0
+HasSize c (Packet arrival) = FitsFields c (fields_of arrival.payload)
+HasSize c event = Unit {0}
+
+-- what has come due by the limit is done: detection, sequence, the periodic packet, and the Echo function's failure or sending
+abbrev pub settled : SessionConfig → ℕ → ℕ → Flow → Flow
+settled (Pair c) limit eff f = settles_echo c limit eff (along f (pair_settle.settle c limit eff f.course))
+settled (Seek c) limit eff f = along f (seek_settle.settle c limit eff f.course)
+settled (Head c) limit eff f = along f (head_settle.settle c limit eff f.course)
+settled (Tail c) limit eff f = along f (tail_settle.settle c limit f.course)
 
 -- the event's own rules
-abbrev pub acted : SessionConfig → ℕ → Event → Course → Course
-acted (Pair c) eff (Packet arrival) s = received c eff arrival.ttl arrival.payload s
-acted (Pair c) eff (Returned sequence) s = s
-acted (Pair c) eff (Command cmd) s = commanded c eff cmd s
-acted (Pair c) eff Show s = s
+abbrev pub acted : SessionConfig → ℕ → Event → Flow → Flow
+acted (Pair c) eff (Packet arrival) f = along f (pair_receive.received c eff arrival.ttl arrival.payload f.course)
+acted (Pair c) eff (Returned sequence) f = takes_back c eff sequence f
+acted (Pair c) eff (Command cmd) f = along f (pair_command.commanded c eff cmd f.course)
+acted (Seek c) eff (Packet arrival) f = along f (seek_receive.received c eff arrival.payload f.course)
+acted (Seek c) eff (Command cmd) f = along f (seek_command.commanded c cmd f.course)
+acted (Head c) eff (Command cmd) f = along f (tree_command.head_commanded c cmd f.course)
+acted (Tail c) eff (Packet arrival) f = along f (tail_receive.received c eff arrival.payload f.course)
+acted (Tail c) eff (Command cmd) f = along f (tree_command.tail_commanded c cmd f.course)
+acted _ eff _ f = f
 
--- the end of the event: the extra packet, and the next due tick
--- (between them the Echo function starts or stops, with it)
-abbrev pub finished : SessionConfig → ℕ → Course → Course
-finished (Pair c) eff s = pair_finish.finish c eff s
+-- the end of the event: the extra packet, the next due tick, and the Echo function starts or stops; a tail's ends with nothing
+abbrev pub finished : SessionConfig → ℕ → Flow → Flow
+finished (Pair c) eff f = turns_echo c eff (along f (pair_finish.finish c eff f.course))
+finished (Seek c) eff f = along f (seek_finish.finish c eff f.course)
+finished (Head c) eff f = along f (head_finish.finish c eff f.course)
+finished (Tail c) eff f = f
 
 -- an event begins with no outputs; an own event has an effective moment, a tick none
-abbrev pub begun : Option ℕ → Vars → List Out → Course
-begun own v os = course (stamped own v) (begins (stamped own v)) os
+abbrev pub begins_with : Option ℕ → Vars → List Out → Course
+begins_with own v os = course (stamped own v) (begins (stamped own v)) os
+
+abbrev pub begun : Option ℕ → Running → List Out → Flow
+begun own s os = flow (begins_with own s.vars os) s.echo s.echo_next
 
 -- an own event at its effective moment
-unfoldable pub step : SessionConfig → ℕ → Event → Course → Course
-step c eff event s = finished c eff (acted c eff event (settled c eff eff s))
+unfoldable pub step : SessionConfig → ℕ → Event → Flow → Flow
+step c eff event f = finished c eff (acted c eff event (settled c eff eff f))
 
 -- a tick: what has come due by the limit is done, at the effective moment
-unfoldable pub tick : SessionConfig → ℕ → ℕ → Course → Course
-tick c limit eff s = finished c eff (settled c limit eff s)
+unfoldable pub tick : SessionConfig → ℕ → ℕ → Flow → Flow
+tick c limit eff f = finished c eff (settled c limit eff f)
 
--- the variables after an own event
-unfoldable pub next_vars : ℕ → Event → Running → Vars
-next_vars eff event s = (step s.config eff event (begun (Some eff) s.vars [])).vars
+-- how an own event of a session ends, behind these outputs
+abbrev pub step_from : ℕ → Event → Running → List Out → Flow
+step_from eff event s os = step s.config eff event (begun (Some eff) s os)
+
+-- and behind none
+unfoldable pub stepped_flow : ℕ → Event → Running → Flow
+stepped_flow eff event s = step_from eff event s []
 
 -- the session after an own event, and the event's outputs
 abbrev pub next : ℕ → Event → Running → Running
-next eff event s = record s { vars = next_vars eff event s }
+next eff event s = left_by (stepped_flow eff event s) s
 
 unfoldable pub emits : ℕ → Event → Running → List Out
-emits eff event s = (step s.config eff event (begun (Some eff) s.vars [])).outs
+emits eff event s = (stepped_flow eff event s).course.outs
 
--- the variables after a tick
-unfoldable pub ticked_vars : ℕ → ℕ → Running → Vars
-ticked_vars limit eff s = (tick s.config limit eff (begun None s.vars [])).vars
+-- how a tick of a session ends, behind these outputs
+abbrev pub tick_from : ℕ → ℕ → Running → List Out → Flow
+tick_from limit eff s os = tick s.config limit eff (begun None s os)
+
+-- and behind none
+unfoldable pub ticked_flow : ℕ → ℕ → Running → Flow
+ticked_flow limit eff s = tick_from limit eff s []
 
 -- the session after a tick, and the tick's outputs
 abbrev pub tick_next : ℕ → ℕ → Running → Running
-tick_next limit eff s = record s { vars = ticked_vars limit eff s }
+tick_next limit eff s = left_by (ticked_flow limit eff s) s
 
 unfoldable pub tick_emits : ℕ → ℕ → Running → List Out
-tick_emits limit eff s = (tick s.config limit eff (begun None s.vars [])).outs
-
--- the number that shows a Poll Sequence
-abbrev pub poll_number : Poll → ℕ
-poll_number Idle = 0
-poll_number Wanted = 1
-poll_number (UnderWay first) = 2
-
--- what a session shows
-abbrev pub shown : Config → Vars → Shown
-shown c v = record {
-  discr = c.discr;
-  state = v.state;
-  diag = v.diag;
-  remote_state = v.remote_state;
-  remote_discr = v.remote_discr;
-  adv_tx = adv_tx v;
-  used_tx = v.used_tx;
-  used_rx = v.used_rx;
-  detect = detection_time v;
-  poll = poll_number v.poll;
-}
+tick_emits limit eff s = (ticked_flow limit eff s).course.outs
 
 -- the answer to a packet, by the verdict on it
 abbrev pub answer_to_packet : Verdict → Answer
@@ -169,13 +200,41 @@ abbrev pub answer_to_command : Option Refusal → Answer
 answer_to_command None = Handled
 answer_to_command (Some refusal) = Refused refusal
 
--- the answer that the variables after settling give; without the Echo function no sequence number is outstanding
-abbrev pub answer_of : SessionConfig → Event → Vars → Answer
-answer_of (Pair c) (Packet arrival) v = answer_to_packet (verdict_on c arrival.ttl arrival.payload v)
-answer_of (Pair c) (Returned sequence) v = Dropped EchoStale
-answer_of (Pair c) (Command cmd) v = answer_to_command (refusal c v cmd)
-answer_of (Pair c) Show v = Showing (shown c v)
+-- the answer to an echo packet that came back: whether its number was awaited
+abbrev pub answer_to_return : Bool → Answer
+answer_to_return true = Handled
+answer_to_return false = Dropped EchoStale
+
+-- the verdict on a packet, by the variables after settling; no packet is a head's
+abbrev pub verdict_by : SessionConfig → Arrival → Vars → Verdict
+verdict_by (Pair c) arrival v = pair_receive.verdict_on c arrival.ttl arrival.payload v
+verdict_by (Seek c) arrival v = seek_receive.verdict_on arrival.payload v
+verdict_by (Head c) arrival v = Accepted
+verdict_by (Tail c) arrival v = tail_receive.verdict_on arrival.payload v
+
+-- the first refusal of a command
+abbrev pub refused_by : SessionConfig → Vars → Cmd → Option Refusal
+refused_by (Pair c) v cmd = pair_command.refusal c v cmd
+refused_by (Seek c) v cmd = seek_command.refusal v cmd
+refused_by (Head c) v cmd = tree_command.head_refusal v cmd
+refused_by (Tail c) v cmd = tree_command.tail_refusal v cmd
+
+-- the echo packets of this number are awaited; none of a session without the Echo function
+abbrev pub awaits : SessionConfig → ℕ → Flow → Bool
+awaits (Pair c) sequence f = is_awaited sequence (echoing c f.course.vars f.echo)
+awaits _ sequence f = false
+
+-- the answer that an event gets after settling
+abbrev pub answer_of : SessionConfig → Event → Flow → Answer
+answer_of c (Packet arrival) f = answer_to_packet (verdict_by c arrival f.course.vars)
+answer_of c (Returned sequence) f = answer_to_return (awaits c sequence f)
+answer_of c (Command cmd) f = answer_to_command (refused_by c f.course.vars cmd)
+answer_of c Show f = Showing (shown c f.course.vars)
+
+-- the answer of an own event, behind these outputs
+abbrev pub reply_from : ℕ → Event → Running → List Out → Answer
+reply_from eff event s os = answer_of s.config event (settled s.config eff eff (begun (Some eff) s os))
 
 -- the answer of an own event
 unfoldable pub reply : ℕ → Event → Running → Answer
-reply eff event s = answer_of s.config event (settled s.config eff eff (begun (Some eff) s.vars [])).vars
+reply eff event s = reply_from eff event s []

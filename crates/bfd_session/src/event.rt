@@ -1,13 +1,21 @@
 //! What a session is made of, what can happen to it, and what it answers.
 
+use bfd_mp::{HeadConfig, TailConfig};
 use bfd_packet::{Arrival, State, Test};
 use bfd_rules::{Cmd, Config, Refusal};
+use bfd_sbfd::SeekConfig;
 
 /// The configuration of a session, by its kind.
 #[derive(Drop)]
 pub enum SessionConfig {
     /// A point-to-point session (RFC 5881, RFC 5883).
     Pair(Config),
+    /// A seamless initiator (RFC 7880).
+    Seek(SeekConfig),
+    /// The head of a multipoint tree (RFC 8562).
+    Head(HeadConfig),
+    /// The tail of a multipoint tree (RFC 8562).
+    Tail(TailConfig),
 }
 
 /// An own event of a session.
@@ -69,6 +77,9 @@ impl SessionConfig {
     {
         match self {
             SessionConfig::Pair(config) => config.discr,
+            SessionConfig::Seek(config) => config.discr,
+            SessionConfig::Head(config) => config.discr,
+            SessionConfig::Tail(config) => config.discr,
         }
     }
 }

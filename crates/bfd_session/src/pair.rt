@@ -1,194 +1,245 @@
-//! The events of a point-to-point session.
-ghost use Rattle.std.specs.Prelude.{◌≡◌, ◌<◌, ◌≤◌, ◌+◌, ◌*◌, ◌++◌, ℕ, None, Some, false, IfSome, IsTrue, ◌↔◌};
+//! The events of a point-to-point session with its Echo function.
+ghost use Rattle.std.specs.Prelude.{◌≡◌, ◌<◌, ◌≤◌, ◌+◌, ◌*◌, ◌++◌, ℕ, true, false, IfSome};
 ghost use Rattle.bfd_num.specs.Numbers.{moment_bound};
 ghost use Rattle.bfd_num.specs.Due.{has_come};
 ghost use Rattle.bfd_rules.specs.Course.{course};
-ghost use Rattle.bfd_rules.specs.Sound.{IsSound};
-ghost use Rattle.bfd_p2p.specs.Over.{IsOver};
+ghost use Rattle.bfd_p2p.specs.Over.{IsBegun, IsOver, IsSettled};
+ghost use Rattle.bfd_echo.specs.Rules.{HasMoments};
 ghost use Rattle.bfd_session.specs.declared.event.SessionConfig.TheVariants.{Pair};
 ghost use Rattle.bfd_session.specs.Due as due;
-ghost use Rattle.bfd_session.specs.Step as session;
+ghost use Rattle.bfd_session.specs.Echoing.{IsEchoOver};
 ghost use Rattle.bfd_session.specs.Inside.{pair_of};
-ghost use Rattle.bfd_session.specs.Step.{CanTake, HasSize, IsFor, begun};
+ghost use Rattle.bfd_session.specs.Kinds.{flow};
+ghost use Rattle.bfd_session.specs.Step as session;
+ghost use Rattle.bfd_session.specs.Step.{CanTake, HasSize, IsPairSound};
 
-use crate::{Answer, Event, Shown};
-use bfd_num::{ceil_tick, sooner};
-use bfd_p2p::{P2p, control_port};
-use bfd_packet::{Arrival, Test, read};
-use bfd_rules::{
-    Config, Mark, Outs, Poll, Vars, Verdict, adv_tx, deadline, detection_time, seq_deadline,
-};
+use crate::answering::{to_command, to_packet, to_return};
+use crate::echoing::{echo_due, settles_echo, takes_back, turns_echo};
+use crate::showing::{shows, tick_of};
+use crate::{Answer, Event};
+use bfd_echo::Echo;
+use bfd_num::sooner;
+use bfd_p2p::P2p;
+use bfd_rules::{Mark, Outs, adv_tx, deadline, detection_time, seq_deadline};
 
-/// The number that shows a Poll Sequence.
-fn poll_number(poll: Poll) -> u8
-    ensures { result ≡ session.poll_number poll }
+/// What has come due by the limit.
+fn settles(
+    p: &mut P2p,
+    echo: &mut Option<Echo>,
+    limit: u64,
+    eff: u64,
+    mark: &mut Mark,
+    outs: &mut Outs,
+)
+    requires eff { eff < moment_bound }
+    requires moments { IfSome echo.old HasMoments }
+    requires room { 3 ≤ outs.old.spare }
+    ensures config { p.new.config ≡ p.old.config }
+    ensures flow { (next : ℕ) → flow (course p.new.vars mark.new outs.new.items) echo.new next
+        ≡ session.settled (Pair p.old.config) limit eff (flow (course p.old.vars mark.old outs.old.items) echo.old next) }
+    ensures settled { IsBegun p.old.config limit eff mark.old p.old.vars
+        → IsSettled p.old.config.active limit eff mark.new p.new.vars }
+    ensures over { limit ≤ eff → IsEchoOver limit p.new.config p.new.vars echo.new }
+    ensures moments { IfSome echo.new HasMoments }
+    ensures spare { outs.old.spare ≤ outs.new.spare + 3 }
+    ensures room { outs.new.room ≡ outs.old.room }
 {
-    match poll {
-        Poll::Idle => 0,
-        Poll::Wanted => 1,
-        Poll::Running(_) => 2,
-    }
-}
-
-/// What a session shows.
-fn shown(c: &Config, v: &Vars) -> Shown
-    ensures { result ≡ session.shown c.now v.now }
-{
-    Shown {
-        discr: c.discr,
-        state: v.state,
-        diag: v.diag,
-        remote_state: v.remote_state,
-        remote_discr: v.remote_discr,
-        adv_tx: adv_tx(v),
-        used_tx: v.used_tx,
-        used_rx: v.used_rx,
-        detect: detection_time(v),
-        poll: poll_number(v.poll),
-    }
-}
-
-/// The packet is for a session of this configuration: it came on the session's port, passes the port's header tests
-/// and has M clear (one with M set is for a tail, RFC 8562).
-pub fn is_for(c: &Config, arrival: &Arrival) -> bool
-    ensures { IsTrue result ↔ IsFor c.now arrival.now }
-{
-    arrival.port == control_port(c.role)
-        && match read(arrival.port, arrival.payload.as_slice()) {
-            Ok(packet) => !packet.multi,
-            Err(_) => false,
-        }
+    p.settle(limit, eff, mark, outs);
+    settles_echo(p, echo, limit, eff, mark, outs);
 }
 
 /// The event's own rules, after settling.
-fn acts(p: &mut P2p, eff: u64, event: &Event, mark: &mut Mark, outs: &mut Outs) -> Answer
+fn acts(
+    p: &mut P2p,
+    echo: &mut Option<Echo>,
+    eff: u64,
+    event: &Event,
+    mark: &mut Mark,
+    outs: &mut Outs,
+) -> Answer
     requires eff { eff < moment_bound }
     requires takes { CanTake (Pair p.old.config) event.now }
+    requires moments { IfSome echo.old HasMoments }
     requires room { 2 ≤ outs.old.spare }
     ensures config { p.new.config ≡ p.old.config }
-    ensures course { course p.new.vars mark.new outs.new.items
-        ≡ session.acted (Pair p.old.config) eff event.now (course p.old.vars mark.old outs.old.items) }
-    ensures answer { result ≡ session.answer_of (Pair p.old.config) event.now p.old.vars }
-    ensures size { HasSize event.now }
+    ensures flow { (next : ℕ) → flow (course p.new.vars mark.new outs.new.items) echo.new next
+        ≡ session.acted (Pair p.old.config) eff event.now (flow (course p.old.vars mark.old outs.old.items) echo.old next) }
+    ensures answer { (next : ℕ) → result
+        ≡ session.answer_of (Pair p.old.config) event.now (flow (course p.old.vars mark.old outs.old.items) echo.old next) }
+    ensures size { HasSize (Pair p.old.config) event.now }
+    ensures moments { IfSome echo.new HasMoments }
     ensures unanswered { mark.new.answered ≡ false → outs.old.spare ≤ outs.new.spare + 1 }
     ensures spare { outs.old.spare ≤ outs.new.spare + 2 }
     ensures room { outs.new.room ≡ outs.old.room }
 {
     match event {
-        Event::Packet(arrival) => match p.accept(
-            eff,
-            arrival.ttl,
-            arrival.payload.as_slice(),
-            mark,
-            outs,
-        ) {
-            Verdict::Accepted => Answer::Handled,
-            Verdict::Dropped(test) => Answer::Dropped(test),
-        },
-        Event::Returned(_) => Answer::Dropped(Test::EchoStale),
-        Event::Command(cmd) => match p.command(eff, cmd, mark, outs) {
-            Ok(()) => Answer::Handled,
-            Err(refusal) => Answer::Refused(refusal),
-        },
-        Event::Show => Answer::Shown(shown(p.config(), p.vars())),
+        Event::Packet(arrival) => {
+            to_packet(p.accept(eff, arrival.ttl, arrival.payload.as_slice(), mark, outs))
+        }
+        Event::Returned(sequence) => to_return(takes_back(p, echo, eff, *sequence)),
+        Event::Command(cmd) => to_command(p.command(eff, cmd, mark, outs)),
+        Event::Show => {
+            let v = p.vars();
+            Answer::Shown(shows(p.config().discr, adv_tx(v), detection_time(v), v))
+        }
     }
 }
 
-/// An own event, from what was put out before it. At most two outputs are those of settling, and two of the event and its
+/// The end of the event.
+fn finishes(
+    p: &mut P2p,
+    echo: &mut Option<Echo>,
+    next: &mut u32,
+    eff: u64,
+    mark: Mark,
+    outs: &mut Outs,
+)
+    requires eff { eff < moment_bound }
+    requires moments { IfSome echo.old HasMoments }
+    requires room { 1 ≤ outs.old.spare }
+    ensures config { p.new.config ≡ p.old.config }
+    ensures vars { p.new.vars
+        ≡ (session.finished (Pair p.old.config) eff (flow (course p.old.vars mark outs.old.items) echo.old next.old)).course.vars }
+    ensures outs { outs.new.items
+        ≡ (session.finished (Pair p.old.config) eff (flow (course p.old.vars mark outs.old.items) echo.old next.old)).course.outs }
+    ensures echo { echo.new
+        ≡ (session.finished (Pair p.old.config) eff (flow (course p.old.vars mark outs.old.items) echo.old next.old)).echo }
+    ensures next { next.new
+        ≡ (session.finished (Pair p.old.config) eff (flow (course p.old.vars mark outs.old.items) echo.old next.old)).echo_next }
+    ensures over { (limit : ℕ) → limit ≤ eff → IsSettled p.old.config.active limit eff mark p.old.vars
+        → IsOver limit p.new.vars }
+    ensures echo_over { (limit : ℕ) → limit ≤ eff → IsEchoOver limit p.old.config p.old.vars echo.old
+        → IsEchoOver limit p.new.config p.new.vars echo.new }
+    ensures sound { IsPairSound p.new.config (pair_of p.new echo.new next.new) }
+    ensures answered { mark.answered ≡ true → outs.new.spare ≡ outs.old.spare }
+    ensures spare { outs.old.spare ≤ outs.new.spare + 1 }
+    ensures room { outs.new.room ≡ outs.old.room }
+{
+    p.finish(eff, mark, outs);
+    turns_echo(p, echo, next, eff);
+}
+
+/// An own event, from what was put out before it. At most three outputs are those of settling, and two of the event and its
 /// end together: a packet with F tells the state, so nothing more is told. (Apart from `steps`: this opens the definition that
 /// a law of `steps` is about.)
 #[tactic(auto, unfolding(crate::specs::Step::step))]
-fn runs(p: &mut P2p, eff: u64, event: &Event, outs: &mut Outs) -> Answer
+fn runs(
+    p: &mut P2p,
+    echo: &mut Option<Echo>,
+    next: &mut u32,
+    eff: u64,
+    event: &Event,
+    outs: &mut Outs,
+) -> Answer
     requires eff { eff < moment_bound }
     requires takes { CanTake (Pair p.old.config) event.now }
+    requires moments { IfSome echo.old HasMoments }
     requires room { 5 ≤ outs.old.spare }
     ensures config { p.new.config ≡ p.old.config }
-    ensures size { HasSize event.now }
-    ensures vars { p.new.vars ≡ (session.step (Pair p.old.config) eff event.now (begun (Some eff) p.old.vars outs.old.items)).vars }
-    ensures outs { outs.new.items ≡ (session.step (Pair p.old.config) eff event.now (begun (Some eff) p.old.vars outs.old.items)).outs }
-    ensures answer { result ≡ session.answer_of (Pair p.old.config) event.now
-        (session.settled (Pair p.old.config) eff eff (begun (Some eff) p.old.vars outs.old.items)).vars }
-    ensures sound { IsSound p.new.config p.new.vars }
-    ensures spare { outs.old.spare ≤ outs.new.spare + 4 }
+    ensures size { HasSize (Pair p.old.config) event.now }
+    ensures vars { p.new.vars ≡ (session.step_from eff event.now (pair_of p.old echo.old next.old) outs.old.items).course.vars }
+    ensures outs { outs.new.items ≡ (session.step_from eff event.now (pair_of p.old echo.old next.old) outs.old.items).course.outs }
+    ensures echo { echo.new ≡ (session.step_from eff event.now (pair_of p.old echo.old next.old) outs.old.items).echo }
+    ensures next { next.new ≡ (session.step_from eff event.now (pair_of p.old echo.old next.old) outs.old.items).echo_next }
+    ensures answer { result ≡ session.reply_from eff event.now (pair_of p.old echo.old next.old) outs.old.items }
+    ensures sound { IsPairSound p.new.config (pair_of p.new echo.new next.new) }
+    ensures spare { outs.old.spare ≤ outs.new.spare + 5 }
     ensures room { outs.new.room ≡ outs.old.room }
 {
     let mut mark = p.begin(Some(eff));
-    p.settle(eff, eff, &mut mark, outs);
-    let answer = acts(p, eff, event, &mut mark, outs);
-    p.finish(eff, mark, outs);
+    settles(p, echo, eff, eff, &mut mark, outs);
+    let answer = acts(p, echo, eff, event, &mut mark, outs);
+    finishes(p, echo, next, eff, mark, outs);
     answer
 }
 
 /// An own event at its effective moment.
-pub fn steps(p: &mut P2p, eff: u64, event: &Event, outs: &mut Outs) -> Answer
+pub fn steps(
+    p: &mut P2p,
+    echo: &mut Option<Echo>,
+    next: &mut u32,
+    eff: u64,
+    event: &Event,
+    outs: &mut Outs,
+) -> Answer
     requires eff { eff < moment_bound }
     requires takes { CanTake (Pair p.old.config) event.now }
+    requires moments { IfSome echo.old HasMoments }
     requires room { 5 ≤ outs.old.spare }
-    ensures session { pair_of p.new ≡ session.next eff event.now (pair_of p.old) }
-    ensures size { HasSize event.now }
-    ensures outs { outs.new.items ≡ outs.old.items ++ session.emits eff event.now (pair_of p.old) }
-    ensures answer { result ≡ session.reply eff event.now (pair_of p.old) }
-    ensures sound { IsSound p.new.config p.new.vars }
-    ensures spare { outs.old.spare ≤ outs.new.spare + 4 }
+    ensures session { pair_of p.new echo.new next.new ≡ session.next eff event.now (pair_of p.old echo.old next.old) }
+    ensures size { HasSize (Pair p.old.config) event.now }
+    ensures outs { outs.new.items ≡ outs.old.items ++ session.emits eff event.now (pair_of p.old echo.old next.old) }
+    ensures answer { result ≡ session.reply eff event.now (pair_of p.old echo.old next.old) }
+    ensures sound { IsPairSound p.new.config (pair_of p.new echo.new next.new) }
+    ensures spare { outs.old.spare ≤ outs.new.spare + 5 }
     ensures room { outs.new.room ≡ outs.old.room }
 {
-    runs(p, eff, event, outs)
+    runs(p, echo, next, eff, event, outs)
 }
 
 /// A tick with this limit, from what was put out before it. (Apart from `ticks`, as `runs` is from `steps`.)
 #[tactic(auto, unfolding(crate::specs::Step::tick))]
-fn passes(p: &mut P2p, limit: u64, eff: u64, outs: &mut Outs)
-    requires sound { IsSound p.old.config p.old.vars }
+fn passes(
+    p: &mut P2p,
+    echo: &mut Option<Echo>,
+    next: &mut u32,
+    limit: u64,
+    eff: u64,
+    outs: &mut Outs,
+)
+    requires sound { IsPairSound p.old.config (pair_of p.old echo.old next.old) }
     requires eff { eff < moment_bound }
-    requires room { 3 ≤ outs.old.spare }
+    requires room { 4 ≤ outs.old.spare }
     ensures config { p.new.config ≡ p.old.config }
-    ensures vars { p.new.vars ≡ (session.tick (Pair p.old.config) limit eff (begun None p.old.vars outs.old.items)).vars }
-    ensures outs { outs.new.items ≡ (session.tick (Pair p.old.config) limit eff (begun None p.old.vars outs.old.items)).outs }
+    ensures vars { p.new.vars ≡ (session.tick_from limit eff (pair_of p.old echo.old next.old) outs.old.items).course.vars }
+    ensures outs { outs.new.items ≡ (session.tick_from limit eff (pair_of p.old echo.old next.old) outs.old.items).course.outs }
+    ensures echo { echo.new ≡ (session.tick_from limit eff (pair_of p.old echo.old next.old) outs.old.items).echo }
+    ensures next { next.new ≡ (session.tick_from limit eff (pair_of p.old echo.old next.old) outs.old.items).echo_next }
     ensures over { limit ≤ eff → IsOver limit p.new.vars }
-    ensures sound { IsSound p.new.config p.new.vars }
-    ensures spare { outs.old.spare ≤ outs.new.spare + 3 }
+    ensures echo_over { limit ≤ eff → IsEchoOver limit p.new.config p.new.vars echo.new }
+    ensures sound { IsPairSound p.new.config (pair_of p.new echo.new next.new) }
+    ensures spare { outs.old.spare ≤ outs.new.spare + 4 }
     ensures room { outs.new.room ≡ outs.old.room }
 {
     let mut kept = p.begin(None);
-    p.settle(limit, eff, &mut kept, outs);
-    p.finish(eff, kept, outs);
+    settles(p, echo, limit, eff, &mut kept, outs);
+    finishes(p, echo, next, eff, kept, outs);
 }
 
 /// A tick with this limit, at the effective moment `eff`.
-pub fn ticks(p: &mut P2p, limit: u64, eff: u64, outs: &mut Outs)
-    requires sound { IsSound p.old.config p.old.vars }
+pub fn ticks(
+    p: &mut P2p,
+    echo: &mut Option<Echo>,
+    next: &mut u32,
+    limit: u64,
+    eff: u64,
+    outs: &mut Outs,
+)
+    requires sound { IsPairSound p.old.config (pair_of p.old echo.old next.old) }
     requires eff { eff < moment_bound }
-    requires room { 3 ≤ outs.old.spare }
-    ensures session { pair_of p.new ≡ session.tick_next limit eff (pair_of p.old) }
-    ensures outs { outs.new.items ≡ outs.old.items ++ session.tick_emits limit eff (pair_of p.old) }
-    ensures over { (t : ℕ) → limit ≡ 1000 * t → limit ≤ eff → has_come t (due.due (pair_of p.new)) ≡ false }
-    ensures sound { IsSound p.new.config p.new.vars }
-    ensures spare { outs.old.spare ≤ outs.new.spare + 3 }
+    requires room { 4 ≤ outs.old.spare }
+    ensures session { pair_of p.new echo.new next.new ≡ session.tick_next limit eff (pair_of p.old echo.old next.old) }
+    ensures outs { outs.new.items ≡ outs.old.items ++ session.tick_emits limit eff (pair_of p.old echo.old next.old) }
+    ensures over { (t : ℕ) → limit ≡ 1000 * t → limit ≤ eff → has_come t (due.due (pair_of p.new echo.new next.new)) ≡ false }
+    ensures sound { IsPairSound p.new.config (pair_of p.new echo.new next.new) }
+    ensures spare { outs.old.spare ≤ outs.new.spare + 4 }
     ensures room { outs.new.room ≡ outs.old.room }
 {
-    passes(p, limit, eff, outs);
-}
-
-/// The tick at which a moment has come.
-#[tactic(auto, unfolding(bfd_num::specs::Numbers::ceil_tick))]
-fn tick_of(moment: Option<u64>) -> Option<u64>
-    ensures value { result ≡ due.tick_of moment }
-    ensures below { IfSome result (λ t. t < moment_bound) }
-{
-    match moment {
-        Some(moment) => Some(ceil_tick(moment)),
-        None => None,
-    }
+    passes(p, echo, next, limit, eff, outs);
 }
 
 /// The least due tick.
-pub fn due_tick(p: &P2p) -> Option<u64>
-    ensures value { result ≡ due.due (pair_of p.now) }
+pub fn due_tick(p: &P2p, echo: &Option<Echo>) -> Option<u64>
+    requires moments { IfSome echo.now HasMoments }
+    ensures value { (next : ℕ) → result ≡ due.due (pair_of p.now echo.now next) }
     ensures below { IfSome result (λ t. t < moment_bound) }
 {
     let v = p.vars();
     sooner(
         tick_of(deadline(v)),
-        sooner(tick_of(seq_deadline(v)), v.tx_due),
+        sooner(
+            tick_of(seq_deadline(v)),
+            sooner(v.tx_due, echo_due(p, echo)),
+        ),
     )
 }

@@ -1,32 +1,53 @@
-//! The rows by which arrivals are told, one for each session.
+//! The rows by which arrivals are told, one for each session and each reflector.
 ghost use Rattle.std.specs.Prelude.{◌≡◌, IfOk};
 ghost use Rattle.bfd_session.specs.Rows as rows;
 
 use crate::SessionConfig;
 use bfd_demux::{Row, RowKind};
 use bfd_rules::Role;
+use bfd_sbfd::Reflector;
 use std::alloc::{AllocError, Global};
 
 /// The row of a session: over a single hop its interface counts among its addresses, over several it doesn't (RFC 5881
-/// section 3, RFC 5883 section 4).
+/// section 3, RFC 5883 section 4); a tail is told by its head, interface, group and source (RFC 8562 section 5.7), an
+/// initiator and a head by no addresses.
 pub fn row_of(config: &SessionConfig) -> Row
     ensures { result ≡ rows.row_of config.now }
 {
-    let SessionConfig::Pair(c) = config;
-    let kind = match c.role {
-        Role::Single => RowKind::Single {
-            iface: c.iface,
-            local: c.local,
-            remote: c.remote,
+    let kind = match config {
+        SessionConfig::Pair(c) => match c.role {
+            Role::Single => RowKind::Single {
+                iface: c.iface,
+                local: c.local,
+                remote: c.remote,
+            },
+            Role::Multi => RowKind::Multi {
+                local: c.local,
+                remote: c.remote,
+            },
         },
-        Role::Multi => RowKind::Multi {
-            local: c.local,
-            remote: c.remote,
+        SessionConfig::Seek(_) => RowKind::Seek,
+        SessionConfig::Head(_) => RowKind::Head,
+        SessionConfig::Tail(c) => RowKind::Tail {
+            head: c.head,
+            iface: c.iface,
+            group: c.group,
+            source: c.source,
         },
     };
     Row {
-        discr: c.discr,
+        discr: config.discr(),
         kind,
+    }
+}
+
+/// The row of a reflector (RFC 7880 section 7.2).
+pub fn row_of_reflector(reflector: &Reflector) -> Row
+    ensures { result ≡ rows.row_of_reflector reflector.now }
+{
+    Row {
+        discr: reflector.discr,
+        kind: RowKind::Reflect,
     }
 }
 

@@ -7,19 +7,27 @@ ghost use Rattle.bfd_session.specs.Kinds.{discr_of};
 ghost use Rattle.bfd_session.specs.Due as due;
 ghost use Rattle.bfd_session.specs.Step.{IsFit, IsSound, CanTake, HasSize, started, next, emits, reply, tick_next, tick_emits};
 
-use crate::pair::{due_tick, is_for, steps, ticks};
-use crate::{Answer, Event, SessionConfig};
-use bfd_p2p::P2p;
-use bfd_rules::{Cmd, Outs, Vars};
+use crate::answering::is_for;
+use crate::{Answer, Event, SessionConfig, head, pair, seek, tail};
+use bfd_echo::Echo;
+use bfd_mp::{Head, Tail};
+use bfd_p2p::{P2p, control_port};
+use bfd_packet::Port;
+use bfd_rules::{Outs, Vars};
+use bfd_sbfd::Initiator;
 use std::marker::Model;
 
-/// The machine of a session, by its kind.
+/// The machine of a session, by its kind: a point-to-point one with the Echo function that runs, if one does, and the
+/// sequence number that the next one begins with.
 #[derive(Drop)]
 enum Machine {
-    Pair(P2p),
+    Pair(P2p, Option<Echo>, u32),
+    Seek(Initiator),
+    Head(Head),
+    Tail(Tail),
 }
 
-/// A session: its configuration, and its variables, which stay sound between events.
+/// A session: its configuration, its variables and its Echo function, which stay sound between events.
 #[derive(Drop)]
 pub struct Session {
     machine: Machine,
@@ -44,18 +52,25 @@ impl Session {
         ensures session { result ≡ started config }
         ensures sound { IsSound result }
     {
-        let SessionConfig::Pair(config) = config;
-        Session {
-            machine: Machine::Pair(P2p::make(config)),
-        }
+        let machine = match config {
+            SessionConfig::Pair(config) => Machine::Pair(P2p::make(config), None, 0),
+            SessionConfig::Seek(config) => Machine::Seek(Initiator::make(config)),
+            SessionConfig::Head(config) => Machine::Head(Head::make(config)),
+            SessionConfig::Tail(config) => Machine::Tail(Tail::make(config)),
+        };
+        Session { machine }
     }
 
     /// The local discriminator.
     pub fn discr(&self) -> u32
         ensures { result ≡ discr_of self.now.config }
     {
-        let Machine::Pair(machine) = &self.machine;
-        machine.config().discr
+        match &self.machine {
+            Machine::Pair(pair, _, _) => pair.config().discr,
+            Machine::Seek(seek) => seek.config().discr,
+            Machine::Head(head) => head.config().discr,
+            Machine::Tail(tail) => tail.config().discr,
+        }
     }
 
     /// The variables.
@@ -64,20 +79,48 @@ impl Session {
         ensures fit { IsFit self.now.config }
         ensures sound { IsSound self.now }
     {
-        let Machine::Pair(machine) = &self.machine;
-        machine.vars()
+        match &self.machine {
+            Machine::Pair(pair, _, _) => pair.vars(),
+            Machine::Seek(seek) => seek.vars(),
+            Machine::Head(head) => head.vars(),
+            Machine::Tail(tail) => tail.vars(),
+        }
+    }
+
+    /// The Echo function, where one runs: in a point-to-point session over a single hop that is Up, where both sides want
+    /// it (RFC 5880 section 6.8.9).
+    pub fn echo(&self) -> Option<Echo>
+        ensures { result ≡ self.now.echo }
+    {
+        match &self.machine {
+            Machine::Pair(_, echo, _) => *echo,
+            _ => None,
+        }
+    }
+
+    /// The sequence number that the next Echo function of the session begins with, 0 where none ran yet.
+    pub fn echo_next(&self) -> u32
+        ensures { result ≡ self.now.echo_next }
+    {
+        match &self.machine {
+            Machine::Pair(_, _, next) => *next,
+            _ => 0,
+        }
     }
 
     /// Whether the event may be handed to the session: a packet came on the session's port, passes the port's header
-    /// tests and has M clear; a command isn't one of the Echo function, which isn't built; and every other event may.
+    /// tests and has M clear, or for a tail has it set; none may be handed to a head; and every other event may.
     pub fn takes(&self, event: &Event) -> bool
         ensures { IsTrue result ↔ CanTake self.now.config event.now }
     {
-        let Machine::Pair(machine) = &self.machine;
-        match event {
-            Event::Packet(arrival) => is_for(machine.config(), arrival),
-            Event::Command(cmd) => !matches!(cmd, Cmd::EchoEvery(_)),
-            Event::Returned(_) | Event::Show => true,
+        let Event::Packet(arrival) = event else {
+            return true;
+        };
+        match &self.machine {
+            Machine::Pair(pair, _, _) => is_for(control_port(pair.config().role), false, arrival),
+            Machine::Seek(_) => is_for(Port::Answer, false, arrival),
+            Machine::Head(_) => false,
+            Machine::Tail(_) => is_for(Port::Single, true, arrival),
         }
     }
 
@@ -91,13 +134,17 @@ impl Session {
         ensures session { self.new ≡ next eff event.now self.old }
         ensures outs { outs.new.items ≡ outs.old.items ++ emits eff event.now self.old }
         ensures answer { result ≡ reply eff event.now self.old }
-        ensures size { HasSize event.now }
+        ensures size { HasSize self.old.config event.now }
         ensures sound { IsSound self.new }
         ensures spare { outs.old.spare ≤ outs.new.spare + 5 }
         ensures room { outs.new.room ≡ outs.old.room }
     {
-        let Machine::Pair(machine) = &mut self.machine;
-        steps(machine, eff, event, outs)
+        match &mut self.machine {
+            Machine::Pair(pair, echo, next) => pair::steps(pair, echo, next, eff, event, outs),
+            Machine::Seek(seek) => seek::steps(seek, eff, event, outs),
+            Machine::Head(head) => head::steps(head, eff, event, outs),
+            Machine::Tail(tail) => tail::steps(tail, eff, event, outs),
+        }
     }
 
     /// A tick: what has come due by `limit`, in microseconds, is done at the effective moment `eff`. A tick before
@@ -117,17 +164,25 @@ impl Session {
         ensures spare { outs.old.spare ≤ outs.new.spare + 5 }
         ensures room { outs.new.room ≡ outs.old.room }
     {
-        let Machine::Pair(machine) = &mut self.machine;
-        ticks(machine, limit, eff, outs);
+        match &mut self.machine {
+            Machine::Pair(pair, echo, next) => pair::ticks(pair, echo, next, limit, eff, outs),
+            Machine::Seek(seek) => seek::ticks(seek, limit, eff, outs),
+            Machine::Head(head) => head::ticks(head, limit, eff, outs),
+            Machine::Tail(tail) => tail::ticks(tail, limit, eff, outs),
+        }
     }
 
     /// The tick that the session needs next: the least of its due ticks, or None where it has none (RFC 5880 sections
-    /// 6.8.1, 6.8.4 and 6.8.7). It may lie at or below the last tick; the next tick then does it. Takes no memory.
+    /// 6.8.1, 6.8.4, 6.8.5, 6.8.7 and 6.8.9). It may lie at or below the last tick; the next tick then does it. Takes no memory.
     pub fn due(&self) -> Option<u64>
         ensures value { result ≡ due.due self.now }
         ensures below { IfSome result (λ t. t < moment_bound) }
     {
-        let Machine::Pair(machine) = &self.machine;
-        due_tick(machine)
+        match &self.machine {
+            Machine::Pair(pair, echo, _) => pair::due_tick(pair, echo),
+            Machine::Seek(seek) => seek::due_tick(seek),
+            Machine::Head(head) => head::due_tick(head),
+            Machine::Tail(tail) => tail::due_tick(tail),
+        }
     }
 }
