@@ -8,6 +8,7 @@ pub mod Kept
 pub mod Splitting
 pub mod Numerals
 pub mod Rereading
+pub mod RowsAgain
 pub mod LinesAgain
 pub mod ScriptAgain
 pub mod Elements

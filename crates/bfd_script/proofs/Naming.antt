@@ -1,5 +1,5 @@
 -- One more session in a table, or other keys for one: the sessions that events name are there still.
-use Rattle.std.proofs.Common.{◌≡◌, ℕ, ◌+◌, ◌<◌, ◌==◌, Bool, true, false, ◌||◌, List, [], ◌∷◌, length, nat_le, refl, sym, ap, ◌∙◌, subst, arith}
+use Rattle.std.proofs.Common.{◌≡◌, ℕ, ◌+◌, ◌<◌, ◌==◌, Bool, true, false, ◌||◌, List, length, nat_le, refl, sym, ap, ◌∙◌, subst, arith}
 use Rattle.std.proofs.lemmas.Bool.Decides.{nat_tests}
 use Rattle.bfd_session.specs.declared.event.SessionConfig.{SessionConfig}
 use Rattle.bfd_session.specs.Kinds.{discr_of}
@@ -9,7 +9,7 @@ use Rattle.bfd_script.specs.Reading.{is_named}
 use Rattle.bfd_script.specs.Rows.{changed, has_discr, inserted}
 use Rattle.bfd_sbfd.specs.declared.reflecting.Reflector.{Reflector}
 use Rattle.bfd_script.specs.Rows.{has_reflector, number_of, pooled}
-use Rattle.bfd_script.specs.Sound.{AreApart, AreNamed, IsReflector}
+use Rattle.bfd_script.specs.Sound.{AreApart, AreNamed}
 use Rattle.bfd_script.specs.Tables.{IsReading}
 use Rattle.bfd_script.proofs.Numbered.{length_inserted, or_false}
 use Rattle.bfd_script.proofs.Pooling.{apart_inserted, apart_pooled}

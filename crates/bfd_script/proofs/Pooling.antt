@@ -1,8 +1,7 @@
 -- One more reflector in a pool, and a pool beside a table of sessions.
-use Rattle.std.proofs.Common.{◌≡◌, ℕ, ◌+◌, ◌<◌, ◌≤◌, ◌==◌, Bool, true, false, ◌||◌, cond, List, [], ◌∷◌, length, refl, sym, ap, ◌∙◌, arith, nat_lt, subst}
+use Rattle.std.proofs.Common.{◌≡◌, ℕ, ◌<◌, ◌==◌, Bool, true, false, ◌||◌, cond, List, [], ◌∷◌, refl, sym, ap, ◌∙◌, arith, nat_lt, subst}
 use Rattle.std.proofs.lemmas.Bool.Decides.{nat_tests}
 use Rattle.std.specs.Prelude.{is_some}
-use Rattle.std.specs.List.{AllByRecursion}
 use Rattle.std.specs.Map.{values_of, lookup}
 use Rattle.std.specs.BTreeMap.{is_at, insert_entry}
 use Rattle.std.specs.Ordering.{nat_cmp}
@@ -68,8 +67,7 @@ neither p q e f = rw (e, f) refl
 pub apart_inserted : (c : SessionConfig) (cs : List SessionConfig) (pool : List Reflector) → has_reflector (discr_of c) pool ≡ false → AreApart cs pool → AreApart (inserted c cs) pool
 apart_inserted c cs [] none apart = tt
 apart_inserted c cs (r ∷ pool) none apart =
-    let e = or_false (discr_of c == r.discr) (has_reflector (discr_of c) pool) none in
-    (
+    let e = or_false (discr_of c == r.discr) (has_reflector (discr_of c) pool) none in (
       any_inserted discr_of (λ d. r.discr == discr_of d) c cs ∙ neither (r.discr == discr_of c) (has_discr r.discr cs) (turned_apart (discr_of c) r.discr e.0) apart.0,
       apart_inserted c cs pool e.1 apart.1,
     )

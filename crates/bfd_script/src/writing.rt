@@ -13,8 +13,8 @@ use crate::names::hex_text;
 use crate::script::Script;
 use crate::table::keys_in;
 use crate::words::Version;
-use bfd_packet::{Addr, Arrival, AuthType, Key, Keys, Port};
 use bfd_mp::{HeadConfig, TailConfig};
+use bfd_packet::{Addr, Arrival, AuthType, Key, Keys, Port};
 use bfd_rules::{Cmd, Config, Role};
 use bfd_sbfd::{Reflector, SeekConfig};
 use bfd_session::SessionConfig;
@@ -89,13 +89,7 @@ fn pair_text(alloc: Global, config: &Config) -> Result<String, AllocError>
     let local = address_text(alloc, config.local)?;
     let remote = address_text(alloc, config.remote)?;
     let mode = mode_text(config.active);
-    let (tx, rx, mult, echo, seed) = (
-        config.tx,
-        config.rx,
-        config.mult,
-        config.echo,
-        config.seed,
-    );
+    let (tx, rx, mult, echo, seed) = (config.tx, config.rx, config.mult, config.echo, config.seed);
     let mut text = String::new(alloc);
     writeln!(
         text,
