@@ -1,5 +1,6 @@
 pub mod Front
 pub mod DueTick
+pub mod EchoKept
 pub mod Rest
 pub mod Soundness
 pub mod Machines
