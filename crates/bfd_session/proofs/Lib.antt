@@ -4,6 +4,7 @@ pub mod EchoKept
 pub mod Rest
 pub mod Soundness
 pub mod Machines
+pub mod Starting
 pub mod Tables
 pub mod Places
 pub mod Ports
