@@ -123,17 +123,61 @@ finish_none : (c : Config) (eff : ℕ) (s : Course) → is_none (finishing.finis
 unfolding finishing.finish redrawn
 finish_none c eff s = ap (λ (o : Option ℕ). is_none o) (drawn_heard c.active _ _) ∙ extra_none c eff s
 
+-- the Echo function: its failure forgets nothing
+
+settled_by_none : (c : Config) (eff : ℕ) (result : EchoResult) (e : Echo) (f : Flow)
+    → is_none (settled_by c eff result e f).course.vars.heard ≡ is_none f.course.vars.heard
+unfolding sends
+settled_by_none c eff Nothing e f = refl
+settled_by_none c eff (Sent bytes) e f = refl
+settled_by_none c eff Failed e f = moves_none c.discr eff (failed 2 f.course.vars) f.course
+
+settled_running_none : (c : Config) (limit eff : ℕ) (echo : Option Echo) (f : Flow)
+    → is_none (settled_running c limit eff echo f).course.vars.heard ≡ is_none f.course.vars.heard
+settled_running_none c limit eff None f = refl
+settled_running_none c limit eff (Some e) f = settled_by_none c eff _ _ f
+
+settles_echo_none : (c : Config) (limit eff : ℕ) (f : Flow)
+    → is_none (settles_echo c limit eff f).course.vars.heard ≡ is_none f.course.vars.heard
+unfolding settles_echo
+settles_echo_none c limit eff f = settled_running_none c limit eff (echoing c f.course.vars f.echo) f
+
+-- the other kinds: what was heard is forgotten, or kept
+
+none_by : (come : Bool) (heard after : Option ℕ) → after ≡ (if come then None else heard) → is_none after ≡ (is_none heard || come)
+none_by true None after is = ap (λ (o : Option ℕ). is_none o) is
+none_by true (Some m) after is = ap (λ (o : Option ℕ). is_none o) is
+none_by false None after is = ap (λ (o : Option ℕ). is_none o) is
+none_by false (Some m) after is = ap (λ (o : Option ℕ). is_none o) is
+
+-- a head hears nothing, and no rule of it touches what it heard
+
+head_settle_heard : (c : HeadConfig) (limit eff : ℕ) (s : Course) → (head_settling.settle c limit eff s).vars.heard ≡ s.vars.heard
+unfolding head_settling.settle head_settling.periodic_packet
+head_settle_heard c limit eff s = by (has_come (floor_tick limit) s.vars.tx_due) (s.vars.left == 0)
+  where
+    by : (come none : Bool) → (if come then (if none then s.vars else counted (s.vars.left - 1) s.vars).heard else s.vars.heard) ≡ s.vars.heard
+    by true true = refl
+    by true false = refl
+    by false _ = refl
+
 -- the whole tick
 
-tick_by : (c : SessionConfig) (v : Vars) (limit eff : ℕ)
-    → is_none (tick c limit eff (begun None v [])).vars.heard ≡ (is_none v.heard || has_come limit (detects_by c v))
+tick_by : (c : SessionConfig) (s : Running) (limit eff : ℕ)
+    → is_none (tick c limit eff (begun None s [])).course.vars.heard ≡ (is_none s.vars.heard || has_come limit (detects_by c s.vars))
 unfolding tick
-tick_by (Pair c) v limit eff = finish_none c eff _ ∙ settle_none c limit eff (begun None v [])
+tick_by (Pair c) s limit eff =
+    finish_none c eff _ ∙ settles_echo_none c limit eff _ ∙ settle_none c limit eff (begun None s []).course
+tick_by (Seek c) s limit eff =
+    none_by (has_come limit (seek_deadline s.vars)) s.vars.heard _ (seek.tick_heard c limit eff (begun None s []).course)
+tick_by (Head c) s limit eff = ap (λ (o : Option ℕ). is_none o) (head_heard c limit eff (begun None s []).course) ∙ or_false (is_none s.vars.heard)
+tick_by (Tail c) s limit eff =
+    none_by (has_come limit (tail_deadline s.vars)) s.vars.heard _ (tail.tail_heard c limit (begun None s []).course)
 
 pub tick_expires : (s : Running) (limit eff : ℕ)
     → is_none (tick_next limit eff s).vars.heard ≡ (is_none s.vars.heard || has_come limit (detects s))
-unfolding ticked_vars
-tick_expires s limit eff = tick_by s.config s.vars limit eff
+unfolding ticked_flow
+tick_expires s limit eff = tick_by s.config s limit eff
 
 -- a Detection Time runs only where a packet was heard: in Demand mode too, since a session in Up has heard one
 
@@ -148,8 +192,15 @@ deadline_heard : (c : Config) (v : Vars) (here : Bool) → demand_here v ≡ her
 deadline_heard c v true is plain there = plain.up_heard (demand_up v is)
 deadline_heard c v false is plain there = mapped_there _ v.heard (rw is at there)
 
+seek_heard : (v : Vars) (up : Bool) → is_up v.state ≡ up → IsSome (seek_deadline v) → IsSome v.heard
+seek_heard v true is there = mapped_there (λ heard. heard + wait v) v.heard (rw is at there)
+seek_heard v false is there = let some : false ≡ true = rw is at there in cc
+
 heard_by : (c : SessionConfig) (s : Running) → sound_by c s → IsSome (detects_by c s.vars) → IsSome s.vars.heard
 heard_by (Pair c) s sound there = deadline_heard c s.vars (demand_here s.vars) refl sound.vars.steady.plain there
+heard_by (Seek c) s sound there = seek_heard s.vars (is_up s.vars.state) refl there
+heard_by (Head c) s sound there = let some : false ≡ true = there in cc
+heard_by (Tail c) s sound there = mapped_there _ s.vars.heard there
 
 pub detects_heard : (s : Running) → IsSound s → IsSome (detects s) → IsSome s.vars.heard
 detects_heard s sound there = heard_by s.config s sound there
