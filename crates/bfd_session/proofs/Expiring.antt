@@ -1,5 +1,5 @@
 -- A tick forgets that a packet was heard exactly where the Detection Time has expired.
-use Rattle.std.proofs.Common.{◌≡◌, ◌||◌, ◌&&◌, ℕ, Bool, true, false, refl, ap, ◌∙◌, Option, None, Some, is_none, IsSome, option_map, [], arith, if◌then◌else◌}
+use Rattle.std.proofs.Common.{◌≡◌, ◌+◌, ◌-◌, ◌==◌, ◌||◌, ◌&&◌, ℕ, Bool, true, false, refl, ap, ◌∙◌, Option, None, Some, is_none, IsSome, option_map, [], arith, if◌then◌else◌}
 use Rattle.std.proofs.lemmas.Grind.{common_steps}
 use Rattle.bfd_packet.specs.declared.control.State.TheVariants.{Down, Up}
 use Rattle.bfd_packet.specs.States.{is_init_or_up}
@@ -8,7 +8,7 @@ use Rattle.bfd_num.specs.Due.{has_come}
 use Rattle.bfd_rules.specs.declared.config.Config.{Config}
 use Rattle.bfd_rules.specs.declared.variables.Mark.{Mark}
 use Rattle.bfd_rules.specs.declared.variables.Vars.{Vars}
-use Rattle.bfd_rules.specs.Quantities.{deadline, seq_deadline, demand_here, may_send, tx_interval}
+use Rattle.bfd_rules.specs.Quantities.{deadline, seq_deadline, is_up, demand_here, may_send, tx_interval}
 use Rattle.bfd_rules.specs.Jitter.{pick}
 use Rattle.bfd_rules.specs.Renewal.{poll_again, poll_renewed, used_renewed, demand_renewed, renewed}
 use Rattle.bfd_rules.specs.Course.{Course, enters, changes, sends, draws, drawn, is_untold, redrawn}
@@ -17,11 +17,25 @@ use Rattle.bfd_p2p.specs.Frame.{renews, moves}
 use Rattle.bfd_p2p.specs.Transmit.{transmits}
 use Rattle.bfd_p2p.specs.Settle as settling
 use Rattle.bfd_p2p.specs.Finish as finishing
+use Rattle.bfd_p2p.specs.Machine.{failed}
+use Rattle.bfd_sbfd.specs.Waiting.{wait, deadline as seek_deadline}
+use Rattle.bfd_sbfd.proofs.Expiry as seek
+use Rattle.bfd_mp.specs.declared.config.HeadConfig.{HeadConfig}
+use Rattle.bfd_mp.specs.Waiting.{deadline as tail_deadline}
+use Rattle.bfd_mp.specs.Counting.{counted}
+use Rattle.bfd_mp.specs.Transmit.{transmits as head_transmits}
+use Rattle.bfd_mp.specs.HeadSettle as head_settle
+use Rattle.bfd_mp.specs.HeadFinish as head_finish
+use Rattle.bfd_mp.proofs.Expiry as tail
+use Rattle.bfd_echo.specs.declared.echo.Echo.{Echo}
+use Rattle.bfd_echo.specs.declared.echo.EchoResult.{EchoResult}
+use Rattle.bfd_echo.specs.declared.echo.EchoResult.TheVariants.{Nothing, Sent, Failed}
 use Rattle.bfd_session.specs.declared.event.SessionConfig.{SessionConfig}
-use Rattle.bfd_session.specs.declared.event.SessionConfig.TheVariants.{Pair}
-use Rattle.bfd_session.specs.Kinds.{Running}
+use Rattle.bfd_session.specs.declared.event.SessionConfig.TheVariants.{Pair, Seek, Head, Tail}
+use Rattle.bfd_session.specs.Kinds.{Running, Flow}
 use Rattle.bfd_session.specs.Due.{detects, detects_by}
-use Rattle.bfd_session.specs.Step.{IsSound, sound_by, tick, tick_next, ticked_vars, begun}
+use Rattle.bfd_session.specs.Echoing.{settled_by, settled_running, settles_echo, echoing}
+use Rattle.bfd_session.specs.Step.{IsSound, sound_by, tick, tick_next, ticked_flow, begun}
 
 -- Renewal: whether a packet was heard stays
 
@@ -150,16 +164,38 @@ none_by true (Some m) after is = ap (λ (o : Option ℕ). is_none o) is
 none_by false None after is = ap (λ (o : Option ℕ). is_none o) is
 none_by false (Some m) after is = ap (λ (o : Option ℕ). is_none o) is
 
--- a head hears nothing, and no rule of it touches what it heard
+-- a head hears nothing, and so its events forget nothing
 
-head_settle_heard : (c : HeadConfig) (limit eff : ℕ) (s : Course) → (head_settling.settle c limit eff s).vars.heard ≡ s.vars.heard
-unfolding head_settling.settle head_settling.periodic_packet
-head_settle_heard c limit eff s = by (has_come (floor_tick limit) s.vars.tx_due) (s.vars.left == 0)
-  where
-    by : (come none : Bool) → (if come then (if none then s.vars else counted (s.vars.left - 1) s.vars).heard else s.vars.heard) ≡ s.vars.heard
-    by true true = refl
-    by true false = refl
-    by false _ = refl
+alike : (b : Bool) (x y : Course) (h : Option ℕ) → x.vars.heard ≡ h → y.vars.heard ≡ h → (if b then x else y).vars.heard ≡ h
+alike true x y h hx hy = hx
+alike false x y h hx hy = hy
+
+one_fewer_heard : (v : Vars) (none : Bool) → (if none then v else counted (v.left - 1) v).heard ≡ v.heard
+one_fewer_heard v true = refl
+one_fewer_heard v false = refl
+
+head_settle_heard : (c : HeadConfig) (limit eff : ℕ) (s : Course) → (head_settle.settle c limit eff s).vars.heard ≡ s.vars.heard
+unfolding head_settle.settle head_settle.periodic_packet
+head_settle_heard c limit eff s =
+    alike (has_come (floor_tick limit) s.vars.tx_due) (head_settle.periodic_packet c eff s) s s.vars.heard
+    (one_fewer_heard s.vars (s.vars.left == 0)) refl
+
+head_extra_heard : (c : HeadConfig) (eff : ℕ) (s : Course) → (head_finish.extra c eff s).vars.heard ≡ s.vars.heard
+unfolding head_finish.extra head_transmits sends
+head_extra_heard c eff s = alike (is_untold true s.mark s.vars) _ s s.vars.heard refl refl
+
+head_finish_heard : (c : HeadConfig) (eff : ℕ) (s : Course) → (head_finish.finish c eff s).vars.heard ≡ s.vars.heard
+unfolding head_finish.finish redrawn
+head_finish_heard c eff s =
+    let t : Course = head_finish.extra c eff s in drawn_heard true t.mark t.vars ∙ head_extra_heard c eff s
+
+head_heard : (c : HeadConfig) (limit eff : ℕ) (s : Course)
+    → (head_finish.finish c eff (head_settle.settle c limit eff s)).vars.heard ≡ s.vars.heard
+head_heard c limit eff s = head_finish_heard c eff (head_settle.settle c limit eff s) ∙ head_settle_heard c limit eff s
+
+or_never : (n : Bool) → n ≡ (n || false)
+or_never true = refl
+or_never false = refl
 
 -- the whole tick
 
@@ -170,7 +206,7 @@ tick_by (Pair c) s limit eff =
     finish_none c eff _ ∙ settles_echo_none c limit eff _ ∙ settle_none c limit eff (begun None s []).course
 tick_by (Seek c) s limit eff =
     none_by (has_come limit (seek_deadline s.vars)) s.vars.heard _ (seek.tick_heard c limit eff (begun None s []).course)
-tick_by (Head c) s limit eff = ap (λ (o : Option ℕ). is_none o) (head_heard c limit eff (begun None s []).course) ∙ or_false (is_none s.vars.heard)
+tick_by (Head c) s limit eff = ap (λ (o : Option ℕ). is_none o) (head_heard c limit eff (begun None s []).course) ∙ or_never (is_none s.vars.heard)
 tick_by (Tail c) s limit eff =
     none_by (has_come limit (tail_deadline s.vars)) s.vars.heard _ (tail.tail_heard c limit (begun None s []).course)
 
