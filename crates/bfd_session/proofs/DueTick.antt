@@ -48,6 +48,14 @@ pub parts : (t : ℕ) (a b : Option ℕ) → has_come t (sooner a b) ≡ false �
 parts t a b h =
     let both = or_parts (has_come t a) (has_come t b) (sym (has_come-sooner t a b) ∙ h) in record { first = both.0; second = both.1 }
 
+-- the same with the tick's own limit
+
+pub not_late : (t : ℕ) (m : Option ℕ) → has_come t (tick_of m) ≡ false → has_come (1000 * t) m ≡ false
+not_late t m h = sym (has_come-ceil t m) ∙ h
+
+pub not_due : (t : ℕ) (m : Option ℕ) → has_come t m ≡ false → has_come (floor_tick (1000 * t)) m ≡ false
+not_due t m h = ap (λ (k : ℕ). has_come k m) (floor-tick t) ∙ h
+
 -- a moment that hasn't come by the limit of a tick is of a later tick, and so is a due tick that hasn't come
 
 later : (limit t : ℕ) (m : Option ℕ) → limit ≡ 1000 * t → has_come limit m ≡ false → has_come t (tick_of m) ≡ false

@@ -286,33 +286,33 @@ pub record LeavesEcho (f : Flow) (echo : Option Echo) (number : ℕ) : Type 0 wh
   pub echo_kept : f.echo ≡ echo
   pub number_kept : f.echo_next ≡ number
 
-steps : (c : SessionConfig) (eff : ℕ) (event : Event) (f : Flow) → IsPlainKind c → LeavesEcho (step c eff event f) f.echo f.echo_next
+pub step_leaves : (c : SessionConfig) (eff : ℕ) (event : Event) (f : Flow) → IsPlainKind c → LeavesEcho (step c eff event f) f.echo f.echo_next
 unfolding step
-steps (Pair c) eff event f kind = elim kind [ ]
-steps (Seek c) eff (Packet arrival) f kind = record { echo_kept = refl; number_kept = refl }
-steps (Seek c) eff (Returned sequence) f kind = record { echo_kept = refl; number_kept = refl }
-steps (Seek c) eff (Command cmd) f kind = record { echo_kept = refl; number_kept = refl }
-steps (Seek c) eff Show f kind = record { echo_kept = refl; number_kept = refl }
-steps (Head c) eff (Packet arrival) f kind = record { echo_kept = refl; number_kept = refl }
-steps (Head c) eff (Returned sequence) f kind = record { echo_kept = refl; number_kept = refl }
-steps (Head c) eff (Command cmd) f kind = record { echo_kept = refl; number_kept = refl }
-steps (Head c) eff Show f kind = record { echo_kept = refl; number_kept = refl }
-steps (Tail c) eff (Packet arrival) f kind = record { echo_kept = refl; number_kept = refl }
-steps (Tail c) eff (Returned sequence) f kind = record { echo_kept = refl; number_kept = refl }
-steps (Tail c) eff (Command cmd) f kind = record { echo_kept = refl; number_kept = refl }
-steps (Tail c) eff Show f kind = record { echo_kept = refl; number_kept = refl }
+step_leaves (Pair c) eff event f kind = elim kind [ ]
+step_leaves (Seek c) eff (Packet arrival) f kind = record { echo_kept = refl; number_kept = refl }
+step_leaves (Seek c) eff (Returned sequence) f kind = record { echo_kept = refl; number_kept = refl }
+step_leaves (Seek c) eff (Command cmd) f kind = record { echo_kept = refl; number_kept = refl }
+step_leaves (Seek c) eff Show f kind = record { echo_kept = refl; number_kept = refl }
+step_leaves (Head c) eff (Packet arrival) f kind = record { echo_kept = refl; number_kept = refl }
+step_leaves (Head c) eff (Returned sequence) f kind = record { echo_kept = refl; number_kept = refl }
+step_leaves (Head c) eff (Command cmd) f kind = record { echo_kept = refl; number_kept = refl }
+step_leaves (Head c) eff Show f kind = record { echo_kept = refl; number_kept = refl }
+step_leaves (Tail c) eff (Packet arrival) f kind = record { echo_kept = refl; number_kept = refl }
+step_leaves (Tail c) eff (Returned sequence) f kind = record { echo_kept = refl; number_kept = refl }
+step_leaves (Tail c) eff (Command cmd) f kind = record { echo_kept = refl; number_kept = refl }
+step_leaves (Tail c) eff Show f kind = record { echo_kept = refl; number_kept = refl }
 
 pub plain_step : (s : Running) (eff : ℕ) (event : Event) → IsPlainKind s.config → LeavesEcho (stepped_flow eff event s) s.echo s.echo_next
 unfolding stepped_flow
-plain_step s eff event kind = steps s.config eff event _ kind
+plain_step s eff event kind = step_leaves s.config eff event _ kind
 
-ticks : (c : SessionConfig) (limit eff : ℕ) (f : Flow) → IsPlainKind c → LeavesEcho (tick c limit eff f) f.echo f.echo_next
+tick_leaves : (c : SessionConfig) (limit eff : ℕ) (f : Flow) → IsPlainKind c → LeavesEcho (tick c limit eff f) f.echo f.echo_next
 unfolding tick
-ticks (Pair c) limit eff f kind = elim kind [ ]
-ticks (Seek c) limit eff f kind = record { echo_kept = refl; number_kept = refl }
-ticks (Head c) limit eff f kind = record { echo_kept = refl; number_kept = refl }
-ticks (Tail c) limit eff f kind = record { echo_kept = refl; number_kept = refl }
+tick_leaves (Pair c) limit eff f kind = elim kind [ ]
+tick_leaves (Seek c) limit eff f kind = record { echo_kept = refl; number_kept = refl }
+tick_leaves (Head c) limit eff f kind = record { echo_kept = refl; number_kept = refl }
+tick_leaves (Tail c) limit eff f kind = record { echo_kept = refl; number_kept = refl }
 
 pub plain_tick : (s : Running) (limit eff : ℕ) → IsPlainKind s.config → LeavesEcho (ticked_flow limit eff s) s.echo s.echo_next
 unfolding ticked_flow
-plain_tick s limit eff kind = ticks s.config limit eff _ kind
+plain_tick s limit eff kind = tick_leaves s.config limit eff _ kind
