@@ -1,7 +1,6 @@
 -- An Echo function that nothing is due of, or that fails, is left as it is; and after a failure the session isn't Up.
-use Rattle.std.proofs.Common.{rules, ◌≡◌, ◌≤◌, ◌&&◌, ℕ, Bool, true, false, List, refl, sym, ap, ◌∙◌, subst, Option, None, Some, arith, if◌then◌else◌}
+use Rattle.std.proofs.Common.{rules, ◌≡◌, ◌&&◌, ℕ, Bool, true, false, List, refl, sym, ap, ◌∙◌, subst, Option, Some, arith, if◌then◌else◌}
 use Rattle.bfd_packet.specs.declared.control.State.TheVariants.{Down}
-use Rattle.bfd_num.specs.Numbers.{floor_tick}
 use Rattle.bfd_rules.specs.declared.config.Config.{Config}
 use Rattle.bfd_rules.specs.declared.variables.Vars.{Vars}
 use Rattle.bfd_rules.specs.Quantities.{is_up}
@@ -14,8 +13,8 @@ use Rattle.bfd_echo.specs.declared.echo.Echo.{Echo}
 use Rattle.bfd_echo.specs.declared.echo.EchoResult.{EchoResult}
 use Rattle.bfd_echo.specs.Rules.{outcome, settled}
 use Rattle.bfd_echo.specs.Timing.{is_echo_wanted, has_failed, is_sending}
-use Rattle.bfd_session.specs.Echoing.{IsEchoOver, should_echo, interval_of, settles_echo, settled_running, settled_by}
-use Rattle.bfd_session.specs.Kinds.{Flow, flow, along}
+use Rattle.bfd_session.specs.Echoing.{IsEchoOver, should_echo, interval_of, settles_echo}
+use Rattle.bfd_session.specs.Kinds.{flow}
 use Rattle.bfd_session.proofs.echoing.settles_echo.Goals as goal
 
 -- the state after a failure

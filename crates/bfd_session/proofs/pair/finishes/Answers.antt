@@ -1,5 +1,5 @@
 -- The end of an event leaves what the Echo function runs by.
-use Rattle.std.proofs.Common.{◌≡◌, sym, subst}
+use Rattle.std.proofs.Common.{sym, subst}
 use Rattle.bfd_rules.specs.declared.config.Config.{Config}
 use Rattle.bfd_rules.specs.declared.variables.Vars.{Vars}
 use Rattle.bfd_rules.specs.Course.{Course, course}
