@@ -1,4 +1,4 @@
--- An own event keeps variables sound.
+-- An own event keeps a session sound.
 use Rattle.std.proofs.Common.{◌≡◌, ◌<◌, ◌≤◌, ◌==◌, ◌||◌, ◌&&◌, not, ℕ, Bool, true, false, refl, ◌∙◌, Option, None, Some, is_some, is_none, IsSome, IfSome, option_map, List, [], length, Result, Ok, Err, arith, if◌then◌else◌, cond}
 use Rattle.std.proofs.lemmas.Grind.{common_steps}
 use Rattle.std.proofs.lemmas.Bool.Decides.{nat_tests}
