@@ -1,8 +1,8 @@
 -- A tick comes exactly when the moment that it rounds has come; and what a tick leaves is not due by it.
-use Rattle.std.proofs.Common.{◌≡◌, ◌||◌, ◌*◌, ℕ, Bool, true, false, refl, sym, ap, ◌∙◌, subst, Option, None, Some, arith}
+use Rattle.std.proofs.Common.{◌≡◌, ◌||◌, ◌*◌, ℕ, false, refl, sym, ap, ◌∙◌, Option, None, Some, arith}
 use Rattle.std.proofs.lemmas.Bool.{or_parts}
 use Rattle.std.proofs.lemmas.Bool.Decides.{nat_tests}
-use Rattle.std.specs.Prelude.{nat_le, option_map}
+use Rattle.std.specs.Prelude.{nat_le}
 use Rattle.bfd_num.specs.Numbers.{ceil_tick, floor_tick}
 use Rattle.bfd_num.specs.Due.{has_come, sooner}
 use Rattle.bfd_p2p.specs.Machine as pair

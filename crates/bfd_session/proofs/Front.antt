@@ -1,5 +1,6 @@
--- What was put out before an event stays in front of what the event puts out.
-use Rattle.std.proofs.Common.{◌≡◌, ◌++◌, ◌&&◌, ℕ, Bool, true, false, List, [], refl, sym, ap, ◌∙◌, append_assoc, append-nil, Option, None, Some, is_some, Result, Ok, Err, if◌then◌else◌}
+-- What was put out before an event stays in front of what the event puts out, and changes nothing else of it; and an event
+-- of a session of another kind than a point-to-point one leaves the Echo function.
+use Rattle.std.proofs.Common.{◌≡◌, ◌++◌, ◌&&◌, ℕ, Bool, true, false, List, [], refl, sym, ap, ◌∙◌, append_assoc, append-nil, Option, None, Some, is_some, Result, Ok, Err}
 use Rattle.bfd_packet.specs.declared.arrival.Datagram.{Datagram}
 use Rattle.bfd_packet.specs.declared.control.Control.{Control}
 use Rattle.bfd_packet.specs.declared.discard.Test.{Test}
@@ -11,7 +12,7 @@ use Rattle.bfd_rules.specs.declared.variables.Vars.{Vars}
 use Rattle.bfd_num.specs.Numbers.{floor_tick}
 use Rattle.bfd_num.specs.Due.{has_come}
 use Rattle.bfd_rules.specs.Quantities.{may_send, deadline, seq_deadline, is_admin_down}
-use Rattle.bfd_rules.specs.Course.{Course, changes, sends, is_untold, based, redrawn}
+use Rattle.bfd_rules.specs.Course.{Course, sends, is_untold, based, redrawn}
 use Rattle.bfd_p2p.specs.Frame.{renews, moves}
 use Rattle.bfd_p2p.specs.Transmit.{transmits}
 use Rattle.bfd_p2p.specs.Settle as settling
@@ -20,32 +21,18 @@ use Rattle.bfd_p2p.specs.Command.{refusal, commanded, done}
 use Rattle.bfd_p2p.specs.Finish as finishing
 use Rattle.bfd_sbfd.proofs.Front as seek
 use Rattle.bfd_mp.proofs.HeadFront as head
+use Rattle.bfd_mp.proofs.HeadFront.{after, either, changes-after}
 use Rattle.bfd_mp.proofs.TailFront as tail
 use Rattle.bfd_echo.specs.declared.echo.Echo.{Echo}
 use Rattle.bfd_echo.specs.declared.echo.EchoResult.{EchoResult}
 use Rattle.bfd_echo.specs.declared.echo.EchoResult.TheVariants.{Nothing, Sent, Failed}
 use Rattle.bfd_session.specs.declared.event.SessionConfig.{SessionConfig}
 use Rattle.bfd_session.specs.declared.event.SessionConfig.TheVariants.{Pair, Seek, Head, Tail}
-use Rattle.bfd_session.specs.declared.event.Answer.{Answer}
 use Rattle.bfd_session.specs.declared.event.Event.{Event}
 use Rattle.bfd_session.specs.declared.event.Event.TheVariants.{Packet, Returned, Command, Show}
 use Rattle.bfd_session.specs.Kinds.{Running, Flow, along}
 use Rattle.bfd_session.specs.Echoing.{settled_by, settled_running, settles_echo, echoing, turns_echo}
 use Rattle.bfd_session.specs.Step.{step, tick, settled, acted, finished, begun, step_from, stepped_flow, emits, answer_of, reply, reply_from, tick_from, ticked_flow, tick_emits}
-
--- the course with these outputs in front
-abbrev pub after : List Out → Course → Course
-after os s = record s { outs = os ++ s.outs }
-
--- a choice between two courses
-either : (os : List Out) (b : Bool) (x y x' y' : Course) → x' ≡ after os x → y' ≡ after os y
-    → (if b then x' else y') ≡ after os (if b then x else y)
-either os true x y x' y' hx hy = hx
-either os false x y x' y' hx hy = hy
-
-changes-after : (discr : ℕ) (v : Vars) (os : List Out) (s : Course) → changes discr v (after os s) ≡ after os (changes discr v s)
-unfolding changes
-changes-after discr v os s = rw append_assoc refl
 
 sends-after : (discr : ℕ) (datagram : Datagram) (os : List Out) (s : Course) → sends discr datagram (after os s) ≡ after os (sends discr datagram s)
 unfolding sends
@@ -147,7 +134,7 @@ finish-after c eff os s = rw extra-after refl
 
 -- the Echo function
 
--- the same of an event on its way, with its Echo function
+-- an event on its way with these outputs in front
 abbrev pub ahead : List Out → Flow → Flow
 ahead os f = record f { course = after os f.course }
 

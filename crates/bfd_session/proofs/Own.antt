@@ -1,4 +1,4 @@
--- An own event keeps variables sound.
+-- An own event keeps a session sound.
 use Rattle.std.proofs.Common.{◌≡◌, ◌<◌, ◌≤◌, ◌==◌, ◌||◌, ◌&&◌, not, ℕ, Bool, true, false, refl, ◌∙◌, Option, None, Some, is_some, is_none, IsSome, IfSome, option_map, List, [], length, Result, Ok, Err, arith, if◌then◌else◌, cond}
 use Rattle.std.proofs.lemmas.Grind.{common_steps}
 use Rattle.std.proofs.lemmas.Bool.Decides.{nat_tests}
@@ -23,7 +23,7 @@ use Rattle.bfd_rules.specs.declared.config.Config.{Config}
 use Rattle.bfd_rules.specs.declared.variables.Vars.{Vars}
 use Rattle.bfd_rules.specs.Quantities.{is_admin_down}
 use Rattle.bfd_rules.specs.Renewal.{poll_renewed, used_renewed, demand_renewed, renewed}
-use Rattle.bfd_rules.specs.Course.{Course, enters, sends}
+use Rattle.bfd_rules.specs.Course.{Course, sends}
 use Rattle.bfd_rules.specs.Sound.{IsPlain, IsPlace, HasPeerMult, IsSteady, is_interval}
 use Rattle.bfd_p2p.specs.Frame.{renews, moves}
 use Rattle.bfd_p2p.specs.Transmit.{transmits}

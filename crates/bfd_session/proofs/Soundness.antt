@@ -1,4 +1,4 @@
--- A tick keeps variables sound.
+-- A tick keeps a session sound.
 use Rattle.std.proofs.Common.{◌≡◌, ◌^◌, ◌-◌, ◌<◌, ◌≤◌, ◌+◌, ◌*◌, ◌/◌, ◌%◌, ◌&&◌, ◌||◌, ◌==◌, ◌↔◌, not, ℕ, Bool, true, false, refl, Option, None, Some, is_none, IsSome, IsTrue, IfSome, option_map, [], arith, rules, if◌then◌else◌}
 use Rattle.std.proofs.lemmas.Grind.{common_steps}
 use Rattle.std.proofs.lemmas.Bool.{or_parts}
