@@ -69,8 +69,9 @@ def draw_details(axes, scale, row, lane):
     below = row + BAR + BAR_HEIGHT
     marks(axes, scale, lane.came, row + BAR - 0.13, row + BAR - 0.02, CAME)
     marks(axes, scale, lane.sent, below + 0.02, below + 0.13, SENT)
-    marks(axes, scale, lane.echoes[0], row + BAR - 0.08, row + BAR - 0.02, ECHO)
-    marks(axes, scale, lane.echoes[1], below + 0.02, below + 0.08, ECHO)
+    if any(lane.echoes):
+        marks(axes, scale, lane.echoes[0], row + BAR - 0.08, row + BAR - 0.02, ECHO)
+        marks(axes, scale, lane.echoes[1], below + 0.02, below + 0.08, ECHO)
     for spans, colour, low in ((lane.polls, POLL, below + 0.16), (lane.demand, DEMAND, below + 0.22)):
         axes.broken_barh([(scale.at(start), max(scale.at(end - start), scale.span / 600)) for start, end in spans],
                          (low, 0.045), color=colour, linewidth=0)
