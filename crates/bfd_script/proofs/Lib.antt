@@ -1,7 +1,9 @@
 pub mod Ascii
 pub mod Decimal
 pub mod FirstLine
+pub mod Numbered
 pub mod Inserting
+pub mod Pooling
 pub mod Kept
 pub mod Splitting
 pub mod Numerals
