@@ -11,16 +11,20 @@
 //! it; after a fault no entry is added, and Full and Spent have their causes. It promises nothing of waiting.
 #![tactic(auto)]
 
+mod asking;
 mod dealing;
 mod engine;
 mod fault;
+mod joining;
 mod kept;
 mod open;
+mod passing;
 mod pass;
 mod receive;
 mod turn;
 
 pub use engine::Engine;
+pub use joining::Unclosed;
 pub use fault::{EngineFault, OpenFault};
 pub use kept::{Base, Kept};
 pub use pass::EnginePass;
