@@ -13,3 +13,7 @@ pub mod Timing
 pub mod Cutting
 pub mod Gluing
 pub mod Closing
+pub mod Lending
+pub mod Copies
+pub mod Growing
+pub mod Verdicts

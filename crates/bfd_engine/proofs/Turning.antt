@@ -16,19 +16,19 @@ use Rattle.bfd_engine.specs.Engines.{Shards, Held, Knows, base_at, configs_at}
 use Rattle.bfd_engine.specs.Calls.{seen_of, seen_at, word_of, taken_of, made_of, kept_of, Turned, IsCause, fault_of, IsCall, IsFailed}
 use Rattle.bfd_engine.proofs.Places.{K, within, set_here, set_else}
 
-at_place : (k l : Knows) (s : ℕ) (p q : K) → slice_get k.1 s ≡ Some (Some p) → l ≡ (k.0, set k.1 s (Some q), k.2) → slice_get l.1 s ≡ Some (Some q)
+pub at_place : (k l : Knows) (s : ℕ) (p q : K) → slice_get k.1 s ≡ Some (Some p) → l ≡ (k.0, set k.1 s (Some q), k.2) → slice_get l.1 s ≡ Some (Some q)
 at_place k l s p q here is = ap (λ (m : Knows). slice_get m.1 s) is ∙ set_here k.1 s (Some q) (within k.1 s (Some p) here)
 
-elsewhere : (k l : Knows) (s : ℕ) (q : K) (r : ℕ) → l ≡ (k.0, set k.1 s (Some q), k.2) → r ≢ s → slice_get l.1 r ≡ slice_get k.1 r
+pub elsewhere : (k l : Knows) (s : ℕ) (q : K) (r : ℕ) → l ≡ (k.0, set k.1 s (Some q), k.2) → r ≢ s → slice_get l.1 r ≡ slice_get k.1 r
 elsewhere k l s q r is other = ap (λ (m : Knows). slice_get m.1 r) is ∙ set_else k.1 s r (Some q) other
 
-same_at : {X : Type 0} (f : Option Held → X) (k l : Knows) (s : ℕ) (p q : K) → slice_get k.1 s ≡ Some (Some p) → l ≡ (k.0, set k.1 s (Some q), k.2) → f (Some (Some q)) ≡ f (Some (Some p))
+pub same_at : {X : Type 0} (f : Option Held → X) (k l : Knows) (s : ℕ) (p q : K) → slice_get k.1 s ≡ Some (Some p) → l ≡ (k.0, set k.1 s (Some q), k.2) → f (Some (Some q)) ≡ f (Some (Some p))
     → (r : ℕ) → f (slice_get l.1 r) ≡ f (slice_get k.1 r)
 same_at f k l s p q here is same r = dite (ℕ_discrete r s)
     (λ at. subst (λ i. f (slice_get l.1 i) ≡ f (slice_get k.1 i)) (sym at) (ap f (at_place k l s p q here is) ∙ (same ∙ ap f (sym here))))
     (λ other. ap f (elsewhere k l s q r is other))
 
-turned : (k l : Knows) (s : ℕ) (p q : K) (between new : List Entry) → slice_get k.1 s ≡ Some (Some p) → l ≡ (k.0, set k.1 s (Some q), k.2) → p.1.number ≡ k.0 → IsSame p.1 q.1
+pub turned : (k l : Knows) (s : ℕ) (p q : K) (between new : List Entry) → slice_get k.1 s ≡ Some (Some p) → l ≡ (k.0, set k.1 s (Some q), k.2) → p.1.number ≡ k.0 → IsSame p.1 q.1
     → q.1.seen ≡ (p.1.seen ++ between) ++ new → calls by p.1.number between ≡ [] → Turned k l s between new
 turned k l s p q between new here is num same seen others =
     let at_l = at_place k l s p q here is in record {

@@ -50,7 +50,7 @@ impl<W: Timers> Model for Engine<W> {
 }
 
 /// The fault of a shard's turn.
-fn fault_at(shard: u32, fault: TurnFault) -> EngineFault
+pub(crate) fn fault_at(shard: u32, fault: TurnFault) -> EngineFault
     ensures { result ≡ fault_of shard fault }
 {
     match fault {

@@ -4,12 +4,13 @@ ghost use Rattle.std.specs.Result.{result_err};
 ghost use Rattle.bfd_demux.specs.Selection.{first_header_failing, first_table_failing, target_of};
 ghost use Rattle.bfd_packet.specs.Layout.{fields_of};
 ghost use Rattle.bfd_sbfd.specs.Reflect as reflecting;
-ghost use Rattle.bfd_session.specs.Arrivals.{coming_to};
+ghost use Rattle.bfd_session.specs.Arrivals.{coming_to, comes_to};
 ghost use Rattle.bfd_session.specs.Rows.{table_of};
 ghost use Rattle.bfd_shard.specs.Shard.{IsTaken};
 ghost use Rattle.bfd_shard.specs.declared.entry.ShardEvent.TheVariants.{Tick as TickEvent};
 ghost use Rattle.bfd_engine.specs.Engines.{IsOf, AllThere, configs_at};
 ghost use Rattle.bfd_engine.specs.Calls.{IsDone, Turns, own_act, arrival_act, coming_act, reflect_act, seen_at};
+ghost use Rattle.bfd_engine.specs.Judging.{judged_by};
 ghost use Rattle.bfd_engine.specs.Turned.{HasExpired};
 ghost use Rattle.bfd_engine.specs.Inside.{Arrives, IsNamed, IsTold};
 
@@ -110,10 +111,13 @@ impl<W: Timers> Engine<W> {
         requires of { IsOf self.now pass.old.1 }
         requires there { AllThere pass.old.1 }
         requires arrives { Arrives self.now.configs self.now.pool arrival target }
+        requires some { 0 < length self.now.locks }
+        requires passes { None ≡ first_table_failing (table_of self.now.configs self.now.pool) arrival }
         requires room { 5 ≤ outs.old.spare }
         ensures of { IsOf self.now pass.new.1 }
         ensures there { AllThere pass.new.1 }
         ensures call { IsDone (coming_act self.now moment arrival (coming_to (Some target) arrival)) self.now pass.old pass.new outs.old.items outs.new.items result }
+        ensures judged { IfOk result (λ answer. judged_by self.now moment arrival (coming_to (Some target) arrival) pass.new answer) }
         ensures room { outs.new.room ≡ outs.old.room }
         ensures spare { outs.old.spare ≤ outs.new.spare + 5 }
         ensures cost { steps.new ≤ steps.old + 2 }
@@ -133,8 +137,9 @@ impl<W: Timers> Engine<W> {
     ///
     /// An arrival that fails a test up to selection is answered `Dropped` with the first that it fails. A packet for a reflector
     /// is answered by it: its answer is put out as `Sent` in the reflector's name, or it is `Dropped`. Neither takes a turn.
-    /// Any other arrival is one turn, whose entry is the session's own event at this moment. `outs` has room for five. At most
-    /// 40 steps are taken.
+    /// Any other arrival is one turn, whose entry is the session's own event at this moment. A packet of a session is `Dropped` by
+    /// the first test that it fails, over the session's variables after settling, and `Handled` where it fails none (RFC 5880
+    /// section 6.8.6). `outs` has room for five. At most 40 steps are taken.
     #[tactic(auto, using(crate::proofs::Reaching::arrives))]
     pub fn receive<R: Wait, L: Ledger>(
         &self,
@@ -151,6 +156,7 @@ impl<W: Timers> Engine<W> {
         ensures of { IsOf self.now pass.new.1 }
         ensures there { AllThere pass.new.1 }
         ensures call { IsDone (arrival_act self.now moment arrival) self.now pass.old pass.new outs.old.items outs.new.items result }
+        ensures judged { IfOk result (λ answer. judged_by self.now moment arrival (comes_to (table_of self.now.configs self.now.pool) arrival) pass.new answer) }
         ensures room { outs.new.room ≡ outs.old.room }
         ensures spare { outs.old.spare ≤ outs.new.spare + 5 }
         ensures cost { steps.new ≤ steps.old + 40 }
