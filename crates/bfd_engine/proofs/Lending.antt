@@ -1,5 +1,5 @@
 -- A turn that is held, and one that isn't given.
-use Rattle.std.proofs.Common.{◌≡◌, ◌≢◌, ◌<◌, ◌+◌, ◌++◌, [], ℕ, All, List, set, length-set, Option, Some, None, slice_get, refl, ap, sym, ◌∙◌, subst, arith}
+use Rattle.std.proofs.Common.{◌≡◌, ◌<◌, ◌+◌, ◌++◌, [], ℕ, All, List, set, length-set, Some, None, slice_get, refl, ap, sym, ◌∙◌, subst, arith}
 use Rattle.bfd_turn.specs.Lists.{calls}
 use mathlib.Core.Logic.{dite}
 use native.Mathlib.Decide.{ℕ_discrete}
@@ -13,8 +13,8 @@ use Rattle.bfd_shard.specs.declared.entry.Entry.{Entry}
 use Rattle.bfd_engine.specs.declared.holding.HoldFault.TheVariants.{Busy, Spent}
 use Rattle.bfd_engine.specs.Turned.{by, OfShard}
 use Rattle.bfd_engine.specs.Engines.{Shards, Held, Knows, IsOf, IsCallers, base_at}
-use Rattle.bfd_engine.specs.Calls.{seen_of, word_of, taken_of, made_of, kept_of, seen_at}
-use Rattle.bfd_engine.specs.Holds.{HasTaken, HasMet, IsHeld, IsKept}
+use Rattle.bfd_engine.specs.Calls.{seen_of, word_of, taken_of, made_of, kept_of}
+use Rattle.bfd_engine.specs.Holds.{HasTaken, HasMet, IsKept}
 use Rattle.bfd_engine.proofs.Places.{K, within, set_here, set_else, same_held}
 use Rattle.bfd_engine.proofs.Turning.{at_place, elsewhere, same_at}
 
@@ -80,11 +80,11 @@ of_back engine ps at q out lock base of =
       long = length-set ps at (Some q) ∙ of.long;
       lock = λ k r e. dite (ℕ_discrete k at)
           (λ is. (let qr : q ≡ r = same_held q r (slice_get (set ps at (Some q)) at) here (ap (slice_get (set ps at (Some q))) (sym is) ∙ e) in
-              ap (slice_get engine.locks) is ∙ (lock ∙ ap (λ (x : K). Some x.0) qr)))
+          ap (slice_get engine.locks) is ∙ (lock ∙ ap (λ (x : K). Some x.0) qr)))
           (λ other. of.lock k r (sym (set_else ps at k (Some q) other) ∙ e));
       base_is = λ k r e. dite (ℕ_discrete k at)
           (λ is. (let qr : q ≡ r = same_held q r (slice_get (set ps at (Some q)) at) here (ap (slice_get (set ps at (Some q))) (sym is) ∙ e) in
-              ap (λ (x : K). x.1.base) (sym qr) ∙ (base ∙ ap (λ s. Some (base_at engine s)) (sym is))))
+          ap (λ (x : K). x.1.base) (sym qr) ∙ (base ∙ ap (λ s. Some (base_at engine s)) (sym is))))
           (λ other. of.base_is k r (sym (set_else ps at k (Some q) other) ∙ e));
     }
 

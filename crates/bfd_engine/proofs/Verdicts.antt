@@ -12,7 +12,7 @@ use Rattle.bfd_demux.specs.declared.target.Target.TheVariants.{Session, Reflecto
 use Rattle.bfd_demux.specs.Selection.{first_table_failing}
 use Rattle.bfd_sbfd.specs.Reflect.{reflect}
 use Rattle.bfd_session.specs.declared.event.Answer.{Answer}
-use Rattle.bfd_session.specs.declared.event.Answer.TheVariants.{Handled, Dropped}
+use Rattle.bfd_session.specs.declared.event.Answer.TheVariants.{Dropped}
 use Rattle.bfd_session.specs.declared.event.Event.TheVariants.{Packet}
 use Rattle.bfd_session.specs.declared.event.SessionConfig.{SessionConfig}
 use Rattle.bfd_session.specs.Alone.{effective}
@@ -27,7 +27,7 @@ use Rattle.bfd_shard.specs.declared.entry.ShardEvent.TheVariants.{Own}
 use Rattle.bfd_shard.specs.History.{events_of, last_tick, outcome_of, own_outcome, run, runs, runs_from}
 use Rattle.bfd_shard.specs.Shard.{IsTaken}
 use Rattle.bfd_engine.specs.declared.fault.EngineFault.{EngineFault}
-use Rattle.bfd_engine.specs.Turned.{entry_of, given_after}
+use Rattle.bfd_engine.specs.Turned.{entry_of}
 use Rattle.bfd_engine.specs.Engines.{Shards, Knows, configs_at}
 use Rattle.bfd_engine.specs.Calls.{IsCall, IsDone, coming_act, reflect_act, seen_at}
 use Rattle.bfd_engine.specs.Inside.{Arrives}
@@ -64,7 +64,7 @@ judged_call engine shard place moment arrival k l outs outs2 answer none taken c
       there = s.1;
       answered = call.answered ∙ (own_answer (last_tick (events_of before)) place moment arrival (runs (events_of before) (configs_at engine shard)) s.0 s.1
           ∙ ap answer_by (only_own (first_table_failing (table_of engine.configs engine.pool) arrival) (first_own_failing s.0.config v arrival)
-            (first_discarding (table_of engine.configs engine.pool) s.0.config v arrival) (discards_first (table_of engine.configs engine.pool) s.0.config v arrival) none));
+          (first_discarding (table_of engine.configs engine.pool) s.0.config v arrival) (discards_first (table_of engine.configs engine.pool) s.0.config v arrival) none));
     }
 
 judged_reflected : (r : Result Datagram Test) (engine : Shards) (k l : Knows) (arrival : Arrival) (outs outs2 : List Out) (answer : Answer)

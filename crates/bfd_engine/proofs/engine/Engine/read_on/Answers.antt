@@ -1,8 +1,8 @@
 -- The turn's pass is put back in its place.
-use Rattle.std.proofs.Common.{◌≡◌, ◌∙◌, List, Some, IfOk, IfErr, Result, Ok, Err, drop, slice_set, set-set, sym, ap, refl, subst}
+use Rattle.std.proofs.Common.{◌≡◌, Some, slice_set, set-set, sym, ap, refl, subst}
 use Rattle.bfd_engine.specs.Engines.{Knows, IsOf, AllThere}
 use Rattle.bfd_engine.proofs.Places.{of_set, there_set}
-use Rattle.bfd_engine.proofs.Copies.{has_read, seen_is, unread_at}
+use Rattle.bfd_engine.proofs.Copies.{has_read}
 use Rattle.bfd_engine.proofs.engine.Engine.read_on.Goals as goal
 
 pub returns-clause-of : goal.returns-clause-of

@@ -1,5 +1,5 @@
 -- The turn is the pass's, or the pass is put back in its place.
-use Rattle.std.proofs.Common.{◌≡◌, ◌∙◌, get_or, Some, None, slice_set, set-set, sym, ap, refl, subst}
+use Rattle.std.proofs.Common.{◌≡◌, ◌∙◌, get_or, Some, slice_set, set-set, sym, ap, refl, subst}
 use Rattle.std.proofs.lemmas.Option.{get_or_from_slice_get}
 use Rattle.bfd_turn.specs.Passes.{IsBack, WasBusy, WasSpent}
 use Rattle.bfd_engine.specs.Turned.{OfShard}
