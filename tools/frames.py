@@ -7,7 +7,7 @@ import re
 import struct
 from typing import NamedTuple
 
-from texts import Complaint, library
+from texts import Complaint, PORTS, library
 
 dpkt = library("dpkt", "python3-dpkt")
 
@@ -16,6 +16,7 @@ RAW = {12, 14, 101, 228, 229}
 LOOPBACK = {0, 108}
 TAGS = {0x8100, 0x88A8, 0x9100}
 SOME_PORT = re.compile(rb"\x0e[\xc8\xc9]|\x12\xb0|\x1a\x80|\x1e\x68")  # 3784, 3785, 4784, 6784, 7784
+KINDS = {6784: "aggregate"} | {port: kind for kind, port in PORTS.items() if kind != "answer"}
 LARGEST = 1 << 26  # a block beyond this is no packet
 
 
@@ -32,7 +33,7 @@ class Datagram(NamedTuple):
     src: bytes
     dst: bytes
     ttl: int
-    port: int
+    port: str  # the kind of port, as an `rx` line names it, or `aggregate`
     payload: bytes
 
 
@@ -179,10 +180,11 @@ def udp_of(frame, tags, ip, is_ipv6):
     udp = ip.data
     if not isinstance(udp, dpkt.udp.UDP):
         raise Unreadable("frames whose UDP header is cut off")
-    if udp.dport not in (3784, 3785, 4784, 6784, 7784):
+    port = KINDS.get(udp.dport) or ("answer" if udp.sport == PORTS["sbfd"] else None)
+    if not port:
         return None
     payload = bytes(udp.data)[:max(udp.ulen - 8, 0)]
     if len(payload) < min(udp.ulen - 8, 256):
         raise Unreadable("packets that the capture cut short (its snap length)")
     place = (frame.place if frame.link != COOKED_2 else int.from_bytes(frame.data[4:8], "big"), *tags)
-    return Datagram(place, ip.src, ip.dst, ip.hlim if is_ipv6 else ip.ttl, udp.dport, payload)
+    return Datagram(place, ip.src, ip.dst, ip.hlim if is_ipv6 else ip.ttl, port, payload)

@@ -1,5 +1,5 @@
 """What a replay tells of each session in time: its states, packets, drops, polls and demand mode."""
-from texts import packet_of
+from texts import ECHO, packet_of
 
 
 class Lane:
@@ -7,8 +7,8 @@ class Lane:
 
     def __init__(self, session):
         self.session = session
-        self.states = [[0.0, None, "Down"]]  # each from its moment until the next one's
-        self.came, self.sent, self.drops, self.refusals = [], [], [], []
+        self.states = [[0.0, None, "Up" if session.kind == "head" else "Down"]]  # each from its moment until the next one's
+        self.came, self.sent, self.echoes, self.drops, self.refusals = [], [], ([], []), [], []
         self.polls, self.demand = Spans(), Spans()
 
     def change(self, moment, state):
@@ -16,21 +16,27 @@ class Lane:
         self.states.append([moment, None, state])
 
     def hear(self, moment, payload, reason):
-        """A packet of the peer; `reason` is why it was dropped, or None. F of one that passed ends a poll."""
-        self.came.append(moment)
+        """A packet that came; `reason` is why it was dropped, or None. F of one that passed ends a poll."""
         packet = packet_of(payload)
+        (self.echoes[0] if payload.startswith(ECHO) else self.came).append(moment)
         if reason:
             self.drops.append((moment, reason))
         elif packet and packet.has("F"):
             self.polls.end(moment)
 
     def send(self, moment, payload):
-        """A packet of this side: P begins a poll, D says whether demand mode is active."""
+        """A packet of this side. P begins a poll, which the first packet of a head without P ends. D says whether demand mode
+        is active, where it isn't in every packet."""
+        if payload.startswith(ECHO):
+            self.echoes[1].append(moment)
+            return
         self.sent.append(moment)
         packet = packet_of(payload)
         if packet and packet.has("P"):
             self.polls.begin(moment)
-        if packet and packet.has("D"):
+        elif self.session.kind == "head":
+            self.polls.end(moment)
+        if packet and packet.has("D") and self.session.kind in ("single", "multi"):
             self.demand.begin(moment)
         else:
             self.demand.end(moment)
@@ -81,7 +87,7 @@ class Lanes:
         for line in lines:
             if line.word == "state":
                 self.lanes[int(line.words[0])].change(moment, line.words[2])
-            elif line.word == "tx":
+            elif line.word == "tx" and int(line.words[0]) in self.lanes:  # a reflector has no lane
                 self.lanes[int(line.words[0])].send(moment, bytes.fromhex(line.words[1]))
             elif line.word == "refuse" and event.discr in self.lanes:
                 self.lanes[event.discr].refusals.append((moment, line.words[0]))

@@ -10,7 +10,8 @@ from matplotlib.patches import Patch
 # Colours that people who don't tell red from green can tell.
 COLOURS = {"Up": "#009e73", "Init": "#f0c419", "Down": "#d55e00", "AdminDown": "#8c8c8c"}
 INK = {"Up": "white", "Init": "black", "Down": "white", "AdminDown": "white"}
-CAME, SENT, DROP, POLL, DEMAND, REFUSAL = "#222222", "#0072b2", "#b00020", "#b0479b", "#56b4e9", "#7a4f00"
+CAME, SENT, ECHO, DROP = "#222222", "#0072b2", "#e08214", "#b00020"
+POLL, DEMAND, REFUSAL = "#b0479b", "#56b4e9", "#7a4f00"
 MARGIN = 1.35                      # inches for the title, the axis and the legend
 TALLEST = 60                       # inches, however many lanes there are
 MOST_DETAILED = 12                 # with more sessions there are lanes alone
@@ -68,6 +69,9 @@ def draw_details(axes, scale, row, lane):
     below = row + BAR + BAR_HEIGHT
     marks(axes, scale, lane.came, row + BAR - 0.13, row + BAR - 0.02, CAME)
     marks(axes, scale, lane.sent, below + 0.02, below + 0.13, SENT)
+    if any(lane.echoes):
+        marks(axes, scale, lane.echoes[0], row + BAR - 0.08, row + BAR - 0.02, ECHO)
+        marks(axes, scale, lane.echoes[1], below + 0.02, below + 0.08, ECHO)
     for spans, colour, low in ((lane.polls, POLL, below + 0.16), (lane.demand, DEMAND, below + 0.22)):
         axes.broken_barh([(scale.at(start), max(scale.at(end - start), scale.span / 600)) for start, end in spans],
                          (low, 0.045), color=colour, linewidth=0)
@@ -149,11 +153,13 @@ def finish(figure, axes, scale, lanes, title, detailed, height):
 
 
 def label_of(session, detailed):
-    ends = f"{shown(session.local)} – {shown(session.remote)}"
     if not detailed:
         return f"{session.discr}"
-    where = "several hops" if session.hops == "multi" else f"interface {session.iface}"
-    return f"session {session.discr}\n{ends}\n{where}"
+    name = {"single": "session", "multi": "session", "sbfd": "initiator"}.get(session.kind, session.kind)
+    ends = [shown(session.local), shown(session.remote)]
+    ends = " – ".join(ends) if name == "session" else " → ".join(reversed(ends) if name == "tail" else ends)
+    where = "several hops" if session.kind == "multi" else f"interface {session.iface}"
+    return f"{name} {session.discr}\n{ends}\n{where}"
 
 
 def legend_of(lanes, detailed):
@@ -163,7 +169,8 @@ def legend_of(lanes, detailed):
     keys = [Patch(color=colour, label=state) for state, colour in COLOURS.items() if state in states]
     if detailed:
         keys += [Line2D([], [], color=colour, marker="|", linestyle="", markersize=9, markeredgewidth=1.6, label=label)
-                 for colour, label in ((CAME, "packet that came"), (SENT, "packet that was sent"))]
+                 for colour, label in ((CAME, "packet that came"), (SENT, "packet that was sent"), (ECHO, "echo packet"))
+                 if colour != ECHO or any(any(lane.echoes) for lane in every)]
         keys += [Line2D([], [], color=POLL, linewidth=4, label="poll")] if any(lane.polls for lane in every) else []
         keys += [Line2D([], [], color=DEMAND, linewidth=4, label="demand mode")] if any(lane.demand for lane in every) else []
         if any(lane.refusals for lane in every):

@@ -13,8 +13,9 @@ from typing import NamedTuple
 
 TOP = Path(__file__).resolve().parent.parent
 STATES = ["AdminDown", "Down", "Init", "Up"]
-PORTS = {"single": 3784, "multi": 4784}
+PORTS = {"single": 3784, "multi": 4784, "echo": 3785, "sbfd": 7784, "answer": 49152}  # an answer goes back to the initiator's port
 SOURCE_PORT = 49152
+ECHO = bytes.fromhex("42464465")  # the first word of an echo packet
 BITS = {"P": 0x20, "F": 0x10, "C": 0x08, "A": 0x04, "D": 0x02, "M": 0x01}
 
 
@@ -85,14 +86,21 @@ def shown(address):
 
 
 class Session(NamedTuple):
+    """A session of the table. A tail's addresses are its group and its source, and a head's second one is its group."""
     discr: int
-    hops: str
+    kind: str         # `single` or `multi` of a p2p line, and else the line's word: `sbfd`, `head` or `tail`
     iface: int
     local: bytes
     remote: bytes
+    head: int | None  # the discriminator of a tail's head
 
     def selectors(self):
-        return (self.hops, self.iface if self.hops == "single" else None, self.local, self.remote)
+        """What tells packets of this session that name no discriminator of it."""
+        return (self.kind, self.iface if self.kind != "multi" else None, self.local, self.remote, self.head)
+
+    def port(self):
+        """The port that its control packets go to."""
+        return PORTS[self.kind if self.kind in ("multi", "sbfd") else "single"]
 
 
 class Arrival(NamedTuple):
@@ -115,22 +123,26 @@ class Event(NamedTuple):
 
 
 class Script:
-    """A packet file: its sessions by discriminator, and its events in their order."""
+    """A packet file: its sessions by discriminator, its reflectors, and its events in their order."""
 
     def __init__(self, text, name):
-        self.sessions, self.events, self.last_tick = {}, [], 0
+        self.sessions, self.reflectors, self.events, self.last_tick = {}, set(), [], 0
         for number, line in enumerate(text.split("\n"), 1):
             try:
                 self.take(line.split(" "))
             except (ValueError, IndexError):
                 raise Complaint(f"{name}: line {number} is in no packet file: {line[:80]}") from None
-        self.by_addresses = {session.selectors(): session.discr for session in self.sessions.values()}
+        self.by_addresses = {session.selectors(): session.discr for session in self.sessions.values()
+                             if session.kind in ("single", "multi", "tail")}
 
     def take(self, fields):
         word = fields[0]
-        if word == "p2p":
-            discr, iface = int(fields[1]), int(fields[3])
-            self.sessions[discr] = Session(discr, fields[2], iface, address_of(fields[4]), address_of(fields[5]))
+        if word in ("p2p", "sbfd", "head", "tail"):
+            discr, at = int(fields[1]), 2 if word == "head" else 3
+            self.sessions[discr] = Session(discr, fields[2] if word == "p2p" else word, int(fields[at]), address_of(fields[at + 1]),
+                                           address_of(fields[at + 2]), int(fields[2]) if word == "tail" else None)
+        elif word == "reflector":
+            self.reflectors.add(int(fields[1]))
         elif word == "tick":
             self.last_tick = max(self.last_tick, int(fields[1]) * 1000)
             self.events.append(Event(word, self.last_tick, None, None, fields))
@@ -149,14 +161,23 @@ class Script:
 
     def session_of(self, event):
         """The discriminator of the session that an event is of, or None where it is of all or of none."""
-        if not event.arrival:
-            return event.discr
-        packet = packet_of(event.arrival.payload)
+        return self.named(event.arrival) if event.arrival else event.discr
+
+    def named(self, came):
+        """The session that a packet names."""
+        packet = packet_of(came.payload)
+        if came.port == "echo":
+            return self.of_kind(int.from_bytes(came.payload[4:8], "big"), "single")
+        if came.port == "single" and packet and packet.has("M"):
+            return self.by_addresses.get(("tail", came.iface, came.dst, came.src, packet.my))
+        kind = {"answer": "sbfd", "sbfd": "reflector"}.get(came.port, came.port)
         if packet and packet.your:
-            session = self.sessions.get(packet.your)
-            return packet.your if session and session.hops == event.arrival.port else None
-        place = event.arrival.iface if event.arrival.port == "single" else None
-        return self.by_addresses.get((event.arrival.port, place, event.arrival.dst, event.arrival.src))
+            return self.of_kind(packet.your, kind)
+        return self.by_addresses.get((kind, came.iface if kind == "single" else None, came.dst, came.src, None))
+
+    def of_kind(self, discr, kind):
+        session = self.sessions.get(discr)
+        return discr if session and session.kind == kind else None
 
 
 class Line(NamedTuple):

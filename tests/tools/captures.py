@@ -32,9 +32,9 @@ def handshake(ours=OURS, peer=PEER, port=3784, said=HANDSHAKE):
             for moment, is_ours, words in said]
 
 
-def ip_packet(src, dst, port, data, ttl=255, extension=b"", fragment=0):
-    """An IP packet with a UDP packet from port 49152; checksums are left 0."""
-    udp = struct.pack(">HHHH", 49152, port, 8 + len(data), 0) + data
+def ip_packet(src, dst, port, data, ttl=255, extension=b"", fragment=0, source=49152):
+    """An IP packet with a UDP packet; checksums are left 0."""
+    udp = struct.pack(">HHHH", source, port, 8 + len(data), 0) + data
     if len(src) == 4:
         return struct.pack(">BBHHHBBH", 0x45, 0xC0, 20 + len(udp), 0, fragment, ttl, 17, 0) + src + dst + udp
     following = 0 if extension else 17

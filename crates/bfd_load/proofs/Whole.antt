@@ -11,8 +11,8 @@ use Rattle.bfd_session.specs.Rows.{Ascends, Differs, same_selector}
 use Rattle.bfd_session.specs.Step.{IsFit}
 use Rattle.bfd_script.specs.declared.entries.Line.{Line}
 use Rattle.bfd_script.specs.declared.entries.Line.TheVariants.{Tick}
-use Rattle.bfd_script.specs.Reading.{Lists, is_built, is_built_line, is_named}
-use Rattle.bfd_script.specs.Sound.{AreConfigs, AreEvents, IsEvent, IsRow, IsScript}
+use Rattle.bfd_script.specs.Reading.{Lists, is_named}
+use Rattle.bfd_script.specs.Sound.{AreConfigs, AreEvents, ArePool, IsEvent, IsRow, IsScript}
 use Rattle.bfd_load.specs.Load.{config, earlier, events, hears, is_silent, packet, packets, script, tick_events}
 use Rattle.bfd_load.proofs.Bytes.{are_bytes, long}
 use Rattle.bfd_load.proofs.Counting.{gap}
@@ -39,18 +39,15 @@ differs seed a (suc n) = (
 
 is_fit : (seed i : ℕ) → 0 < i → IsFit (config seed i)
 is_fit seed i some = record {
-  config = record {
-    discr = some;
-    iface = omega arith;
-    tx_least = omega arith;
-    tx_most = omega arith;
-    rx_least = omega arith;
-    rx_most = omega arith;
-    some_mult = omega arith;
-    most_mult = omega arith;
-    echo_range = refl;
-  };
-  no_echo = refl;
+  discr = some;
+  iface = omega arith;
+  tx_least = omega arith;
+  tx_most = omega arith;
+  rx_least = omega arith;
+  rx_most = omega arith;
+  some_mult = omega arith;
+  most_mult = omega arith;
+  echo_range = refl;
 }
 
 is_row : (seed i : ℕ) → i ≤ 5000 → IsRow (config seed i)
@@ -69,7 +66,6 @@ are_configs seed n within = record {
   differs = differs seed 1 n;
   fit = all_map IsFit (config seed) 1 n (λ i low high. is_fit seed i (omega arith));
   rows = all_map IsRow (config seed) 1 n (λ i low high. is_row seed i (omega arith));
-  built = all_map (λ c. is_built c ≡ true) (config seed) 1 n (λ i low high. refl);
   few = omega (arith, length-map-range_with_len (config seed) 1 n);
 }
 
@@ -123,22 +119,28 @@ few_events n a (suc k) within =
       length-append (tick_events n a) (flat_map (tick_events n) (range_with_len (a + 1) k)),
     )
 
+-- no reflector stands beside them
+no_pool : ArePool []
+no_pool = record { ascends = tt; rows = tt }
+
 are_events : (n k : ℕ) → n ≤ 5000 → k ≤ 6000 → AreEvents (events n k)
 are_events n k sessions ticks = record {
   lines = each_event IsEvent n k (λ t i tick session. is_packet t i (omega arith) (omega arith)) (λ t tick. omega arith);
-  built = each_event (λ e. is_built_line e ≡ true) n k (λ t i tick session. refl) (λ t tick. refl);
   few = omega (arith, few_events n 1 k sessions);
 }
 
 pub is_script : (n k seed : ℕ) → n ≤ 5000 → k ≤ 6000 → IsScript (script n k seed)
 is_script n k seed sessions ticks = record {
   configs = are_configs seed n sessions;
+  pool = no_pool;
+  apart = tt;
+  few = omega (arith, length-map-range_with_len (config seed) 1 n);
   events = are_events n k sessions ticks;
   named = each_event (λ e. is_named e (script n k seed).configs ≡ true) n k (λ t i tick session. refl) (λ t tick. refl);
 }
 
 abbrev pub script_of : List SessionConfig → List Line → Lists
-script_of configs lines = record { configs = configs; events = lines }
+script_of configs lines = record { configs = configs; pool = []; events = lines }
 
 pub made : (n k seed : ℕ) (configs : List SessionConfig) (lines : List Line) → n ≤ 5000 → k ≤ 6000
     → configs ≡ map (config seed) (range_with_len 1 n) → lines ≡ events n k

@@ -108,5 +108,6 @@ events sessions ticks = flat_map (tick_events sessions) (range_with_len 1 ticks)
 abbrev pub script : ℕ → ℕ → ℕ → Lists
 script sessions ticks seed = record {
   configs = map (config seed) (range_with_len 1 sessions);
+  pool = [];
   events = events sessions ticks;
 }

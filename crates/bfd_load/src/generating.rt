@@ -190,5 +190,9 @@ pub fn generate(alloc: Global, sessions: u32, ticks: u32, seed: u32) -> Result<S
 {
     let configs = configs(alloc, sessions, seed)?;
     let events = events(alloc, sessions, ticks)?;
-    Ok(Script { configs, events })
+    Ok(Script {
+        configs,
+        pool: Vec::new(alloc),
+        events,
+    })
 }

@@ -16,7 +16,7 @@ use bfd_rules::{Config, Mark, Outs, Vars, drawn, is_untold};
 fn extra(config: &Config, eff: u64, vars: &mut Vars, mark: &mut Mark, outs: &mut Outs)
     requires steady { IsSteady config.now vars.old }
     requires eff { eff < moment_bound }
-    requires room { 0 < outs.old.spare }
+    requires room { mark.old.answered ≡ false → 0 < outs.old.spare }
     ensures steady { IsSteady config.now vars.new }
     ensures course { course vars.new mark.new outs.new.items ≡ finishing.extra config.now eff (course vars.old mark.old outs.old.items) }
     ensures same { vars.new ≡ record vars.old { seq = vars.new.seq; base = vars.new.base } }
@@ -44,7 +44,7 @@ fn extra(config: &Config, eff: u64, vars: &mut Vars, mark: &mut Mark, outs: &mut
 pub fn finish(config: &Config, eff: u64, vars: &mut Vars, mark: Mark, outs: &mut Outs)
     requires steady { IsSteady config.now vars.old }
     requires eff { eff < moment_bound }
-    requires room { 0 < outs.old.spare }
+    requires room { mark.answered ≡ false → 0 < outs.old.spare }
     ensures sound { IsSound config.now vars.new }
     ensures late { (limit : ℕ) → has_come limit (deadline vars.old) ≡ false → has_come limit (deadline vars.new) ≡ false }
     ensures seq_late { (limit : ℕ) → has_come limit (seq_deadline vars.old) ≡ false → has_come limit (seq_deadline vars.new) ≡ false }

@@ -259,7 +259,7 @@ impl P2p {
     /// and none where a packet with F was sent in the event.
     pub fn finish(&mut self, eff: u64, mark: Mark, outs: &mut Outs)
         requires eff { eff < moment_bound }
-        requires room { 1 ≤ outs.old.spare }
+        requires room { mark.answered ≡ false → 1 ≤ outs.old.spare }
         ensures config { self.new.config ≡ self.old.config }
         ensures vars { self.new.vars ≡ (finishing.finish self.old.config eff (course self.old.vars mark outs.old.items)).vars }
         ensures outs { outs.new.items ≡ (finishing.finish self.old.config eff (course self.old.vars mark outs.old.items)).outs }

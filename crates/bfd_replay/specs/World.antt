@@ -31,19 +31,18 @@ pub record Turn : Type 0 where
   pub world : World
   pub outcome : Outcome
 
--- no line of a file gives a reflector yet
-abbrev pub world_of : List Running → ℕ → World
-world_of sessions last = record { sessions = sessions; pool = []; last = last }
+abbrev pub world_of : List Running → List Reflector → ℕ → World
+world_of sessions pool last = record { sessions = sessions; pool = pool; last = last }
 
 abbrev pub gives : World → List Out → Answer → Turn
 gives w items answer = record { world = w; outcome = record { items = items; answer = answer } }
 
-abbrev pub turned : List Running → ℕ → List Out → Answer → Turn
-turned sessions last items answer = gives (world_of sessions last) items answer
+abbrev pub turned : List Running → List Reflector → ℕ → List Out → Answer → Turn
+turned sessions pool last items answer = gives (world_of sessions pool last) items answer
 
 -- the world at the start
-abbrev pub opened : List SessionConfig → World
-opened configs = world_of (map started configs) 0
+abbrev pub opened : List SessionConfig → List Reflector → World
+opened configs pool = world_of (map started configs) pool 0
 
 -- an event that changes no session, and has this answer
 abbrev pub rests : Answer → World → Turn
@@ -98,11 +97,11 @@ after (event ∷ events) w = after events (happens event w).world
 
 -- what the events of a script give
 abbrev pub world : Lists → List Outcome
-world script = outcomes script.events (opened script.configs)
+world script = outcomes script.events (opened script.configs script.pool)
 
 -- the world that a script leaves
 abbrev pub left_by : Lists → World
-left_by script = after script.events (opened script.configs)
+left_by script = after script.events (opened script.configs script.pool)
 
 -- how many events there are, how many packets are sent and how many are dropped in them, and how many sessions are Up at the end
 pub record Totals : Type 0 where

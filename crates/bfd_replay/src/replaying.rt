@@ -3,9 +3,8 @@ ghost use Rattle.std.specs.Prelude.{◌≡◌, ◌<◌, ◌≤◌, ◌+◌, ◌*
 ghost use Rattle.std.specs.List.{AllByRecursion};
 ghost use Rattle.bfd_session.specs.Rows.{AreFit, table_of};
 ghost use Rattle.bfd_session.specs.Step.{started as started_of};
-ghost use Rattle.bfd_script.specs.Reading.{is_built_line};
 ghost use Rattle.bfd_script.specs.Report.{sent_by, dropped_by, done_line, report};
-ghost use Rattle.bfd_script.specs.Sound.{AreConfigs, IsScript};
+ghost use Rattle.bfd_script.specs.Sound.{IsTable, IsScript};
 ghost use Rattle.bfd_replay.specs.Stage.{IsStage};
 ghost use Rattle.bfd_replay.specs.World.{gives, turned};
 ghost use Rattle.bfd_replay.specs.World as world;
@@ -14,15 +13,17 @@ use crate::world::happen;
 use bfd_demux::{BuildFault, Demux};
 use bfd_rules::{Out, Outs};
 use bfd_script::{Line, Script, lines};
-use bfd_session::{Answer, Session, SessionConfig, rows_of};
+use bfd_sbfd::Reflector;
+use bfd_session::{Answer, Session, SessionConfig, row_of_reflector, rows_of};
 use std::alloc::{AllocError, Global};
 use std::marker::Model;
 
-/// A replay on its way: the sessions by ascending discriminator, their table, the last tick, and the outputs of the
+/// A replay on its way: the sessions and the pool of reflectors, each by ascending discriminator, their table, the last tick, and the outputs of the
 /// last event.
 #[derive(Drop)]
 struct Progress {
     sessions: Vec<Session>,
+    pool: Vec<Reflector>,
     demux: Demux,
     last: u64,
     outs: Outs,
@@ -34,9 +35,9 @@ impl Model for Progress {
 
     ghost Value = { Stage };
 
-    ghost view = { λ r. record { world = record { sessions = r.sessions.items; pool = []; last = r.last }; items = r.outs.items } };
+    ghost view = { λ r. record { world = record { sessions = r.sessions.items; pool = r.pool.items; last = r.last }; items = r.outs.items } };
 
-    ghost invariant = { λ r. IsStage r.sessions.items r.demux r.last r.outs };
+    ghost invariant = { λ r. IsStage r.sessions.items r.pool.items r.demux r.last r.outs };
 }
 
 /// The sessions at the start.
@@ -51,13 +52,20 @@ fn started(alloc: Global, configs: Vec<SessionConfig>) -> Result<Vec<Session>, A
     Ok(sessions)
 }
 
-/// The table of the sessions, which have no fault.
-#[tactic(auto, using(bfd_session::proofs::Tables::no_fault, bfd_session::proofs::Tables::alone))]
-fn table(alloc: Global, configs: &[SessionConfig]) -> Result<Demux, AllocError>
-    requires { AreConfigs configs.now }
-    ensures { IfOk result (λ demux. demux ≡ table_of configs.now []) }
+/// The table of the sessions and the pool, which have no fault.
+#[tactic(auto, using(crate::proofs::Stages::no_fault))]
+fn table(
+    alloc: Global,
+    configs: &[SessionConfig],
+    pool: &[Reflector],
+) -> Result<Demux, AllocError>
+    requires { IsTable configs.now pool.now }
+    ensures { IfOk result (λ demux. demux ≡ table_of configs.now pool.now) }
 {
-    let rows = rows_of(alloc, configs)?;
+    let mut rows = rows_of(alloc, configs)?;
+    for reflector in pool {
+        rows.push(row_of_reflector(reflector))?;
+    }
     match Demux::build(alloc, &rows) {
         Ok(demux) => Ok(demux),
         Err(BuildFault::Memory) => Err(AllocError),
@@ -69,32 +77,37 @@ fn table(alloc: Global, configs: &[SessionConfig]) -> Result<Demux, AllocError>
 #[tactic(auto, using(crate::proofs::Stages::stage_kept))]
 fn turn(
     sessions: &mut Vec<Session>,
+    pool: &[Reflector],
     demux: &Demux,
     last: u64,
     line: Line,
     outs: &mut Outs,
 ) -> (u64, Answer)
-    requires stage { IsStage sessions.old.items demux.now last outs.old }
-    requires built { is_built_line line ≡ true }
-    ensures turn { turned sessions.new.items result.0 outs.new.items result.1
-        ≡ world.happens line (world.world_of sessions.old.items last) }
-    ensures stage { IsStage sessions.new.items demux.now result.0 outs.new }
+    requires stage { IsStage sessions.old.items pool.now demux.now last outs.old }
+    ensures turn { turned sessions.new.items pool.now result.0 outs.new.items result.1
+        ≡ world.happens line (world.world_of sessions.old.items pool.now last) }
+    ensures stage { IsStage sessions.new.items pool.now demux.now result.0 outs.new }
 {
     outs.clear();
-    happen(sessions, demux, last, line, outs)
+    happen(sessions, pool, demux, last, line, outs)
 }
 
 impl Progress {
     /// The world at the start of a script.
-    fn open(alloc: Global, configs: Vec<SessionConfig>) -> Result<Progress, AllocError>
-        requires { AreConfigs configs.items }
-        ensures { IfOk result (λ replay. replay.world ≡ world.opened configs.items) }
+    fn open(
+        alloc: Global,
+        configs: Vec<SessionConfig>,
+        pool: Vec<Reflector>,
+    ) -> Result<Progress, AllocError>
+        requires { IsTable configs.items pool.items }
+        ensures { IfOk result (λ replay. replay.world ≡ world.opened configs.items pool.items) }
     {
-        let demux = table(alloc, &configs)?;
+        let demux = table(alloc, &configs, &pool)?;
         let outs = Outs::make(alloc, 5 * configs.as_slice().len() + 5)?;
         let sessions = started(alloc, configs)?;
         Ok(Progress {
             sessions,
+            pool,
             demux,
             last: 0,
             outs,
@@ -103,11 +116,11 @@ impl Progress {
 
     /// One event: what it gave is in the outputs and the answer.
     fn happen(&mut self, line: Line) -> Answer
-        requires { is_built_line line ≡ true }
         ensures { gives self.new.world self.new.items result ≡ world.happens line self.old.world }
     {
         let (last, answer) = turn(
             &mut self.sessions,
+            self.pool.as_slice(),
             &self.demux,
             self.last,
             line,
@@ -169,7 +182,6 @@ fn done_text(alloc: Global, events: u64, txs: u64, drops: u64) -> Result<String,
 /// The report of the events that are left.
 fn tell(alloc: Global, replay: Progress, events: Vec<Line>) -> Result<Vec<u8>, AllocError>
     requires few { length events.items ≤ 200000 }
-    requires built { AllByRecursion (λ e. is_built_line e ≡ true) events.items }
     ensures { IfOk result (λ text. text.items ≡ report (world.outcomes events.items replay.world)) }
 {
     let mut replay = replay;
@@ -195,7 +207,11 @@ pub fn replay(alloc: Global, script: Script) -> Result<Vec<u8>, AllocError>
     requires { IsScript script }
     ensures { IfOk result (λ text. text.items ≡ world.replayed script) }
 {
-    let Script { configs, events } = script;
-    let replay = Progress::open(alloc, configs)?;
+    let Script {
+        configs,
+        pool,
+        events,
+    } = script;
+    let replay = Progress::open(alloc, configs, pool)?;
     tell(alloc, replay, events)
 }

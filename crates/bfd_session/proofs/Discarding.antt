@@ -25,11 +25,11 @@ use Rattle.bfd_p2p.specs.Receive.{session_fails, session_tests, authenticated, j
 use Rattle.bfd_demux.specs.declared.row.Row.{Row}
 use Rattle.bfd_demux.specs.Selection.{is_multipoint, table_fails, tests_on_header, tests_on_table, first_table_failing}
 use Rattle.bfd_session.specs.declared.event.SessionConfig.{SessionConfig}
-use Rattle.bfd_session.specs.declared.event.SessionConfig.TheVariants.{Pair}
+use Rattle.bfd_session.specs.declared.event.SessionConfig.TheVariants.{Pair, Seek, Head, Tail}
 use Rattle.bfd_session.specs.declared.event.Event.TheVariants.{Packet}
 use Rattle.bfd_session.specs.Kinds.{Running}
-use Rattle.bfd_session.specs.Step.{reply, answer_of, answer_to_packet}
-use Rattle.bfd_session.specs.Discards.{unauthentic, pair_fails, own_fails, own_tests, first_own_failing, discards, first_discarding, test_of, judging, answer_by}
+use Rattle.bfd_session.specs.Step.{reply, answer_to_packet, verdict_by as verdict_of}
+use Rattle.bfd_session.specs.Discards.{unauthentic, pair_fails, plain_fails, own_fails, own_tests, first_own_failing, discards, first_discarding, test_of, judging, answer_by}
 
 -- two sentences that agree on the tests of a list find the same
 find_same : (p q keep : Test → Bool) → ((test : Test) → keep test ≡ true → p test ≡ q test)
@@ -83,8 +83,16 @@ pair_not c v ttl raw AuthDigest shared = cc
 pair_not c v ttl raw AdminDown shared = cc
 pair_not c v ttl raw test shared = unauthentic_not c.keys v.seq (take (fields_of raw).length raw) test refl
 
+plain_not : (v : Vars) (raw : List ℕ) (test : Test) → is_shared test ≡ true → plain_fails v raw test ≡ false
+plain_not v raw AuthUnexpected shared = cc
+plain_not v raw AdminDown shared = cc
+plain_not v raw _ shared = refl
+
 own_not : (c : SessionConfig) (v : Vars) (arrival : Arrival) (test : Test) → is_shared test ≡ true → own_fails c v arrival test ≡ false
 own_not (Pair c) v arrival test shared = pair_not c v arrival.ttl arrival.payload test shared
+own_not (Seek c) v arrival test shared = plain_not v arrival.payload test shared
+own_not (Head c) v arrival test shared = refl
+own_not (Tail c) v arrival test shared = plain_not v arrival.payload test shared
 
 -- the tests of the table are such
 
@@ -115,6 +123,9 @@ table_first rows c v arrival =
 own_first : (rows : List Row) (c : SessionConfig) (v : Vars) (arrival : Arrival)
     → find (discards rows c v arrival) (own_tests c) ≡ first_own_failing c v arrival
 own_first rows (Pair c) v arrival = refl
+own_first rows (Seek c) v arrival = refl
+own_first rows (Head c) v arrival = refl
+own_first rows (Tail c) v arrival = refl
 
 pub discards_first : (rows : List Row) (c : SessionConfig) (v : Vars) (arrival : Arrival)
     → first_discarding rows c v arrival ≡ option_or (first_table_failing rows arrival) (first_own_failing c v arrival)
@@ -156,9 +167,9 @@ pair_same c v ttl raw AuthUnexpected first = or_nothing _ _ (unauthentic_not c.k
 pair_same c v ttl raw AuthMissing first = or_nothing _ _ (unauthentic_not c.keys v.seq (take (fields_of raw).length raw) AuthMissing refl)
 pair_same c v ttl raw _ first = cc
 
-pub verdict_first : (c : Config) (v : Vars) (arrival : Arrival)
+pair_first : (c : Config) (v : Vars) (arrival : Arrival)
     → first_own_failing (Pair c) v arrival ≡ test_of (verdict_on c arrival.ttl arrival.payload v)
-verdict_first c v arrival =
+pair_first c v arrival =
     let raw : List ℕ = arrival.payload in
     let fails : Test → Bool = pair_fails c v arrival.ttl raw in
     let first : Option Test = find (session_fails c arrival.ttl (fields_of raw)) session_tests in
@@ -169,16 +180,29 @@ verdict_first c v arrival =
     ∙ ap (λ (o : Option Test). option_or first o) (find-append fails section_tests (AdminDown ∷ []))
     ∙ sym (told_judged v.state first verified ∙ ap (λ (o : Option Test). option_or first o) (section_first c.keys v.state v.seq raw))
 
+-- the verdict of a session without authentication
+
+plain_first : (auth admin : Bool) → cond auth (Some AuthUnexpected) (cond admin (Some AdminDown) None)
+    ≡ test_of (if auth then Dropped AuthUnexpected else (if admin then Dropped AdminDown else Accepted))
+plain_first true admin = refl
+plain_first false true = refl
+plain_first false false = refl
+
+-- the verdict of a session of any kind; a head's tests are none
+
+pub verdict_first : (c : SessionConfig) (v : Vars) (arrival : Arrival) → first_own_failing c v arrival ≡ test_of (verdict_of c arrival v)
+verdict_first (Pair c) v arrival = pair_first c v arrival
+verdict_first (Seek c) v arrival = plain_first (fields_of arrival.payload).auth (is_admin_down v.state)
+verdict_first (Head c) v arrival = refl
+verdict_first (Tail c) v arrival = plain_first (fields_of arrival.payload).auth (is_admin_down v.state)
+
+answered : (verdict : Verdict) → answer_to_packet verdict ≡ answer_by (test_of verdict)
+answered Accepted = refl
+answered (Dropped test) = refl
+
 pub reply_first : (s : Running) (eff : ℕ) (arrival : Arrival)
     → reply eff (Packet arrival) s ≡ answer_by (first_own_failing s.config (judging eff s) arrival)
 unfolding reply
-reply_first s eff arrival = by s.config (judging eff s)
-  where
-    answered : (verdict : Verdict) → answer_to_packet verdict ≡ answer_by (test_of verdict)
-    answered Accepted = refl
-    answered (Dropped test) = refl
-
-    by : (c : SessionConfig) (v : Vars) → answer_of c (Packet arrival) v ≡ answer_by (first_own_failing c v arrival)
-    by (Pair c) v =
-        answered (verdict_on c arrival.ttl arrival.payload v)
-        ∙ ap (λ (o : Option Test). answer_by o) (sym (verdict_first c v arrival))
+reply_first s eff arrival =
+    answered (verdict_of s.config arrival (judging eff s))
+    ∙ ap (λ (o : Option Test). answer_by o) (sym (verdict_first s.config (judging eff s) arrival))

@@ -1,16 +1,20 @@
--- A tick comes exactly when the moment that it rounds has come.
-use Rattle.std.proofs.Common.{◌≡◌, ◌||◌, ◌*◌, ℕ, false, refl, subst, Option, None, Some, arith}
+-- A tick comes exactly when the moment that it rounds has come; and what a tick leaves is not due by it.
+use Rattle.std.proofs.Common.{◌≡◌, ◌||◌, ◌*◌, ℕ, false, refl, sym, ap, ◌∙◌, Option, None, Some, arith}
+use Rattle.std.proofs.lemmas.Bool.{or_parts}
 use Rattle.std.proofs.lemmas.Bool.Decides.{nat_tests}
-use Rattle.std.specs.Prelude.{nat_le, option_map}
+use Rattle.std.specs.Prelude.{nat_le}
 use Rattle.bfd_num.specs.Numbers.{ceil_tick, floor_tick}
 use Rattle.bfd_num.specs.Due.{has_come, sooner}
-use Rattle.bfd_rules.specs.declared.variables.Vars.{Vars}
-use Rattle.bfd_rules.specs.Quantities.{deadline, seq_deadline}
+use Rattle.bfd_p2p.specs.Machine as pair
 use Rattle.bfd_p2p.specs.Over.{IsOver}
-use Rattle.bfd_session.specs.declared.event.SessionConfig.{SessionConfig}
-use Rattle.bfd_session.specs.declared.event.SessionConfig.TheVariants.{Pair}
-use Rattle.bfd_session.specs.Kinds.{Running}
-use Rattle.bfd_session.specs.Due.{due, due_by, tick_of}
+use Rattle.bfd_sbfd.specs.Machine as seek
+use Rattle.bfd_sbfd.specs.Over as seek_left
+use Rattle.bfd_mp.specs.Machine as tree
+use Rattle.bfd_mp.specs.Over.{IsHeadOver, IsTailOver}
+use Rattle.bfd_echo.specs.declared.echo.Echo.{Echo}
+use Rattle.bfd_session.specs.Due.{due, tick_of}
+use Rattle.bfd_session.specs.Echoing.{IsEchoOver}
+use Rattle.bfd_session.specs.Inside.{pair_of, seek_of, head_of, tail_of}
 
 -- the sooner of two has come where one of them has
 pub has_come-sooner : (t : ℕ) (a b : Option ℕ) → has_come t (sooner a b) ≡ (has_come t a || has_come t b)
@@ -23,7 +27,7 @@ unfolding ceil_tick
 rounded t m = grind (arith, nat_tests)
 
 -- the tick of a moment has come by t where the moment has come by that of t
-pub has_come-ceil : (t : ℕ) (m : Option ℕ) → has_come t (option_map ceil_tick m) ≡ has_come (1000 * t) m
+pub has_come-ceil : (t : ℕ) (m : Option ℕ) → has_come t (tick_of m) ≡ has_come (1000 * t) m
 has_come-ceil t None = refl
 has_come-ceil t (Some m) = rounded t m
 
@@ -31,15 +35,48 @@ pub floor-tick : (t : ℕ) → floor_tick (1000 * t) ≡ t
 unfolding floor_tick
 floor-tick t = omega arith
 
--- with no deadline and no due tick that has come, nothing is due
-pub due_over : (s : Running) (limit t : ℕ) → limit ≡ 1000 * t → IsOver limit s.vars → has_come t (due s) ≡ false
-due_over s limit t at over = over_by s.config s limit t at over
-  where
-    over_by : (c : SessionConfig) (s : Running) (limit t : ℕ) → limit ≡ 1000 * t → IsOver limit s.vars → has_come t (due_by c s) ≡ false
-    over_by (Pair c) s limit t at over =
-        let v : Vars = s.vars in
-        let late : has_come (1000 * t) (deadline v) ≡ false = subst (λ (m : ℕ). has_come m (deadline v) ≡ false) at over.late in
-        let seq_late : has_come (1000 * t) (seq_deadline v) ≡ false = subst (λ (m : ℕ). has_come m (seq_deadline v) ≡ false) at over.seq_late in
-        let due_later : has_come t v.tx_due ≡ false =
-        subst (λ (k : ℕ). has_come k v.tx_due ≡ false) (floor-tick t) (subst (λ (m : ℕ). has_come (floor_tick m) v.tx_due ≡ false) at over.due_later) in
-        rw (has_come-sooner t (tick_of (deadline v)) (sooner (tick_of (seq_deadline v)) v.tx_due), has_come-sooner t (tick_of (seq_deadline v)) v.tx_due, has_come-ceil t (deadline v), has_come-ceil t (seq_deadline v), late, seq_late, due_later) refl
+-- where neither has come, the sooner hasn't, and the other way around
+
+neither : (t : ℕ) (a b : Option ℕ) → has_come t a ≡ false → has_come t b ≡ false → has_come t (sooner a b) ≡ false
+neither t a b ha hb = has_come-sooner t a b ∙ rw ha hb
+
+pub record NeitherCame (t : ℕ) (a b : Option ℕ) : Type 0 where
+  pub first : has_come t a ≡ false
+  pub second : has_come t b ≡ false
+
+pub parts : (t : ℕ) (a b : Option ℕ) → has_come t (sooner a b) ≡ false → NeitherCame t a b
+parts t a b h =
+    let both = or_parts (has_come t a) (has_come t b) (sym (has_come-sooner t a b) ∙ h) in record { first = both.0; second = both.1 }
+
+-- the same with the tick's own limit
+
+pub not_late : (t : ℕ) (m : Option ℕ) → has_come t (tick_of m) ≡ false → has_come (1000 * t) m ≡ false
+not_late t m h = sym (has_come-ceil t m) ∙ h
+
+pub not_due : (t : ℕ) (m : Option ℕ) → has_come t m ≡ false → has_come (floor_tick (1000 * t)) m ≡ false
+not_due t m h = ap (λ (k : ℕ). has_come k m) (floor-tick t) ∙ h
+
+-- a moment that hasn't come by the limit of a tick is of a later tick, and so is a due tick that hasn't come
+
+later : (limit t : ℕ) (m : Option ℕ) → limit ≡ 1000 * t → has_come limit m ≡ false → has_come t (tick_of m) ≡ false
+later limit t m at h = has_come-ceil t m ∙ (ap (λ (l : ℕ). has_come l m) (sym at) ∙ h)
+
+due_later : (limit t : ℕ) (m : Option ℕ) → limit ≡ 1000 * t → has_come (floor_tick limit) m ≡ false → has_come t m ≡ false
+due_later limit t m at h = ap (λ (k : ℕ). has_come k m) (sym (ap (λ (l : ℕ). floor_tick l) at ∙ floor-tick t)) ∙ h
+
+-- what a tick leaves of each kind of session is not due by it
+
+pub pair_over : (m : pair.Machine) (echo : Option Echo) (next limit t : ℕ) → limit ≡ 1000 * t → IsOver limit m.vars
+    → IsEchoOver limit m.config m.vars echo → has_come t (due (pair_of m echo next)) ≡ false
+pair_over m echo next limit t at over echo_over =
+    neither t _ _ (later limit t _ at over.late)
+    (neither t _ _ (later limit t _ at over.seq_late) (neither t _ _ (due_later limit t _ at over.due_later) (due_later limit t _ at echo_over)))
+
+pub seek_over : (m : seek.Machine) (limit t : ℕ) → limit ≡ 1000 * t → seek_left.IsOver limit m.vars → has_come t (due (seek_of m)) ≡ false
+seek_over m limit t at over = neither t _ _ (later limit t _ at over.late) (due_later limit t _ at over.due_later)
+
+pub head_over : (m : tree.HeadMachine) (limit t : ℕ) → limit ≡ 1000 * t → IsHeadOver limit m.vars → has_come t (due (head_of m)) ≡ false
+head_over m limit t at over = due_later limit t _ at over.due_later
+
+pub tail_over : (m : tree.TailMachine) (limit t : ℕ) → limit ≡ 1000 * t → IsTailOver limit m.vars → has_come t (due (tail_of m)) ≡ false
+tail_over m limit t at over = later limit t _ at over.late

@@ -1,5 +1,5 @@
 -- A tick forgets that a packet was heard exactly where the Detection Time has expired.
-use Rattle.std.proofs.Common.{◌≡◌, ◌||◌, ◌&&◌, ℕ, Bool, true, false, refl, ap, ◌∙◌, Option, None, Some, is_none, IsSome, option_map, [], arith, if◌then◌else◌}
+use Rattle.std.proofs.Common.{◌≡◌, ◌+◌, ◌-◌, ◌==◌, ◌||◌, ◌&&◌, ℕ, Bool, true, false, refl, ap, ◌∙◌, Option, None, Some, is_none, IsSome, option_map, [], arith, if◌then◌else◌}
 use Rattle.std.proofs.lemmas.Grind.{common_steps}
 use Rattle.bfd_packet.specs.declared.control.State.TheVariants.{Down, Up}
 use Rattle.bfd_packet.specs.States.{is_init_or_up}
@@ -8,7 +8,7 @@ use Rattle.bfd_num.specs.Due.{has_come}
 use Rattle.bfd_rules.specs.declared.config.Config.{Config}
 use Rattle.bfd_rules.specs.declared.variables.Mark.{Mark}
 use Rattle.bfd_rules.specs.declared.variables.Vars.{Vars}
-use Rattle.bfd_rules.specs.Quantities.{deadline, seq_deadline, demand_here, may_send, tx_interval}
+use Rattle.bfd_rules.specs.Quantities.{deadline, seq_deadline, is_up, demand_here, may_send, tx_interval}
 use Rattle.bfd_rules.specs.Jitter.{pick}
 use Rattle.bfd_rules.specs.Renewal.{poll_again, poll_renewed, used_renewed, demand_renewed, renewed}
 use Rattle.bfd_rules.specs.Course.{Course, enters, changes, sends, draws, drawn, is_untold, redrawn}
@@ -17,11 +17,25 @@ use Rattle.bfd_p2p.specs.Frame.{renews, moves}
 use Rattle.bfd_p2p.specs.Transmit.{transmits}
 use Rattle.bfd_p2p.specs.Settle as settling
 use Rattle.bfd_p2p.specs.Finish as finishing
+use Rattle.bfd_p2p.specs.Machine.{failed}
+use Rattle.bfd_sbfd.specs.Waiting.{wait, deadline as seek_deadline}
+use Rattle.bfd_sbfd.proofs.Expiry as seek
+use Rattle.bfd_mp.specs.declared.config.HeadConfig.{HeadConfig}
+use Rattle.bfd_mp.specs.Waiting.{deadline as tail_deadline}
+use Rattle.bfd_mp.specs.Counting.{counted}
+use Rattle.bfd_mp.specs.Transmit.{transmits as head_transmits}
+use Rattle.bfd_mp.specs.HeadSettle as head_settle
+use Rattle.bfd_mp.specs.HeadFinish as head_finish
+use Rattle.bfd_mp.proofs.Expiry as tail
+use Rattle.bfd_echo.specs.declared.echo.Echo.{Echo}
+use Rattle.bfd_echo.specs.declared.echo.EchoResult.{EchoResult}
+use Rattle.bfd_echo.specs.declared.echo.EchoResult.TheVariants.{Nothing, Sent, Failed}
 use Rattle.bfd_session.specs.declared.event.SessionConfig.{SessionConfig}
-use Rattle.bfd_session.specs.declared.event.SessionConfig.TheVariants.{Pair}
-use Rattle.bfd_session.specs.Kinds.{Running}
+use Rattle.bfd_session.specs.declared.event.SessionConfig.TheVariants.{Pair, Seek, Head, Tail}
+use Rattle.bfd_session.specs.Kinds.{Running, Flow}
 use Rattle.bfd_session.specs.Due.{detects, detects_by}
-use Rattle.bfd_session.specs.Step.{IsSound, sound_by, tick, tick_next, ticked_vars, begun}
+use Rattle.bfd_session.specs.Echoing.{settled_by, settled_running, settles_echo, echoing}
+use Rattle.bfd_session.specs.Step.{IsSound, sound_by, tick, tick_next, ticked_flow, begun}
 
 -- Renewal: whether a packet was heard stays
 
@@ -123,17 +137,83 @@ finish_none : (c : Config) (eff : ℕ) (s : Course) → is_none (finishing.finis
 unfolding finishing.finish redrawn
 finish_none c eff s = ap (λ (o : Option ℕ). is_none o) (drawn_heard c.active _ _) ∙ extra_none c eff s
 
+-- the Echo function: its failure forgets nothing
+
+settled_by_none : (c : Config) (eff : ℕ) (result : EchoResult) (e : Echo) (f : Flow)
+    → is_none (settled_by c eff result e f).course.vars.heard ≡ is_none f.course.vars.heard
+unfolding sends
+settled_by_none c eff Nothing e f = refl
+settled_by_none c eff (Sent bytes) e f = refl
+settled_by_none c eff Failed e f = moves_none c.discr eff (failed 2 f.course.vars) f.course
+
+settled_running_none : (c : Config) (limit eff : ℕ) (echo : Option Echo) (f : Flow)
+    → is_none (settled_running c limit eff echo f).course.vars.heard ≡ is_none f.course.vars.heard
+settled_running_none c limit eff None f = refl
+settled_running_none c limit eff (Some e) f = settled_by_none c eff _ _ f
+
+settles_echo_none : (c : Config) (limit eff : ℕ) (f : Flow)
+    → is_none (settles_echo c limit eff f).course.vars.heard ≡ is_none f.course.vars.heard
+unfolding settles_echo
+settles_echo_none c limit eff f = settled_running_none c limit eff (echoing c f.course.vars f.echo) f
+
+-- the other kinds: what was heard is forgotten, or kept
+
+none_by : (come : Bool) (heard after : Option ℕ) → after ≡ (if come then None else heard) → is_none after ≡ (is_none heard || come)
+none_by true None after is = ap (λ (o : Option ℕ). is_none o) is
+none_by true (Some m) after is = ap (λ (o : Option ℕ). is_none o) is
+none_by false None after is = ap (λ (o : Option ℕ). is_none o) is
+none_by false (Some m) after is = ap (λ (o : Option ℕ). is_none o) is
+
+-- a head hears nothing, and so its events forget nothing
+
+alike : (b : Bool) (x y : Course) (h : Option ℕ) → x.vars.heard ≡ h → y.vars.heard ≡ h → (if b then x else y).vars.heard ≡ h
+alike true x y h hx hy = hx
+alike false x y h hx hy = hy
+
+one_fewer_heard : (v : Vars) (none : Bool) → (if none then v else counted (v.left - 1) v).heard ≡ v.heard
+one_fewer_heard v true = refl
+one_fewer_heard v false = refl
+
+head_settle_heard : (c : HeadConfig) (limit eff : ℕ) (s : Course) → (head_settle.settle c limit eff s).vars.heard ≡ s.vars.heard
+unfolding head_settle.settle head_settle.periodic_packet
+head_settle_heard c limit eff s =
+    alike (has_come (floor_tick limit) s.vars.tx_due) (head_settle.periodic_packet c eff s) s s.vars.heard
+    (one_fewer_heard s.vars (s.vars.left == 0)) refl
+
+head_extra_heard : (c : HeadConfig) (eff : ℕ) (s : Course) → (head_finish.extra c eff s).vars.heard ≡ s.vars.heard
+unfolding head_finish.extra head_transmits sends
+head_extra_heard c eff s = alike (is_untold true s.mark s.vars) _ s s.vars.heard refl refl
+
+head_finish_heard : (c : HeadConfig) (eff : ℕ) (s : Course) → (head_finish.finish c eff s).vars.heard ≡ s.vars.heard
+unfolding head_finish.finish redrawn
+head_finish_heard c eff s =
+    let t : Course = head_finish.extra c eff s in drawn_heard true t.mark t.vars ∙ head_extra_heard c eff s
+
+head_heard : (c : HeadConfig) (limit eff : ℕ) (s : Course)
+    → (head_finish.finish c eff (head_settle.settle c limit eff s)).vars.heard ≡ s.vars.heard
+head_heard c limit eff s = head_finish_heard c eff (head_settle.settle c limit eff s) ∙ head_settle_heard c limit eff s
+
+or_never : (n : Bool) → n ≡ (n || false)
+or_never true = refl
+or_never false = refl
+
 -- the whole tick
 
-tick_by : (c : SessionConfig) (v : Vars) (limit eff : ℕ)
-    → is_none (tick c limit eff (begun None v [])).vars.heard ≡ (is_none v.heard || has_come limit (detects_by c v))
+tick_by : (c : SessionConfig) (s : Running) (limit eff : ℕ)
+    → is_none (tick c limit eff (begun None s [])).course.vars.heard ≡ (is_none s.vars.heard || has_come limit (detects_by c s.vars))
 unfolding tick
-tick_by (Pair c) v limit eff = finish_none c eff _ ∙ settle_none c limit eff (begun None v [])
+tick_by (Pair c) s limit eff =
+    finish_none c eff _ ∙ settles_echo_none c limit eff _ ∙ settle_none c limit eff (begun None s []).course
+tick_by (Seek c) s limit eff =
+    none_by (has_come limit (seek_deadline s.vars)) s.vars.heard _ (seek.tick_heard c limit eff (begun None s []).course)
+tick_by (Head c) s limit eff = ap (λ (o : Option ℕ). is_none o) (head_heard c limit eff (begun None s []).course) ∙ or_never (is_none s.vars.heard)
+tick_by (Tail c) s limit eff =
+    none_by (has_come limit (tail_deadline s.vars)) s.vars.heard _ (tail.tail_heard c limit (begun None s []).course)
 
 pub tick_expires : (s : Running) (limit eff : ℕ)
     → is_none (tick_next limit eff s).vars.heard ≡ (is_none s.vars.heard || has_come limit (detects s))
-unfolding ticked_vars
-tick_expires s limit eff = tick_by s.config s.vars limit eff
+unfolding ticked_flow
+tick_expires s limit eff = tick_by s.config s limit eff
 
 -- a Detection Time runs only where a packet was heard: in Demand mode too, since a session in Up has heard one
 
@@ -148,8 +228,15 @@ deadline_heard : (c : Config) (v : Vars) (here : Bool) → demand_here v ≡ her
 deadline_heard c v true is plain there = plain.up_heard (demand_up v is)
 deadline_heard c v false is plain there = mapped_there _ v.heard (rw is at there)
 
+seek_heard : (v : Vars) (up : Bool) → is_up v.state ≡ up → IsSome (seek_deadline v) → IsSome v.heard
+seek_heard v true is there = mapped_there (λ heard. heard + wait v) v.heard (rw is at there)
+seek_heard v false is there = let some : false ≡ true = rw is at there in cc
+
 heard_by : (c : SessionConfig) (s : Running) → sound_by c s → IsSome (detects_by c s.vars) → IsSome s.vars.heard
 heard_by (Pair c) s sound there = deadline_heard c s.vars (demand_here s.vars) refl sound.vars.steady.plain there
+heard_by (Seek c) s sound there = seek_heard s.vars (is_up s.vars.state) refl there
+heard_by (Head c) s sound there = let some : false ≡ true = there in cc
+heard_by (Tail c) s sound there = mapped_there _ s.vars.heard there
 
 pub detects_heard : (s : Running) → IsSound s → IsSome (detects s) → IsSome s.vars.heard
 detects_heard s sound there = heard_by s.config s sound there

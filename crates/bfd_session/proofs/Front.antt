@@ -1,5 +1,6 @@
--- What was put out before an event stays in front of what the event puts out.
-use Rattle.std.proofs.Common.{◌≡◌, ◌++◌, ◌&&◌, ℕ, Bool, true, false, List, [], refl, sym, ap, ◌∙◌, append_assoc, append-nil, Option, None, Some, is_some, Result, Ok, Err, if◌then◌else◌}
+-- What was put out before an event stays in front of what the event puts out, and changes nothing else of it; and an event
+-- of a session of another kind than a point-to-point one leaves the Echo function.
+use Rattle.std.proofs.Common.{◌≡◌, ◌++◌, ◌&&◌, ℕ, Bool, true, false, List, [], refl, sym, ap, ◌∙◌, append_assoc, append-nil, Option, None, Some, is_some, Result, Ok, Err}
 use Rattle.bfd_packet.specs.declared.arrival.Datagram.{Datagram}
 use Rattle.bfd_packet.specs.declared.control.Control.{Control}
 use Rattle.bfd_packet.specs.declared.discard.Test.{Test}
@@ -11,33 +12,27 @@ use Rattle.bfd_rules.specs.declared.variables.Vars.{Vars}
 use Rattle.bfd_num.specs.Numbers.{floor_tick}
 use Rattle.bfd_num.specs.Due.{has_come}
 use Rattle.bfd_rules.specs.Quantities.{may_send, deadline, seq_deadline, is_admin_down}
-use Rattle.bfd_rules.specs.Course.{Course, changes, sends, is_untold, based, redrawn}
+use Rattle.bfd_rules.specs.Course.{Course, sends, is_untold, based, redrawn}
 use Rattle.bfd_p2p.specs.Frame.{renews, moves}
 use Rattle.bfd_p2p.specs.Transmit.{transmits}
 use Rattle.bfd_p2p.specs.Settle as settling
 use Rattle.bfd_p2p.specs.Receive as receiving
 use Rattle.bfd_p2p.specs.Command.{refusal, commanded, done}
 use Rattle.bfd_p2p.specs.Finish as finishing
+use Rattle.bfd_sbfd.proofs.Front as seek
+use Rattle.bfd_mp.proofs.HeadFront as head
+use Rattle.bfd_mp.proofs.HeadFront.{after, either, changes-after}
+use Rattle.bfd_mp.proofs.TailFront as tail
+use Rattle.bfd_echo.specs.declared.echo.Echo.{Echo}
+use Rattle.bfd_echo.specs.declared.echo.EchoResult.{EchoResult}
+use Rattle.bfd_echo.specs.declared.echo.EchoResult.TheVariants.{Nothing, Sent, Failed}
 use Rattle.bfd_session.specs.declared.event.SessionConfig.{SessionConfig}
-use Rattle.bfd_session.specs.declared.event.SessionConfig.TheVariants.{Pair}
+use Rattle.bfd_session.specs.declared.event.SessionConfig.TheVariants.{Pair, Seek, Head, Tail}
 use Rattle.bfd_session.specs.declared.event.Event.{Event}
 use Rattle.bfd_session.specs.declared.event.Event.TheVariants.{Packet, Returned, Command, Show}
-use Rattle.bfd_session.specs.Kinds.{Running}
-use Rattle.bfd_session.specs.Step.{step, tick, settled, acted, finished, begun, next_vars, emits, answer_of, reply, ticked_vars, tick_emits}
-
--- the course with these outputs in front
-abbrev pub after : List Out → Course → Course
-after os s = record s { outs = os ++ s.outs }
-
--- a choice between two courses
-either : (os : List Out) (b : Bool) (x y x' y' : Course) → x' ≡ after os x → y' ≡ after os y
-    → (if b then x' else y') ≡ after os (if b then x else y)
-either os true x y x' y' hx hy = hx
-either os false x y x' y' hx hy = hy
-
-changes-after : (discr : ℕ) (v : Vars) (os : List Out) (s : Course) → changes discr v (after os s) ≡ after os (changes discr v s)
-unfolding changes
-changes-after discr v os s = rw append_assoc refl
+use Rattle.bfd_session.specs.Kinds.{Running, Flow, along}
+use Rattle.bfd_session.specs.Echoing.{settled_by, settled_running, settles_echo, echoing, turns_echo}
+use Rattle.bfd_session.specs.Step.{step, tick, settled, acted, finished, begun, step_from, stepped_flow, emits, answer_of, reply, reply_from, tick_from, ticked_flow, tick_emits}
 
 sends-after : (discr : ℕ) (datagram : Datagram) (os : List Out) (s : Course) → sends discr datagram (after os s) ≡ after os (sends discr datagram s)
 unfolding sends
@@ -137,72 +132,174 @@ finish-after : (c : Config) (eff : ℕ) (os : List Out) (s : Course) → finishi
 unfolding finishing.finish redrawn
 finish-after c eff os s = rw extra-after refl
 
+-- the Echo function
+
+-- an event on its way with these outputs in front
+abbrev pub ahead : List Out → Flow → Flow
+ahead os f = record f { course = after os f.course }
+
+settled_by-after : (c : Config) (eff : ℕ) (result : EchoResult) (e : Echo) (os : List Out) (f : Flow)
+    → settled_by c eff result e (ahead os f) ≡ ahead os (settled_by c eff result e f)
+settled_by-after c eff Nothing e os f = refl
+settled_by-after c eff (Sent bytes) e os f =
+    ap (λ (s : Course). record f { course = s; echo = Some e }) (sends-after c.discr _ os f.course)
+settled_by-after c eff Failed e os f = ap (λ (s : Course). along f s) (moves-after c.discr eff _ os f.course)
+
+settled_running-after : (c : Config) (limit eff : ℕ) (echo : Option Echo) (os : List Out) (f : Flow)
+    → settled_running c limit eff echo (ahead os f) ≡ ahead os (settled_running c limit eff echo f)
+settled_running-after c limit eff None os f = refl
+settled_running-after c limit eff (Some e) os f = settled_by-after c eff _ _ os f
+
+settles_echo-after : (c : Config) (limit eff : ℕ) (os : List Out) (f : Flow)
+    → settles_echo c limit eff (ahead os f) ≡ ahead os (settles_echo c limit eff f)
+unfolding settles_echo
+settles_echo-after c limit eff os f = settled_running-after c limit eff (echoing c f.course.vars f.echo) os f
+
 -- a whole event
 
-settled-after : (c : SessionConfig) (limit eff : ℕ) (os : List Out) (s : Course) → settled c limit eff (after os s) ≡ after os (settled c limit eff s)
-settled-after (Pair c) limit eff os s = settle-after c limit eff os s
+settled-after : (c : SessionConfig) (limit eff : ℕ) (os : List Out) (f : Flow) → settled c limit eff (ahead os f) ≡ ahead os (settled c limit eff f)
+settled-after (Pair c) limit eff os f =
+    ap (λ (s : Course). settles_echo c limit eff (along f s)) (settle-after c limit eff os f.course)
+    ∙ settles_echo-after c limit eff os (along f (settling.settle c limit eff f.course))
+settled-after (Seek c) limit eff os f = ap (λ (s : Course). along f s) (seek.settle-after c limit eff os f.course)
+settled-after (Head c) limit eff os f = ap (λ (s : Course). along f s) (head.settle-after c limit eff os f.course)
+settled-after (Tail c) limit eff os f = ap (λ (s : Course). along f s) (tail.settle-after c limit os f.course)
 
-acted-after : (c : SessionConfig) (eff : ℕ) (event : Event) (os : List Out) (s : Course) → acted c eff event (after os s) ≡ after os (acted c eff event s)
-acted-after (Pair c) eff (Packet arrival) os s = received-after c eff _ _ os s
-acted-after (Pair c) eff (Returned sequence) os s = refl
-acted-after (Pair c) eff (Command cmd) os s = commanded-after c eff cmd os s
-acted-after (Pair c) eff Show os s = refl
+acted-after : (c : SessionConfig) (eff : ℕ) (event : Event) (os : List Out) (f : Flow) → acted c eff event (ahead os f) ≡ ahead os (acted c eff event f)
+acted-after (Pair c) eff (Packet arrival) os f = ap (λ (s : Course). along f s) (received-after c eff _ _ os f.course)
+acted-after (Pair c) eff (Returned sequence) os f = refl
+acted-after (Pair c) eff (Command cmd) os f = ap (λ (s : Course). along f s) (commanded-after c eff cmd os f.course)
+acted-after (Pair c) eff Show os f = refl
+acted-after (Seek c) eff (Packet arrival) os f = ap (λ (s : Course). along f s) (seek.received-after c eff _ os f.course)
+acted-after (Seek c) eff (Returned sequence) os f = refl
+acted-after (Seek c) eff (Command cmd) os f = ap (λ (s : Course). along f s) (seek.commanded-after c cmd os f.course)
+acted-after (Seek c) eff Show os f = refl
+acted-after (Head c) eff (Packet arrival) os f = refl
+acted-after (Head c) eff (Returned sequence) os f = refl
+acted-after (Head c) eff (Command cmd) os f = ap (λ (s : Course). along f s) (head.commanded-after c cmd os f.course)
+acted-after (Head c) eff Show os f = refl
+acted-after (Tail c) eff (Packet arrival) os f = ap (λ (s : Course). along f s) (tail.received-after c eff _ os f.course)
+acted-after (Tail c) eff (Returned sequence) os f = refl
+acted-after (Tail c) eff (Command cmd) os f = ap (λ (s : Course). along f s) (tail.commanded-after c cmd os f.course)
+acted-after (Tail c) eff Show os f = refl
 
-finished-after : (c : SessionConfig) (eff : ℕ) (os : List Out) (s : Course) → finished c eff (after os s) ≡ after os (finished c eff s)
-finished-after (Pair c) eff os s = finish-after c eff os s
+finished-after : (c : SessionConfig) (eff : ℕ) (os : List Out) (f : Flow) → finished c eff (ahead os f) ≡ ahead os (finished c eff f)
+finished-after (Pair c) eff os f = ap (λ (s : Course). turns_echo c eff (along f s)) (finish-after c eff os f.course)
+finished-after (Seek c) eff os f = ap (λ (s : Course). along f s) (seek.finish-after c eff os f.course)
+finished-after (Head c) eff os f = ap (λ (s : Course). along f s) (head.finish-after c eff os f.course)
+finished-after (Tail c) eff os f = refl
 
-pub step-after : (c : SessionConfig) (eff : ℕ) (event : Event) (os : List Out) (s : Course) → step c eff event (after os s) ≡ after os (step c eff event s)
+step-after : (c : SessionConfig) (eff : ℕ) (event : Event) (os : List Out) (f : Flow) → step c eff event (ahead os f) ≡ ahead os (step c eff event f)
 unfolding step
-step-after c eff event os s = rw (settled-after, acted-after, finished-after) refl
+step-after c eff event os f = rw (settled-after, acted-after, finished-after) refl
 
-pub tick-after : (c : SessionConfig) (limit eff : ℕ) (os : List Out) (s : Course) → tick c limit eff (after os s) ≡ after os (tick c limit eff s)
+tick-after : (c : SessionConfig) (limit eff : ℕ) (os : List Out) (f : Flow) → tick c limit eff (ahead os f) ≡ ahead os (tick c limit eff f)
 unfolding tick
-tick-after c limit eff os s = rw (settled-after, finished-after) refl
+tick-after c limit eff os f = rw (settled-after, finished-after) refl
 
 -- an event that began with outputs is one that began with none, with these in front
 
-begun-after : (own : Option ℕ) (v : Vars) (os : List Out) → begun own v os ≡ after os (begun own v [])
-begun-after own v os = ap (λ (zs : List Out). record (begun own v []) { outs = zs }) (sym (append-nil os))
+begun-after : (own : Option ℕ) (s : Running) (os : List Out) → begun own s os ≡ ahead os (begun own s [])
+begun-after own s os =
+    ap (λ (zs : List Out). along (begun own s []) (record (begun own s []).course { outs = zs })) (sym (append-nil os))
 
-step-from : (c : SessionConfig) (eff : ℕ) (event : Event) (v : Vars) (os : List Out)
-    → step c eff event (begun (Some eff) v os) ≡ after os (step c eff event (begun (Some eff) v []))
-step-from c eff event v os =
-    ap (λ (s : Course). step c eff event s) (begun-after (Some eff) v os) ∙ step-after c eff event os (begun (Some eff) v [])
+step-from : (s : Running) (eff : ℕ) (event : Event) (os : List Out) → step_from eff event s os ≡ ahead os (stepped_flow eff event s)
+unfolding stepped_flow
+step-from s eff event os =
+    ap (λ (f : Flow). step s.config eff event f) (begun-after (Some eff) s os) ∙ step-after s.config eff event os (begun (Some eff) s [])
 
 pub step_vars : (s : Running) (eff : ℕ) (event : Event) (os : List Out)
-    → (step s.config eff event (begun (Some eff) s.vars os)).vars ≡ next_vars eff event s
-unfolding next_vars
-step_vars s eff event os = ap (λ (t : Course). t.vars) (step-from s.config eff event s.vars os)
+    → (step_from eff event s os).course.vars ≡ (stepped_flow eff event s).course.vars
+step_vars s eff event os = ap (λ (f : Flow). f.course.vars) (step-from s eff event os)
 
-pub step_emits : (s : Running) (eff : ℕ) (event : Event) (os : List Out)
-    → (step s.config eff event (begun (Some eff) s.vars os)).outs ≡ os ++ emits eff event s
+pub step_echo : (s : Running) (eff : ℕ) (event : Event) (os : List Out) → (step_from eff event s os).echo ≡ (stepped_flow eff event s).echo
+step_echo s eff event os = ap (λ (f : Flow). f.echo) (step-from s eff event os)
+
+pub step_number : (s : Running) (eff : ℕ) (event : Event) (os : List Out)
+    → (step_from eff event s os).echo_next ≡ (stepped_flow eff event s).echo_next
+step_number s eff event os = ap (λ (f : Flow). f.echo_next) (step-from s eff event os)
+
+pub step_outs : (s : Running) (eff : ℕ) (event : Event) (os : List Out)
+    → (step_from eff event s os).course.outs ≡ os ++ emits eff event s
 unfolding emits
-step_emits s eff event os = ap (λ (t : Course). t.outs) (step-from s.config eff event s.vars os)
+step_outs s eff event os = ap (λ (f : Flow). f.course.outs) (step-from s eff event os)
 
-tick-from : (c : SessionConfig) (limit eff : ℕ) (v : Vars) (os : List Out)
-    → tick c limit eff (begun None v os) ≡ after os (tick c limit eff (begun None v []))
-tick-from c limit eff v os =
-    ap (λ (s : Course). tick c limit eff s) (begun-after None v os) ∙ tick-after c limit eff os (begun None v [])
+tick-from : (s : Running) (limit eff : ℕ) (os : List Out) → tick_from limit eff s os ≡ ahead os (ticked_flow limit eff s)
+unfolding ticked_flow
+tick-from s limit eff os =
+    ap (λ (f : Flow). tick s.config limit eff f) (begun-after None s os) ∙ tick-after s.config limit eff os (begun None s [])
 
 pub tick_vars : (s : Running) (limit eff : ℕ) (os : List Out)
-    → (tick s.config limit eff (begun None s.vars os)).vars ≡ ticked_vars limit eff s
-unfolding ticked_vars
-tick_vars s limit eff os = ap (λ (t : Course). t.vars) (tick-from s.config limit eff s.vars os)
+    → (tick_from limit eff s os).course.vars ≡ (ticked_flow limit eff s).course.vars
+tick_vars s limit eff os = ap (λ (f : Flow). f.course.vars) (tick-from s limit eff os)
 
-pub tick_emits_law : (s : Running) (limit eff : ℕ) (os : List Out)
-    → (tick s.config limit eff (begun None s.vars os)).outs ≡ os ++ tick_emits limit eff s
+pub tick_echo : (s : Running) (limit eff : ℕ) (os : List Out) → (tick_from limit eff s os).echo ≡ (ticked_flow limit eff s).echo
+tick_echo s limit eff os = ap (λ (f : Flow). f.echo) (tick-from s limit eff os)
+
+pub tick_number : (s : Running) (limit eff : ℕ) (os : List Out) → (tick_from limit eff s os).echo_next ≡ (ticked_flow limit eff s).echo_next
+tick_number s limit eff os = ap (λ (f : Flow). f.echo_next) (tick-from s limit eff os)
+
+pub tick_outs : (s : Running) (limit eff : ℕ) (os : List Out) → (tick_from limit eff s os).course.outs ≡ os ++ tick_emits limit eff s
 unfolding tick_emits
-tick_emits_law s limit eff os = ap (λ (t : Course). t.outs) (tick-from s.config limit eff s.vars os)
+tick_outs s limit eff os = ap (λ (f : Flow). f.course.outs) (tick-from s limit eff os)
 
--- the reply is that of the variables after settling, whatever was put out before
+-- the reply is that of the event after settling, whatever was put out before
 
-pub settled_vars : (c : SessionConfig) (limit eff : ℕ) (own : Option ℕ) (v : Vars) (os : List Out)
-    → (settled c limit eff (begun own v os)).vars ≡ (settled c limit eff (begun own v [])).vars
-settled_vars c limit eff own v os =
-    ap (λ (s : Course). (settled c limit eff s).vars) (begun-after own v os)
-    ∙ ap (λ (s : Course). s.vars) (settled-after c limit eff os (begun own v []))
+answer_of-after : (c : SessionConfig) (event : Event) (os : List Out) (f : Flow) → answer_of c event (ahead os f) ≡ answer_of c event f
+answer_of-after c (Packet arrival) os f = refl
+answer_of-after (Pair c) (Returned sequence) os f = refl
+answer_of-after (Seek c) (Returned sequence) os f = refl
+answer_of-after (Head c) (Returned sequence) os f = refl
+answer_of-after (Tail c) (Returned sequence) os f = refl
+answer_of-after c (Command cmd) os f = refl
+answer_of-after c Show os f = refl
 
-pub reply_law : (s : Running) (eff : ℕ) (event : Event) (os : List Out)
-    → answer_of s.config event (settled s.config eff eff (begun (Some eff) s.vars os)).vars ≡ reply eff event s
+pub reply_law : (s : Running) (eff : ℕ) (event : Event) (os : List Out) → reply_from eff event s os ≡ reply eff event s
 unfolding reply
-reply_law s eff event os = ap (λ (w : Vars). answer_of s.config event w) (settled_vars s.config eff eff (Some eff) s.vars os)
+reply_law s eff event os =
+    ap (λ (f : Flow). answer_of s.config event (settled s.config eff eff f)) (begun-after (Some eff) s os)
+    ∙ ap (λ (f : Flow). answer_of s.config event f) (settled-after s.config eff eff os (begun (Some eff) s []))
+    ∙ answer_of-after s.config event os (settled s.config eff eff (begun (Some eff) s []))
+
+-- an event of a session of another kind than a point-to-point one leaves the Echo function
+
+-- an initiator, a head or a tail
+abbrev pub IsPlainKind : SessionConfig → Type 0
+IsPlainKind (Pair c) = ⊥
+IsPlainKind _ = Unit {0}
+
+-- the event leaves the Echo function, and the number of the next
+pub record LeavesEcho (f : Flow) (echo : Option Echo) (number : ℕ) : Type 0 where
+  pub echo_kept : f.echo ≡ echo
+  pub number_kept : f.echo_next ≡ number
+
+pub step_leaves : (c : SessionConfig) (eff : ℕ) (event : Event) (f : Flow) → IsPlainKind c → LeavesEcho (step c eff event f) f.echo f.echo_next
+unfolding step
+step_leaves (Pair c) eff event f kind = elim kind [ ]
+step_leaves (Seek c) eff (Packet arrival) f kind = record { echo_kept = refl; number_kept = refl }
+step_leaves (Seek c) eff (Returned sequence) f kind = record { echo_kept = refl; number_kept = refl }
+step_leaves (Seek c) eff (Command cmd) f kind = record { echo_kept = refl; number_kept = refl }
+step_leaves (Seek c) eff Show f kind = record { echo_kept = refl; number_kept = refl }
+step_leaves (Head c) eff (Packet arrival) f kind = record { echo_kept = refl; number_kept = refl }
+step_leaves (Head c) eff (Returned sequence) f kind = record { echo_kept = refl; number_kept = refl }
+step_leaves (Head c) eff (Command cmd) f kind = record { echo_kept = refl; number_kept = refl }
+step_leaves (Head c) eff Show f kind = record { echo_kept = refl; number_kept = refl }
+step_leaves (Tail c) eff (Packet arrival) f kind = record { echo_kept = refl; number_kept = refl }
+step_leaves (Tail c) eff (Returned sequence) f kind = record { echo_kept = refl; number_kept = refl }
+step_leaves (Tail c) eff (Command cmd) f kind = record { echo_kept = refl; number_kept = refl }
+step_leaves (Tail c) eff Show f kind = record { echo_kept = refl; number_kept = refl }
+
+pub plain_step : (s : Running) (eff : ℕ) (event : Event) → IsPlainKind s.config → LeavesEcho (stepped_flow eff event s) s.echo s.echo_next
+unfolding stepped_flow
+plain_step s eff event kind = step_leaves s.config eff event _ kind
+
+tick_leaves : (c : SessionConfig) (limit eff : ℕ) (f : Flow) → IsPlainKind c → LeavesEcho (tick c limit eff f) f.echo f.echo_next
+unfolding tick
+tick_leaves (Pair c) limit eff f kind = elim kind [ ]
+tick_leaves (Seek c) limit eff f kind = record { echo_kept = refl; number_kept = refl }
+tick_leaves (Head c) limit eff f kind = record { echo_kept = refl; number_kept = refl }
+tick_leaves (Tail c) limit eff f kind = record { echo_kept = refl; number_kept = refl }
+
+pub plain_tick : (s : Running) (limit eff : ℕ) → IsPlainKind s.config → LeavesEcho (ticked_flow limit eff s) s.echo s.echo_next
+unfolding ticked_flow
+plain_tick s limit eff kind = tick_leaves s.config limit eff _ kind

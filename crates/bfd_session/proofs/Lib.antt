@@ -1,8 +1,10 @@
 pub mod Front
 pub mod DueTick
+pub mod EchoKept
 pub mod Rest
 pub mod Soundness
 pub mod Machines
+pub mod Starting
 pub mod Tables
 pub mod Places
 pub mod Ports

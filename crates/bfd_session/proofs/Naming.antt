@@ -1,5 +1,5 @@
 -- Each output of an event names the event's session.
-use Rattle.std.proofs.Common.{◌≡◌, ◌++◌, ◌∷◌, ◌&&◌, ℕ, Bool, true, false, List, [], refl, None, Some, is_some, Result, Ok, Err, if◌then◌else◌}
+use Rattle.std.proofs.Common.{◌≡◌, ◌++◌, ◌∷◌, ◌&&◌, ℕ, Bool, true, false, List, [], refl, Option, None, Some, is_some, Result, Ok, Err, if◌then◌else◌}
 use Rattle.std.specs.List.{AllByRecursion}
 use Rattle.bfd_packet.specs.declared.arrival.Datagram.{Datagram}
 use Rattle.bfd_packet.specs.declared.control.Control.{Control}
@@ -20,13 +20,19 @@ use Rattle.bfd_p2p.specs.Settle as settling
 use Rattle.bfd_p2p.specs.Receive as receiving
 use Rattle.bfd_p2p.specs.Command.{refusal, commanded}
 use Rattle.bfd_p2p.specs.Finish as finishing
+use Rattle.bfd_sbfd.proofs.Naming as seek
+use Rattle.bfd_mp.proofs.Naming as tree
+use Rattle.bfd_echo.specs.declared.echo.Echo.{Echo}
+use Rattle.bfd_echo.specs.declared.echo.EchoResult.{EchoResult}
+use Rattle.bfd_echo.specs.declared.echo.EchoResult.TheVariants.{Nothing, Sent as Packets, Failed}
 use Rattle.bfd_session.specs.declared.event.SessionConfig.{SessionConfig}
-use Rattle.bfd_session.specs.declared.event.SessionConfig.TheVariants.{Pair}
+use Rattle.bfd_session.specs.declared.event.SessionConfig.TheVariants.{Pair, Seek, Head, Tail}
 use Rattle.bfd_session.specs.declared.event.Event.{Event}
 use Rattle.bfd_session.specs.declared.event.Event.TheVariants.{Packet, Returned, Command, Show}
-use Rattle.bfd_session.specs.Kinds.{Running, discr_of}
+use Rattle.bfd_session.specs.Kinds.{Running, Flow, discr_of}
 use Rattle.bfd_session.specs.Names.{named}
-use Rattle.bfd_session.specs.Step.{step, tick, settled, acted, finished, begun, emits, tick_emits}
+use Rattle.bfd_session.specs.Echoing.{settled_by, settled_running, settles_echo, echoing}
+use Rattle.bfd_session.specs.Step.{step, tick, settled, acted, finished, begun, stepped_flow, ticked_flow, emits, tick_emits}
 
 -- all outputs so far name this session
 record Names (d : ℕ) (s : Course) : Type 0 where
@@ -142,27 +148,72 @@ finish-names : (c : Config) (eff : ℕ) (s : Course) → Names c.discr s → Nam
 unfolding finishing.finish redrawn
 finish-names c eff s h = record { all = (extra-names c eff s h).all }
 
+-- the Echo function
+
+settled_by-names : (c : Config) (eff : ℕ) (result : EchoResult) (e : Echo) (f : Flow) → Names c.discr f.course
+    → Names c.discr (settled_by c eff result e f).course
+settled_by-names c eff Nothing e f h = h
+settled_by-names c eff (Packets bytes) e f h = sends-names c.discr _ f.course h
+settled_by-names c eff Failed e f h = moves-names c.discr eff _ f.course h
+
+settled_running-names : (c : Config) (limit eff : ℕ) (echo : Option Echo) (f : Flow) → Names c.discr f.course
+    → Names c.discr (settled_running c limit eff echo f).course
+settled_running-names c limit eff None f h = h
+settled_running-names c limit eff (Some e) f h = settled_by-names c eff _ _ f h
+
+settles_echo-names : (c : Config) (limit eff : ℕ) (f : Flow) → Names c.discr f.course → Names c.discr (settles_echo c limit eff f).course
+unfolding settles_echo
+settles_echo-names c limit eff f h = settled_running-names c limit eff (echoing c f.course.vars f.echo) f h
+
+-- the outputs of the other kinds
+
+seek_own : (d : ℕ) → seek.OfOwn d (λ o. named o ≡ d)
+seek_own d = record { of_changes = (λ old new diag. refl); of_packets = (λ datagram. refl) }
+
+tree_own : (d : ℕ) → tree.OfOwn d (λ o. named o ≡ d)
+tree_own d = record { of_changes = (λ old new diag. refl); of_packets = (λ datagram. refl) }
+
 -- a whole event
 
-settled-names : (c : SessionConfig) (limit eff : ℕ) (s : Course) → Names (discr_of c) s → Names (discr_of c) (settled c limit eff s)
-settled-names (Pair c) limit eff s h = settle-names c limit eff s h
+settled-names : (c : SessionConfig) (limit eff : ℕ) (f : Flow) → Names (discr_of c) f.course → Names (discr_of c) (settled c limit eff f).course
+settled-names (Pair c) limit eff f h = settles_echo-names c limit eff _ (settle-names c limit eff f.course h)
+settled-names (Seek c) limit eff f h = record { all = seek.settle_names c _ limit eff f.course (seek_own c.discr) h.all }
+settled-names (Head c) limit eff f h = record { all = tree.head_settle_names c _ limit eff f.course (tree_own c.discr) h.all }
+settled-names (Tail c) limit eff f h = record { all = tree.tail_settle_names c _ limit f.course (tree_own c.discr) h.all }
 
-acted-names : (c : SessionConfig) (eff : ℕ) (event : Event) (s : Course) → Names (discr_of c) s → Names (discr_of c) (acted c eff event s)
-acted-names (Pair c) eff (Packet arrival) s h = received-names c eff _ _ s h
-acted-names (Pair c) eff (Returned sequence) s h = h
-acted-names (Pair c) eff (Command cmd) s h = commanded-names c eff cmd s h
-acted-names (Pair c) eff Show s h = h
+acted-names : (c : SessionConfig) (eff : ℕ) (event : Event) (f : Flow) → Names (discr_of c) f.course → Names (discr_of c) (acted c eff event f).course
+acted-names (Pair c) eff (Packet arrival) f h = received-names c eff _ _ f.course h
+acted-names (Pair c) eff (Returned sequence) f h = h
+acted-names (Pair c) eff (Command cmd) f h = commanded-names c eff cmd f.course h
+acted-names (Pair c) eff Show f h = h
+acted-names (Seek c) eff (Packet arrival) f h =
+    record { all = seek.received_names c _ eff arrival.payload f.course (seek_own c.discr) h.all }
+acted-names (Seek c) eff (Returned sequence) f h = h
+acted-names (Seek c) eff (Command cmd) f h = record { all = seek.commanded_names c _ cmd f.course (seek_own c.discr) h.all }
+acted-names (Seek c) eff Show f h = h
+acted-names (Head c) eff (Packet arrival) f h = h
+acted-names (Head c) eff (Returned sequence) f h = h
+acted-names (Head c) eff (Command cmd) f h = record { all = tree.head_commanded_names c _ cmd f.course (tree_own c.discr) h.all }
+acted-names (Head c) eff Show f h = h
+acted-names (Tail c) eff (Packet arrival) f h =
+    record { all = tree.received_names c _ eff arrival.payload f.course (tree_own c.discr) h.all }
+acted-names (Tail c) eff (Returned sequence) f h = h
+acted-names (Tail c) eff (Command cmd) f h = record { all = tree.tail_commanded_names c _ cmd f.course (tree_own c.discr) h.all }
+acted-names (Tail c) eff Show f h = h
 
-finished-names : (c : SessionConfig) (eff : ℕ) (s : Course) → Names (discr_of c) s → Names (discr_of c) (finished c eff s)
-finished-names (Pair c) eff s h = finish-names c eff s h
+finished-names : (c : SessionConfig) (eff : ℕ) (f : Flow) → Names (discr_of c) f.course → Names (discr_of c) (finished c eff f).course
+finished-names (Pair c) eff f h = finish-names c eff f.course h
+finished-names (Seek c) eff f h = record { all = seek.finish_names c _ eff f.course (seek_own c.discr) h.all }
+finished-names (Head c) eff f h = record { all = tree.head_finish_names c _ eff f.course (tree_own c.discr) h.all }
+finished-names (Tail c) eff f h = h
 
 pub tick_named : (s : Running) (limit eff : ℕ) → AllByRecursion (λ o. named o ≡ discr_of s.config) (tick_emits limit eff s)
-unfolding tick_emits tick
+unfolding tick_emits ticked_flow tick
 tick_named s limit eff =
-    (finished-names s.config eff _ (settled-names s.config limit eff (begun None s.vars []) record { all = tt })).all
+    (finished-names s.config eff _ (settled-names s.config limit eff (begun None s []) record { all = tt })).all
 
 pub event_named : (s : Running) (eff : ℕ) (event : Event) → AllByRecursion (λ o. named o ≡ discr_of s.config) (emits eff event s)
-unfolding emits step
+unfolding emits stepped_flow step
 event_named s eff event =
     (finished-names s.config eff _ (acted-names s.config eff event _
-    (settled-names s.config eff eff (begun (Some eff) s.vars []) record { all = tt }))).all
+    (settled-names s.config eff eff (begun (Some eff) s []) record { all = tt }))).all

@@ -1,5 +1,5 @@
--- An own event keeps variables sound.
-use Rattle.std.proofs.Common.{◌≡◌, ◌<◌, ◌≤◌, ◌==◌, ◌||◌, ◌&&◌, not, ℕ, Bool, true, false, refl, Option, None, Some, is_some, is_none, IsSome, option_map, List, [], length, Result, Ok, Err, arith, if◌then◌else◌, cond}
+-- An own event keeps a session sound.
+use Rattle.std.proofs.Common.{◌≡◌, ◌<◌, ◌≤◌, ◌==◌, ◌||◌, ◌&&◌, not, ℕ, Bool, true, false, refl, ◌∙◌, Option, None, Some, is_some, is_none, IsSome, IfSome, option_map, List, [], length, Result, Ok, Err, arith, if◌then◌else◌, cond}
 use Rattle.std.proofs.lemmas.Grind.{common_steps}
 use Rattle.std.proofs.lemmas.Bool.Decides.{nat_tests}
 use Rattle.std.proofs.lemmas.List.Quantifiers.{position-Some}
@@ -23,20 +23,32 @@ use Rattle.bfd_rules.specs.declared.config.Config.{Config}
 use Rattle.bfd_rules.specs.declared.variables.Vars.{Vars}
 use Rattle.bfd_rules.specs.Quantities.{is_admin_down}
 use Rattle.bfd_rules.specs.Renewal.{poll_renewed, used_renewed, demand_renewed, renewed}
-use Rattle.bfd_rules.specs.Course.{Course, enters, sends}
+use Rattle.bfd_rules.specs.Course.{Course, sends}
 use Rattle.bfd_rules.specs.Sound.{IsPlain, IsPlace, HasPeerMult, IsSteady, is_interval}
 use Rattle.bfd_p2p.specs.Frame.{renews, moves}
 use Rattle.bfd_p2p.specs.Transmit.{transmits}
 use Rattle.bfd_p2p.specs.Receive as receiving
 use Rattle.bfd_p2p.specs.Command.{key_place, is_wrong_kind, is_out_of_range, refusal, path_done, demand_done, done, commanded}
+use Rattle.bfd_sbfd.specs.declared.config.SeekConfig.{SeekConfig}
+use Rattle.bfd_sbfd.specs.Sound.{IsSeekSteady, IsSeekSound}
+use Rattle.bfd_sbfd.proofs.Soundness as seek
+use Rattle.bfd_mp.specs.declared.config.HeadConfig.{HeadConfig}
+use Rattle.bfd_mp.specs.declared.config.TailConfig.{TailConfig}
+use Rattle.bfd_mp.specs.Sound.{IsHeadSteady, IsHeadSound, IsTailSound}
+use Rattle.bfd_mp.proofs.Soundness as tree
+use Rattle.bfd_echo.specs.declared.echo.Echo.{Echo}
+use Rattle.bfd_echo.specs.Rules.{HasMoments}
+use Rattle.bfd_echo.proofs.Moments.{returned_moments}
 use Rattle.bfd_session.specs.declared.event.SessionConfig.{SessionConfig}
-use Rattle.bfd_session.specs.declared.event.SessionConfig.TheVariants.{Pair}
+use Rattle.bfd_session.specs.declared.event.SessionConfig.TheVariants.{Pair, Seek, Head, Tail}
 use Rattle.bfd_session.specs.declared.event.Event.{Event}
 use Rattle.bfd_session.specs.declared.event.Event.TheVariants.{Packet, Returned, Command, Show}
-use Rattle.bfd_session.specs.Kinds.{Running}
+use Rattle.bfd_session.specs.Kinds.{Running, Flow, left_by}
+use Rattle.bfd_session.specs.Echoing.{echoing, back_to}
 use Rattle.bfd_session.specs.Step as session
-use Rattle.bfd_session.specs.Step.{IsFor, CanTake, HasSize, step, acted, settled, begun, next, next_vars}
-use Rattle.bfd_session.proofs.Soundness.{poll_plain, used_plain, demand_plain, renews_steady, moves_steady, choice_steady, settle_steady, finish_sound}
+use Rattle.bfd_session.specs.Step.{CanTake, HasSize, step, acted, settled, begun, next, stepped_flow}
+use Rattle.bfd_session.proofs.Front.{LeavesEcho, step_leaves}
+use Rattle.bfd_session.proofs.Soundness.{IsPairSteady, poll_plain, used_plain, demand_plain, enters_plain, renews_steady, moves_steady, choice_steady, echoing_moments, pair_settled_steady, pair_finished_sound}
 
 -- nothing found: the first of the rest isn't
 found_none : {X : Type 0} → (b : Bool) (x : X) (o : Option X) → cond b (Some x) o ≡ None → (b ≡ false) × (o ≡ None)
@@ -126,10 +138,6 @@ unfolding receiving.kept receiving.keeps_sequence
 kept_taken c eff packet seq s h fits plain =
     ends_poll_taken c eff packet _ h (keeps_fields_taken c eff packet _ h fits
     (renews_plain c eff _ s h (sequenced_plain c eff seq s.vars (receiving.has_sequence c.keys) h plain)))
-
-enters_plain : (c : Config) (state : State) (diag : ℕ) (v : Vars) → diag < 32 → (state ≡ Up → IsSome v.heard) → IsPlain c v
-    → IsPlain c (enters state diag v)
-enters_plain c state diag v few up plain = grind (arith, common_steps)
 
 machine_plain : (c : Config) (own received : State) (v : Vars) → IsSome v.heard → IsPlain c v → IsPlain c (receiving.machine own received v)
 machine_plain c Down Down v heard plain = enters_plain c Init v.diag v plain.diag_below (λ _. heard) plain
@@ -274,30 +282,91 @@ commanded_steady c eff cmd s h steady = commanded_by c eff cmd s (refusal c s.va
 
 -- the whole event
 
-acted_steady : (c : Config) (eff : ℕ) (event : Event) (s : Course) → eff < moment_bound → CanTake (Pair c) event → HasSize event
-    → IsSteady c s.vars → IsSteady c (acted (Pair c) eff event s).vars
+back_moments : (eff sequence : ℕ) (running echo : Option Echo) → eff < moment_bound → IfSome running HasMoments → IfSome echo HasMoments
+    → IfSome (back_to eff sequence running echo) HasMoments
+back_moments eff sequence None echo h runs moments = moments
+back_moments eff sequence (Some e) echo h runs moments = returned_moments eff sequence e h runs
+
+acted_steady : (c : Config) (eff : ℕ) (event : Event) (f : Flow) → eff < moment_bound → CanTake (Pair c) event → HasSize (Pair c) event
+    → IsPairSteady c f → IsPairSteady c (acted (Pair c) eff event f)
 unfolding receiving.received
-acted_steady c eff (Packet arrival) s h takes sized steady =
-    received_on_steady c eff (fields_of arrival.payload) _ s h
-    (record { sized = sized; mult = some_mult arrival.port arrival.payload takes.header }) steady
-acted_steady c eff (Returned sequence) s h takes sized steady = steady
-acted_steady c eff (Command cmd) s h takes sized steady = commanded_steady c eff cmd s h steady
-acted_steady c eff Show s h takes sized steady = steady
+acted_steady c eff (Packet arrival) f h takes sized steady = record {
+  vars = received_on_steady c eff (fields_of arrival.payload) _ f.course h
+      (record { sized = sized; mult = some_mult arrival.port arrival.payload takes.header }) steady.vars;
+  moments = steady.moments;
+}
+acted_steady c eff (Returned sequence) f h takes sized steady = record {
+  vars = steady.vars;
+  moments = back_moments eff sequence (echoing c f.course.vars f.echo) f.echo h (echoing_moments c f.course.vars f.echo steady.moments)
+      steady.moments;
+}
+acted_steady c eff (Command cmd) f h takes sized steady =
+    record { vars = commanded_steady c eff cmd f.course h steady.vars; moments = steady.moments }
+acted_steady c eff Show f h takes sized steady = steady
 
 stamped_steady : (c : Config) (eff : ℕ) (v : Vars) → eff < moment_bound → IsSteady c v → IsSteady c (record v { at = eff })
 stamped_steady c eff v h steady = grind (arith, common_steps)
 
-sound_after : (c : SessionConfig) (s : Running) (eff : ℕ) (event : Event) → eff < moment_bound → CanTake c event → HasSize event
-    → session.sound_by c s → session.sound_by c (record s { vars = (step c eff event (begun (Some eff) s.vars [])).vars })
+pair_sound : (c : Config) (s : Running) (eff : ℕ) (event : Event) → eff < moment_bound → CanTake (Pair c) event → HasSize (Pair c) event
+    → session.IsPairSound c s → session.IsPairSound c (left_by (step (Pair c) eff event (begun (Some eff) s [])) s)
 unfolding step
-sound_after (Pair c) s eff event h takes sized sound = record {
-  vars = finish_sound c eff _ h (acted_steady c eff event _ h takes sized
-      (settle_steady c eff eff (begun (Some eff) s.vars []) h (stamped_steady c eff s.vars h sound.vars.steady)));
-  no_echo = sound.no_echo;
-  none_sent = sound.none_sent;
+pair_sound c s eff event h takes sized sound =
+    let f : Flow = begun (Some eff) s [] in
+    pair_finished_sound c eff (acted (Pair c) eff event (settled (Pair c) eff eff f)) s h
+    (acted_steady c eff event _ h takes sized
+    (pair_settled_steady c eff eff f h record { vars = stamped_steady c eff s.vars h sound.vars.steady; moments = sound.moments }))
+
+-- what an event of another kind leaves of the variables, and of the Echo function
+
+seek_vars : (c : SeekConfig) (eff : ℕ) (event : Event) (f : Flow) → eff < moment_bound → HasSize (Seek c) event
+    → IsSeekSteady c f.course.vars → IsSeekSound c (step (Seek c) eff event f).course.vars
+unfolding step
+seek_vars c eff (Packet arrival) f h sized steady = seek.packet_sound c eff eff arrival.payload f.course h sized steady
+seek_vars c eff (Returned sequence) f h sized steady = seek.tick_sound c eff eff f.course h steady
+seek_vars c eff (Command cmd) f h sized steady = seek.command_sound c eff eff cmd f.course h steady
+seek_vars c eff Show f h sized steady = seek.tick_sound c eff eff f.course h steady
+
+head_vars : (c : HeadConfig) (eff : ℕ) (event : Event) (f : Flow) → eff < moment_bound
+    → IsHeadSteady f.course.vars → IsHeadSound (step (Head c) eff event f).course.vars
+unfolding step
+head_vars c eff (Packet arrival) f h steady = tree.head_tick_sound c eff eff f.course h steady
+head_vars c eff (Returned sequence) f h steady = tree.head_tick_sound c eff eff f.course h steady
+head_vars c eff (Command cmd) f h steady = tree.head_command_sound c eff eff cmd f.course h steady
+head_vars c eff Show f h steady = tree.head_tick_sound c eff eff f.course h steady
+
+tail_vars : (c : TailConfig) (eff : ℕ) (event : Event) (f : Flow) → eff < moment_bound → HasSize (Tail c) event
+    → IsTailSound c f.course.vars → IsTailSound c (step (Tail c) eff event f).course.vars
+unfolding step
+tail_vars c eff (Packet arrival) f h sized sound =
+    tree.received_sound c eff arrival.payload _ h sized (tree.tail_settle_sound c eff f.course sound)
+tail_vars c eff (Returned sequence) f h sized sound = tree.tail_settle_sound c eff f.course sound
+tail_vars c eff (Command cmd) f h sized sound = tree.tail_commanded_sound c cmd _ (tree.tail_settle_sound c eff f.course sound)
+tail_vars c eff Show f h sized sound = tree.tail_settle_sound c eff f.course sound
+
+plain_sound : (IsVars : Vars → Type 0) (s : Running) (f : Flow) → session.IsEcholess s → LeavesEcho f s.echo s.echo_next
+    → IsVars f.course.vars → session.IsPlainSound IsVars (left_by f s)
+plain_sound IsVars s f none left vars = record {
+  vars = vars;
+  echoless = record { none = left.echo_kept ∙ none.none; none_sent = left.number_kept ∙ none.none_sent };
 }
 
-pub own_sound : (s : Running) (eff : ℕ) (event : Event) → eff < moment_bound → CanTake s.config event → HasSize event
+sound_after : (c : SessionConfig) (s : Running) (eff : ℕ) (event : Event) → eff < moment_bound → CanTake c event → HasSize c event
+    → session.sound_by c s → session.sound_by c (left_by (step c eff event (begun (Some eff) s [])) s)
+sound_after (Pair c) s eff event h takes sized sound = pair_sound c s eff event h takes sized sound
+sound_after (Seek c) s eff event h takes sized sound =
+    plain_sound (IsSeekSound c) s (step (Seek c) eff event (begun (Some eff) s [])) sound.echoless
+    (step_leaves (Seek c) eff event (begun (Some eff) s []) tt)
+    (seek_vars c eff event (begun (Some eff) s []) h sized (seek.stamped_steady c eff s.vars h sound.vars.steady))
+sound_after (Head c) s eff event h takes sized sound =
+    plain_sound IsHeadSound s (step (Head c) eff event (begun (Some eff) s [])) sound.echoless
+    (step_leaves (Head c) eff event (begun (Some eff) s []) tt)
+    (head_vars c eff event (begun (Some eff) s []) h (tree.head_stamped_steady eff s.vars h sound.vars.steady))
+sound_after (Tail c) s eff event h takes sized sound =
+    plain_sound (IsTailSound c) s (step (Tail c) eff event (begun (Some eff) s [])) sound.echoless
+    (step_leaves (Tail c) eff event (begun (Some eff) s []) tt)
+    (tail_vars c eff event (begun (Some eff) s []) h sized (tree.tail_stamped_sound c eff s.vars h sound.vars))
+
+pub own_sound : (s : Running) (eff : ℕ) (event : Event) → eff < moment_bound → CanTake s.config event → HasSize s.config event
     → session.IsSound s → session.IsSound (next eff event s)
-unfolding next_vars
+unfolding stepped_flow
 own_sound s eff event h takes sized sound = sound_after s.config s eff event h takes sized sound

@@ -1,6 +1,5 @@
 -- A tick by which nothing is due leaves sound variables as they are, and puts nothing out.
-use Rattle.std.proofs.Common.{◌≡◌, ◌*◌, ◌==◌, ◌++◌, append-nil, ℕ, Bool, true, false, not, refl, sym, ap, ◌∙◌, Option, None, Some, is_some, is_none, IsSome, IsTrue, ◌↔◌, List, [], if◌then◌else◌, arith}
-use Rattle.std.proofs.lemmas.Bool.{or_parts}
+use Rattle.std.proofs.Common.{◌≡◌, ◌<◌, ◌*◌, ◌==◌, ◌++◌, append-nil, ℕ, Bool, true, false, not, refl, sym, ap, ◌∙◌, Option, None, Some, is_some, is_none, IsSome, IsTrue, ◌↔◌, option_map, nat_le, List, [], if◌then◌else◌, arith}
 use Rattle.std.proofs.lemmas.Bool.Decides.{nat_tests}
 use Rattle.bfd_packet.specs.declared.control.State.{State}
 use Rattle.bfd_packet.specs.declared.control.State.TheVariants.{AdminDown, Down, Init, Up}
@@ -14,12 +13,19 @@ use Rattle.bfd_rules.specs.Course.{Course, course, begins, is_news, draws, drawn
 use Rattle.bfd_rules.specs.Sound as pair
 use Rattle.bfd_p2p.specs.Settle as settling
 use Rattle.bfd_p2p.specs.Finish as finishing
+use Rattle.bfd_sbfd.specs.Waiting.{deadline as seek_deadline}
+use Rattle.bfd_sbfd.proofs.Rest as seek
+use Rattle.bfd_mp.proofs.Rest as tree
+use Rattle.bfd_echo.specs.declared.echo.Echo.{Echo}
+use Rattle.bfd_echo.specs.Timing.{due as echo_tick}
+use Rattle.bfd_echo.proofs.DueTick.{outcome_rests}
 use Rattle.bfd_session.specs.declared.event.SessionConfig.{SessionConfig}
-use Rattle.bfd_session.specs.declared.event.SessionConfig.TheVariants.{Pair}
-use Rattle.bfd_session.specs.Kinds.{Running}
+use Rattle.bfd_session.specs.declared.event.SessionConfig.TheVariants.{Pair, Seek, Head, Tail}
+use Rattle.bfd_session.specs.Kinds.{Running, Flow, along, left_by}
 use Rattle.bfd_session.specs.Due.{due, due_by, tick_of}
-use Rattle.bfd_session.specs.Step.{IsSound, sound_by, tick, tick_next, ticked_vars, tick_emits, begun}
-use Rattle.bfd_session.proofs.DueTick.{has_come-sooner, has_come-ceil, floor-tick}
+use Rattle.bfd_session.specs.Echoing.{should_echo, echoing, interval_of, echo_due, settled_running, settles_echo, goes_on, number_by, number_after, turns_echo}
+use Rattle.bfd_session.specs.Step.{IsSound, IsPairSound, sound_by, tick, finished, tick_next, ticked_flow, tick_emits, begun}
+use Rattle.bfd_session.proofs.DueTick.{parts, not_late, not_due}
 
 -- settling with nothing due
 
@@ -73,32 +79,84 @@ finish_rests : (c : Config) (eff : ℕ) (v : Vars) (os : List Out) → pair.IsSo
 unfolding finishing.finish finishing.extra redrawn
 finish_rests c eff v os sound = rw (no_news v, drawn_by c v (may_send c.active v) refl sound) refl
 
+-- the Echo function with nothing due
+
+before : (a b : ℕ) → nat_le b a ≡ false → a < b
+before a b h = grind (arith, nat_tests)
+
+running_rests : (c : Config) (t eff : ℕ) (echo : Option Echo) (f : Flow)
+    → has_come t (option_map (λ e. echo_tick e (interval_of f.course.vars) f.course.vars.mult) echo) ≡ false
+    → settled_running c (1000 * t) eff echo f ≡ f
+running_rests c t eff None f later = refl
+running_rests c t eff (Some e) f later =
+    rw (outcome_rests e t (interval_of f.course.vars) f.course.vars.mult c.discr (before t _ later)) refl
+
+settles_echo_rests : (c : Config) (t eff : ℕ) (f : Flow) → has_come t (echo_due c f.course.vars f.echo) ≡ false
+    → settles_echo c (1000 * t) eff f ≡ f
+unfolding settles_echo
+settles_echo_rests c t eff f later = running_rests c t eff (echoing c f.course.vars f.echo) f later
+
+-- one that runs exactly where it should goes on
+
+goes_on_by : (eff next : ℕ) (should : Bool) (echo : Option Echo) → (IsSome echo ↔ IsTrue should)
+    → (if should then Some (goes_on eff next echo) else None) ≡ echo
+goes_on_by eff next true None both = let true_too : false ≡ true = both.1 refl in cc
+goes_on_by eff next true (Some e) both = refl
+goes_on_by eff next false None both = refl
+goes_on_by eff next false (Some e) both = let true_too : false ≡ true = both.0 refl in cc
+
+number_by_rests : (next : ℕ) (should : Bool) (echo : Option Echo) → (IsSome echo ↔ IsTrue should)
+    → (if should then next else number_by echo next) ≡ next
+number_by_rests next true echo both = refl
+number_by_rests next false None both = refl
+number_by_rests next false (Some e) both = let true_too : false ≡ true = both.0 refl in cc
+
+turns_echo_rests : (c : Config) (eff : ℕ) (f : Flow) → (IsSome f.echo ↔ IsTrue (should_echo c f.course.vars)) → turns_echo c eff f ≡ f
+turns_echo_rests c eff f both =
+    ap (λ (o : Option Echo). record f { echo = o; echo_next = number_after c f.course.vars f.echo f.echo_next })
+    (goes_on_by eff f.echo_next (should_echo c f.course.vars) f.echo both)
+    ∙ ap (λ (n : ℕ). record f { echo_next = n }) (number_by_rests f.echo_next (should_echo c f.course.vars) f.echo both)
+
 -- the whole tick
 
-tick_rests : (c : SessionConfig) (s : Running) (t eff : ℕ) → sound_by c s → has_come t (due_by c s) ≡ false
-    → tick c (1000 * t) eff (begun None s.vars []) ≡ begun None s.vars []
+pair_rests : (c : Config) (s : Running) (t eff : ℕ) → IsPairSound c s → has_come t (due_by (Pair c) s) ≡ false
+    → tick (Pair c) (1000 * t) eff (begun None s []) ≡ begun None s []
 unfolding tick
-tick_rests (Pair c) s t eff sound nothing =
+pair_rests c s t eff sound nothing =
     let v : Vars = s.vars in
-    let outer = or_parts (has_come t (tick_of (deadline v))) (has_come t (sooner (tick_of (seq_deadline v)) v.tx_due))
-    (sym (has_come-sooner t (tick_of (deadline v)) (sooner (tick_of (seq_deadline v)) v.tx_due)) ∙ nothing) in
-    let inner = or_parts (has_come t (tick_of (seq_deadline v))) (has_come t v.tx_due)
-    (sym (has_come-sooner t (tick_of (seq_deadline v)) v.tx_due) ∙ outer.1) in
-    let late : has_come (1000 * t) (deadline v) ≡ false = sym (has_come-ceil t (deadline v)) ∙ outer.0 in
-    let seq_late : has_come (1000 * t) (seq_deadline v) ≡ false = sym (has_come-ceil t (seq_deadline v)) ∙ inner.0 in
-    let due_later : has_come (floor_tick (1000 * t)) v.tx_due ≡ false =
-    ap (λ (k : ℕ). has_come k v.tx_due) (floor-tick t) ∙ inner.1 in
-    ap (finishing.finish c eff) (settle_rests c (1000 * t) eff (begun None v []) late seq_late due_later)
-    ∙ finish_rests c eff v [] sound.vars
+    let f : Flow = begun None s [] in
+    let outer = parts t (tick_of (deadline v)) (sooner (tick_of (seq_deadline v)) (sooner v.tx_due (echo_due c v s.echo))) nothing in
+    let middle = parts t (tick_of (seq_deadline v)) (sooner v.tx_due (echo_due c v s.echo)) outer.second in
+    let inner = parts t v.tx_due (echo_due c v s.echo) middle.second in
+    ap (λ (p : Course). finished (Pair c) eff (settles_echo c (1000 * t) eff (along f p)))
+    (settle_rests c (1000 * t) eff f.course (not_late t (deadline v) outer.first) (not_late t (seq_deadline v) middle.first)
+    (not_due t v.tx_due inner.first))
+    ∙ ap (λ (g : Flow). finished (Pair c) eff g) (settles_echo_rests c t eff f inner.second)
+    ∙ ap (λ (p : Course). turns_echo c eff (along f p)) (finish_rests c eff v [] sound.vars)
+    ∙ turns_echo_rests c eff f sound.echoes
+
+tick_rests : (c : SessionConfig) (s : Running) (t eff : ℕ) → sound_by c s → has_come t (due_by c s) ≡ false
+    → tick c (1000 * t) eff (begun None s []) ≡ begun None s []
+unfolding tick
+tick_rests (Pair c) s t eff sound nothing = pair_rests c s t eff sound nothing
+tick_rests (Seek c) s t eff sound nothing =
+    let both = parts t (tick_of (seek_deadline s.vars)) s.vars.tx_due nothing in
+    ap (λ (p : Course). along (begun None s []) p)
+    (seek.tick_rests c (1000 * t) eff s.vars [] sound.vars (not_late t _ both.first) (not_due t _ both.second))
+tick_rests (Head c) s t eff sound nothing =
+    ap (λ (p : Course). along (begun None s []) p) (tree.head_rests c (1000 * t) eff s.vars [] sound.vars (not_due t _ nothing))
+tick_rests (Tail c) s t eff sound nothing =
+    ap (λ (p : Course). along (begun None s []) p)
+    (tree.tail_settle_rests c (1000 * t) (begun None s []).course (not_late t _ nothing))
 
 pub rest_session : (s : Running) (t eff : ℕ) → IsSound s → has_come t (due s) ≡ false → tick_next (1000 * t) eff s ≡ s
-unfolding ticked_vars
+unfolding ticked_flow
 rest_session s t eff sound nothing =
-    ap (λ (p : Course). record s { vars = p.vars }) (tick_rests s.config s t eff sound nothing)
+    ap (λ (f : Flow). left_by f s) (tick_rests s.config s t eff sound nothing)
 
 pub rest_outs : (s : Running) (t eff : ℕ) → IsSound s → has_come t (due s) ≡ false → tick_emits (1000 * t) eff s ≡ []
-unfolding tick_emits
-rest_outs s t eff sound nothing = ap (λ (p : Course). p.outs) (tick_rests s.config s t eff sound nothing)
+unfolding tick_emits ticked_flow
+rest_outs s t eff sound nothing = ap (λ (f : Flow). f.course.outs) (tick_rests s.config s t eff sound nothing)
 
 -- the same with the limit as a number
 

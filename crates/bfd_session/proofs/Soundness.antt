@@ -1,7 +1,9 @@
--- A tick keeps variables sound.
-use Rattle.std.proofs.Common.{◌≡◌, ◌^◌, ◌-◌, ◌<◌, ◌≤◌, ◌+◌, ◌*◌, ◌/◌, ◌%◌, ◌&&◌, ◌||◌, ◌==◌, not, ℕ, Bool, true, false, refl, Option, None, Some, is_none, IsSome, IfSome, option_map, [], arith, rules, if◌then◌else◌}
+-- A tick keeps a session sound.
+use Rattle.std.proofs.Common.{◌≡◌, ◌^◌, ◌-◌, ◌<◌, ◌≤◌, ◌+◌, ◌*◌, ◌/◌, ◌%◌, ◌&&◌, ◌||◌, ◌==◌, ◌↔◌, not, ℕ, Bool, true, false, refl, Option, None, Some, is_none, IsSome, IsTrue, IfSome, option_map, [], arith, rules, if◌then◌else◌}
 use Rattle.std.proofs.lemmas.Grind.{common_steps}
 use Rattle.std.proofs.lemmas.Bool.{or_parts}
+use Rattle.bfd_packet.specs.declared.control.State.{State}
+use Rattle.bfd_packet.specs.declared.control.State.TheVariants.{Down, Up}
 use Rattle.bfd_packet.specs.declared.keys.SeqState.{SeqState}
 use Rattle.bfd_num.specs.Numbers.{moment_bound, floor_tick, ceil_tick, next_j}
 use Rattle.bfd_num.specs.Due.{has_come}
@@ -13,17 +15,26 @@ use Rattle.bfd_rules.specs.declared.variables.Vars.{Vars}
 use Rattle.bfd_rules.specs.Quantities.{deadline, seq_deadline, demand_here, may_send, tx_interval, is_idle}
 use Rattle.bfd_rules.specs.Jitter.{pick}
 use Rattle.bfd_rules.specs.Renewal.{poll_again, poll_renewed, used_renewed, demand_renewed, renewed}
-use Rattle.bfd_rules.specs.Course.{Course, changes, sends, draws, one_changed, drawn, is_untold, based, redrawn}
+use Rattle.bfd_rules.specs.Course.{Course, enters, changes, sends, draws, one_changed, drawn, is_untold, based, redrawn}
 use Rattle.bfd_rules.specs.Sound.{IsPlain, IsRenewed, HasPeerMult, IsSteady, IsSound}
 use Rattle.bfd_p2p.specs.Frame.{renews, moves}
 use Rattle.bfd_p2p.specs.Transmit.{transmits}
 use Rattle.bfd_p2p.specs.Settle as settling
 use Rattle.bfd_p2p.specs.Finish as finishing
+use Rattle.bfd_p2p.specs.Machine.{failed}
+use Rattle.bfd_sbfd.proofs.Soundness as seek
+use Rattle.bfd_mp.proofs.Soundness as tree
+use Rattle.bfd_echo.specs.declared.echo.Echo.{Echo}
+use Rattle.bfd_echo.specs.declared.echo.EchoResult.{EchoResult}
+use Rattle.bfd_echo.specs.declared.echo.EchoResult.TheVariants.{Nothing, Sent, Failed}
+use Rattle.bfd_echo.specs.Rules.{HasMoments, outcome, settled as echo_settled}
+use Rattle.bfd_echo.proofs.Moments.{begun_moments, settled_moments}
 use Rattle.bfd_session.specs.declared.event.SessionConfig.{SessionConfig}
-use Rattle.bfd_session.specs.declared.event.SessionConfig.TheVariants.{Pair}
+use Rattle.bfd_session.specs.declared.event.SessionConfig.TheVariants.{Pair, Seek, Head, Tail}
 use Rattle.bfd_session.specs.Step as session
-use Rattle.bfd_session.specs.Kinds.{Running}
-use Rattle.bfd_session.specs.Step.{tick, tick_next, ticked_vars, begun}
+use Rattle.bfd_session.specs.Kinds.{Running, Flow, left_by}
+use Rattle.bfd_session.specs.Echoing.{should_echo, echoing, interval_of, settled_by, settled_running, settles_echo, goes_on}
+use Rattle.bfd_session.specs.Step.{tick, tick_next, ticked_flow, begun}
 
 -- Renewal
 
@@ -248,26 +259,111 @@ unfolding finishing.finish redrawn
 finish_sound c eff s h steady =
     let t : Course = finishing.extra c eff s in drawn_sound c t.mark t.vars (extra_steady c eff s h steady)
 
+-- the Echo function beside the variables: its moments are moments, also while it runs where it shouldn't
+
+pub record IsPairSteady (c : Config) (f : Flow) : Type 0 where
+  pub vars : IsSteady c f.course.vars
+  pub moments : IfSome f.echo HasMoments
+
+pub enters_plain : (c : Config) (state : State) (diag : ℕ) (v : Vars) → diag < 32 → (state ≡ Up → IsSome v.heard) → IsPlain c v
+    → IsPlain c (enters state diag v)
+enters_plain c state diag v few up plain = grind (arith, common_steps)
+
+failed_steady : (c : Config) (eff : ℕ) (s : Course) → eff < moment_bound → IsSteady c s.vars
+    → IsSteady c (moves c.discr eff (failed 2 s.vars) s).vars
+failed_steady c eff s h steady =
+    moves_steady c eff (failed 2 s.vars) s h (enters_plain c Down 2 s.vars (omega arith) (λ up. cc) steady.plain)
+    record { heard_mult = steady.peer.heard_mult; seq_mult = steady.peer.seq_mult }
+
+settled_by_steady : (c : Config) (eff : ℕ) (result : EchoResult) (e : Echo) (f : Flow) → eff < moment_bound → HasMoments e
+    → IsPairSteady c f → IsPairSteady c (settled_by c eff result e f)
+unfolding sends
+settled_by_steady c eff Nothing e f h moments steady = steady
+settled_by_steady c eff (Sent bytes) e f h moments steady = record { vars = steady.vars; moments = moments }
+settled_by_steady c eff Failed e f h moments steady =
+    record { vars = failed_steady c eff f.course h steady.vars; moments = steady.moments }
+
+settled_running_steady : (c : Config) (limit eff : ℕ) (echo : Option Echo) (f : Flow) → eff < moment_bound → IfSome echo HasMoments
+    → IsPairSteady c f → IsPairSteady c (settled_running c limit eff echo f)
+settled_running_steady c limit eff None f h moments steady = steady
+settled_running_steady c limit eff (Some e) f h moments steady =
+    let v : Vars = f.course.vars in
+    settled_by_steady c eff (outcome limit (interval_of v) v.mult c.discr e) (echo_settled limit eff (interval_of v) v.mult e) f h
+    (settled_moments limit eff (interval_of v) v.mult e h moments) steady
+
+running_moments : (b : Bool) (echo : Option Echo) → IfSome echo HasMoments → IfSome (if b then echo else None) HasMoments
+running_moments true echo moments = moments
+running_moments false echo moments = tt
+
+pub echoing_moments : (c : Config) (v : Vars) (echo : Option Echo) → IfSome echo HasMoments → IfSome (echoing c v echo) HasMoments
+echoing_moments c v echo moments = running_moments (should_echo c v) echo moments
+
+settles_echo_steady : (c : Config) (limit eff : ℕ) (f : Flow) → eff < moment_bound → IsPairSteady c f
+    → IsPairSteady c (settles_echo c limit eff f)
+unfolding settles_echo
+settles_echo_steady c limit eff f h steady =
+    settled_running_steady c limit eff (echoing c f.course.vars f.echo) f h (echoing_moments c f.course.vars f.echo steady.moments) steady
+
+pub pair_settled_steady : (c : Config) (limit eff : ℕ) (f : Flow) → eff < moment_bound → IsPairSteady c f
+    → IsPairSteady c (session.settled (Pair c) limit eff f)
+pair_settled_steady c limit eff f h steady =
+    settles_echo_steady c limit eff _ h record { vars = settle_steady c limit eff f.course h steady.vars; moments = steady.moments }
+
+-- at the end of an event it runs exactly where it should
+
+turned_there : (should : Bool) (e : Echo) → IsSome (if should then Some e else None) ↔ IsTrue should
+turned_there true e = (λ h. refl, λ h. refl)
+turned_there false e = (λ h. cc, λ h. cc)
+
+goes_on_moments : (eff next : ℕ) (echo : Option Echo) → eff < moment_bound → IfSome echo HasMoments → HasMoments (goes_on eff next echo)
+goes_on_moments eff next None h moments = begun_moments eff next h
+goes_on_moments eff next (Some e) h moments = moments
+
+turned_moments : (should : Bool) (e : Echo) → HasMoments e → IfSome (if should then Some e else None) HasMoments
+turned_moments true e moments = moments
+turned_moments false e moments = tt
+
+pub pair_finished_sound : (c : Config) (eff : ℕ) (f : Flow) (s : Running) → eff < moment_bound → IsPairSteady c f
+    → session.IsPairSound c (left_by (session.finished (Pair c) eff f) s)
+pair_finished_sound c eff f s h steady =
+    let v : Vars = (finishing.finish c eff f.course).vars in record {
+      vars = finish_sound c eff f.course h steady.vars;
+      echoes = turned_there (should_echo c v) (goes_on eff f.echo_next f.echo);
+      moments = turned_moments (should_echo c v) (goes_on eff f.echo_next f.echo) (goes_on_moments eff f.echo_next f.echo h steady.moments);
+    }
+
 -- the whole tick
 
 sound_after : (c : SessionConfig) (s : Running) (limit eff : ℕ) → eff < moment_bound → session.sound_by c s
-    → session.sound_by c (record s { vars = (tick c limit eff (begun None s.vars [])).vars })
+    → session.sound_by c (left_by (tick c limit eff (begun None s [])) s)
 unfolding tick
-sound_after (Pair c) s limit eff h sound = record {
-  vars = finish_sound c eff (settling.settle c limit eff (begun None s.vars [])) h
-      (settle_steady c limit eff (begun None s.vars []) h sound.vars.steady);
-  no_echo = sound.no_echo;
-  none_sent = sound.none_sent;
+sound_after (Pair c) s limit eff h sound =
+    pair_finished_sound c eff (session.settled (Pair c) limit eff (begun None s [])) s h
+    (pair_settled_steady c limit eff (begun None s []) h record { vars = sound.vars.steady; moments = sound.moments })
+sound_after (Seek c) s limit eff h sound = record {
+  vars = seek.tick_sound c limit eff (begun None s []).course h sound.vars.steady;
+  echoless = record { none = sound.echoless.none; none_sent = sound.echoless.none_sent };
+}
+sound_after (Head c) s limit eff h sound = record {
+  vars = tree.head_tick_sound c limit eff (begun None s []).course h sound.vars.steady;
+  echoless = record { none = sound.echoless.none; none_sent = sound.echoless.none_sent };
+}
+sound_after (Tail c) s limit eff h sound = record {
+  vars = tree.tail_settle_sound c limit (begun None s []).course sound.vars;
+  echoless = record { none = sound.echoless.none; none_sent = sound.echoless.none_sent };
 }
 
 pub tick_sound : (s : Running) (limit eff : ℕ) → eff < moment_bound → session.IsSound s → session.IsSound (tick_next limit eff s)
-unfolding ticked_vars
+unfolding ticked_flow
 tick_sound s limit eff h sound = sound_after s.config s limit eff h sound
 
 -- the effective moment of the last own event is a moment
 
 at_by : (c : SessionConfig) (s : Running) → session.sound_by c s → s.vars.at < moment_bound
 at_by (Pair c) s sound = sound.vars.steady.plain.at_below
+at_by (Seek c) s sound = sound.vars.steady.plain.at_below
+at_by (Head c) s sound = sound.vars.steady.at_below
+at_by (Tail c) s sound = sound.vars.at_below
 
 pub at_sound : (s : Running) → session.IsSound s → s.vars.at < moment_bound
 at_sound s sound = at_by s.config s sound

@@ -48,14 +48,14 @@ fn acts(h: &mut Head, eff: u64, event: &Event, mark: &mut Mark, outs: &mut Outs)
 fn runs(h: &mut Head, eff: u64, event: &Event, outs: &mut Outs) -> Answer
     requires eff { eff < moment_bound }
     requires takes { CanTake (HeadOf h.old.config) event.now }
-    requires room { 2 ≤ outs.old.spare }
+    requires room { 3 ≤ outs.old.spare }
     ensures config { h.new.config ≡ h.old.config }
     ensures size { HasSize (HeadOf h.old.config) event.now }
     ensures vars { h.new.vars ≡ (session.step_from eff event.now (head_of h.old) outs.old.items).course.vars }
     ensures outs { outs.new.items ≡ (session.step_from eff event.now (head_of h.old) outs.old.items).course.outs }
     ensures answer { result ≡ session.reply_from eff event.now (head_of h.old) outs.old.items }
     ensures sound { IsHeadSound h.new.vars }
-    ensures spare { outs.old.spare ≤ outs.new.spare + 2 }
+    ensures spare { outs.old.spare ≤ outs.new.spare + 3 }
     ensures room { outs.new.room ≡ outs.old.room }
 {
     let mut mark = h.begin(Some(eff));
@@ -69,13 +69,13 @@ fn runs(h: &mut Head, eff: u64, event: &Event, outs: &mut Outs) -> Answer
 pub fn steps(h: &mut Head, eff: u64, event: &Event, outs: &mut Outs) -> Answer
     requires eff { eff < moment_bound }
     requires takes { CanTake (HeadOf h.old.config) event.now }
-    requires room { 2 ≤ outs.old.spare }
+    requires room { 3 ≤ outs.old.spare }
     ensures session { head_of h.new ≡ session.next eff event.now (head_of h.old) }
     ensures size { HasSize (HeadOf h.old.config) event.now }
     ensures outs { outs.new.items ≡ outs.old.items ++ session.emits eff event.now (head_of h.old) }
     ensures answer { result ≡ session.reply eff event.now (head_of h.old) }
     ensures sound { IsHeadSound h.new.vars }
-    ensures spare { outs.old.spare ≤ outs.new.spare + 2 }
+    ensures spare { outs.old.spare ≤ outs.new.spare + 3 }
     ensures room { outs.new.room ≡ outs.old.room }
 {
     runs(h, eff, event, outs)

@@ -5,20 +5,17 @@ ghost use Rattle.std.specs.Option.{option_or};
 ghost use Rattle.bfd_num.specs.Numbers.{moment_bound};
 ghost use Rattle.bfd_num.specs.Due.{has_come};
 ghost use Rattle.bfd_packet.specs.declared.arrival.Arrival.{Arrival};
-ghost use Rattle.bfd_rules.specs.declared.config.Config.{Config};
 ghost use Rattle.bfd_rules.specs.declared.variables.Vars.{Vars};
-ghost use Rattle.bfd_p2p.specs.Receive.{verdict_on};
 ghost use Rattle.bfd_demux.specs.declared.row.Row.{Row};
 ghost use Rattle.bfd_demux.specs.Selection.{first_table_failing};
 ghost use Rattle.bfd_session.specs.declared.event.SessionConfig.{SessionConfig};
-ghost use Rattle.bfd_session.specs.declared.event.SessionConfig.TheVariants.{Pair};
 ghost use Rattle.bfd_session.specs.declared.event.Event.{Event};
 ghost use Rattle.bfd_session.specs.declared.event.Event.TheVariants.{Packet};
 ghost use Rattle.bfd_session.specs.Discards.{first_discarding, first_own_failing, test_of, judging, answer_by};
 ghost use Rattle.bfd_session.specs.Kinds.{Running, discr_of};
 ghost use Rattle.bfd_session.specs.Due.{due, detects};
 ghost use Rattle.bfd_session.specs.Names.{named};
-ghost use Rattle.bfd_session.specs.Step.{IsSound, CanTake, HasSize, tick_next, tick_emits, next, emits, reply};
+ghost use Rattle.bfd_session.specs.Step.{IsSound, CanTake, HasSize, verdict_by, tick_next, tick_emits, next, emits, reply};
 
 /// Laws, and no work: for every sound session, a tick by which nothing is due leaves it as it is and puts nothing out, so
 /// a caller may hand a tick to the due sessions alone; every tick keeps a session sound; its last own event was at a
@@ -38,17 +35,17 @@ pub fn tick_laws()
 
 /// Laws of own events, and no work: all that an own event of any session puts out names that session; and every own event
 /// that a session can take keeps it sound. The first test that discards an arrival is the first of the table, or else the
-/// first of the session; the first of a point-to-point session is the one that its verdict tells of; and a packet is
-/// answered by the first test of the session that fails over the variables after settling, and handled where none does.
+/// first of the session, and that is the one that its verdict tells of; a packet is answered by the first test of the
+/// session that fails over the variables after settling, and handled where none does.
 #[tactic(auto, using(crate::proofs::Naming::event_named, crate::proofs::Own::own_sound, crate::proofs::Discarding::discards_first, crate::proofs::Discarding::verdict_first, crate::proofs::Discarding::reply_first))]
 pub fn event_laws()
     ensures named { (s : Running) (eff : ℕ) (event : Event) → AllByRecursion (λ o. named o ≡ discr_of s.config) (emits eff event s) }
-    ensures sound { (s : Running) (eff : ℕ) (event : Event) → eff < moment_bound → CanTake s.config event → HasSize event
+    ensures sound { (s : Running) (eff : ℕ) (event : Event) → eff < moment_bound → CanTake s.config event → HasSize s.config event
         → IsSound s → IsSound (next eff event s) }
     ensures discards { (rows : List Row) (c : SessionConfig) (v : Vars) (arrival : Arrival)
         → first_discarding rows c v arrival ≡ option_or (first_table_failing rows arrival) (first_own_failing c v arrival) }
-    ensures verdicts { (c : Config) (v : Vars) (arrival : Arrival)
-        → first_own_failing (Pair c) v arrival ≡ test_of (verdict_on c arrival.ttl arrival.payload v) }
+    ensures verdicts { (c : SessionConfig) (v : Vars) (arrival : Arrival)
+        → first_own_failing c v arrival ≡ test_of (verdict_by c arrival v) }
     ensures answers { (s : Running) (eff : ℕ) (arrival : Arrival)
         → reply eff (Packet arrival) s ≡ answer_by (first_own_failing s.config (judging eff s) arrival) }
 {}

@@ -1,5 +1,5 @@
 //! The events of a point-to-point session with its Echo function.
-ghost use Rattle.std.specs.Prelude.{◌≡◌, ◌<◌, ◌≤◌, ◌+◌, ◌*◌, ◌++◌, ℕ, true, false, IfSome};
+ghost use Rattle.std.specs.Prelude.{◌≡◌, ◌<◌, ◌≤◌, ◌+◌, ◌*◌, ◌++◌, ℕ, None, true, false, IfSome};
 ghost use Rattle.bfd_num.specs.Numbers.{moment_bound};
 ghost use Rattle.bfd_num.specs.Due.{has_come};
 ghost use Rattle.bfd_rules.specs.Course.{course};
@@ -96,7 +96,7 @@ fn finishes(
 )
     requires eff { eff < moment_bound }
     requires moments { IfSome echo.old HasMoments }
-    requires room { 1 ≤ outs.old.spare }
+    requires room { mark.answered ≡ false → 1 ≤ outs.old.spare }
     ensures config { p.new.config ≡ p.old.config }
     ensures vars { p.new.vars
         ≡ (session.finished (Pair p.old.config) eff (flow (course p.old.vars mark outs.old.items) echo.old next.old)).course.vars }

@@ -47,18 +47,26 @@ impl Model for Session {
 
 impl Session {
     /// A session with the variables of the start. The configuration is within its ranges.
+    #[tactic(auto, using(crate::proofs::Starting::starts_sound))]
     pub fn make(config: SessionConfig) -> Session
         requires { IsFit config }
         ensures session { result ≡ started config }
         ensures sound { IsSound result }
     {
-        let machine = match config {
-            SessionConfig::Pair(config) => Machine::Pair(P2p::make(config), None, 0),
-            SessionConfig::Seek(config) => Machine::Seek(Initiator::make(config)),
-            SessionConfig::Head(config) => Machine::Head(Head::make(config)),
-            SessionConfig::Tail(config) => Machine::Tail(Tail::make(config)),
-        };
-        Session { machine }
+        match config {
+            SessionConfig::Pair(config) => Session {
+                machine: Machine::Pair(P2p::make(config), None, 0),
+            },
+            SessionConfig::Seek(config) => Session {
+                machine: Machine::Seek(Initiator::make(config)),
+            },
+            SessionConfig::Head(config) => Session {
+                machine: Machine::Head(Head::make(config)),
+            },
+            SessionConfig::Tail(config) => Session {
+                machine: Machine::Tail(Tail::make(config)),
+            },
+        }
     }
 
     /// The local discriminator.

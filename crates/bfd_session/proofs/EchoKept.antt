@@ -1,0 +1,75 @@
+-- The end of a point-to-point session's event leaves what its Echo function runs by.
+use Rattle.std.proofs.Common.{◌≡◌, ℕ, Bool, true, false, refl, ap, ◌∙◌, Option, None, Some, if◌then◌else◌}
+use Rattle.bfd_num.specs.Numbers.{floor_tick, next_j}
+use Rattle.bfd_num.specs.Due.{has_come}
+use Rattle.bfd_rules.specs.declared.config.Config.{Config}
+use Rattle.bfd_rules.specs.declared.variables.Mark.{Mark}
+use Rattle.bfd_rules.specs.declared.variables.Vars.{Vars}
+use Rattle.bfd_rules.specs.Quantities.{may_send, tx_interval}
+use Rattle.bfd_rules.specs.Jitter.{pick}
+use Rattle.bfd_rules.specs.Course.{Course, sends, is_untold, based, draws, drawn, redrawn}
+use Rattle.bfd_p2p.specs.Transmit.{transmits}
+use Rattle.bfd_p2p.specs.Finish.{extra, finish}
+use Rattle.bfd_echo.specs.declared.echo.Echo.{Echo}
+use Rattle.bfd_session.specs.Echoing.{should_echo, interval_of, echo_due, IsEchoOver}
+
+-- the variables that it runs by are the same
+pub record IsEchoKept (v w : Vars) : Type 0 where
+  pub state : w.state ≡ v.state
+  pub echo_every : w.echo_every ≡ v.echo_every
+  pub remote_min_echo : w.remote_min_echo ≡ v.remote_min_echo
+  pub mult : w.mult ≡ v.mult
+
+kept_itself : (v : Vars) → IsEchoKept v v
+kept_itself v = record { state = refl; echo_every = refl; remote_min_echo = refl; mult = refl }
+
+then_kept : (u v w : Vars) → IsEchoKept u v → IsEchoKept v w → IsEchoKept u w
+then_kept u v w h k = record {
+  state = k.state ∙ h.state;
+  echo_every = k.echo_every ∙ h.echo_every;
+  remote_min_echo = k.remote_min_echo ∙ h.remote_min_echo;
+  mult = k.mult ∙ h.mult;
+}
+
+-- so it should run where it should before, by the same interval, and is due at the same tick
+
+pub should_kept : (c : Config) (v w : Vars) → IsEchoKept v w → should_echo c w ≡ should_echo c v
+should_kept c v w h = rw (h.state, h.echo_every, h.remote_min_echo) refl
+
+pub interval_kept : (v w : Vars) → IsEchoKept v w → interval_of w ≡ interval_of v
+interval_kept v w h = rw (h.echo_every, h.remote_min_echo) refl
+
+pub due_kept : (c : Config) (v w : Vars) (echo : Option Echo) → IsEchoKept v w → echo_due c w echo ≡ echo_due c v echo
+due_kept c v w echo h = rw (h.state, h.echo_every, h.remote_min_echo, h.mult) refl
+
+-- the end of an event keeps them
+
+extra_kept : (c : Config) (eff : ℕ) (s : Course) → IsEchoKept s.vars (extra c eff s).vars
+unfolding extra transmits sends
+extra_kept c eff s = by (is_untold c.active s.mark s.vars)
+  where
+    by : (told : Bool) → IsEchoKept s.vars (if told then based eff (transmits c false false s) else s).vars
+    by true = record { state = refl; echo_every = refl; remote_min_echo = refl; mult = refl }
+    by false = kept_itself s.vars
+
+drawn_kept : (active : Bool) (m : Mark) (v : Vars) → IsEchoKept v (drawn active m v)
+unfolding drawn
+drawn_kept active m v = by (may_send active v) (draws m v)
+  where
+    by : (may anew : Bool) → IsEchoKept v (if may
+        then (if anew then record v { tx_due = Some (pick v.base (tx_interval v) v.mult v.j); j = next_j v.j } else v)
+        else record v { tx_due = None })
+    by true true = record { state = refl; echo_every = refl; remote_min_echo = refl; mult = refl }
+    by true false = kept_itself v
+    by false _ = record { state = refl; echo_every = refl; remote_min_echo = refl; mult = refl }
+
+pub finish_kept : (c : Config) (eff : ℕ) (s : Course) → IsEchoKept s.vars (finish c eff s).vars
+unfolding finish redrawn
+finish_kept c eff s =
+    then_kept s.vars (extra c eff s).vars _ (extra_kept c eff s) (drawn_kept c.active (extra c eff s).mark (extra c eff s).vars)
+
+-- and so nothing of it comes due by the end of an event
+pub finish_keeps_echo : (c : Config) (limit eff : ℕ) (s : Course) (echo : Option Echo) → IsEchoOver limit c s.vars echo
+    → IsEchoOver limit c (finish c eff s).vars echo
+finish_keeps_echo c limit eff s echo over =
+    ap (λ (o : Option ℕ). has_come (floor_tick limit) o) (due_kept c s.vars (finish c eff s).vars echo (finish_kept c eff s)) ∙ over

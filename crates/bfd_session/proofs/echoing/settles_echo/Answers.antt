@@ -1,0 +1,125 @@
+-- An Echo function that nothing is due of, or that fails, is left as it is; and after a failure the session isn't Up.
+use Rattle.std.proofs.Common.{rules, ◌≡◌, ◌&&◌, ℕ, Bool, true, false, List, refl, sym, ap, ◌∙◌, subst, Option, Some, arith, if◌then◌else◌}
+use Rattle.bfd_packet.specs.declared.control.State.TheVariants.{Down}
+use Rattle.bfd_rules.specs.declared.config.Config.{Config}
+use Rattle.bfd_rules.specs.declared.variables.Vars.{Vars}
+use Rattle.bfd_rules.specs.Quantities.{is_up}
+use Rattle.bfd_rules.specs.Renewal.{poll_renewed, used_renewed, demand_renewed, renewed}
+use Rattle.bfd_rules.specs.Course.{Course, course, changes}
+use Rattle.bfd_p2p.specs.Frame.{moves}
+use Rattle.bfd_p2p.specs.Machine.{failed}
+use Rattle.bfd_p2p.specs.Receive.{is_single}
+use Rattle.bfd_echo.specs.declared.echo.Echo.{Echo}
+use Rattle.bfd_echo.specs.declared.echo.EchoResult.{EchoResult}
+use Rattle.bfd_echo.specs.Rules.{outcome, settled}
+use Rattle.bfd_echo.specs.Timing.{is_echo_wanted, has_failed, is_sending}
+use Rattle.bfd_session.specs.Echoing.{IsEchoOver, should_echo, interval_of, settles_echo}
+use Rattle.bfd_session.specs.Kinds.{flow}
+use Rattle.bfd_session.proofs.echoing.settles_echo.Goals as goal
+
+-- the state after a failure
+
+poll_state : (before v : Vars) → (poll_renewed before v).state ≡ v.state
+unfolding poll_renewed
+poll_state before v = grind arith
+
+demand_state : (eff : ℕ) (before v : Vars) → (demand_renewed eff before v).state ≡ v.state
+unfolding demand_renewed
+demand_state eff before v = grind arith
+
+renewed_state : (eff : ℕ) (before v : Vars) → (renewed eff before v).state ≡ v.state
+unfolding renewed used_renewed
+renewed_state eff before v = demand_state eff before _ ∙ poll_state before v
+
+moved_down : (discr eff diag : ℕ) (s : Course) → (moves discr eff (failed diag s.vars) s).vars.state ≡ Down
+unfolding moves changes
+moved_down discr eff diag s = renewed_state eff s.vars (failed diag s.vars)
+
+not_up : (single wanted : Bool) → (single && (false && wanted)) ≡ false
+not_up true wanted = refl
+not_up false wanted = refl
+
+down_over : (limit : ℕ) (c : Config) (v : Vars) (echo : Option Echo) → v.state ≡ Down → IsEchoOver limit c v echo
+down_over limit c v echo down =
+    let none : should_echo c v ≡ false =
+    ap (λ s. is_single c.role && (is_up s && is_echo_wanted v.echo_every v.remote_min_echo)) down ∙ not_up (is_single c.role) (is_echo_wanted v.echo_every v.remote_min_echo) in
+    rw none refl
+
+-- where nothing was due, and where it failed, the Echo function is as before
+
+unsent : (failed sending : Bool) (bytes : List ℕ) (before after : Echo)
+    → (if failed then EchoResult.Failed else if sending then EchoResult.Sent bytes else EchoResult.Nothing) ≡ EchoResult.Nothing
+    → (if failed then before else if sending then after else before) ≡ before
+unsent true sending bytes before after h = refl
+unsent false true bytes before after h = cc
+unsent false false bytes before after h = refl
+
+stays : (limit eff interval mult discr : ℕ) (e : Echo) → outcome limit interval mult discr e ≡ EchoResult.Nothing
+    → settled limit eff interval mult e ≡ e
+unfolding outcome settled
+stays limit eff interval mult discr e h = unsent (has_failed limit interval mult e) (is_sending limit interval e) _ e _ h
+
+unsent_failed : (failed sending : Bool) (bytes : List ℕ) (before after : Echo)
+    → (if failed then EchoResult.Failed else if sending then EchoResult.Sent bytes else EchoResult.Nothing) ≡ EchoResult.Failed
+    → (if failed then before else if sending then after else before) ≡ before
+unsent_failed true sending bytes before after h = refl
+unsent_failed false true bytes before after h = cc
+unsent_failed false false bytes before after h = cc
+
+stays_failed : (limit eff interval mult discr : ℕ) (e : Echo) → outcome limit interval mult discr e ≡ EchoResult.Failed
+    → settled limit eff interval mult e ≡ e
+unfolding outcome settled
+stays_failed limit eff interval mult discr e h = unsent_failed (has_failed limit interval mult e) (is_sending limit interval e) _ e _ h
+
+nothing_at : (c : Config) (limit eff i : ℕ) (s : Course) (e new : Echo) (echo : Option Echo) (next : ℕ)
+    → i ≡ interval_of s.vars → should_echo c s.vars ≡ true → echo ≡ Some e
+    → outcome limit i s.vars.mult c.discr e ≡ EchoResult.Nothing → new ≡ settled limit eff i s.vars.mult e
+    → flow s (Some new) next ≡ settles_echo c limit eff (flow s echo next)
+unfolding settles_echo
+nothing_at c limit eff i s e new echo next at should is out new_is =
+    let here : outcome limit (interval_of s.vars) s.vars.mult c.discr e ≡ EchoResult.Nothing =
+    subst (λ (n : ℕ). outcome limit n s.vars.mult c.discr e ≡ EchoResult.Nothing) at out in
+    rw (is, should, here) (ap (λ (x : Echo). flow s (Some x) next) (new_is ∙ stays limit eff i s.vars.mult c.discr e out))
+
+failed_at : (c : Config) (limit eff i : ℕ) (s after : Course) (e new : Echo) (echo : Option Echo) (next : ℕ)
+    → i ≡ interval_of s.vars → should_echo c s.vars ≡ true → echo ≡ Some e
+    → outcome limit i s.vars.mult c.discr e ≡ EchoResult.Failed → new ≡ settled limit eff i s.vars.mult e
+    → after ≡ moves c.discr eff (failed 2 s.vars) s
+    → flow after (Some new) next ≡ settles_echo c limit eff (flow s echo next)
+unfolding settles_echo
+failed_at c limit eff i s after e new echo next at should is out new_is fails =
+    let here : outcome limit (interval_of s.vars) s.vars.mult c.discr e ≡ EchoResult.Failed =
+    subst (λ (n : ℕ). outcome limit n s.vars.mult c.discr e ≡ EchoResult.Failed) at out in
+    rw (is, should, here, fails) (ap (λ (x : Echo). flow (moves c.discr eff (failed 2 s.vars) s) (Some x) next) (new_is ∙ stays_failed limit eff i s.vars.mult c.discr e out))
+
+pub returns-in-Nothing-clause-flow : goal.returns-in-Nothing-clause-flow
+returns-in-Nothing-clause-flow c = λ next.
+    let v : Vars = c.vars-v.result.now in
+    let k : Config = c.config-c.result.now in
+    let s : Vars → Course = λ w. course w c.args.mark.now c.args.outs.now.items in
+    let at : flow (s v) (Some c.settle.new.self) next ≡ settles_echo k c.args.limit c.args.eff (flow (s v) c.args.echo.now next) =
+    nothing_at k c.args.limit c.args.eff c.interval_of.result (s v) c.in-Some.running c.settle.new.self c.args.echo.now next
+    c.interval_of.ensures (search rules) c.in-Some.is (sym c.settle.ensures.outcome ∙ c.in-Nothing.is) c.settle.ensures.value in
+    subst (λ (x : Config). flow (s c.args.p.now.vars) (Some c.settle.new.self) next ≡ settles_echo x c.args.limit c.args.eff (flow (s c.args.p.now.vars) c.args.echo.now next)) c.config-c.ensures.value
+    (subst (λ (w : Vars). flow (s w) (Some c.settle.new.self) next ≡ settles_echo k c.args.limit c.args.eff (flow (s w) c.args.echo.now next)) c.vars-v.ensures.value at)
+
+pub returns-in-Failed-clause-flow : goal.returns-in-Failed-clause-flow
+returns-in-Failed-clause-flow c = λ next.
+    let v : Vars = c.vars-v.result.now in
+    let k : Config = c.config-c.result.now in
+    let s : Vars → Course = λ w. course w c.args.mark.now c.args.outs.now.items in
+    let after : Course = course c.fail.new.self.vars c.fail.new.mark c.fail.new.outs.items in
+    let fails : after ≡ moves k.discr c.args.eff (failed 2 v) (s v) =
+    subst (λ (w : Vars). after ≡ moves k.discr c.args.eff (failed 2 w) (s w)) (sym c.vars-v.ensures.value)
+    (subst (λ (x : Config). after ≡ moves x.discr c.args.eff (failed 2 c.args.p.now.vars) (s c.args.p.now.vars)) (sym c.config-c.ensures.value) c.fail.ensures.course) in
+    let at : flow after (Some c.settle.new.self) next ≡ settles_echo k c.args.limit c.args.eff (flow (s v) c.args.echo.now next) =
+    failed_at k c.args.limit c.args.eff c.interval_of.result (s v) after c.in-Some.running c.settle.new.self c.args.echo.now next
+    c.interval_of.ensures (search rules) c.in-Some.is (sym c.settle.ensures.outcome ∙ c.in-Failed.is) c.settle.ensures.value fails in
+    subst (λ (x : Config). flow after (Some c.settle.new.self) next ≡ settles_echo x c.args.limit c.args.eff (flow (s c.args.p.now.vars) c.args.echo.now next)) c.config-c.ensures.value
+    (subst (λ (w : Vars). flow after (Some c.settle.new.self) next ≡ settles_echo k c.args.limit c.args.eff (flow (s w) c.args.echo.now next)) c.vars-v.ensures.value at)
+
+pub returns-in-Failed-clause-over : goal.returns-in-Failed-clause-over
+returns-in-Failed-clause-over c = λ reached.
+    down_over c.args.limit c.fail.new.self.config c.fail.new.self.vars (Some c.settle.new.self)
+    (ap (λ (x : Course). x.vars.state) c.fail.ensures.course
+    ∙ moved_down c.args.p.now.config.discr c.args.eff 2 (course c.args.p.now.vars c.args.mark.now c.args.outs.now.items))
