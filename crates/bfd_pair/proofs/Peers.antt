@@ -4,6 +4,7 @@ use Rattle.std.proofs.lemmas.List.{take_all, length-drop}
 use Rattle.std.proofs.Math.Seq.{drop-append_seam}
 use Rattle.bfd_num.specs.Numbers.{moment_bound}
 use Rattle.bfd_packet.specs.declared.arrival.Arrival.{Arrival}
+use Rattle.bfd_rules.specs.declared.config.Config.{Config}
 use Rattle.bfd_rules.specs.declared.outputs.Out.{Out}
 use Rattle.bfd_demux.specs.declared.row.Row.{Row}
 use Rattle.bfd_demux.specs.Rows.{build_fault}
@@ -13,7 +14,7 @@ use Rattle.bfd_session.specs.declared.event.SessionConfig.TheVariants.{Pair, See
 use Rattle.bfd_session.specs.declared.event.Event.TheVariants.{Packet}
 use Rattle.bfd_session.specs.Kinds.{Running}
 use Rattle.bfd_session.specs.Rows.{row_of}
-use Rattle.bfd_session.specs.Step.{IsFit, IsSound, CanTake, sound_by}
+use Rattle.bfd_session.specs.Step.{IsFit, IsSound, CanTake, sound_by, started}
 use Rattle.bfd_session.proofs.Tables.{no_fault as no_faults}
 use Rattle.bfd_pair.specs.declared.peer.Peer.{Peer}
 use Rattle.bfd_pair.specs.Run.{arrival_to, packets_in, arrives, comes}
@@ -25,6 +26,14 @@ use Rattle.bfd_pair.proofs.Naming.{takes}
 -- a table of one row has no fault
 pub no_fault : (config : SessionConfig) → IsFit config → build_fault (row_of config ∷ []) ≡ None
 no_fault config fit = no_faults (config ∷ []) (tt, tt) (tt, tt) (fit, tt) (omega arith)
+
+-- a side at the start
+pub opened_peer : (p : Peer) (config : Config) → p.session ≡ started (Pair config) → p.table ≡ row_of (Pair config) ∷ []
+    → ((bytes : List ℕ) → arrival_to (Pair config) bytes ≡ Some (by_way p.way bytes)) → IsPeer p
+opened_peer p config is table way = record {
+  table = table ∙ ap (λ (s : Running). row_of s.config ∷ []) (sym is);
+  way = λ bytes. ap (λ (s : Running). arrival_to s.config bytes) is ∙ way bytes;
+}
 
 -- no more packets are kept than there were outputs since
 pub few : (from : ℕ) (items : List Out) → length (packets_in (drop from items)) ≤ length items - from

@@ -1,5 +1,5 @@
 -- The sessions of a pair are point-to-point ones, and stay so: no event changes a configuration.
-use Rattle.std.proofs.Common.{◌≡◌, ℕ, List, [], ◌∷◌, refl, sym, ap, ◌∙◌, subst, length, Option, None, Some}
+use Rattle.std.proofs.Common.{◌≡◌, ℕ, List, [], ◌∷◌, refl, sym, ◌∙◌, subst, length, Option, None, Some}
 use Rattle.bfd_packet.specs.declared.arrival.Arrival.{Arrival}
 use Rattle.bfd_packet.specs.declared.discard.Test.{Test}
 use Rattle.bfd_session.specs.declared.event.SessionConfig.{SessionConfig}
