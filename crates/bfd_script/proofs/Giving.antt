@@ -11,25 +11,23 @@ use Rattle.bfd_packet.specs.declared.keys.AuthType.{AuthType}
 use Rattle.bfd_packet.specs.declared.keys.Key.{Key}
 use Rattle.bfd_rules.specs.declared.config.Config.{Config}
 use Rattle.bfd_session.specs.declared.event.SessionConfig.{SessionConfig}
-use Rattle.bfd_session.specs.declared.event.SessionConfig.TheVariants.{Pair}
+use Rattle.bfd_session.specs.declared.event.SessionConfig.TheVariants.{Pair, Seek, Head, Tail}
 use Rattle.bfd_session.specs.Kinds.{discr_of}
 use Rattle.bfd_session.specs.Step.{IsFit}
 use Rattle.bfd_demux.specs.declared.row.RowKind.{RowKind}
 use Rattle.bfd_demux.specs.Rows.{same_selector as same_kind}
-use Rattle.bfd_script.specs.Reading.{is_built}
 use Rattle.bfd_script.specs.Rows.{by_discr, changed, has_selector, keyed_more, keyed_with, keys_in, keys_of, one_more}
 use Rattle.bfd_script.specs.Secrets.{key_fault}
 use Rattle.bfd_script.specs.Sound.{AreConfigs, AreKeys, AreNext, IsChain, IsKey, IsNext, IsRow}
 use Rattle.bfd_script.specs.Tables.{IsTable}
 use Rattle.bfd_script.proofs.Elements.{each_to}
-use Rattle.bfd_script.proofs.Inserting.{level, values_by}
+use Rattle.bfd_script.proofs.Numbered.{level, values_by}
 
 -- what a change of a session leaves: all but its keys
 pub record Keeps (f : SessionConfig → SessionConfig) : Type 0 where
   pub discr : (c : SessionConfig) → discr_of (f c) ≡ discr_of c
   pub place : (c : SessionConfig) → (row_of (f c)).kind ≡ (row_of c).kind
   pub fit : (c : SessionConfig) → IsFit c → IsFit (f c)
-  pub built : (c : SessionConfig) → is_built c ≡ true → is_built (f c) ≡ true
 
 -- ---- the entries
 
@@ -113,7 +111,7 @@ length_cond : (same : Bool) (x y : SessionConfig) (cs rest : List SessionConfig)
 length_cond true x y cs rest e = refl
 length_cond false x y cs rest e = omega arith
 
-length_changed : (f : SessionConfig → SessionConfig) (k : ℕ) (cs : List SessionConfig) → length (changed k f cs) ≡ length cs
+pub length_changed : (f : SessionConfig → SessionConfig) (k : ℕ) (cs : List SessionConfig) → length (changed k f cs) ≡ length cs
 length_changed f k [] = refl
 length_changed f k (c ∷ cs) = length_cond (k == discr_of c) c (f c) cs (changed k f cs) (length_changed f k cs)
 
@@ -150,14 +148,13 @@ configs_changed f kept k cs row were = record {
   differs = differs_changed f kept k cs were.differs;
   fit = each_changed IsFit f k cs (λ c here h. kept.fit c h) were.fit;
   rows = each_changed IsRow f k cs row were.rows;
-  built = each_changed (λ x. is_built x ≡ true) f k cs (λ c here h. kept.built c h) were.built;
   few = let e = length_changed f k cs in let few = were.few in omega arith;
 }
 
 -- the sessions of the changed table
 pub rows_changed : (f : SessionConfig → SessionConfig) (k : ℕ) (cs : List SessionConfig) (entries more : List (ℕ × SessionConfig)) → values_of entries ≡ cs
     → more ≡ by_discr (changed k f (values_of entries)) → values_of more ≡ changed k f cs
-rows_changed f k cs entries more view e = ap (λ es. values_of es) e ∙ values_by (changed k f (values_of entries)) ∙ ap (changed k f) view
+rows_changed f k cs entries more view e = ap (λ es. values_of es) e ∙ values_by discr_of (changed k f (values_of entries)) ∙ ap (changed k f) view
 
 -- the whole table
 table_changed : (f : SessionConfig → SessionConfig) → Keeps f → (k : ℕ) (entries more : List (ℕ × SessionConfig)) (has : RowKind → Bool) → IsTable entries has
@@ -176,18 +173,15 @@ table_changed f kept k entries more has were row e =
 
 fit_keyed : (keys : Option KeyChain) (c : Config) → IsFit (Pair c) → IsFit (Pair (record c { keys = keys }))
 fit_keyed keys c h = record {
-  config = record {
-    discr = h.config.discr;
-    iface = h.config.iface;
-    tx_least = h.config.tx_least;
-    tx_most = h.config.tx_most;
-    rx_least = h.config.rx_least;
-    rx_most = h.config.rx_most;
-    some_mult = h.config.some_mult;
-    most_mult = h.config.most_mult;
-    echo_range = h.config.echo_range;
-  };
-  no_echo = h.no_echo;
+  discr = h.discr;
+  iface = h.iface;
+  tx_least = h.tx_least;
+  tx_most = h.tx_most;
+  rx_least = h.rx_least;
+  rx_most = h.rx_most;
+  some_mult = h.some_mult;
+  most_mult = h.most_mult;
+  echo_range = h.echo_range;
 }
 
 row_keyed : (keys : Option KeyChain) (c : Config) → AreKeys keys → IsRow (Pair c) → IsRow (Pair (record c { keys = keys }))
@@ -195,21 +189,30 @@ row_keyed keys c are h = record { discr = h.discr; local = h.local; remote = h.r
 
 with_discr : (keys : KeyChain) (c : SessionConfig) → discr_of (keyed_with keys c) ≡ discr_of c
 with_discr keys (Pair c) = refl
+with_discr keys (Seek c) = refl
+with_discr keys (Head c) = refl
+with_discr keys (Tail c) = refl
 
 with_place : (keys : KeyChain) (c : SessionConfig) → (row_of (keyed_with keys c)).kind ≡ (row_of c).kind
 with_place keys (Pair c) = refl
+with_place keys (Seek c) = refl
+with_place keys (Head c) = refl
+with_place keys (Tail c) = refl
 
 with_fit : (keys : KeyChain) (c : SessionConfig) → IsFit c → IsFit (keyed_with keys c)
 with_fit keys (Pair c) h = fit_keyed (Some keys) c h
-
-with_built : (keys : KeyChain) (c : SessionConfig) → is_built c ≡ true → is_built (keyed_with keys c) ≡ true
-with_built keys (Pair c) h = h
+with_fit keys (Seek c) h = h
+with_fit keys (Head c) h = h
+with_fit keys (Tail c) h = h
 
 with_row : (keys : KeyChain) → IsChain keys → (c : SessionConfig) → IsRow c → IsRow (keyed_with keys c)
 with_row keys are (Pair c) h = row_keyed (Some keys) c are h
+with_row keys are (Seek c) h = h
+with_row keys are (Head c) h = h
+with_row keys are (Tail c) h = h
 
 pub with_keeps : (keys : KeyChain) → Keeps (keyed_with keys)
-with_keeps keys = record { discr = with_discr keys; place = with_place keys; fit = with_fit keys; built = with_built keys }
+with_keeps keys = record { discr = with_discr keys; place = with_place keys; fit = with_fit keys }
 
 pub table_given : (k : ℕ) (keys : KeyChain) (entries more : List (ℕ × SessionConfig)) (has : RowKind → Bool) → IsTable entries has
     → IsChain keys → more ≡ by_discr (changed k (keyed_with keys) (values_of entries)) → IsTable more has
@@ -220,18 +223,24 @@ table_given k keys entries more has were are e =
 
 more_discr : (key : Key) (c : SessionConfig) → discr_of (keyed_more key c) ≡ discr_of c
 more_discr key (Pair c) = refl
+more_discr key (Seek c) = refl
+more_discr key (Head c) = refl
+more_discr key (Tail c) = refl
 
 more_place : (key : Key) (c : SessionConfig) → (row_of (keyed_more key c)).kind ≡ (row_of c).kind
 more_place key (Pair c) = refl
+more_place key (Seek c) = refl
+more_place key (Head c) = refl
+more_place key (Tail c) = refl
 
 more_fit : (key : Key) (c : SessionConfig) → IsFit c → IsFit (keyed_more key c)
 more_fit key (Pair c) h = fit_keyed (one_more key c.keys) c h
-
-more_built : (key : Key) (c : SessionConfig) → is_built c ≡ true → is_built (keyed_more key c) ≡ true
-more_built key (Pair c) h = h
+more_fit key (Seek c) h = h
+more_fit key (Head c) h = h
+more_fit key (Tail c) h = h
 
 pub more_keeps : (key : Key) → Keeps (keyed_more key)
-more_keeps key = record { discr = more_discr key; place = more_place key; fit = more_fit key; built = more_built key }
+more_keeps key = record { discr = more_discr key; place = more_place key; fit = more_fit key }
 
 -- the session that a look-up finds is the one whose keys are tested
 pub found_room : (k : ℕ) (key : Key) (c : SessionConfig) (entries : List (ℕ × SessionConfig)) → entries ≡ by_discr (values_of entries)
@@ -253,6 +262,9 @@ more_keys (Some keys) key free is all = record {
 
 more_row : (key : Key) (c : SessionConfig) → key_fault (keys_in (Some c)) key ≡ None → IsKey key → IsRow c → IsRow (keyed_more key c)
 more_row key (Pair c) free is h = row_keyed (one_more key c.keys) c (more_keys c.keys key free is h.keys) h
+more_row key (Seek c) free is h = h
+more_row key (Head c) free is h = h
+more_row key (Tail c) free is h = h
 
 pub table_more_keys : (k : ℕ) (key : Key) (cs : List SessionConfig) (entries more : List (ℕ × SessionConfig)) (has : RowKind → Bool) → IsTable entries has
     → values_of entries ≡ cs → key_fault (keys_of k cs) key ≡ None → IsKey key

@@ -1,11 +1,14 @@
 pub mod Ascii
 pub mod Decimal
 pub mod FirstLine
+pub mod Numbered
 pub mod Inserting
+pub mod Pooling
 pub mod Kept
 pub mod Splitting
 pub mod Numerals
 pub mod Rereading
+pub mod RowsAgain
 pub mod LinesAgain
 pub mod ScriptAgain
 pub mod Elements

@@ -1,5 +1,5 @@
 -- Table rows and events, written and read again.
-use Rattle.std.proofs.Common.{◌≡◌, ℕ, nat_le, ◌<◌, ◌≤◌, ◌^◌, ◌-◌, Bool, true, false, cond, ◌&&◌, List, [], ◌∷◌, length, Some, None, Ok, Err, refl, sym, ap, ◌∙◌, arith}
+use Rattle.std.proofs.Common.{◌≡◌, ℕ, nat_le, ◌<◌, ◌≤◌, ◌^◌, ◌-◌, Bool, true, false, cond, ◌&&◌, List, [], ◌∷◌, length, Some, Ok, Err, refl, sym, ap, ◌∙◌, arith}
 use Rattle.std.proofs.lemmas.Bool.Decides.{nat_tests}
 use Rattle.std.specs.Prelude.{codes}
 use Rattle.std.specs.Fmt.{decimal}
@@ -13,14 +13,8 @@ use Rattle.bfd_packet.specs.declared.arrival.Port.TheVariants as ports
 use Rattle.bfd_packet.specs.declared.keys.AuthType.{AuthType}
 use Rattle.bfd_packet.specs.declared.keys.AuthType.TheVariants as kinds
 use Rattle.bfd_packet.specs.declared.keys.Key.{Key}
-use Rattle.bfd_rules.specs.Sound.{IsConfig, is_echo_interval}
 use Rattle.bfd_rules.specs.declared.commands.Cmd.{Cmd}
 use Rattle.bfd_rules.specs.declared.commands.Cmd.TheVariants as commands
-use Rattle.bfd_rules.specs.declared.config.Config.{Config}
-use Rattle.bfd_rules.specs.declared.config.Role.{Role}
-use Rattle.bfd_rules.specs.declared.config.Role.TheVariants as roles
-use Rattle.bfd_session.specs.declared.event.SessionConfig.{SessionConfig}
-use Rattle.bfd_session.specs.declared.event.SessionConfig.TheVariants.{Pair}
 use Rattle.bfd_script.specs.declared.fault.LineFault.TheVariants.{FieldCount, OutOfRange}
 use Rattle.bfd_script.specs.declared.entries.Entry.TheVariants as entries
 use Rattle.bfd_script.specs.declared.entries.Line.{Line}
@@ -34,13 +28,11 @@ use Rattle.bfd_script.specs.Arrivals.{arrival_of, port_of}
 use Rattle.bfd_script.specs.Entries.{commanded, entry_of, numbered_of, plain_of, received_of, shown_of}
 use Rattle.bfd_script.specs.Fields.{number_in}
 use Rattle.bfd_script.specs.Gives.{◌>>=◌}
-use Rattle.bfd_script.specs.Pairs.{active_of, config_by, echo_of, ends_of, pair_of, pair_with, role_of, timing_of}
-use Rattle.bfd_script.specs.Reading.{is_built_command, is_built_line}
 use Rattle.bfd_script.specs.Secrets.{chain_of, fitting, key_of, kind_by, kind_of, one_key, secret_of}
-use Rattle.bfd_script.specs.Sound.{IsAsked, IsEvent, IsKey, IsPairRow, IsReceived, IsRow, IsRanged}
+use Rattle.bfd_script.specs.Sound.{IsAsked, IsEvent, IsKey, IsReceived}
 use Rattle.bfd_script.specs.Spelling.{hex_field, spaced}
 use Rattle.bfd_script.specs.Verbs.{command, fits, number_of, verb_of}
-use Rattle.bfd_script.specs.Written.{address_field, auth_fields, event_fields, is_new_line, key_fields, mode_field, port_field, role_field, row_fields, verb_fields}
+use Rattle.bfd_script.specs.Written.{address_field, auth_fields, event_fields, is_new_line, key_fields, port_field, verb_fields}
 use Rattle.bfd_script.proofs.Numerals.{number_again, number_field, number_short}
 use Rattle.bfd_script.proofs.Rereading.{address_again, address_is_field, address_short, bytes_again, hex_is_field, hex_short, payload_again}
 use Rattle.bfd_script.proofs.Elements.{IsField, both, word}
@@ -54,30 +46,6 @@ Speaks One new = new ≡ false
 Speaks Two new = Unit {0}
 
 -- ---- words
-
-role_again : (role : Role) → role_of (role_field role) ≡ Ok role
-role_again roles.Single = refl
-role_again roles.Multi = refl
-
-role_is_field : (role : Role) → IsField (role_field role)
-role_is_field roles.Single = word (codes "single") refl
-role_is_field roles.Multi = word (codes "multi") refl
-
-role_short : (role : Role) → length (role_field role) ≤ 6
-role_short roles.Single = omega arith
-role_short roles.Multi = omega arith
-
-active_again : (active : Bool) → active_of (mode_field active) ≡ Ok active
-active_again true = refl
-active_again false = refl
-
-mode_is_field : (active : Bool) → IsField (mode_field active)
-mode_is_field true = word (codes "active") refl
-mode_is_field false = word (codes "passive") refl
-
-mode_short : (active : Bool) → length (mode_field active) ≤ 7
-mode_short true = omega arith
-mode_short false = omega arith
 
 port_again : (port : Port) → port_of (port_field port) ≡ Ok port
 port_again ports.Single = refl
@@ -100,124 +68,11 @@ port_short ports.Echo = omega arith
 port_short ports.Sbfd = omega arith
 port_short ports.Answer = omega arith
 
-p2p_is_field : IsField (codes "p2p")
-p2p_is_field = word (codes "p2p") refl
-
 rx_is_field : IsField (codes "rx")
 rx_is_field = word (codes "rx") refl
 
 tick_is_field : IsField (codes "tick")
 tick_is_field = word (codes "tick") refl
-
--- ---- a table row
-
-ends_again : (c : Config) → IsConfig c → IsPairRow c
-    → ends_of (decimal c.discr) (role_field c.role) (decimal c.iface) (address_field c.local) (address_field c.remote)
-    ≡ Ok (record { discr = c.discr; role = c.role; iface = c.iface; local = c.local; remote = c.remote })
-unfolding ends_of
-ends_again c fit row = rw (
-  number_again 1 4294967295 c.discr fit.discr (let k = row.discr in omega arith) (let k = row.discr in omega arith),
-  role_again c.role,
-  number_again 0 65535 c.iface (omega arith) (let k = fit.iface in omega arith) (let k = fit.iface in omega arith),
-  address_again c.local row.local,
-  address_again c.remote row.remote,
-) refl
-
-echo_step : (fits : Bool) (n : ℕ) → fits ≡ true → cond fits (Ok n) (Err OutOfRange) ≡ Ok n
-echo_step fits n h = rw h refl
-
-echo_again : (role : Role) (n : ℕ) → is_echo_interval role n ≡ true → n ≤ 60000000 → echo_of role (decimal n) ≡ Ok n
-echo_again role n fits high =
-    ap (λ r. r >>= λ every. cond (is_echo_interval role every) (Ok every) (Err OutOfRange)) (number_again 0 60000000 n (omega arith) high (omega arith))
-    ∙ echo_step (is_echo_interval role n) n fits
-
-timing_again : (c : Config) → IsConfig c → IsPairRow c → c.echo ≤ 60000000
-    → timing_of c.role (mode_field c.active) (decimal c.tx) (decimal c.rx) (decimal c.mult) (decimal c.echo) (decimal c.seed)
-    ≡ Ok (record { active = c.active; tx = c.tx; rx = c.rx; mult = c.mult; echo = c.echo; seed = c.seed })
-unfolding timing_of
-timing_again c fit row high = rw (
-  active_again c.active,
-  number_again 10000 60000000 c.tx fit.tx_least fit.tx_most (let k = fit.tx_most in omega arith),
-  number_again 10000 60000000 c.rx fit.rx_least fit.rx_most (let k = fit.rx_most in omega arith),
-  number_again 1 255 c.mult fit.some_mult (let k = row.mult in omega arith) (let k = row.mult in omega arith),
-  echo_again c.role c.echo fit.echo_range high,
-  number_again 0 4294967295 c.seed (omega arith) (let k = row.seed in omega arith) (let k = row.seed in omega arith),
-) refl
-
-pair_again : (c : Config) → IsConfig c → IsPairRow c → c.echo ≤ 60000000
-    → pair_of (decimal c.discr ∷ role_field c.role ∷ decimal c.iface ∷ address_field c.local ∷ address_field c.remote
-    ∷ mode_field c.active ∷ decimal c.tx ∷ decimal c.rx ∷ decimal c.mult ∷ decimal c.echo ∷ decimal c.seed ∷ []) ≡ Ok (Pair (record c { keys = None }))
-pair_again c fit row high =
-    ap (λ r. r >>= λ ends. pair_with ends (mode_field c.active ∷ decimal c.tx ∷ decimal c.rx ∷ decimal c.mult ∷ decimal c.echo ∷ decimal c.seed ∷ [])) (ends_again c fit row)
-    ∙ ap (λ r. r >>= λ timing. Ok (config_by (record { discr = c.discr; role = c.role; iface = c.iface; local = c.local; remote = c.remote }) timing)) (timing_again c fit row high)
-
-row_is_fields : (c : Config) → IsConfig c → IsPairRow c → c.echo ≤ 60000000 → AllByRecursion IsField (row_fields (Pair c))
-row_is_fields c fit row high = (
-  p2p_is_field,
-  (
-    number_field c.discr (let k = row.discr in omega arith),
-    (
-      role_is_field c.role,
-      (
-        number_field c.iface (let k = fit.iface in omega arith),
-        (
-          address_is_field c.local row.local,
-          (
-            address_is_field c.remote row.remote,
-            (
-              mode_is_field c.active,
-              (
-                number_field c.tx (let k = fit.tx_most in omega arith),
-                (
-                  number_field c.rx (let k = fit.rx_most in omega arith),
-                  (
-                    number_field c.mult (let k = row.mult in omega arith),
-                    (
-                      number_field c.echo (omega arith),
-                      (number_field c.seed (let k = row.seed in omega arith), tt),
-                    ),
-                  ),
-                ),
-              ),
-            ),
-          ),
-        ),
-      ),
-    ),
-  ),
-)
-
-row_short : (c : Config) → IsConfig c → IsPairRow c → c.echo ≤ 60000000 → total (row_fields (Pair c)) ≤ 4096
-row_short c fit row high =
-    let l1 = number_short c.discr (let k = row.discr in omega arith) in
-    let l2 = role_short c.role in
-    let l3 = number_short c.iface (let k = fit.iface in omega arith) in
-    let l4 = address_short c.local row.local in
-    let l5 = address_short c.remote row.remote in
-    let l6 = mode_short c.active in
-    let l7 = number_short c.tx (let k = fit.tx_most in omega arith) in
-    let l8 = number_short c.rx (let k = fit.rx_most in omega arith) in
-    let l9 = number_short c.mult (let k = row.mult in omega arith) in
-    let l10 = number_short c.echo (omega arith) in
-    let l11 = number_short c.seed (let k = row.seed in omega arith) in
-    omega arith
-
--- an interval of the Echo function is at most the greatest
-echo_most : (role : Role) (n : ℕ) → is_echo_interval role n ≡ true → n ≤ 60000000
-echo_most roles.Single n h = grind (arith, nat_tests)
-echo_most roles.Multi n h = grind (arith, nat_tests)
-
--- the row has no keys
-pub row_again : (version : Version) (live : Bool) (c : Config) → IsRanged (Pair c) → IsRow (Pair c)
-    → entry_of version places.Table live (spaced (row_fields (Pair c)) []) ≡ Ok (entries.Row (Pair (record c { keys = None })))
-row_again version live c fit row =
-    let high = echo_most c.role c.echo fit.echo_range in
-    entry_again version places.Table live (codes "p2p") (decimal c.discr ∷ role_field c.role ∷ decimal c.iface ∷ address_field c.local ∷ address_field c.remote ∷ mode_field c.active ∷ decimal c.tx ∷ decimal c.rx ∷ decimal c.mult ∷ decimal c.echo ∷ decimal c.seed ∷ [])
-    (row_is_fields c fit row high) (row_short c fit row high)
-    ∙ ap (λ r. r >>= λ config. Ok (entries.Row config)) (pair_again c fit row high)
-
-pub row_fields_fit : (config : SessionConfig) → IsRanged config → IsRow config → AllByRecursion IsField (row_fields config)
-row_fields_fit (Pair c) fit row = row_is_fields c fit row (echo_most c.role c.echo fit.echo_range)
 
 -- ---- the keys of a session
 
@@ -439,19 +294,18 @@ key_verb : (version : Version) → Speaks version true → verb_of version (code
 key_verb One h = cc
 key_verb Two h = refl
 
-command_again : (version : Version) (m d : ℕ) (cmd : Cmd) → IsAsked m d → number_of cmd < 2 ^ 64 → is_built_command cmd ≡ true
-    → Speaks version (is_new_line (events.Cmd m d cmd))
+command_again : (version : Version) (m d : ℕ) (cmd : Cmd) → IsAsked m d → number_of cmd < 2 ^ 64 → Speaks version (is_new_line (events.Cmd m d cmd))
     → commanded version (decimal m ∷ decimal d ∷ verb_fields cmd) ≡ Ok (entries.Event (events.Cmd m d cmd))
-command_again version m d commands.Disable h n built new = plain_again version m d (codes "disable") verbs.Disable h refl
-command_again version m d commands.Enable h n built new = plain_again version m d (codes "enable") verbs.Enable h refl
-command_again version m d commands.Reset h n built new = plain_again version m d (codes "reset") verbs.Reset h refl
-command_again version m d (commands.Path n) h below built new = numbered_again version m d n (codes "path") verbs.Path h below refl
-command_again version m d (commands.Tx n) h below built new = numbered_again version m d n (codes "tx") verbs.Tx h below refl
-command_again version m d (commands.Rx n) h below built new = numbered_again version m d n (codes "rx") verbs.Rx h below refl
-command_again version m d (commands.Mult n) h below built new = numbered_again version m d n (codes "mult") verbs.Mult h below refl
-command_again version m d (commands.Demand n) h below built new = numbered_again version m d n (codes "demand") verbs.Demand h below refl
-command_again version m d (commands.EchoEvery n) h below built new = cc
-command_again version m d (commands.Key n) h below built new =
+command_again version m d commands.Disable h n new = plain_again version m d (codes "disable") verbs.Disable h refl
+command_again version m d commands.Enable h n new = plain_again version m d (codes "enable") verbs.Enable h refl
+command_again version m d commands.Reset h n new = plain_again version m d (codes "reset") verbs.Reset h refl
+command_again version m d (commands.Path n) h below new = numbered_again version m d n (codes "path") verbs.Path h below refl
+command_again version m d (commands.Tx n) h below new = numbered_again version m d n (codes "tx") verbs.Tx h below refl
+command_again version m d (commands.Rx n) h below new = numbered_again version m d n (codes "rx") verbs.Rx h below refl
+command_again version m d (commands.Mult n) h below new = numbered_again version m d n (codes "mult") verbs.Mult h below refl
+command_again version m d (commands.Demand n) h below new = numbered_again version m d n (codes "demand") verbs.Demand h below refl
+command_again version m d (commands.EchoEvery n) h below new = numbered_again version m d n (codes "echo") verbs.Echo h below refl
+command_again version m d (commands.Key n) h below new =
     ap (λ o. cond (fits o true) (numbered_of version (decimal m) (decimal d) (codes "key") (decimal n)) (Err FieldCount)) (key_verb version new)
     ∙ numbered_again version m d n (codes "key") verbs.Key h below (key_verb version new)
 
@@ -488,22 +342,22 @@ show_short m d h =
 
 -- ---- any event
 
-pub event_fields_fit : (event : Line) → IsEvent event → is_built_line event ≡ true → AllByRecursion IsField (event_fields event)
-event_fields_fit (events.Rx m a) h built = rx_is_fields m a h
-event_fields_fit (events.Tick tick) h built = (tick_is_field, (number_field tick (omega arith), tt))
-event_fields_fit (events.Cmd m d cmd) h built = cmd_is_fields m d cmd h.0 h.1
-event_fields_fit (events.Show m d) h built = show_is_fields m d h
+pub event_fields_fit : (event : Line) → IsEvent event → AllByRecursion IsField (event_fields event)
+event_fields_fit (events.Rx m a) h = rx_is_fields m a h
+event_fields_fit (events.Tick tick) h = (tick_is_field, (number_field tick (omega arith), tt))
+event_fields_fit (events.Cmd m d cmd) h = cmd_is_fields m d cmd h.0 h.1
+event_fields_fit (events.Show m d) h = show_is_fields m d h
 
-pub event_again : (version : Version) (event : Line) → IsEvent event → is_built_line event ≡ true → Speaks version (is_new_line event)
+pub event_again : (version : Version) (event : Line) → IsEvent event → Speaks version (is_new_line event)
     → entry_of version places.Events false (spaced (event_fields event) []) ≡ Ok (entries.Event event)
-event_again version (events.Rx m a) h built new =
+event_again version (events.Rx m a) h new =
     entry_again version places.Events false (codes "rx") (decimal m ∷ port_field a.port ∷ decimal a.iface ∷ address_field a.src ∷ address_field a.dst ∷ decimal a.ttl ∷ hex_field a.payload ∷ [])
     (rx_is_fields m a h) (rx_short m a h) ∙ received_again m a h
-event_again version (events.Tick tick) h built new =
-    entry_again version places.Events false (codes "tick") (decimal tick ∷ []) (event_fields_fit (events.Tick tick) h built) (tick_short tick h)
+event_again version (events.Tick tick) h new =
+    entry_again version places.Events false (codes "tick") (decimal tick ∷ []) (event_fields_fit (events.Tick tick) h) (tick_short tick h)
     ∙ ap (λ r. r >>= λ t. Ok (entries.Event (events.Tick t))) (number_again 0 greatest_tick tick (omega arith) h (omega arith))
-event_again version (events.Cmd m d cmd) h built new =
+event_again version (events.Cmd m d cmd) h new =
     entry_again version places.Events false (codes "cmd") (decimal m ∷ decimal d ∷ verb_fields cmd) (cmd_is_fields m d cmd h.0 h.1) (cmd_short m d cmd h.0 h.1)
-    ∙ command_again version m d cmd h.0 h.1 built new
-event_again version (events.Show m d) h built new =
+    ∙ command_again version m d cmd h.0 h.1 new
+event_again version (events.Show m d) h new =
     entry_again version places.Events false (codes "show") (decimal m ∷ decimal d ∷ []) (show_is_fields m d h) (show_short m d h) ∙ shown_again m d h

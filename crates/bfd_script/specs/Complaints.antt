@@ -2,7 +2,7 @@
 use Rattle.std.specs.Prelude.{ℕ, List, ◌∷◌, ◌++◌, codes}
 use Rattle.std.specs.Fmt.{decimal}
 use Rattle.bfd_script.specs.declared.fault.LineFault.{LineFault}
-use Rattle.bfd_script.specs.declared.fault.LineFault.TheVariants.{NotAscii, TooLong, UnknownWord, FieldCount, BadNumber, OutOfRange, BadHex, BadAddress, SameDiscr, SameAddresses, NoSuchSession, Order, MissingEnd, TooMany, NotBuilt, SameKey}
+use Rattle.bfd_script.specs.declared.fault.LineFault.TheVariants.{NotAscii, TooLong, UnknownWord, FieldCount, BadNumber, OutOfRange, BadHex, BadAddress, SameDiscr, SameAddresses, NoSuchSession, Order, MissingEnd, TooMany, SameKey}
 use Rattle.bfd_script.specs.declared.fault.BadLine.{BadLine}
 
 -- the name of a fault
@@ -21,7 +21,6 @@ fault_name NoSuchSession = codes "NoSuchSession"
 fault_name Order = codes "Order"
 fault_name MissingEnd = codes "MissingEnd"
 fault_name TooMany = codes "TooMany"
-fault_name NotBuilt = codes "NotBuilt"
 fault_name SameKey = codes "SameKey"
 
 -- `bad LINE FAULT`

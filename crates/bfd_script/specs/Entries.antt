@@ -1,8 +1,10 @@
 -- What one line says, and its first fault.
 use Rattle.std.specs.Prelude.{ℕ, Bool, List, [], ◌∷◌, ◌-◌, ◌^◌, true, false, Option, Some, None, length, ◌==◌, Result, Ok, Err, if◌then◌else◌}
 use Rattle.bfd_num.specs.Numbers.{moment_bound, greatest_tick}
+use Rattle.bfd_sbfd.specs.declared.reflecting.Reflector.{Reflector}
+use Rattle.bfd_session.specs.declared.event.SessionConfig.{SessionConfig}
 use Rattle.bfd_script.specs.declared.fault.LineFault.{LineFault}
-use Rattle.bfd_script.specs.declared.fault.LineFault.TheVariants.{UnknownWord, FieldCount, Order, NotBuilt}
+use Rattle.bfd_script.specs.declared.fault.LineFault.TheVariants.{UnknownWord, FieldCount, Order}
 use Rattle.bfd_script.specs.declared.words.Word.{Word}
 use Rattle.bfd_script.specs.declared.words.Word.TheVariants as words
 use Rattle.bfd_script.specs.declared.words.Place.{Place}
@@ -15,7 +17,9 @@ use Rattle.bfd_script.specs.Arrivals.{port_of, arrival_fields}
 use Rattle.bfd_script.specs.Fields.{text_of, fields_of, number_in}
 use Rattle.bfd_script.specs.Gives.{◌>>=◌}
 use Rattle.bfd_script.specs.Pairs.{pair_of}
+use Rattle.bfd_script.specs.Seamless.{reflector_of, seek_of}
 use Rattle.bfd_script.specs.Secrets.{chain_of, key_of}
+use Rattle.bfd_script.specs.Trees.{head_of, tail_of}
 use Rattle.bfd_script.specs.Verbs.{verb_of, fits, known, command}
 use Rattle.bfd_script.specs.Words.{word_of, stands}
 
@@ -38,9 +42,13 @@ abbrev pub ticked : List (List ℕ) → Result Entry LineFault
 ticked (number ∷ []) = number_in 0 greatest_tick number >>= λ tick. Ok (entries.Event (events.Tick tick))
 ticked values = Err FieldCount
 
--- `p2p DISCR single|multi IFACE LOCAL REMOTE active|passive TX RX MULT ECHO SEED`
-abbrev pub row_of : List (List ℕ) → Result Entry LineFault
-row_of values = pair_of values >>= λ config. Ok (entries.Row config)
+-- the table line of a session
+abbrev pub row_of : Result SessionConfig LineFault → Result Entry LineFault
+row_of read = read >>= λ config. Ok (entries.Row config)
+
+-- the table line of a reflector
+abbrev pub reflects_of : Result Reflector LineFault → Result Entry LineFault
+reflects_of read = read >>= λ reflector. Ok (entries.Reflect reflector)
 
 -- an `auth` line of these values
 abbrev pub keyed_of : List ℕ → List ℕ → List ℕ → List ℕ → Result Entry LineFault
@@ -120,7 +128,11 @@ shown values = Err FieldCount
 -- what the values of a word say
 abbrev pub valued : Version → Word → List (List ℕ) → Result Entry LineFault
 valued version words.Bfd values = versioned values
-valued version words.P2p values = row_of values
+valued version words.P2p values = row_of (pair_of values)
+valued version words.Sbfd values = row_of (seek_of values)
+valued version words.Reflector values = reflects_of (reflector_of values)
+valued version words.Head values = row_of (head_of values)
+valued version words.Tail values = row_of (tail_of values)
 valued version words.Auth values = keyed values
 valued version words.Key values = added values
 valued version words.Run values = alone entries.Run values
@@ -129,7 +141,6 @@ valued version words.Tick values = ticked values
 valued version words.Cmd values = commanded version values
 valued version words.Show values = shown values
 valued version words.End values = alone entries.End values
-valued version word values = Err NotBuilt
 
 -- a line of this word, with these values
 abbrev pub placed : Version → Place → Bool → Option Word → List (List ℕ) → Result Entry LineFault

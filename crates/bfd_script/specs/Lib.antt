@@ -12,6 +12,8 @@ pub mod Sound
 pub mod Tables
 pub mod Values
 pub mod Pairs
+pub mod Seamless
+pub mod Trees
 pub mod Secrets
 pub mod Arrivals
 pub mod Verbs

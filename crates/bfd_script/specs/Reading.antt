@@ -1,16 +1,12 @@
 -- A whole text: the script that it spells, or its first faulty line with that line's first fault.
-use Rattle.std.specs.Prelude.{ℕ, ◌+◌, ◌++◌, ◌==◌, Bool, true, false, not, List, [], ◌∷◌, length, nat_le, Option, Some, None, Result, Ok, Err, if◌then◌else◌}
+use Rattle.std.specs.Prelude.{ℕ, ◌+◌, ◌++◌, ◌||◌, Bool, true, not, List, [], ◌∷◌, length, nat_le, Option, Some, None, Result, Ok, Err, if◌then◌else◌}
 use Rattle.bfd_script.specs.declared.fault.LineFault.{LineFault}
-use Rattle.bfd_script.specs.declared.fault.LineFault.TheVariants.{SameDiscr, SameAddresses, NoSuchSession, MissingEnd, TooMany, NotBuilt}
+use Rattle.bfd_script.specs.declared.fault.LineFault.TheVariants.{SameDiscr, SameAddresses, NoSuchSession, MissingEnd, TooMany}
 use Rattle.bfd_script.specs.declared.fault.BadLine.{BadLine}
 use Rattle.bfd_packet.specs.KeyChain.{KeyChain}
 use Rattle.bfd_packet.specs.declared.keys.Key.{Key}
-use Rattle.bfd_packet.specs.declared.arrival.Port.{Port}
-use Rattle.bfd_packet.specs.declared.arrival.Port.TheVariants as ports
-use Rattle.bfd_rules.specs.declared.commands.Cmd.{Cmd}
-use Rattle.bfd_rules.specs.declared.commands.Cmd.TheVariants as commands
+use Rattle.bfd_sbfd.specs.declared.reflecting.Reflector.{Reflector}
 use Rattle.bfd_session.specs.declared.event.SessionConfig.{SessionConfig}
-use Rattle.bfd_session.specs.declared.event.SessionConfig.TheVariants.{Pair}
 use Rattle.bfd_session.specs.Kinds.{discr_of}
 use Rattle.bfd_script.specs.declared.words.Place.{Place}
 use Rattle.bfd_script.specs.declared.words.Place.TheVariants as places
@@ -23,13 +19,15 @@ use Rattle.bfd_script.specs.declared.entries.Entry.TheVariants as entries
 use Rattle.bfd_script.specs.Entries.{entry_of}
 use Rattle.bfd_script.specs.Fields.{lines_of}
 use Rattle.bfd_script.specs.Gives.{◌>>=◌}
-use Rattle.bfd_script.specs.Rows.{given, given_more, has_discr, has_keys, has_place, inserted, keys_of}
+use Rattle.bfd_script.specs.Rows.{given, given_more, has_discr, has_keys, has_pair, has_place, has_reflector, inserted, keys_of, pooled}
 use Rattle.bfd_script.specs.Secrets.{key_fault}
 
 -- a script, as contracts see it
 pub record Lists : Type 0 where
   -- the sessions, ascending by discriminator
   pub configs : List SessionConfig
+  -- the reflectors, ascending by discriminator
+  pub pool : List Reflector
   -- the event lines, in the order of the text
   pub events : List Line
 
@@ -41,34 +39,14 @@ pub record State : Type 0 where
   pub place : Place
   -- the sessions so far, ascending by discriminator
   pub configs : List SessionConfig
+  -- the reflectors so far, ascending by discriminator
+  pub pool : List Reflector
   -- the event lines so far
   pub events : List Line
 
 -- before the first line
 abbrev pub start : State
-start = record { version = One; place = places.Version; configs = []; events = [] }
-
--- a session that this program serves: the Echo function isn't built
-abbrev pub is_built : SessionConfig → Bool
-is_built (Pair c) = c.echo == 0
-
--- a port that this program serves
-abbrev pub is_built_port : Port → Bool
-is_built_port ports.Single = true
-is_built_port ports.Multi = true
-is_built_port port = false
-
--- a command that this program serves
-abbrev pub is_built_command : Cmd → Bool
-is_built_command (commands.EchoEvery n) = false
-is_built_command cmd = true
-
--- an event that this program serves
-abbrev pub is_built_line : Line → Bool
-is_built_line (events.Rx moment arrival) = is_built_port arrival.port
-is_built_line (events.Tick tick) = true
-is_built_line (events.Cmd moment discr cmd) = is_built_command cmd
-is_built_line (events.Show moment discr) = true
+start = record { version = One; place = places.Version; configs = []; pool = []; events = [] }
 
 -- the session that an event names is there; a packet and a tick name none
 abbrev pub is_named : Line → List SessionConfig → Bool
@@ -76,20 +54,34 @@ is_named (events.Cmd moment discr cmd) configs = has_discr discr configs
 is_named (events.Show moment discr) configs = has_discr discr configs
 is_named event configs = true
 
--- one more table row: its discriminator and its selecting addresses are new, and there are at most 65,536
+-- a session or a reflector has this discriminator
+abbrev pub is_taken : ℕ → State → Bool
+is_taken discr s = has_discr discr s.configs || has_reflector discr s.pool
+
+-- the table has as many rows as it may have: 65,536 sessions and reflectors
+abbrev pub is_full : State → Bool
+is_full s = nat_le 65536 (length s.configs + length s.pool)
+
+-- one more session: its discriminator and its selecting addresses are new
 abbrev pub with_config : SessionConfig → State → Result State LineFault
 with_config config s =
-    if has_discr (discr_of config) s.configs then Err SameDiscr
+    if is_taken (discr_of config) s then Err SameDiscr
     else if has_place config s.configs then Err SameAddresses
-    else if nat_le 65536 (length s.configs) then Err TooMany
-    else if not (is_built config) then Err NotBuilt
+    else if is_full s then Err TooMany
     else Ok (record s { configs = inserted config s.configs })
 
--- keys for a session: it has none yet, and is there
+-- one more reflector: its discriminator is new
+abbrev pub with_reflector : Reflector → State → Result State LineFault
+with_reflector reflector s =
+    if is_taken reflector.discr s then Err SameDiscr
+    else if is_full s then Err TooMany
+    else Ok (record s { pool = pooled reflector s.pool })
+
+-- keys for a point-to-point session: it has none yet, and is there
 abbrev pub with_keys : ℕ → KeyChain → State → Result State LineFault
 with_keys discr keys s =
     if has_keys discr s.configs then Err SameDiscr
-    else if not (has_discr discr s.configs) then Err NoSuchSession
+    else if not (has_pair discr s.configs) then Err NoSuchSession
     else Ok (record s { configs = given discr keys s.configs })
 
 -- a refusal, where there is one
@@ -106,7 +98,6 @@ abbrev pub with_event : Line → State → Result State LineFault
 with_event event s =
     if not (is_named event s.configs) then Err NoSuchSession
     else if nat_le 200000 (length s.events) then Err TooMany
-    else if not (is_built_line event) then Err NotBuilt
     else Ok (record s { events = s.events ++ event ∷ [] })
 
 -- a line is taken after those before it, or has a fault because of them
@@ -114,6 +105,7 @@ abbrev pub accepted : Entry → State → Result State LineFault
 accepted (entries.Version version) s = Ok (record s { version = version; place = places.Table })
 accepted entries.Run s = Ok (record s { place = places.Events })
 accepted (entries.Row config) s = with_config config s
+accepted (entries.Reflect reflector) s = with_reflector reflector s
 accepted (entries.Auth discr keys) s = with_keys discr keys s
 accepted (entries.Key discr key) s = with_key discr key s
 accepted (entries.Event event) s = with_event event s
@@ -130,7 +122,7 @@ finished_at place number script = Err (record { line = number; fault = MissingEn
 
 -- the text ended
 abbrev pub finished : ℕ → State → Result Lists BadLine
-finished number s = finished_at s.place number (record { configs = s.configs; events = s.events })
+finished number s = finished_at s.place number (record { configs = s.configs; pool = s.pool; events = s.events })
 
 -- go on, or stop at the faulty line of this number
 abbrev pub after : {X Y : Type 0} → ℕ → Result X LineFault → (X → Result Y BadLine) → Result Y BadLine

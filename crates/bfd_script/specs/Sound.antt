@@ -1,7 +1,13 @@
 -- What is true of each script that the grammar gives.
-use Rattle.std.specs.Prelude.{◌≡◌, ◌<◌, ◌≤◌, ◌^◌, ℕ, true, Option, Some, None, List, [], ◌∷◌, ◌++◌, length}
+use Rattle.std.specs.Prelude.{◌≡◌, ◌<◌, ◌≤◌, ◌+◌, ◌^◌, ℕ, true, false, Option, Some, None, List, [], ◌∷◌, ◌++◌, length}
 use Rattle.std.specs.List.{AllByRecursion}
 use Rattle.bfd_session.specs.Rows.{Ascends, AreFit, Differs}
+use Rattle.bfd_session.specs.Step.{IsFit}
+use Rattle.bfd_sbfd.specs.Reflect as pool
+use Rattle.bfd_sbfd.specs.declared.config.SeekConfig.{SeekConfig}
+use Rattle.bfd_sbfd.specs.declared.reflecting.Reflector.{Reflector}
+use Rattle.bfd_mp.specs.declared.config.HeadConfig.{HeadConfig}
+use Rattle.bfd_mp.specs.declared.config.TailConfig.{TailConfig}
 use Rattle.hex.specs.Hex.{IsBytes}
 use Rattle.bfd_num.specs.Numbers.{moment_bound, greatest_tick}
 use Rattle.bfd_packet.specs.KeyChain.{KeyChain}
@@ -9,14 +15,14 @@ use Rattle.bfd_packet.specs.declared.arrival.Arrival.{Arrival}
 use Rattle.bfd_packet.specs.declared.keys.AuthType.{AuthType}
 use Rattle.bfd_packet.specs.declared.keys.Key.{Key}
 use Rattle.bfd_rules.specs.declared.config.Config.{Config}
-use Rattle.bfd_rules.specs.Sound.{IsConfig}
 use Rattle.bfd_session.specs.declared.event.SessionConfig.{SessionConfig}
-use Rattle.bfd_session.specs.declared.event.SessionConfig.TheVariants.{Pair}
+use Rattle.bfd_session.specs.declared.event.SessionConfig.TheVariants.{Pair, Seek, Head, Tail}
 use Rattle.bfd_script.specs.declared.entries.Entry.{Entry}
 use Rattle.bfd_script.specs.declared.entries.Entry.TheVariants as entries
 use Rattle.bfd_script.specs.declared.entries.Line.{Line}
 use Rattle.bfd_script.specs.declared.entries.Line.TheVariants as events
-use Rattle.bfd_script.specs.Reading.{Lists, is_built, is_built_line, is_named}
+use Rattle.bfd_script.specs.Reading.{Lists, is_named}
+use Rattle.bfd_script.specs.Rows.{has_discr}
 use Rattle.bfd_script.specs.Secrets.{key_fault}
 use Rattle.bfd_script.specs.Values.{IsAddress}
 use Rattle.bfd_script.specs.Verbs.{number_of}
@@ -55,13 +61,41 @@ pub record IsPairRow (c : Config) : Type 0 where
   pub seed : c.seed < 2 ^ 32
   pub keys : AreKeys c.keys
 
--- the configured values of a session are in their ranges
-abbrev pub IsRanged : SessionConfig → Type 0
-IsRanged (Pair c) = IsConfig c
+-- the numbers of an `sbfd` line fit their fields
+pub record IsSeekRow (c : SeekConfig) : Type 0 where
+  pub discr : c.discr < 2 ^ 32
+  pub target : c.target < 2 ^ 32
+  pub local : IsAddress c.local
+  pub remote : IsAddress c.remote
+  pub seed : c.seed < 2 ^ 32
+
+-- the numbers of a `head` line fit their fields
+pub record IsHeadRow (c : HeadConfig) : Type 0 where
+  pub discr : c.discr < 2 ^ 32
+  pub local : IsAddress c.local
+  pub group : IsAddress c.group
+  pub seed : c.seed < 2 ^ 32
+
+-- the numbers of a `tail` line fit their fields
+pub record IsTailRow (c : TailConfig) : Type 0 where
+  pub discr : c.discr < 2 ^ 32
+  pub head : c.head < 2 ^ 32
+  pub group : IsAddress c.group
+  pub source : IsAddress c.source
 
 -- a session as its table lines give it
 abbrev pub IsRow : SessionConfig → Type 0
 IsRow (Pair c) = IsPairRow c
+IsRow (Seek c) = IsSeekRow c
+IsRow (Head c) = IsHeadRow c
+IsRow (Tail c) = IsTailRow c
+
+-- a reflector as its table line gives it
+pub record IsReflector (r : Reflector) : Type 0 where
+  pub discr : 0 < r.discr
+  pub discr_below : r.discr < 2 ^ 32
+  pub rx_least : 10000 ≤ r.rx
+  pub rx_most : r.rx ≤ 60000000
 
 -- the numbers of an `rx` line fit their fields; at most 256 bytes of the payload are kept
 pub record IsReceived (moment : ℕ) (arrival : Arrival) : Type 0 where
@@ -89,7 +123,8 @@ IsEvent (events.Show moment discr) = IsAsked moment discr
 
 -- what a line says, as the line gives it
 abbrev pub IsEntry : Entry → Type 0
-IsEntry (entries.Row config) = IsRanged config × IsRow config
+IsEntry (entries.Row config) = IsFit config × IsRow config
+IsEntry (entries.Reflect reflector) = IsReflector reflector
 IsEntry (entries.Auth discr keys) = (discr < 2 ^ 32) × IsChain keys
 IsEntry (entries.Key discr key) = (discr < 2 ^ 32) × IsKey key
 IsEntry (entries.Event event) = IsEvent event
@@ -102,21 +137,31 @@ pub record AreConfigs (configs : List SessionConfig) : Type 0 where
   pub differs : Differs configs
   pub fit : AreFit configs
   pub rows : AllByRecursion IsRow configs
-  pub built : AllByRecursion (λ c. is_built c ≡ true) configs
   pub few : length configs ≤ 65536
+
+-- a pool of reflectors: strictly ascending by discriminator, each within its ranges
+pub record ArePool (reflectors : List Reflector) : Type 0 where
+  pub ascends : pool.Ascends reflectors
+  pub rows : AllByRecursion IsReflector reflectors
+
+-- no reflector has the discriminator of a session
+abbrev pub AreApart : List SessionConfig → List Reflector → Type 0
+AreApart configs reflectors = AllByRecursion (λ r. has_discr r.discr configs ≡ false) reflectors
 
 -- events: at most 200,000
 pub record AreEvents (events : List Line) : Type 0 where
   pub lines : AllByRecursion IsEvent events
-  pub built : AllByRecursion (λ e. is_built_line e ≡ true) events
   pub few : length events ≤ 200000
 
--- each event that names a session names one of the table
+-- each event that names a session names one of these
 abbrev pub AreNamed : List SessionConfig → List Line → Type 0
 AreNamed configs events = AllByRecursion (λ e. is_named e configs ≡ true) events
 
--- a script that the grammar gives
+-- a script that the grammar gives; sessions and reflectors together are at most 65,536
 pub record IsScript (script : Lists) : Type 0 where
   pub configs : AreConfigs script.configs
+  pub pool : ArePool script.pool
+  pub apart : AreApart script.configs script.pool
+  pub few : length script.configs + length script.pool ≤ 65536
   pub events : AreEvents script.events
   pub named : AreNamed script.configs script.events

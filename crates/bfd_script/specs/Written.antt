@@ -11,17 +11,20 @@ use Rattle.bfd_packet.specs.declared.arrival.Port.{Port}
 use Rattle.bfd_packet.specs.declared.arrival.Port.TheVariants as ports
 use Rattle.bfd_packet.specs.declared.keys.AuthType.{AuthType}
 use Rattle.bfd_packet.specs.declared.keys.Key.{Key}
+use Rattle.bfd_sbfd.specs.declared.reflecting.Reflector.{Reflector}
 use Rattle.bfd_rules.specs.declared.commands.Cmd.{Cmd}
 use Rattle.bfd_rules.specs.declared.commands.Cmd.TheVariants as commands
 use Rattle.bfd_rules.specs.declared.config.Role.{Role}
 use Rattle.bfd_rules.specs.declared.config.Role.TheVariants as roles
 use Rattle.bfd_session.specs.declared.event.SessionConfig.{SessionConfig}
-use Rattle.bfd_session.specs.declared.event.SessionConfig.TheVariants.{Pair}
+use Rattle.bfd_session.specs.declared.event.SessionConfig.TheVariants.{Pair, Seek, Head, Tail}
+use Rattle.bfd_session.specs.Kinds.{discr_of}
 use Rattle.bfd_script.specs.declared.entries.Line.{Line}
 use Rattle.bfd_script.specs.declared.entries.Line.TheVariants as events
 use Rattle.bfd_script.specs.declared.words.Version.{Version}
 use Rattle.bfd_script.specs.declared.words.Version.TheVariants.{One, Two}
 use Rattle.bfd_script.specs.Reading.{Lists}
+use Rattle.bfd_script.specs.Rows.{keys_in}
 use Rattle.bfd_script.specs.Spelling.{line, hex_field}
 
 -- four numbers with dots
@@ -42,6 +45,11 @@ role_field roles.Multi = codes "multi"
 abbrev pub mode_field : Bool → List ℕ
 mode_field true = codes "active"
 mode_field false = codes "passive"
+
+-- whether a reflector is Up, or was told to say AdminDown
+abbrev pub up_field : Bool → List ℕ
+up_field true = codes "up"
+up_field false = codes "admin"
 
 -- the kind of port
 abbrev pub port_field : Port → List ℕ
@@ -64,11 +72,23 @@ verb_fields (commands.Demand n) = codes "demand" ∷ decimal n ∷ []
 verb_fields (commands.EchoEvery n) = codes "echo" ∷ decimal n ∷ []
 verb_fields (commands.Key n) = codes "key" ∷ decimal n ∷ []
 
--- the fields of a table row
+-- the fields of a session's row
 abbrev pub row_fields : SessionConfig → List (List ℕ)
 row_fields (Pair c) =
     codes "p2p" ∷ decimal c.discr ∷ role_field c.role ∷ decimal c.iface ∷ address_field c.local ∷ address_field c.remote
     ∷ mode_field c.active ∷ decimal c.tx ∷ decimal c.rx ∷ decimal c.mult ∷ decimal c.echo ∷ decimal c.seed ∷ []
+row_fields (Seek c) =
+    codes "sbfd" ∷ decimal c.discr ∷ decimal c.target ∷ decimal c.iface ∷ address_field c.local ∷ address_field c.remote
+    ∷ decimal c.tx ∷ decimal c.mult ∷ decimal c.seed ∷ []
+row_fields (Head c) =
+    codes "head" ∷ decimal c.discr ∷ decimal c.iface ∷ address_field c.local ∷ address_field c.group ∷ decimal c.tx
+    ∷ decimal c.mult ∷ decimal c.seed ∷ []
+row_fields (Tail c) =
+    codes "tail" ∷ decimal c.discr ∷ decimal c.head ∷ decimal c.iface ∷ address_field c.group ∷ address_field c.source ∷ []
+
+-- the fields of a reflector's row
+abbrev pub reflector_fields : Reflector → List (List ℕ)
+reflector_fields r = codes "reflector" ∷ decimal r.discr ∷ decimal r.rx ∷ up_field r.up ∷ []
 
 -- the fields of an `auth` line
 abbrev pub auth_fields : ℕ → AuthType → Key → List (List ℕ)
@@ -94,7 +114,7 @@ keys_text discr (Some keys) = list_text discr keys.kind keys.list
 
 -- the lines of a session: its table row, and then its keys
 abbrev pub config_text : SessionConfig → List ℕ
-config_text (Pair c) = line (row_fields (Pair c)) ++ keys_text c.discr c.keys
+config_text c = line (row_fields c) ++ keys_text (discr_of c) (keys_in (Some c))
 
 -- the fields of an event
 abbrev pub event_fields : Line → List (List ℕ)
@@ -109,6 +129,10 @@ event_fields (events.Show moment discr) = codes "show" ∷ decimal moment ∷ de
 abbrev pub rows_text : List SessionConfig → List ℕ
 rows_text configs = flat_map config_text configs
 
+-- the lines of reflectors
+abbrev pub pool_text : List Reflector → List ℕ
+pool_text pool = flat_map (λ r. line (reflector_fields r)) pool
+
 -- the lines of events
 abbrev pub events_text : List Line → List ℕ
 events_text events = flat_map (λ event. line (event_fields event)) events
@@ -120,7 +144,7 @@ has_second (Some keys) = nat_lt 1 (length keys.list)
 
 -- a session that version 1 has no lines for
 abbrev pub is_new_row : SessionConfig → Bool
-is_new_row (Pair c) = has_second c.keys
+is_new_row c = has_second (keys_in (Some c))
 
 -- an event that version 1 has no line for
 abbrev pub is_new_line : Line → Bool
@@ -136,8 +160,8 @@ abbrev pub version_field : Version → List ℕ
 version_field One = codes "1"
 version_field Two = codes "2"
 
--- the text of a script: the version, the table, `run`, the events and `end`
+-- the text of a script: the version, the sessions, the reflectors, `run`, the events and `end`
 abbrev pub spelling : Lists → List ℕ
 spelling script =
-    line (codes "bfd" ∷ version_field (version_of script) ∷ []) ++ (rows_text script.configs
-    ++ (line (codes "run" ∷ []) ++ (events_text script.events ++ line (codes "end" ∷ []))))
+    line (codes "bfd" ∷ version_field (version_of script) ∷ []) ++ (rows_text script.configs ++ (pool_text script.pool
+    ++ (line (codes "run" ∷ []) ++ (events_text script.events ++ line (codes "end" ∷ [])))))

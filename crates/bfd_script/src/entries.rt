@@ -1,6 +1,6 @@
 // What one line says.
 ghost use Rattle.std.specs.Prelude.{◌≡◌, Err, IfOk, false, if◌then◌else◌, map, true};
-ghost use Rattle.bfd_script.specs.Entries.{added, added_of, alone, commanded, entry_of, keyed, keyed_of, numbered_of, plain_of, received, received_fields, received_of, row_of, shown, shown_of, ticked, valued, version_by, versioned, worded};
+ghost use Rattle.bfd_script.specs.Entries.{added, added_of, alone, commanded, entry_of, keyed, keyed_of, numbered_of, plain_of, received, received_fields, received_of, shown, shown_of, ticked, valued, version_by, versioned, worded};
 ghost use Rattle.bfd_script.specs.Gives.{Gives};
 ghost use Rattle.bfd_script.specs.Sound.{IsEntry};
 ghost use Rattle.bfd_script.specs.Verbs.{fits, verb_of};
@@ -10,12 +10,15 @@ use crate::arrivals::{port_named, read_arrival};
 use crate::fault::{LineFault, ReadFault};
 use crate::fields::{line_text, number, split_fields};
 use crate::pairs::read_pair;
+use crate::seamless::{read_reflector, read_seek};
 use crate::secrets::{read_chain, read_key};
+use crate::trees::{read_head, read_tail};
 use crate::verbs::{commanding, known_verb, may_fit, verb_named};
 use crate::words::{Place, Version, Word, word_named};
 use bfd_num::{GREATEST_TICK, MOMENT_BOUND, Moment, Tick};
 use bfd_packet::{Arrival, Key, Keys};
 use bfd_rules::Cmd;
+use bfd_sbfd::Reflector;
 use bfd_session::SessionConfig;
 use std::alloc::Global;
 
@@ -50,6 +53,7 @@ pub enum Line {
 pub(crate) enum Entry {
     Version(Version),
     Row(SessionConfig),
+    Reflect(Reflector),
     Auth { discr: u32, keys: Keys },
     Key { discr: u32, key: Key },
     Run,
@@ -252,15 +256,6 @@ fn read_show(values: &[&str]) -> Result<Entry, LineFault>
     }
 }
 
-/// `p2p DISCR single|multi IFACE LOCAL REMOTE active|passive TX RX MULT ECHO SEED`
-fn read_row(alloc: Global, values: &[&str]) -> Result<Entry, ReadFault>
-    ensures value { Gives (λ entry. entry) result (row_of (map (λ value. value.now) values.now)) }
-    ensures sound { IfOk result IsEntry }
-{
-    let config = read_pair(alloc, values)?;
-    Ok(Entry::Row(config))
-}
-
 /// An `auth` line of these values.
 fn keyed(alloc: Global, discr: &str, kind: &str, id: &str, secret: &str) -> Result<Entry, ReadFault>
     ensures value { Gives (λ entry. entry) result (keyed_of discr.now kind.now id.now secret.now) }
@@ -315,7 +310,11 @@ fn read_values(
 {
     match word {
         Word::Bfd => Ok(read_version(values)?),
-        Word::P2p => read_row(alloc, values),
+        Word::P2p => Ok(Entry::Row(read_pair(alloc, values)?)),
+        Word::Sbfd => Ok(Entry::Row(read_seek(alloc, values)?)),
+        Word::Reflector => Ok(Entry::Reflect(read_reflector(values)?)),
+        Word::Head => Ok(Entry::Row(read_head(alloc, values)?)),
+        Word::Tail => Ok(Entry::Row(read_tail(alloc, values)?)),
         Word::Auth => read_auth(alloc, values),
         Word::Key => read_added(alloc, values),
         Word::Run => Ok(read_alone(Entry::Run, values)?),
@@ -324,7 +323,6 @@ fn read_values(
         Word::Cmd => Ok(read_command(version, values)?),
         Word::Show => Ok(read_show(values)?),
         Word::End => Ok(read_alone(Entry::End, values)?),
-        _ => Err(ReadFault::Fault(LineFault::NotBuilt)),
     }
 }
 

@@ -39,7 +39,7 @@ pub enum LineFault {
     /// A second table row of the same selecting addresses.
     SameAddresses = 10,
 
-    /// The line names no session.
+    /// The line names no session, or an `auth` line no point-to-point one. A reflector is none.
     NoSuchSession = 11,
 
     /// The word may not stand here.
@@ -50,9 +50,6 @@ pub enum LineFault {
 
     /// A table row beyond 65,536, an event line beyond 200,000, or a key beyond four.
     TooMany = 14,
-
-    /// The line is of the grammar, but this program doesn't serve it yet.
-    NotBuilt = 15,
 
     /// The session has a key of that number already.
     SameKey = 16,
@@ -77,7 +74,6 @@ impl fmt::Display for LineFault {
             LineFault::Order => write!(f, "Order"),
             LineFault::MissingEnd => write!(f, "MissingEnd"),
             LineFault::TooMany => write!(f, "TooMany"),
-            LineFault::NotBuilt => write!(f, "NotBuilt"),
             LineFault::SameKey => write!(f, "SameKey"),
         }
     }

@@ -1,9 +1,10 @@
 // The table line of a point-to-point session.
 ghost use Rattle.std.specs.Prelude.{◌≡◌, IfOk, IsTrue, map};
 ghost use Rattle.bfd_rules.specs.Sound.{is_echo_interval};
+ghost use Rattle.bfd_session.specs.Step.{IsFit};
 ghost use Rattle.bfd_script.specs.Gives.{Gives};
 ghost use Rattle.bfd_script.specs.Pairs.{AreEnds, IsTiming, active_of, config_by, echo_of, ends_of, pair_fields, pair_of, pair_with, role_of, timing_fields, timing_of};
-ghost use Rattle.bfd_script.specs.Sound.{IsRanged, IsRow};
+ghost use Rattle.bfd_script.specs.Sound.{IsRow};
 
 use crate::fault::{LineFault, ReadFault};
 use crate::fields::number;
@@ -178,7 +179,7 @@ fn config(ends: Ends, timing: Timing) -> SessionConfig
 fn pair(ends: Ends, rest: &[&str]) -> Result<SessionConfig, LineFault>
     requires { AreEnds ends }
     ensures value { result ≡ pair_with ends (map (λ value. value.now) rest.now) }
-    ensures sound { IfOk result (λ c. IsRanged c × IsRow c) }
+    ensures sound { IfOk result (λ c. IsFit c × IsRow c) }
 {
     let timing = read_timing(ends.role, rest)?;
     Ok(config(ends, timing))
@@ -187,7 +188,7 @@ fn pair(ends: Ends, rest: &[&str]) -> Result<SessionConfig, LineFault>
 /// The session of these values.
 fn pair_fields(alloc: Global, values: &[&str]) -> Result<SessionConfig, ReadFault>
     ensures value { Gives (λ c. c) result (pair_fields (map (λ value. value.now) values.now)) }
-    ensures sound { IfOk result (λ c. IsRanged c × IsRow c) }
+    ensures sound { IfOk result (λ c. IsFit c × IsRow c) }
 {
     match values {
         [discr, role, iface, local, remote, rest @ ..] => {
@@ -201,7 +202,7 @@ fn pair_fields(alloc: Global, values: &[&str]) -> Result<SessionConfig, ReadFaul
 /// The session of a `p2p` line.
 pub(crate) fn read_pair(alloc: Global, values: &[&str]) -> Result<SessionConfig, ReadFault>
     ensures value { Gives (λ c. c) result (pair_of (map (λ value. value.now) values.now)) }
-    ensures sound { IfOk result (λ c. IsRanged c × IsRow c) }
+    ensures sound { IfOk result (λ c. IsFit c × IsRow c) }
 {
     if values.len() != PAIR_VALUES {
         return Err(ReadFault::Fault(LineFault::FieldCount));

@@ -1,5 +1,6 @@
 // The keys of a session.
 ghost use Rattle.std.specs.Prelude.{◌≡◌, ◌<◌, IfOk, IsTrue};
+ghost use Rattle.std.specs.Option.{option_copied};
 ghost use Rattle.hex.specs.Hex.{IsBytes};
 ghost use Rattle.bfd_packet.specs.KeyChain.{fits_kind};
 ghost use Rattle.bfd_script.specs.Gives.{Gives};
@@ -95,8 +96,8 @@ pub(crate) fn read_key(alloc: Global, id: &str, secret: &str) -> Result<Key, Rea
 }
 
 /// What is wrong with one more key for a session with these keys.
-pub(crate) fn key_fault(keys: &Option<Keys>, key: &Key) -> Option<LineFault>
-    ensures { result ≡ key_fault keys.now key.now }
+pub(crate) fn key_fault(keys: Option<&Keys>, key: &Key) -> Option<LineFault>
+    ensures { result ≡ key_fault (option_copied keys.entry) key.now }
 {
     let Some(keys) = keys else {
         return Some(if key.secret.fits(AuthType::Password) {

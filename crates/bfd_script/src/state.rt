@@ -1,19 +1,21 @@
 // What is kept from line to line.
 ghost use Rattle.std.specs.Prelude.{◌≡◌, IfOk};
+ghost use Rattle.bfd_session.specs.Step.{IsFit};
 ghost use Rattle.bfd_script.specs.Gives.{Gives, GivesScript};
 ghost use Rattle.bfd_script.specs.Reading as reading;
-ghost use Rattle.bfd_script.specs.Reading.{accepted, finished, start, with_config, with_event, with_key, with_keys};
-ghost use Rattle.bfd_script.specs.Sound.{IsChain, IsEntry, IsEvent, IsKey, IsRow, IsScript, IsRanged};
+ghost use Rattle.bfd_script.specs.Reading.{accepted, finished, is_full, is_taken, start, with_config, with_event, with_key, with_keys, with_reflector};
+ghost use Rattle.bfd_script.specs.Sound.{IsChain, IsEntry, IsEvent, IsKey, IsReflector, IsRow, IsScript};
 
 use crate::entries::{Entry, Line};
 use crate::fault::{BadLine, LineFault, ReadFault, ScriptFault};
+use crate::pool::Pool;
 use crate::script::Script;
 use crate::table::Table;
 use crate::words::{Place, Version};
-use bfd_packet::{Key, Keys, Port};
-use bfd_rules::Cmd;
+use bfd_packet::{Key, Keys};
+use bfd_sbfd::Reflector;
 use bfd_session::SessionConfig;
-use std::alloc::Global;
+use std::alloc::{AllocError, Global};
 use std::marker::Model;
 
 /// The most table rows of a script.
@@ -28,49 +30,19 @@ pub(crate) struct Reading {
     version: Version,
     place: Place,
     table: Table,
+    pool: Pool,
     events: Vec<Line>,
 }
 
 impl Model for Reading {
     ghost use Rattle.bfd_script.specs.Reading.{State};
-    ghost use Rattle.bfd_script.specs.Sound.{AreEvents, AreNamed, IsRanged};
+    ghost use Rattle.bfd_script.specs.Tables.{IsReading};
 
     ghost Value = { State };
 
-    ghost view = { λ r. record { version = r.version; place = r.place; configs = r.table; events = r.events.items } };
+    ghost view = { λ r. record { version = r.version; place = r.place; configs = r.table; pool = r.pool; events = r.events.items } };
 
-    ghost invariant = { λ r. AreEvents r.events.items × AreNamed r.table r.events.items };
-}
-
-/// Whether this program serves the session.
-fn is_built(config: &SessionConfig) -> bool
-    ensures { result ≡ reading.is_built config.now }
-{
-    let SessionConfig::Pair(pair) = config;
-    pair.echo == 0
-}
-
-/// Whether this program serves the command.
-fn is_built_command(cmd: Cmd) -> bool
-    ensures { result ≡ reading.is_built_command cmd }
-{
-    !matches!(cmd, Cmd::EchoEvery(_))
-}
-
-/// Whether this program serves the event.
-fn is_built_line(line: &Line) -> bool
-    ensures { result ≡ reading.is_built_line line.now }
-{
-    match line {
-        Line::Rx { moment: _, arrival } => matches!(arrival.port, Port::Single | Port::Multi),
-        Line::Tick(_) => true,
-        Line::Cmd {
-            moment: _,
-            discr: _,
-            cmd,
-        } => is_built_command(*cmd),
-        Line::Show { .. } => true,
-    }
+    ghost invariant = { λ r. IsReading r.table r.pool r.events.items };
 }
 
 /// Whether the session that the event names is in the table.
@@ -97,6 +69,7 @@ impl Reading {
             version: Version::One,
             place: Place::Version,
             table: Table::new(alloc),
+            pool: Pool::new(alloc),
             events: Vec::new(alloc),
         }
     }
@@ -115,30 +88,56 @@ impl Reading {
         self.place
     }
 
-    /// One more table row: refused where its discriminator or its selecting addresses are there, where there are 65,536,
-    /// and where this program doesn't serve it.
+    /// Whether a session or a reflector has this discriminator.
+    fn is_taken(&self, discr: u32) -> bool
+        ensures { result ≡ is_taken discr self.now }
+    {
+        self.table.has_discr(discr) || self.pool.has_discr(discr)
+    }
+
+    /// Whether the table has as many rows as it may have.
+    fn is_full(&self) -> bool
+        ensures { result ≡ is_full self.now }
+    {
+        self.table.len() + self.pool.len() >= MOST_ROWS
+    }
+
+    /// One more session: refused where its discriminator or its selecting addresses are there, and where there are 65,536
+    /// rows.
     fn with_row(self, config: SessionConfig) -> Result<Reading, ReadFault>
-        requires ranged { IsRanged config }
+        requires fit { IsFit config }
         requires row { IsRow config }
         ensures { Gives (λ s. s) result (with_config config self) }
     {
-        if self.table.has_discr(config.discr()) {
+        if self.is_taken(config.discr()) {
             return Err(ReadFault::Fault(LineFault::SameDiscr));
         }
         if self.table.has_place(&config) {
             return Err(ReadFault::Fault(LineFault::SameAddresses));
         }
-        if self.table.len() >= MOST_ROWS {
+        if self.is_full() {
             return Err(ReadFault::Fault(LineFault::TooMany));
-        }
-        if !is_built(&config) {
-            return Err(ReadFault::Fault(LineFault::NotBuilt));
         }
         let table = self.table.with(config)?;
         Ok(Reading { table, ..self })
     }
 
-    /// Keys for a session: refused where it has some, and where it isn't there.
+    /// One more reflector: refused where its discriminator is there, and where there are 65,536 rows.
+    fn with_reflector(self, reflector: Reflector) -> Result<Reading, ReadFault>
+        requires { IsReflector reflector }
+        ensures { Gives (λ s. s) result (with_reflector reflector self) }
+    {
+        if self.is_taken(reflector.discr) {
+            return Err(ReadFault::Fault(LineFault::SameDiscr));
+        }
+        if self.is_full() {
+            return Err(ReadFault::Fault(LineFault::TooMany));
+        }
+        let pool = self.pool.with(reflector)?;
+        Ok(Reading { pool, ..self })
+    }
+
+    /// Keys for a session: refused where it has some, and where it isn't a point-to-point one of the table.
     fn with_keys(self, discr: u32, keys: Keys) -> Result<Reading, ReadFault>
         requires { IsChain keys }
         ensures { Gives (λ s. s) result (with_keys discr keys self) }
@@ -146,7 +145,7 @@ impl Reading {
         if self.table.has_keys(discr) {
             return Err(ReadFault::Fault(LineFault::SameDiscr));
         }
-        if !self.table.has_discr(discr) {
+        if !self.table.has_pair(discr) {
             return Err(ReadFault::Fault(LineFault::NoSuchSession));
         }
         let table = self.table.with_keys(discr, keys);
@@ -166,8 +165,7 @@ impl Reading {
         Ok(Reading { table, ..self })
     }
 
-    /// One more event line: refused where the session that it names isn't there, where there are 200,000, and where this
-    /// program doesn't serve it.
+    /// One more event line: refused where the session that it names isn't there, and where there are 200,000.
     fn with_line(self, line: Line) -> Result<Reading, ReadFault>
         requires { IsEvent line }
         ensures { Gives (λ s. s) result (with_event line self) }
@@ -177,9 +175,6 @@ impl Reading {
         }
         if self.events.len() >= MOST_EVENTS {
             return Err(ReadFault::Fault(LineFault::TooMany));
-        }
-        if !is_built_line(&line) {
-            return Err(ReadFault::Fault(LineFault::NotBuilt));
         }
         let mut events = self.events;
         events.push(line)?;
@@ -194,6 +189,7 @@ impl Reading {
         match entry {
             Entry::Version(version) => Ok(self.begun(version)),
             Entry::Row(config) => self.with_row(config),
+            Entry::Reflect(reflector) => self.with_reflector(reflector),
             Entry::Auth { discr, keys } => self.with_keys(discr, keys),
             Entry::Key { discr, key } => self.with_key(discr, key),
             Entry::Run => Ok(self.at(Place::Events)),
@@ -220,19 +216,27 @@ impl Reading {
         Reading { place, ..self }
     }
 
+    /// The script of all lines.
+    fn into_script(self, alloc: Global) -> Result<Script, AllocError>
+        ensures script { IfOk result (λ script. script ≡ record { configs = self.configs; pool = self.pool; events = self.events }) }
+        ensures sound { IfOk result IsScript }
+    {
+        let configs = self.table.into_rows(alloc)?;
+        let pool = self.pool.into_rows(alloc)?;
+        Ok(Script {
+            configs,
+            pool,
+            events: self.events,
+        })
+    }
+
     /// The script, where the text ended after `end`; `number` is that of the line that would come next.
     pub(crate) fn finish(self, alloc: Global, number: u64) -> Result<Script, ScriptFault>
         ensures script { GivesScript result (finished number self) }
         ensures sound { IfOk result IsScript }
     {
         match self.place {
-            Place::Over => match self.table.into_rows(alloc) {
-                Ok(configs) => Ok(Script {
-                    configs,
-                    events: self.events,
-                }),
-                Err(_) => Err(ScriptFault::Memory),
-            },
+            Place::Over => self.into_script(alloc).map_err(|_| ScriptFault::Memory),
             _ => Err(ScriptFault::Bad(BadLine {
                 line: number,
                 fault: LineFault::MissingEnd,

@@ -1,11 +1,15 @@
 // The table of sessions: unique by discriminator and by selecting addresses.
-ghost use Rattle.std.specs.Prelude.{◌≡◌, ◌<◌, [], false, true, length, IfOk, None, Some};
+ghost use Rattle.std.specs.Prelude.{◌≡◌, ◌||◌, ◌<◌, [], false, length, IfOk, None, Some};
+ghost use Rattle.std.specs.BTreeSet.{contains};
+ghost use Rattle.bfd_demux.specs.Rows.{same_selector};
+ghost use Rattle.bfd_demux.specs.declared.row.RowKind.{RowKind as Kind};
 ghost use Rattle.bfd_session.specs.Kinds.{discr_of};
-ghost use Rattle.bfd_script.specs.Reading.{is_built};
+ghost use Rattle.bfd_session.specs.Step.{IsFit};
 ghost use Rattle.std.specs.Map.{values_of};
-ghost use Rattle.bfd_script.specs.Rows.{by_discr, changed, given, given_more, has_discr, has_keys, has_place, inserted, keyed_more, keyed_with, keys_in, keys_of};
+ghost use Rattle.std.specs.Option.{option_copied};
+ghost use Rattle.bfd_script.specs.Rows.{by_discr, changed, given, given_more, has_discr, has_keys, has_pair, has_place, inserted, is_pair, keyed_more, keyed_with, keys_in, keys_of, one_more};
 ghost use Rattle.bfd_script.specs.Secrets.{key_fault};
-ghost use Rattle.bfd_script.specs.Sound.{AreConfigs, IsChain, IsKey, IsRow, IsRanged};
+ghost use Rattle.bfd_script.specs.Sound.{AreConfigs, IsChain, IsKey, IsRow};
 
 use crate::fault::LineFault;
 use crate::secrets::key_fault;
@@ -16,7 +20,7 @@ use std::alloc::{AllocError, Global};
 use std::collections::{BTreeMap, BTreeSet};
 use std::marker::Model;
 
-/// Sessions with the Echo function off. Contracts see the list of them, ascending by discriminator.
+/// Sessions. Contracts see the list of them, ascending by discriminator.
 #[derive(Drop)]
 pub(crate) struct Table {
     rows: BTreeMap<u32, SessionConfig>,
@@ -38,19 +42,39 @@ impl Model for Table {
 }
 
 /// The keys of a session.
-fn keys_in(config: &SessionConfig) -> &Option<Keys>
-    ensures { result.now ≡ keys_in (Some config.now) }
+pub(crate) fn keys_in(config: &SessionConfig) -> Option<&Keys>
+    ensures { option_copied result ≡ keys_in (Some config.now) }
 {
-    let SessionConfig::Pair(pair) = config;
-    &pair.keys
+    match config {
+        SessionConfig::Pair(pair) => pair.keys.as_ref(),
+        _ => None,
+    }
 }
 
-/// A session gets these keys.
+/// Whether the session may have keys: a point-to-point one alone may.
+fn may_have_keys(config: &SessionConfig) -> bool
+    ensures { result ≡ is_pair (Some config.now) }
+{
+    matches!(config, SessionConfig::Pair(_))
+}
+
+/// A session gets these keys, where it may have some.
 fn set_keys(config: &mut SessionConfig, keys: Keys)
     ensures { config.new ≡ keyed_with keys config.old }
 {
-    let SessionConfig::Pair(pair) = config;
-    pair.keys = Some(keys);
+    if let SessionConfig::Pair(pair) = config {
+        pair.keys = Some(keys);
+    }
+}
+
+/// One more key behind these, where there are some with room for it.
+fn add_to(keys: &mut Option<Keys>, key: Key)
+    requires { key_fault keys.old key ≡ None }
+    ensures { keys.new ≡ one_more key keys.old }
+{
+    if let Some(keys) = keys {
+        keys.add(key);
+    }
 }
 
 /// A session gets one more key, where it has some with room for it.
@@ -58,9 +82,8 @@ fn add_key(config: &mut SessionConfig, key: Key)
     requires { key_fault (keys_in (Some config.old)) key ≡ None }
     ensures { config.new ≡ keyed_more key config.old }
 {
-    let SessionConfig::Pair(pair) = config;
-    if let Some(keys) = &mut pair.keys {
-        keys.add(key);
+    if let SessionConfig::Pair(pair) = config {
+        add_to(&mut pair.keys, key);
     }
 }
 
@@ -85,6 +108,19 @@ fn give_more(rows: &mut BTreeMap<u32, SessionConfig>, discr: u32, key: Key)
         return;
     };
     add_key(config, key);
+}
+
+/// The addresses of one more session, where it has some: a session without addresses is like no other.
+#[tactic(auto, using(crate::proofs::Inserting::unnoted))]
+fn note(places: BTreeSet<RowKind>, kind: RowKind) -> Result<BTreeSet<RowKind>, AllocError>
+    ensures { IfOk result (λ after. (q : Kind) → contains (⟦<RowKind as Ord>⟧.cmp) after q ≡ (same_selector q kind || contains (⟦<RowKind as Ord>⟧.cmp) places q)) }
+{
+    if !kind.has_addresses() {
+        return Ok(places);
+    }
+    let mut places = places;
+    places.insert(kind)?;
+    Ok(places)
 }
 
 impl Table {
@@ -113,6 +149,17 @@ impl Table {
         self.rows.contains_key(&discr)
     }
 
+    /// Whether the session of this discriminator is there and may have keys.
+    #[tactic(auto, using(crate::proofs::Giving::found_at))]
+    pub(crate) fn has_pair(&self, discr: u32) -> bool
+        ensures { result ≡ has_pair discr self.now }
+    {
+        match self.rows.get(&discr) {
+            Some(config) => may_have_keys(config),
+            None => false,
+        }
+    }
+
     /// Whether the session of this discriminator has keys.
     #[tactic(auto, using(crate::proofs::Giving::found_at))]
     pub(crate) fn has_keys(&self, discr: u32) -> bool
@@ -131,7 +178,7 @@ impl Table {
     {
         match self.rows.get(&discr) {
             Some(config) => key_fault(keys_in(config), key),
-            None => key_fault(&None, key),
+            None => key_fault(None, key),
         }
     }
 
@@ -147,16 +194,12 @@ impl Table {
         requires discr { has_discr (discr_of config) self ≡ false }
         requires place { has_place config self ≡ false }
         requires room { length self < 65536 }
-        requires ranged { IsRanged config }
+        requires fit { IsFit config }
         requires row { IsRow config }
-        requires built { is_built config ≡ true }
         ensures { IfOk result (λ table. table ≡ inserted config self) }
     {
-        let Table {
-            mut rows,
-            mut places,
-        } = self;
-        places.insert(row_of(&config).kind)?;
+        let Table { mut rows, places } = self;
+        let places = note(places, row_of(&config).kind)?;
         rows.insert(config.discr(), config)?;
         Ok(Table { rows, places })
     }

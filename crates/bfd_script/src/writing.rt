@@ -2,17 +2,21 @@
 ghost use Rattle.std.specs.Prelude.{◌≡◌, [], ◌∷◌, IfOk, Ok, codes, false, string_bytes};
 ghost use Rattle.std.specs.Fmt.{decimal};
 ghost use Rattle.std.specs.List.{list_any};
+ghost use Rattle.std.specs.Option.{option_copied};
 ghost use Rattle.bfd_script.specs.Reading.{script_of};
 ghost use Rattle.bfd_script.specs.Sound.{IsScript};
 ghost use Rattle.bfd_script.specs.Spelling.{line};
-ghost use Rattle.bfd_script.specs.Written.{address_field, auth_fields, config_text, event_fields, events_text, has_second, is_new_line, is_new_row, key_fields, keys_text, list_text, mode_field, more_text, port_field, role_field, row_fields, rows_text, spelling, version_field, version_of};
+ghost use Rattle.bfd_script.specs.Written.{address_field, auth_fields, config_text, event_fields, events_text, has_second, is_new_line, is_new_row, key_fields, keys_text, list_text, mode_field, more_text, pool_text, port_field, reflector_fields, role_field, row_fields, rows_text, spelling, up_field, version_field, version_of};
 
 use crate::entries::Line;
 use crate::names::hex_text;
 use crate::script::Script;
+use crate::table::keys_in;
 use crate::words::Version;
+use bfd_mp::{HeadConfig, TailConfig};
 use bfd_packet::{Addr, Arrival, AuthType, Key, Keys, Port};
-use bfd_rules::{Cmd, Role};
+use bfd_rules::{Cmd, Config, Role};
+use bfd_sbfd::{Reflector, SeekConfig};
 use bfd_session::SessionConfig;
 use byteorder::{BigEndian, ByteOrder};
 use std::alloc::{AllocError, Global};
@@ -68,24 +72,93 @@ fn port_text(port: Port) -> &'static str
     }
 }
 
-/// The line of a table row.
-fn row_text(alloc: Global, config: &SessionConfig) -> Result<String, AllocError>
-    ensures { IfOk result (λ text. string_bytes text ≡ line (row_fields config.now)) }
+/// Whether a reflector is Up.
+fn up_text(up: bool) -> &'static str
+    ensures { result.now ≡ up_field up }
 {
-    let SessionConfig::Pair(pair) = config;
-    let discr = pair.discr;
-    let role = role_text(pair.role);
-    let iface = pair.iface;
-    let local = address_text(alloc, pair.local)?;
-    let remote = address_text(alloc, pair.remote)?;
-    let mode = mode_text(pair.active);
-    let (tx, rx, mult, echo, seed) = (pair.tx, pair.rx, pair.mult, pair.echo, pair.seed);
+    if up { "up" } else { "admin" }
+}
+
+/// The row of a point-to-point session.
+fn pair_text(alloc: Global, config: &Config) -> Result<String, AllocError>
+    ensures { IfOk result (λ text. string_bytes text ≡ line (row_fields (SessionConfig.Pair config.now))) }
+{
+    let discr = config.discr;
+    let role = role_text(config.role);
+    let iface = config.iface;
+    let local = address_text(alloc, config.local)?;
+    let remote = address_text(alloc, config.remote)?;
+    let mode = mode_text(config.active);
+    let (tx, rx, mult, echo, seed) = (config.tx, config.rx, config.mult, config.echo, config.seed);
     let mut text = String::new(alloc);
     writeln!(
         text,
         "p2p {discr} {role} {iface} {local} {remote} {mode} {tx} {rx} {mult} {echo} {seed}"
     )?;
     Ok(text)
+}
+
+/// The row of an initiator.
+fn seek_text(alloc: Global, config: &SeekConfig) -> Result<String, AllocError>
+    ensures { IfOk result (λ text. string_bytes text ≡ line (row_fields (SessionConfig.Seek config.now))) }
+{
+    let (discr, target, iface) = (config.discr, config.target, config.iface);
+    let local = address_text(alloc, config.local)?;
+    let remote = address_text(alloc, config.remote)?;
+    let (tx, mult, seed) = (config.tx, config.mult, config.seed);
+    let mut text = String::new(alloc);
+    writeln!(
+        text,
+        "sbfd {discr} {target} {iface} {local} {remote} {tx} {mult} {seed}"
+    )?;
+    Ok(text)
+}
+
+/// The row of a head.
+fn head_text(alloc: Global, config: &HeadConfig) -> Result<String, AllocError>
+    ensures { IfOk result (λ text. string_bytes text ≡ line (row_fields (SessionConfig.Head config.now))) }
+{
+    let (discr, iface) = (config.discr, config.iface);
+    let local = address_text(alloc, config.local)?;
+    let group = address_text(alloc, config.group)?;
+    let (tx, mult, seed) = (config.tx, config.mult, config.seed);
+    let mut text = String::new(alloc);
+    writeln!(
+        text,
+        "head {discr} {iface} {local} {group} {tx} {mult} {seed}"
+    )?;
+    Ok(text)
+}
+
+/// The row of a tail.
+fn tail_text(alloc: Global, config: &TailConfig) -> Result<String, AllocError>
+    ensures { IfOk result (λ text. string_bytes text ≡ line (row_fields (SessionConfig.Tail config.now))) }
+{
+    let (discr, head, iface) = (config.discr, config.head, config.iface);
+    let group = address_text(alloc, config.group)?;
+    let source = address_text(alloc, config.source)?;
+    format!(in alloc; "tail {discr} {head} {iface} {group} {source}\n")
+}
+
+/// The row of a session.
+fn row_text(alloc: Global, config: &SessionConfig) -> Result<String, AllocError>
+    ensures { IfOk result (λ text. string_bytes text ≡ line (row_fields config.now)) }
+{
+    match config {
+        SessionConfig::Pair(config) => pair_text(alloc, config),
+        SessionConfig::Seek(config) => seek_text(alloc, config),
+        SessionConfig::Head(config) => head_text(alloc, config),
+        SessionConfig::Tail(config) => tail_text(alloc, config),
+    }
+}
+
+/// The row of a reflector.
+fn reflector_text(alloc: Global, reflector: &Reflector) -> Result<String, AllocError>
+    ensures { IfOk result (λ text. string_bytes text ≡ line (reflector_fields reflector.now)) }
+{
+    let (discr, rx) = (reflector.discr, reflector.rx);
+    let up = up_text(reflector.up);
+    format!(in alloc; "reflector {discr} {rx} {up}\n")
 }
 
 /// The `auth` line of a key.
@@ -134,8 +207,8 @@ fn list_text(alloc: Global, discr: u32, kind: AuthType, keys: &[Key]) -> Result<
 }
 
 /// The lines of a session's keys, where it has some.
-fn keys_text(alloc: Global, discr: u32, keys: &Option<Keys>) -> Result<String, AllocError>
-    ensures { IfOk result (λ text. string_bytes text ≡ keys_text discr keys.now) }
+fn keys_text(alloc: Global, discr: u32, keys: Option<&Keys>) -> Result<String, AllocError>
+    ensures { IfOk result (λ text. string_bytes text ≡ keys_text discr (option_copied keys.entry)) }
 {
     match keys {
         None => Ok(String::new(alloc)),
@@ -148,8 +221,7 @@ fn config_text(alloc: Global, config: &SessionConfig) -> Result<String, AllocErr
     ensures { IfOk result (λ text. string_bytes text ≡ config_text config.now) }
 {
     let row = row_text(alloc, config)?;
-    let SessionConfig::Pair(pair) = config;
-    let keys = keys_text(alloc, pair.discr, &pair.keys)?;
+    let keys = keys_text(alloc, config.discr(), keys_in(config))?;
     format!(in alloc; "{row}{keys}")
 }
 
@@ -161,6 +233,18 @@ fn rows_text(alloc: Global, configs: &[SessionConfig]) -> Result<String, AllocEr
     for config in configs {
         let lines = config_text(alloc, config)?;
         text.push_str(lines.as_str())?;
+    }
+    Ok(text)
+}
+
+/// The lines of reflectors.
+fn pool_text(alloc: Global, pool: &[Reflector]) -> Result<String, AllocError>
+    ensures { IfOk result (λ text. string_bytes text ≡ pool_text pool.now) }
+{
+    let mut text = String::new(alloc);
+    for reflector in pool {
+        let line = reflector_text(alloc, reflector)?;
+        text.push_str(line.as_str())?;
     }
     Ok(text)
 }
@@ -252,8 +336,8 @@ fn events_text(alloc: Global, events: &[Line]) -> Result<String, AllocError>
 }
 
 /// Whether a session has a second key.
-fn has_second(keys: &Option<Keys>) -> bool
-    ensures { result ≡ has_second keys.now }
+fn has_second(keys: Option<&Keys>) -> bool
+    ensures { result ≡ has_second (option_copied keys.entry) }
 {
     match keys {
         None => false,
@@ -265,8 +349,7 @@ fn has_second(keys: &Option<Keys>) -> bool
 fn is_new_row(config: &SessionConfig) -> bool
     ensures { result ≡ is_new_row config.now }
 {
-    let SessionConfig::Pair(pair) = config;
-    has_second(&pair.keys)
+    has_second(keys_in(config))
 }
 
 /// Whether version 1 has no line for the event.
@@ -323,12 +406,13 @@ fn script_text(alloc: Global, script: &Script) -> Result<String, AllocError>
 {
     let version = version_text(version_of(script));
     let rows = rows_text(alloc, &script.configs)?;
+    let pool = pool_text(alloc, &script.pool)?;
     let events = events_text(alloc, &script.events)?;
-    format!(in alloc; "bfd {version}\n{rows}run\n{events}end\n")
+    format!(in alloc; "bfd {version}\n{rows}{pool}run\n{events}end\n")
 }
 
-/// The one spelling of a script, as bytes: the sessions as they stand, each with its keys after it, with decimal numbers
-/// without leading zeros and hexadecimal digits in lower case. It is of version 1 where no session has a second key and no
+/// The one spelling of a script, as bytes: the sessions as they stand, each with its keys after it, then the reflectors, with
+/// decimal numbers without leading zeros and hexadecimal digits in lower case. It is of version 1 where no session has a second key and no
 /// event is a command `key`, and else of version 2. `read` of it gives a script that `read` gave. The one refusal is want of
 /// memory.
 #[tactic(auto, using(crate::proofs::ScriptAgain::text_again))]

@@ -1,0 +1,77 @@
+-- One more reflector in a pool, and a pool beside a table of sessions.
+use Rattle.std.proofs.Common.{◌≡◌, ℕ, ◌<◌, ◌==◌, Bool, true, false, ◌||◌, cond, List, [], ◌∷◌, refl, sym, ap, ◌∙◌, arith, nat_lt, subst}
+use Rattle.std.proofs.lemmas.Bool.Decides.{nat_tests}
+use Rattle.std.specs.Prelude.{is_some}
+use Rattle.std.specs.Map.{values_of, lookup}
+use Rattle.std.specs.BTreeMap.{is_at, insert_entry}
+use Rattle.std.specs.Ordering.{nat_cmp}
+use Rattle.bfd_sbfd.specs.Reflect.{Ascends}
+use Rattle.bfd_sbfd.specs.declared.reflecting.Reflector.{Reflector}
+use Rattle.bfd_session.specs.declared.event.SessionConfig.{SessionConfig}
+use Rattle.bfd_session.specs.Kinds.{discr_of}
+use Rattle.bfd_script.specs.Rows.{has_discr, has_reflector, inserted, number_of, pool_by_discr, pooled}
+use Rattle.bfd_script.specs.Sound.{AreApart, ArePool, IsReflector}
+use Rattle.bfd_script.specs.Tables.{IsPool}
+use Rattle.bfd_script.proofs.Elements.{each_to}
+use Rattle.bfd_script.proofs.Numbered.{any_inserted, each_inserted, entries_more, is_above, is_below, known_among, or_false}
+
+pub known_at : (k : ℕ) (entries : List (ℕ × Reflector)) → entries ≡ pool_by_discr (values_of entries)
+    → is_some (lookup (is_at (nat_cmp k)) entries) ≡ has_reflector k (values_of entries)
+known_at k entries keyed = known_among number_of k entries keyed
+
+-- ---- one more reflector
+
+ascends_cond : (less same has : Bool) (r q : Reflector) (pool : List Reflector)
+    → nat_lt r.discr q.discr ≡ less → (r.discr == q.discr) ≡ same → (same || has) ≡ false
+    → Ascends (q ∷ pool) → (has ≡ false → Ascends (pooled r pool)) → Ascends (cond less (r ∷ q ∷ pool) (q ∷ pooled r pool))
+ascends_cond true same has r q pool l s none all more =
+    let low : r.discr < q.discr = is_below r.discr q.discr l in
+    ((low, each_to pool (λ x h. let k : q.discr < x.discr = h in omega arith) all.0), all)
+ascends_cond false true has r q pool l s none all more = cc
+ascends_cond false false has r q pool l s none all more =
+    (each_inserted number_of (λ x. q.discr < x.discr) r pool (is_above r.discr q.discr l s) all.0, more none)
+
+ascends_pooled : (r : Reflector) (pool : List Reflector) → has_reflector r.discr pool ≡ false → Ascends pool → Ascends (pooled r pool)
+ascends_pooled r [] none all = (tt, tt)
+ascends_pooled r (q ∷ pool) none all =
+    ascends_cond (nat_lt r.discr q.discr) (r.discr == q.discr) (has_reflector r.discr pool) r q pool refl refl none all (λ h. ascends_pooled r pool h all.1)
+
+-- the reflectors of the longer pool
+pub rows_pooled : (r : Reflector) (pool : List Reflector) (entries more : List (ℕ × Reflector)) → entries ≡ pool_by_discr (values_of entries)
+    → values_of entries ≡ pool → has_reflector r.discr pool ≡ false → more ≡ insert_entry nat_cmp entries r.discr r
+    → values_of more ≡ pooled r pool
+rows_pooled r pool entries more keyed view none e =
+    (entries_more number_of r entries more keyed (ap (has_reflector r.discr) view ∙ none) e).1 ∙ ap (pooled r) view
+
+-- the whole pool
+pub pool_more : (r : Reflector) (pool : List Reflector) (entries more : List (ℕ × Reflector)) → IsPool entries → values_of entries ≡ pool
+    → has_reflector r.discr pool ≡ false → IsReflector r → more ≡ insert_entry nat_cmp entries r.discr r → IsPool more
+pool_more r pool entries more were view none row e =
+    let free : has_reflector r.discr (values_of entries) ≡ false = ap (has_reflector r.discr) view ∙ none in
+    let m = entries_more number_of r entries more were.keyed free e in
+    let now : ArePool (pooled r (values_of entries)) = record {
+      ascends = ascends_pooled r (values_of entries) free were.reflectors.ascends;
+      rows = each_inserted number_of IsReflector r (values_of entries) row were.reflectors.rows;
+    } in
+    record { keyed = m.0 ∙ ap pool_by_discr (sym m.1); reflectors = subst (λ rs. ArePool rs) (sym m.1) now }
+
+-- ---- beside the sessions
+
+turned_apart : (a b : ℕ) → (a == b) ≡ false → (b == a) ≡ false
+turned_apart a b h = grind (arith, nat_tests)
+
+neither : (p q : Bool) → p ≡ false → q ≡ false → (p || q) ≡ false
+neither p q e f = rw (e, f) refl
+
+-- one more session with a discriminator that no reflector has
+pub apart_inserted : (c : SessionConfig) (cs : List SessionConfig) (pool : List Reflector) → has_reflector (discr_of c) pool ≡ false → AreApart cs pool → AreApart (inserted c cs) pool
+apart_inserted c cs [] none apart = tt
+apart_inserted c cs (r ∷ pool) none apart =
+    let e = or_false (discr_of c == r.discr) (has_reflector (discr_of c) pool) none in (
+      any_inserted discr_of (λ d. r.discr == discr_of d) c cs ∙ neither (r.discr == discr_of c) (has_discr r.discr cs) (turned_apart (discr_of c) r.discr e.0) apart.0,
+      apart_inserted c cs pool e.1 apart.1,
+    )
+
+-- one more reflector with a discriminator that no session has
+pub apart_pooled : (cs : List SessionConfig) (r : Reflector) (pool : List Reflector) → has_discr r.discr cs ≡ false → AreApart cs pool → AreApart cs (pooled r pool)
+apart_pooled cs r pool none apart = each_inserted number_of (λ q. has_discr q.discr cs ≡ false) r pool none apart

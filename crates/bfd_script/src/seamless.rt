@@ -1,0 +1,112 @@
+// The table lines of seamless BFD.
+ghost use Rattle.std.specs.Prelude.{◌≡◌, IfOk, map};
+ghost use Rattle.bfd_session.specs.Step.{IsFit};
+ghost use Rattle.bfd_script.specs.Gives.{Gives};
+ghost use Rattle.bfd_script.specs.Seamless as lines;
+ghost use Rattle.bfd_script.specs.Sound.{IsReflector, IsRow};
+
+use crate::fault::{LineFault, ReadFault};
+use crate::fields::number;
+use crate::values::address;
+use bfd_sbfd::{Reflector, SeekConfig};
+use bfd_session::SessionConfig;
+use std::alloc::Global;
+
+/// An initiator of these values.
+#[tactic(auto, unfolding(crate::specs::Seamless::initiator_of))]
+fn initiator(
+    alloc: Global,
+    discr: &str,
+    target: &str,
+    iface: &str,
+    local: &str,
+    remote: &str,
+    tx: &str,
+    mult: &str,
+    seed: &str,
+) -> Result<SessionConfig, ReadFault>
+    ensures value { Gives (λ c. c) result (lines.initiator_of discr.now target.now iface.now local.now remote.now tx.now mult.now seed.now) }
+    ensures sound { IfOk result (λ c. IsFit c × IsRow c) }
+{
+    let discr = number(discr, 1, 4_294_967_295)? as u32;
+    let target = number(target, 1, 4_294_967_295)? as u32;
+    let iface = number(iface, 0, 65_535)? as u32;
+    let local = address(alloc, local)?;
+    let remote = address(alloc, remote)?;
+    let tx = number(tx, 10_000, 60_000_000)? as u32;
+    let mult = number(mult, 1, 255)? as u8;
+    let seed = number(seed, 0, 4_294_967_295)? as u32;
+    Ok(SessionConfig::Seek(SeekConfig {
+        discr,
+        target,
+        iface,
+        local,
+        remote,
+        tx,
+        mult,
+        seed,
+    }))
+}
+
+/// The initiator of the first two values and the others.
+fn seek_with(
+    alloc: Global,
+    discr: &str,
+    target: &str,
+    rest: &[&str],
+) -> Result<SessionConfig, ReadFault>
+    ensures value { Gives (λ c. c) result (lines.seek_with discr.now target.now (map (λ value. value.now) rest.now)) }
+    ensures sound { IfOk result (λ c. IsFit c × IsRow c) }
+{
+    match rest {
+        [iface, local, remote, tx, mult, seed] => {
+            initiator(alloc, discr, target, iface, local, remote, tx, mult, seed)
+        }
+        _ => Err(ReadFault::Fault(LineFault::FieldCount)),
+    }
+}
+
+/// The initiator of an `sbfd` line.
+pub(crate) fn read_seek(alloc: Global, values: &[&str]) -> Result<SessionConfig, ReadFault>
+    ensures value { Gives (λ c. c) result (lines.seek_of (map (λ value. value.now) values.now)) }
+    ensures sound { IfOk result (λ c. IsFit c × IsRow c) }
+{
+    match values {
+        [discr, target, rest @ ..] => seek_with(alloc, discr, target, rest),
+        _ => Err(ReadFault::Fault(LineFault::FieldCount)),
+    }
+}
+
+/// Whether the reflector is Up.
+fn up_named(field: &str) -> Result<bool, LineFault>
+    ensures { result ≡ lines.up_of field.now }
+{
+    match field {
+        "up" => Ok(true),
+        "admin" => Ok(false),
+        _ => Err(LineFault::UnknownWord),
+    }
+}
+
+/// A reflector of these values.
+#[tactic(auto, unfolding(crate::specs::Seamless::reflecting_of))]
+fn reflecting(discr: &str, rx: &str, mode: &str) -> Result<Reflector, LineFault>
+    ensures value { result ≡ lines.reflecting_of discr.now rx.now mode.now }
+    ensures sound { IfOk result IsReflector }
+{
+    let discr = number(discr, 1, 4_294_967_295)? as u32;
+    let rx = number(rx, 10_000, 60_000_000)? as u32;
+    let up = up_named(mode)?;
+    Ok(Reflector { discr, rx, up })
+}
+
+/// The reflector of a `reflector` line.
+pub(crate) fn read_reflector(values: &[&str]) -> Result<Reflector, LineFault>
+    ensures value { result ≡ lines.reflector_of (map (λ value. value.now) values.now) }
+    ensures sound { IfOk result IsReflector }
+{
+    match values {
+        [discr, rx, mode] => reflecting(discr, rx, mode),
+        _ => Err(LineFault::FieldCount),
+    }
+}
