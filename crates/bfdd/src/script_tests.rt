@@ -1,5 +1,6 @@
 // What bfd_script does and the program doesn't ask for: live scripts, and the one spelling.
-use bfd_script::{BadLine, LineFault, ScriptFault, read, write};
+use bfd_script::{BadLine, LineFault, ScriptFault, read};
+use bfd_spelling::write;
 use std::test::Fail;
 
 /// How many event lines a live text has, or its first faulty line.
