@@ -1,20 +1,20 @@
 //! A world of sessions, and the replay of a script.
 ghost use Rattle.std.specs.Prelude.{◌≡◌, ◌<◌, ◌≤◌, ◌+◌, ◌*◌, ◌++◌, ℕ, true, IfOk, [], length, map, string_bytes, sum_by};
 ghost use Rattle.std.specs.List.{AllByRecursion};
-ghost use Rattle.bfd_session.specs.Rows.{AreFit, table_of};
+ghost use Rattle.bfd_session.specs.Rows.{AreFit, table_of as table_in};
 ghost use Rattle.bfd_session.specs.Step.{started as started_of};
 ghost use Rattle.bfd_script.specs.Report.{sent_by, dropped_by, done_line, report};
-ghost use Rattle.bfd_script.specs.Sound.{IsTable, IsScript};
-ghost use Rattle.bfd_replay.specs.Stage.{IsStage};
+ghost use Rattle.bfd_script.specs.Sound.{IsScript};
+ghost use Rattle.bfd_replay.specs.Stage.{IsStage, IsTable};
 ghost use Rattle.bfd_replay.specs.World.{gives, turned};
 ghost use Rattle.bfd_replay.specs.World as world;
 
 use crate::world::happen;
 use bfd_demux::{BuildFault, Demux};
 use bfd_rules::{Out, Outs};
-use bfd_script::{Line, Script, lines};
 use bfd_sbfd::Reflector;
-use bfd_session::{Answer, Session, SessionConfig, row_of_reflector, rows_of};
+use bfd_script::{Line, Script, lines};
+use bfd_session::{Answer, Session, SessionConfig, table_of};
 use std::alloc::{AllocError, Global};
 use std::marker::Model;
 
@@ -54,18 +54,11 @@ fn started(alloc: Global, configs: Vec<SessionConfig>) -> Result<Vec<Session>, A
 
 /// The table of the sessions and the pool, which have no fault.
 #[tactic(auto, using(crate::proofs::Stages::no_fault))]
-fn table(
-    alloc: Global,
-    configs: &[SessionConfig],
-    pool: &[Reflector],
-) -> Result<Demux, AllocError>
+fn table(alloc: Global, configs: &[SessionConfig], pool: &[Reflector]) -> Result<Demux, AllocError>
     requires { IsTable configs.now pool.now }
-    ensures { IfOk result (λ demux. demux ≡ table_of configs.now pool.now) }
+    ensures { IfOk result (λ demux. demux ≡ table_in configs.now pool.now) }
 {
-    let mut rows = rows_of(alloc, configs)?;
-    for reflector in pool {
-        rows.push(row_of_reflector(reflector))?;
-    }
+    let rows = table_of(alloc, configs, pool)?;
     match Demux::build(alloc, &rows) {
         Ok(demux) => Ok(demux),
         Err(BuildFault::Memory) => Err(AllocError),

@@ -11,7 +11,7 @@
 //!
 //! It stands on `bfd_p2p`, `bfd_echo`, `bfd_sbfd`, `bfd_mp` and `bfd_demux` and what those stand on. It promises that a step
 //! and a tick are the definitions `next`, `emits` and `reply` of `specs/`, that sessions stay sound, that after a tick
-//! nothing that was due is left, and that no call but `rows_of` takes memory.
+//! nothing that was due is left, and that no call but `rows_of` and `table_of` takes memory.
 #![tactic(auto)]
 
 mod answering;
@@ -28,5 +28,5 @@ mod tail;
 
 pub use event::{Answer, Event, SessionConfig, Shown};
 pub use law::{event_laws, tick_laws};
-pub use rows::{row_of, row_of_reflector, rows_of};
+pub use rows::{row_of, row_of_reflector, rows_of, table_of};
 pub use session::Session;

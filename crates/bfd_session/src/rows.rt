@@ -1,5 +1,5 @@
 //! The rows by which arrivals are told, one for each session and each reflector.
-ghost use Rattle.std.specs.Prelude.{◌≡◌, IfOk};
+ghost use Rattle.std.specs.Prelude.{◌≡◌, IfOk, map};
 ghost use Rattle.bfd_session.specs.Rows as rows;
 
 use crate::SessionConfig;
@@ -56,4 +56,28 @@ pub fn rows_of(alloc: Global, configs: &[SessionConfig]) -> Result<Vec<Row>, All
     ensures { IfOk result (λ list. list.items ≡ rows.rows_of configs.now) }
 {
     configs.iter().map(|config| row_of(config)).collect(alloc)
+}
+
+/// The rows of the reflectors, in their order.
+fn reflector_rows(alloc: Global, pool: &[Reflector]) -> Result<Vec<Row>, AllocError>
+    ensures { IfOk result (λ list. list.items ≡ map rows.row_of_reflector pool.now) }
+{
+    pool.iter()
+        .map(|reflector| row_of_reflector(reflector))
+        .collect(alloc)
+}
+
+/// The table of sessions and of a pool of reflectors: the rows of the sessions, and then those of the reflectors. The one
+/// refusal is want of memory.
+pub fn table_of(
+    alloc: Global,
+    configs: &[SessionConfig],
+    pool: &[Reflector],
+) -> Result<Vec<Row>, AllocError>
+    ensures { IfOk result (λ list. list.items ≡ rows.table_of configs.now pool.now) }
+{
+    let mut list = rows_of(alloc, configs)?;
+    let mut reflectors = reflector_rows(alloc, pool)?;
+    list.append(&mut reflectors)?;
+    Ok(list)
 }
