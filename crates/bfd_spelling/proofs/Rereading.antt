@@ -17,10 +17,11 @@ use Rattle.bfd_packet.specs.declared.arrival.Addr.{Addr}
 use Rattle.bfd_packet.specs.declared.arrival.Addr.TheVariants.{V4, V6}
 use Rattle.bfd_script.specs.Spelling.{hex_field}
 use Rattle.bfd_script.specs.Values.{IsAddress, address_by, address_of, bytes_of, dotted_of, octet_of, part_of, payload_of, quad_of}
-use Rattle.bfd_script.specs.Written.{address_field, dotted_field}
-use Rattle.bfd_script.proofs.Numerals.{number_again, number_dotless, number_field, octet_short}
-use Rattle.bfd_script.proofs.Elements.{IsVisible, IsField, both, each_more, is_visible, seen}
-use Rattle.bfd_script.proofs.Splitting.{split_front, split_last}
+use Rattle.bfd_spelling.specs.Written.{address_field, dotted_field}
+use Rattle.bfd_spelling.proofs.Numerals.{number_again, number_dotless, number_field, octet_short}
+use Rattle.bfd_script.proofs.Elements.{each_more}
+use Rattle.bfd_spelling.proofs.Visible.{IsVisible, IsField, both, is_visible, seen}
+use Rattle.bfd_spelling.proofs.Splitting.{split_front, split_last}
 
 -- ---- four numbers with dots
 

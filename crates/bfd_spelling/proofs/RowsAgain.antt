@@ -28,11 +28,11 @@ use Rattle.bfd_script.specs.Seamless.{initiator_of, reflecting_of, up_of}
 use Rattle.bfd_script.specs.Sound.{IsHeadRow, IsPairRow, IsReflector, IsRow, IsSeekRow, IsTailRow}
 use Rattle.bfd_script.specs.Spelling.{spaced}
 use Rattle.bfd_script.specs.Trees.{listener_of, sender_of}
-use Rattle.bfd_script.specs.Written.{address_field, mode_field, reflector_fields, role_field, row_fields, up_field}
-use Rattle.bfd_script.proofs.Numerals.{number_again, number_field, number_short}
-use Rattle.bfd_script.proofs.Rereading.{address_again, address_is_field, address_short}
-use Rattle.bfd_script.proofs.Elements.{IsField, word}
-use Rattle.bfd_script.proofs.Splitting.{entry_again, total}
+use Rattle.bfd_spelling.specs.Written.{address_field, mode_field, reflector_fields, role_field, row_fields, up_field}
+use Rattle.bfd_spelling.proofs.Numerals.{number_again, number_field, number_short}
+use Rattle.bfd_spelling.proofs.Rereading.{address_again, address_is_field, address_short}
+use Rattle.bfd_spelling.proofs.Visible.{IsField, word}
+use Rattle.bfd_spelling.proofs.Splitting.{entry_again, total}
 
 -- ---- words
 

@@ -27,12 +27,12 @@ use Rattle.bfd_session.specs.Rows.{same_selector}
 use Rattle.bfd_session.specs.Step.{IsFit}
 use Rattle.bfd_script.specs.Sound.{AreApart, AreKeys, AreNamed, AreNext, IsEvent, IsKey, IsNext, IsReflector, IsRow, IsScript}
 use Rattle.bfd_script.specs.Spelling.{line, spaced}
-use Rattle.bfd_script.specs.Written.{auth_fields, config_text, event_fields, events_text, has_second, is_new_line, is_new_row, key_fields, keys_text, list_text, more_text, pool_text, reflector_fields, row_fields, rows_text, spelling, version_field, version_of}
-use Rattle.bfd_script.proofs.LinesAgain.{Speaks, auth_again, auth_fields_fit, event_again, event_fields_fit, key_again, key_fields_fit}
-use Rattle.bfd_script.proofs.RowsAgain.{bare, reflector_again, reflector_fields_fit, row_again, row_fields_fit}
+use Rattle.bfd_spelling.specs.Written.{auth_fields, config_text, event_fields, events_text, has_second, is_new_line, is_new_row, key_fields, keys_text, list_text, more_text, pool_text, reflector_fields, row_fields, rows_text, spelling, version_field, version_of}
+use Rattle.bfd_spelling.proofs.LinesAgain.{Speaks, auth_again, auth_fields_fit, event_again, event_fields_fit, key_again, key_fields_fit}
+use Rattle.bfd_spelling.proofs.RowsAgain.{bare, reflector_again, reflector_fields_fit, row_again, row_fields_fit}
 use Rattle.bfd_script.proofs.Elements.{each_more, each_to}
-use Rattle.bfd_script.proofs.Following.{Follows, Ready, ready}
-use Rattle.bfd_script.proofs.Splitting.{lines_again}
+use Rattle.bfd_spelling.proofs.Following.{Follows, Ready, ready}
+use Rattle.bfd_spelling.proofs.Splitting.{lines_again}
 
 -- ---- one line
 

@@ -32,11 +32,11 @@ use Rattle.bfd_script.specs.Secrets.{chain_of, fitting, key_of, kind_by, kind_of
 use Rattle.bfd_script.specs.Sound.{IsAsked, IsEvent, IsKey, IsReceived}
 use Rattle.bfd_script.specs.Spelling.{hex_field, spaced}
 use Rattle.bfd_script.specs.Verbs.{command, fits, number_of, verb_of}
-use Rattle.bfd_script.specs.Written.{address_field, auth_fields, event_fields, is_new_line, key_fields, port_field, verb_fields}
-use Rattle.bfd_script.proofs.Numerals.{number_again, number_field, number_short}
-use Rattle.bfd_script.proofs.Rereading.{address_again, address_is_field, address_short, bytes_again, hex_is_field, hex_short, payload_again}
-use Rattle.bfd_script.proofs.Elements.{IsField, both, word}
-use Rattle.bfd_script.proofs.Splitting.{entry_again, total}
+use Rattle.bfd_spelling.specs.Written.{address_field, auth_fields, event_fields, is_new_line, key_fields, port_field, verb_fields}
+use Rattle.bfd_spelling.proofs.Numerals.{number_again, number_field, number_short}
+use Rattle.bfd_spelling.proofs.Rereading.{address_again, address_is_field, address_short, bytes_again, hex_is_field, hex_short, payload_again}
+use Rattle.bfd_spelling.proofs.Visible.{IsField, both, word}
+use Rattle.bfd_spelling.proofs.Splitting.{entry_again, total}
 
 -- ---- versions
 

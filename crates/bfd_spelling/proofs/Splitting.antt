@@ -9,7 +9,8 @@ use Rattle.bfd_script.specs.Fields.{fields_of, is_printable, lines_of, onto_line
 use Rattle.bfd_script.specs.Gives.{◌>>=◌}
 use Rattle.bfd_script.specs.Spelling.{spaced, line}
 use Rattle.bfd_script.specs.Words.{word_of}
-use Rattle.bfd_script.proofs.Elements.{IsVisible, IsField, each_to}
+use Rattle.bfd_script.proofs.Elements.{each_to}
+use Rattle.bfd_spelling.proofs.Visible.{IsVisible, IsField}
 
 -- ---- splitting at a separator
 

@@ -9,7 +9,7 @@ use Rattle.std.specs.Fmt.{decimal}
 use Rattle.std.specs.List.{list_all, AllByRecursion}
 use Rattle.bfd_script.specs.Fields.{is_number, number_in}
 use Rattle.bfd_script.proofs.Decimal.{own}
-use Rattle.bfd_script.proofs.Elements.{IsField, both}
+use Rattle.bfd_spelling.proofs.Visible.{IsField, both}
 
 -- a decimal digit
 record IsDigit (byte : ℕ) : Type 0 where
