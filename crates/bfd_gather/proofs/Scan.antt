@@ -1,5 +1,5 @@
 -- The best of one part more.
-use Rattle.std.proofs.Common.{◌≡◌, ◌⊎◌, inl, inr, ◌≤◌, ◌<◌, ◌+◌, ℕ, Bool, true, false, List, [], ◌∷◌, length, get_or, refl, sym, ap, ◌∙◌, subst, arith, if◌then◌else◌, Option, None, Some}
+use Rattle.std.proofs.Common.{◌≡◌, ◌⊎◌, inl, inr, ◌<◌, ◌+◌, ℕ, Bool, true, false, List, [], length, get_or, refl, sym, ap, ◌∙◌, subst, arith, if◌then◌else◌, Option, None, Some}
 use Rattle.bfd_gather.specs.declared.key.Key.{Key}
 use Rattle.bfd_gather.specs.Pieces.{Piece, precedes}
 use Rattle.bfd_gather.specs.Inside.{first_key, better, IsBest, BestOf, IsLeast}

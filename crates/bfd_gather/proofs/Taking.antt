@@ -1,11 +1,11 @@
 -- The least first piece of the parts is the first of what is left.
-use Rattle.std.proofs.Common.{◌≡◌, ◌≢◌, ◌⊎◌, inl, inr, ◌≤◌, ◌<◌, ◌+◌, ◌==◌, ◌++◌, ℕ, zero, suc, Bool, true, false, List, [], ◌∷◌, length, take, drop, map, get_or, set, get_or-set_same, get_or-set_other, length-set, refl, sym, ap, ◌∙◌, subst, append_assoc, append-nil, arith, if◌then◌else◌, Option, None, Some}
-use Rattle.std.specs.List.{AllByRecursion, filter, flat_map, sum_by}
+use Rattle.std.proofs.Common.{◌≡◌, ◌≢◌, ◌⊎◌, inl, inr, ◌<◌, ◌+◌, ◌==◌, ◌++◌, ℕ, suc, Bool, true, false, List, [], ◌∷◌, length, drop, get_or, set, get_or-set_same, get_or-set_other, length-set, refl, sym, ap, ◌∙◌, subst, append_assoc, append-nil, arith, None, Some}
+use Rattle.std.specs.List.{AllByRecursion, sum_by}
 use Rattle.std.proofs.lemmas.Bool.Decides.{nat_tests}
 use Rattle.std.proofs.lemmas.List.Sums.{sum_by-set, sum_by-cons}
 use Rattle.bfd_gather.specs.declared.key.Key.{Key}
 use Rattle.bfd_gather.specs.Pieces.{Piece, precedes}
-use Rattle.bfd_gather.specs.Spread.{Dealt, pieces_in, IsBefore, Ordered, IsSpread, text_of}
+use Rattle.bfd_gather.specs.Spread.{Dealt, pieces_in, IsBefore, IsSpread, text_of}
 use Rattle.bfd_gather.specs.Inside.{IsLeast, first_key, first_text, first_txs, first_drops}
 
 -- how many packets dealt pieces tell were sent and were dropped

@@ -1,6 +1,6 @@
 -- The events of a replay, and who tells of them where its sessions are dealt out to shards.
 use Rattle.std.specs.Prelude.{ℕ, ◌≡◌, ◌<◌, ◌+◌, List, [], ◌∷◌, ◌++◌, length, slice_index_or, Option, None, Some}
-use Rattle.std.specs.List.{cons_option, filter_map}
+use Rattle.std.specs.List.{cons_option}
 use Rattle.bfd_session.specs.Alone.{Outcome}
 use Rattle.bfd_session.specs.Kinds.{Running, configs_of}
 use Rattle.bfd_session.specs.Rows.{Ascends}

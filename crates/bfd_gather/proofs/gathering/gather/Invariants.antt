@@ -1,5 +1,5 @@
 -- What is left of the pieces is dealt out to the parts, and the others were taken.
-use Rattle.std.proofs.Common.{ℕ, List, length, ◌+◌, ◌≤◌}
+use Rattle.std.proofs.Common.{List, length, ◌+◌, ◌≤◌}
 use Rattle.std.specs.List.{sum_by}
 use Rattle.bfd_gather.specs.Spread.{Dealt, IsSpread}
 use Rattle.bfd_gather.proofs.Taking.{Going}

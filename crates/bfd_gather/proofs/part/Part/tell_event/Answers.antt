@@ -1,7 +1,7 @@
 -- A piece more was told.
 use Rattle.std.proofs.Common.{◌∷◌, []}
 use Rattle.bfd_gather.specs.Pieces.{whole_piece}
-use Rattle.bfd_gather.proofs.Marks.{part_by, told_by, same_by, single, whole_has}
+use Rattle.bfd_gather.proofs.Marks.{part_by, told_by, single, whole_has}
 use Rattle.bfd_gather.proofs.part.Part.tell_event.Goals as goal
 
 pub invariant_of-self : goal.invariant_of-self
