@@ -4,5 +4,6 @@ pub mod Marks
 pub mod Scan
 pub mod Taking
 pub mod Sharing
+pub mod Histories
 pub mod Telling
 pub mod Whole

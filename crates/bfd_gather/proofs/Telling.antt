@@ -139,7 +139,7 @@ own_others n number last r k m event hs ss some h other rest =
     ∙ (ap (told last (queue n r (number + 1) hs)) (sym (own_away n r k m last event ss some h other))
     ∙ (rest ∙ sym (away (deal (k % n) (whole_piece number (outcome_of last (Own k m event) ss))) (deal_all n (number + 1) last hs (moved last (Own k m event) ss)) r other)))
 
-tick_gives : (number last t : ℕ) (ss : List Running) → event_pieces number (Tick t) (outcome_of last (Tick t) ss) ≡ map (item_piece number) (flat_map (tick_items (max last t)) ss)
+pub tick_gives : (number last t : ℕ) (ss : List Running) → event_pieces number (Tick t) (outcome_of last (Tick t) ss) ≡ map (item_piece number) (flat_map (tick_items (max last t)) ss)
 unfolding outcome_of
 tick_gives number last t ss = refl
 

@@ -2,6 +2,7 @@
 use Rattle.std.proofs.Common.{◌≡◌, ◌⊎◌, inl, inr, ◌<◌, ◌≤◌, ◌+◌, ◌*◌, ◌%◌, ◌++◌, max, ℕ, suc, List, [], ◌∷◌, length, map, get_or, refl, sym, ap, ◌∙◌, subst, append-nil, arith}
 use Rattle.std.specs.List.{AllByRecursion, flat_map, sum_by}
 use Rattle.std.proofs.lemmas.Grind.{flat_map-append}
+use Rattle.std.proofs.lemmas.List.{map-append}
 use Rattle.std.proofs.lemmas.List.Sums.{sum_by-append, sum_by-cons}
 use Rattle.std.proofs.Math.Nat.{mod-lt}
 use Rattle.bfd_rules.specs.declared.outputs.Out.{Out}
@@ -15,12 +16,12 @@ use Rattle.bfd_shard.specs.declared.entry.ShardEvent.TheVariants.{Own, Tick}
 use Rattle.bfd_shard.specs.History.{later, moved, outcome_of}
 use Rattle.bfd_shard.proofs.Runs.{moved_configs}
 use Rattle.bfd_script.specs.Report.{item_line, event_lines, lines_from, sent_by, sent, dropped, done_line, report}
-use Rattle.bfd_gather.specs.Pieces.{Piece, whole_piece, item_piece}
-use Rattle.bfd_gather.specs.Happenings.{Happening, Apart, Among, outcomes, AreParts}
-use Rattle.bfd_gather.specs.Spread.{Dealt, deal, pieces_in, IsBefore, Ordered, IsSpread, text_of}
+use Rattle.bfd_gather.specs.Pieces.{Piece, whole_piece, item_piece, event_pieces}
+use Rattle.bfd_gather.specs.Happenings.{Happening, Apart, Among, outcomes, told_whole, AreParts}
+use Rattle.bfd_gather.specs.Spread.{Dealt, deal, pieces_in, IsBefore, Ordered, IsSpread, AreGathered, text_of}
 use Rattle.bfd_gather.proofs.Keys.{earlier, lower}
 use Rattle.bfd_gather.proofs.Taking.{txs_of, drops_of}
-use Rattle.bfd_gather.proofs.Telling.{deal_items, deal_event, deal_all, told_each, apart_is}
+use Rattle.bfd_gather.proofs.Telling.{deal_items, deal_event, deal_all, tick_gives, told_each, apart_is}
 
 all_append : (P : Dealt → Type 0) (ds es : List Dealt) → AllByRecursion P ds → AllByRecursion P es → AllByRecursion P (ds ++ es)
 all_append P [] es h k = k
@@ -161,6 +162,41 @@ parts_spread n number last hs ss parts p = record {
   ];
   within = subst (λ m. AllByRecursion (λ d. d.part < m) (deal_all n number last hs ss)) (sym p.long) (all_within n number last hs ss p.some);
   ordered = all_ordered n number last hs ss p.ascends;
+}
+
+-- and all of them are the pieces of the whole table
+
+session_pieces : (number q : ℕ) (os : List Out) → map (λ (d : Dealt). d.piece) (map (λ o. deal q (item_piece number o)) os) ≡ map (item_piece number) os
+session_pieces number q [] = refl
+session_pieces number q (o ∷ os) = ap (λ ps. item_piece number o ∷ ps) (session_pieces number q os)
+
+items_pieces : (n number : ℕ) (items : Running → List Out) (k : ℕ) (ss : List Running)
+    → map (λ (d : Dealt). d.piece) (deal_items n number items k ss) ≡ map (item_piece number) (flat_map items ss)
+items_pieces n number items k [] = refl
+items_pieces n number items k (s ∷ ss) =
+    map-append (λ (d : Dealt). d.piece) (map (λ o. deal (k % n) (item_piece number o)) (items s)) (deal_items n number items (k + 1) ss)
+    ∙ (ap (λ ps. ps ++ map (λ (d : Dealt). d.piece) (deal_items n number items (k + 1) ss)) (session_pieces number (k % n) (items s))
+    ∙ (ap (λ ps. map (item_piece number) (items s) ++ ps) (items_pieces n number items (k + 1) ss)
+    ∙ sym (map-append (item_piece number) (items s) (flat_map items ss))))
+
+event_pieces_are : (n number last : ℕ) (e : ShardEvent) (ss : List Running) → map (λ (d : Dealt). d.piece) (deal_event n number last e ss) ≡ event_pieces number e (outcome_of last e ss)
+event_pieces_are n number last (Own k m event) ss = refl
+event_pieces_are n number last (Tick t) ss = items_pieces n number (tick_items (max last t)) 0 ss ∙ sym (tick_gives number last t ss)
+
+all_pieces : (n number last : ℕ) (hs : List Happening) (ss : List Running) → map (λ (d : Dealt). d.piece) (deal_all n number last hs ss) ≡ told_whole number last hs ss
+all_pieces n number last [] ss = refl
+all_pieces n number last (Apart o ∷ hs) ss = ap (λ ps. whole_piece number o ∷ ps) (all_pieces n (number + 1) last hs ss)
+all_pieces n number last (Among e ∷ hs) ss =
+    map-append (λ (d : Dealt). d.piece) (deal_event n number last e ss) (deal_all n (number + 1) (later last e) hs (moved last e ss))
+    ∙ (ap (λ ps. ps ++ map (λ (d : Dealt). d.piece) (deal_all n (number + 1) (later last e) hs (moved last e ss))) (event_pieces_are n number last e ss)
+    ∙ ap (λ ps. event_pieces number e (outcome_of last e ss) ++ ps) (all_pieces n (number + 1) (later last e) hs (moved last e ss)))
+
+pub parts_gathered : (n number last : ℕ) (hs : List Happening) (ss : List Running) (parts : List (List Piece)) → AreParts n number last hs ss parts
+    → AreGathered parts (told_whole number last hs ss)
+parts_gathered n number last hs ss parts p = record {
+  dealt = deal_all n number last hs ss;
+  spread = parts_spread n number last hs ss parts p;
+  pieces_are = all_pieces n number last hs ss;
 }
 
 -- their text, and what they count

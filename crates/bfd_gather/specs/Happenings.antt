@@ -51,6 +51,13 @@ told last [] sessions = []
 told last (e ∷ rest) sessions =
     event_pieces e.number e.event (outcome_of last e.event sessions) ++ told (later last e.event) rest (moved last e.event sessions)
 
+-- what one shard with the whole table would tell of all these events, where the first has this number
+abbrev pub told_whole : ℕ → ℕ → List Happening → List Running → List Piece
+told_whole number last [] sessions = []
+told_whole number last (Apart outcome ∷ rest) sessions = whole_piece number outcome ∷ told_whole (number + 1) last rest sessions
+told_whole number last (Among event ∷ rest) sessions =
+    event_pieces number event (outcome_of last event sessions) ++ told_whole (number + 1) (later last event) rest (moved last event sessions)
+
 -- what is told of the events of no session, where the first of these has this number
 abbrev pub told_apart : ℕ → List Happening → List Piece
 told_apart number [] = []

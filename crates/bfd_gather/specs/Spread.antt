@@ -33,3 +33,9 @@ pub record IsSpread (dealt : List Dealt) (parts : List (List Piece)) : Type 0 wh
 -- their text
 abbrev pub text_of : List Dealt → List ℕ
 text_of dealt = flat_map (λ d. d.piece.text) dealt
+
+-- taken in the order of the report, the parts' pieces are these
+pub record AreGathered (parts : List (List Piece)) (pieces : List Piece) : Type 0 where
+  pub dealt : List Dealt
+  pub spread : IsSpread dealt parts
+  pub pieces_are : map (λ d. d.piece) dealt ≡ pieces

@@ -14,8 +14,10 @@
 mod counts;
 mod gathering;
 mod key;
+mod law;
 mod part;
 mod reporting;
 
+pub use law::{dealing_laws, telling_laws};
 pub use part::Part;
 pub use reporting::report;
