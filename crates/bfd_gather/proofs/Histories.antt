@@ -13,8 +13,9 @@ use Rattle.bfd_shard.specs.Dealing.{event_in, history_of, share}
 use Rattle.bfd_shard.specs.History.{later, last_from, last_tick, run_from, moved, outcome_of, runs}
 use Rattle.bfd_shard.proofs.Runs.{moved_at, moved_long, runs_at, runs_long}
 use Rattle.bfd_shard.proofs.Ticks.{nobody}
+use Rattle.bfd_gather.specs.declared.queue.Numbered.{Numbered}
 use Rattle.bfd_gather.specs.Pieces.{event_pieces}
-use Rattle.bfd_gather.specs.Happenings.{Happening, Apart, Among, Numbered, numbered, among, queue, told}
+use Rattle.bfd_gather.specs.Happenings.{Happening, Apart, Among, numbered, among, queue, told}
 use Rattle.bfd_gather.proofs.Sharing.{own_here, own_away, tick_here, share_map}
 
 -- sessions after events, from these sessions and this last tick on

@@ -4,6 +4,7 @@ pub mod Marks
 pub mod Scan
 pub mod Taking
 pub mod Sharing
+pub mod Queues
 pub mod Histories
 pub mod Telling
 pub mod Whole

@@ -14,8 +14,9 @@ use Rattle.bfd_shard.specs.declared.entry.ShardEvent.{ShardEvent}
 use Rattle.bfd_shard.specs.declared.entry.ShardEvent.TheVariants.{Own, Tick}
 use Rattle.bfd_shard.specs.Dealing.{share}
 use Rattle.bfd_shard.specs.History.{later, moved, outcome_of}
+use Rattle.bfd_gather.specs.declared.queue.Numbered.{Numbered}
 use Rattle.bfd_gather.specs.Pieces.{Piece, whole_piece, item_piece, event_pieces}
-use Rattle.bfd_gather.specs.Happenings.{Happening, Apart, Among, Numbered, numbered, queue, told, told_apart}
+use Rattle.bfd_gather.specs.Happenings.{Happening, Apart, Among, numbered, queue, told, told_apart}
 use Rattle.bfd_gather.specs.Spread.{Dealt, deal, pieces_in}
 use Rattle.bfd_gather.proofs.Sharing.{own_here, own_gives, own_away, tick_here}
 use Rattle.bfd_gather.proofs.Taking.{here, away}

@@ -7,6 +7,7 @@ use Rattle.bfd_session.specs.Rows.{Ascends}
 use Rattle.bfd_shard.specs.declared.entry.ShardEvent.{ShardEvent}
 use Rattle.bfd_shard.specs.Dealing.{event_in, share}
 use Rattle.bfd_shard.specs.History.{later, moved, outcome_of}
+use Rattle.bfd_gather.specs.declared.queue.Numbered.{Numbered}
 use Rattle.bfd_gather.specs.Pieces.{Piece, whole_piece, event_pieces}
 
 -- an event of no session, which gives this, or an event of the table's sessions, where an own event has its place in the
@@ -31,11 +32,7 @@ abbrev pub in_shard : ℕ → ℕ → Happening → Option ShardEvent
 in_shard shards shard (Apart outcome) = None
 in_shard shards shard (Among event) = event_in shards shard event
 
--- an event of a shard, with its number in the replay
-pub record Numbered : Type 0 where
-  pub number : ℕ
-  pub event : ShardEvent
-
+-- the event with its number in the replay, if there is one
 abbrev pub numbered : ℕ → Option ShardEvent → Option Numbered
 numbered number None = None
 numbered number (Some event) = Some (record { number = number; event = event })
@@ -44,6 +41,11 @@ numbered number (Some event) = Some (record { number = number; event = event })
 abbrev pub queue : ℕ → ℕ → ℕ → List Happening → List Numbered
 queue shards shard number [] = []
 queue shards shard number (h ∷ rest) = cons_option (numbered number (in_shard shards shard h)) (queue shards shard (number + 1) rest)
+
+-- the queues of so many shards, where one event more was dealt out to them
+abbrev pub AreQueued : ℕ → ShardEvent → List (List Numbered) → List (List Numbered) → Type 0
+AreQueued number event before after = (shard : ℕ) → shard < length before
+    → slice_index_or after shard [] ≡ slice_index_or before shard [] ++ cons_option (numbered number (event_in (length before) shard event)) []
 
 -- what a shard tells of its events, from these sessions of its own and this last tick on
 abbrev pub told : ℕ → List Numbered → List Running → List Piece

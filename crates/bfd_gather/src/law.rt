@@ -9,8 +9,9 @@ ghost use Rattle.bfd_shard.specs.declared.entry.ShardEvent.{ShardEvent};
 ghost use Rattle.bfd_shard.specs.declared.entry.ShardEvent.TheVariants.{Own};
 ghost use Rattle.bfd_shard.specs.Dealing.{history_of, share};
 ghost use Rattle.bfd_shard.specs.History.{last_tick, moved, outcome_of, runs};
+ghost use Rattle.bfd_gather.specs.declared.queue.Numbered.{Numbered};
 ghost use Rattle.bfd_gather.specs.Pieces.{Piece, event_pieces};
-ghost use Rattle.bfd_gather.specs.Happenings.{Happening, Numbered, AreParts, among, queue, told, told_whole};
+ghost use Rattle.bfd_gather.specs.Happenings.{Happening, AreParts, among, queue, told, told_whole};
 ghost use Rattle.bfd_gather.specs.Spread.{AreGathered};
 
 /// Laws of sessions that are dealt out, and no work. A shard's sessions after its history are those of the whole table after

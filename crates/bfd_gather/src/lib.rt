@@ -16,8 +16,13 @@ mod gathering;
 mod key;
 mod law;
 mod part;
+mod queue;
 mod reporting;
 
 pub use law::{dealing_laws, telling_laws};
 pub use part::Part;
+pub use queue::{Numbered, deal};
 pub use reporting::report;
+
+#[cfg(test)]
+mod tests;
