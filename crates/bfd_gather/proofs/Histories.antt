@@ -1,10 +1,11 @@
 -- A shard's sessions after its history, and what it tells of one event more.
-use Rattle.std.proofs.Common.{◌≡◌, ◌≢◌, ◌⊎◌, inl, inr, ◌<◌, ◌+◌, ◌/◌, ◌%◌, ◌==◌, ◌++◌, max, ℕ, Bool, true, false, List, [], ◌∷◌, length, map, get_or, refl, sym, ap, ◌∙◌, subst, append_assoc, append-nil, arith, Option, None, Some, if◌then◌else◌, ext_get_or}
+use Rattle.std.proofs.Common.{◌≡◌, suc, ◌≢◌, ◌⊎◌, inl, inr, ◌<◌, ◌+◌, ◌/◌, ◌%◌, ◌==◌, ◌++◌, max, ℕ, Bool, true, false, List, [], ◌∷◌, length, map, get_or, refl, sym, ap, ◌∙◌, subst, append_assoc, append-nil, arith, Option, None, Some, if◌then◌else◌, ext_get_or}
 use Rattle.std.specs.List.{cons_option, filter_map}
 use Rattle.std.proofs.lemmas.Bool.Decides.{nat_tests}
 use Rattle.std.proofs.lemmas.List.{get_or-map, length-map}
 use Rattle.bfd_session.specs.declared.event.SessionConfig.{SessionConfig}
 use Rattle.bfd_session.specs.declared.event.Event.{Event}
+use Rattle.bfd_session.specs.Alone.{Outcome}
 use Rattle.bfd_session.specs.Kinds.{Running}
 use Rattle.bfd_session.specs.Step.{started}
 use Rattle.bfd_shard.specs.declared.entry.ShardEvent.{ShardEvent}
@@ -14,8 +15,8 @@ use Rattle.bfd_shard.specs.History.{later, last_from, last_tick, run_from, moved
 use Rattle.bfd_shard.proofs.Runs.{moved_at, moved_long, runs_at, runs_long}
 use Rattle.bfd_shard.proofs.Ticks.{nobody}
 use Rattle.bfd_gather.specs.declared.queue.Numbered.{Numbered}
-use Rattle.bfd_gather.specs.Pieces.{event_pieces}
-use Rattle.bfd_gather.specs.Happenings.{Happening, Apart, Among, numbered, among, queue, told}
+use Rattle.bfd_gather.specs.Pieces.{event_pieces, whole_piece}
+use Rattle.bfd_gather.specs.Happenings.{Happening, Apart, Among, among, in_shard, numbered, queue, told, told_apart}
 use Rattle.bfd_gather.proofs.Sharing.{own_here, own_away, tick_here, share_map}
 
 -- sessions after events, from these sessions and this last tick on
@@ -94,6 +95,31 @@ queue_events n r number (Among e ∷ hs) =
     queued n number (event_in n r e) (queue n r (number + 1) hs) ∙ ap (cons_option (event_in n r e)) (queue_events n r (number + 1) hs)
 
 -- one event more
+
+queue_by : (o : Option Numbered) (xs ys zs : List Numbered) → xs ≡ ys ++ zs → cons_option o xs ≡ cons_option o ys ++ zs
+queue_by None xs ys zs e = e
+queue_by (Some x) xs ys zs e = ap (λ l. x ∷ l) e
+
+same_number : (n k : ℕ) → n + 1 + k ≡ n + suc k
+same_number n k = omega arith
+
+pub queue_more : (n r number : ℕ) (hs : List Happening) (h : Happening)
+    → queue n r number (hs ++ h ∷ []) ≡ queue n r number hs ++ cons_option (numbered (number + length hs) (in_shard n r h)) []
+queue_more n r number [] h = ap (λ k. cons_option (numbered k (in_shard n r h)) []) (let z : number ≡ number + 0 = omega arith in z)
+queue_more n r number (x ∷ hs) h =
+    queue_by (numbered number (in_shard n r x)) (queue n r (number + 1) (hs ++ h ∷ [])) (queue n r (number + 1) hs) (cons_option (numbered (number + suc (length hs)) (in_shard n r h)) [])
+    (queue_more n r (number + 1) hs h ∙ ap (λ k. queue n r (number + 1) hs ++ cons_option (numbered k (in_shard n r h)) []) (same_number number (length hs)))
+
+pub apart_more : (number : ℕ) (hs : List Happening) (o : Outcome) → told_apart number (hs ++ Apart o ∷ []) ≡ told_apart number hs ++ whole_piece (number + length hs) o ∷ []
+apart_more number [] o = ap (λ k. whole_piece k o ∷ []) (let z : number ≡ number + 0 = omega arith in z)
+apart_more number (Apart x ∷ hs) o =
+    ap (λ ps. whole_piece number x ∷ ps) (apart_more (number + 1) hs o ∙ ap (λ k. told_apart (number + 1) hs ++ whole_piece k o ∷ []) (same_number number (length hs)))
+apart_more number (Among e ∷ hs) o = apart_more (number + 1) hs o ∙ ap (λ k. told_apart (number + 1) hs ++ whole_piece k o ∷ []) (same_number number (length hs))
+
+pub among_more : (number : ℕ) (hs : List Happening) (e : ShardEvent) → told_apart number (hs ++ Among e ∷ []) ≡ told_apart number hs
+among_more number [] e = refl
+among_more number (Apart x ∷ hs) e = ap (λ ps. whole_piece number x ∷ ps) (among_more (number + 1) hs e)
+among_more number (Among x ∷ hs) e = among_more (number + 1) hs e
 
 told_more : (last : ℕ) (xs : List Numbered) (x : Numbered) (ss : List Running)
     → told last (xs ++ x ∷ []) ss ≡ told last xs ss ++ event_pieces x.number x.event (outcome_of (last_from last (map (λ (e : Numbered). e.event) xs)) x.event (left_by last (map (λ (e : Numbered). e.event) xs) ss))

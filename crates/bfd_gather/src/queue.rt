@@ -41,16 +41,13 @@ fn deal_own(
     ensures queued { OnOk result (AreQueued number (events.Own place moment event) (map (λ q. q.items) queues.old.items) (map (λ q. q.items) queues.new.items)) }
 {
     let shards = queues.len() as u32;
+    let shard = place % shards;
     let event = ShardEvent::Own {
         place: place / shards,
         moment,
         event,
     };
-    append(
-        queues,
-        (place % shards) as usize,
-        Numbered { number, event },
-    )
+    append(queues, shard as usize, Numbered { number, event })
 }
 
 /// Deals out a tick, which is an event of every shard.
