@@ -1,7 +1,7 @@
 -- A part's marks and text, as pieces are told and taken.
-use Rattle.std.proofs.Common.{◌≡◌, ◌≤◌, ◌<◌, ◌+◌, ◌++◌, ℕ, zero, suc, List, [], ◌∷◌, length, take, drop, map, get_or, subst, Result, Ok, Err, OnOk, OnErr, drop-cons, refl, sym, ap, ◌∙◌, append_assoc, append-nil, arith, length-append, length-drop}
+use Rattle.std.proofs.Common.{◌≡◌, ◌≤◌, ◌<◌, ◌+◌, ◌++◌, ℕ, suc, List, [], ◌∷◌, length, take, drop, map, get_or, subst, Result, Ok, Err, OnOk, OnErr, drop-cons, refl, sym, ap, ◌∙◌, append_assoc, append-nil, arith, length-append, length-drop}
 use Rattle.std.specs.List.{AllByRecursion, flat_map, sum_by}
-use Rattle.std.proofs.lemmas.List.{take-append-le, drop-append-le, drop-drop, map-append}
+use Rattle.std.proofs.lemmas.List.{take-append-le, drop-append-le, map-append}
 use Rattle.std.proofs.lemmas.List.Sums.{sum_by-append, sum_by-cons}
 use Rattle.std.proofs.Math.Seq.{take-append_seam, drop-append_seam, take-add}
 use Rattle.bfd_rules.specs.declared.outputs.Out.{Out}
@@ -129,29 +129,6 @@ rest_marks ms next m h e =
 pub first_fits : (ms : List Mark) (t : List ℕ) (next at : ℕ) (m : Mark) → IsPart ms t next at → next < length ms → m ≡ get_or ms next m → at + m.long ≤ length t
 first_fits ms t next at m s h e =
     omega (arith, s.whole, ap long_of (rest_marks ms next m h e), sum_by-cons (λ (n : Mark). n.long) m (drop (next + 1) ms))
-
--- a part without its first piece
-pub part_less : (ms : List Mark) (t : List ℕ) (next at : ℕ) (m : Mark) → IsPart ms t next at → next < length ms → m ≡ get_or ms next m → IsPart ms t (next + 1) (at + m.long)
-part_less ms t next at m s h e = record {
-  inside = omega (arith, h);
-  whole = omega (arith, s.whole, ap long_of (rest_marks ms next m h e), sum_by-cons (λ (n : Mark). n.long) m (drop (next + 1) ms));
-  counts = s.counts;
-}
-
-pub told_less : (ms : List Mark) (t : List ℕ) (next at : ℕ) (m : Mark) → next < length ms → m ≡ get_or ms next m
-    → pieces_at (drop next ms) (drop at t)
-    ≡ record { key = m.key; text = take m.long (drop at t); txs = m.txs; drops = m.drops } ∷ pieces_at (drop (next + 1) ms) (drop (at + m.long) t)
-told_less ms t next at m h e =
-    ap (λ xs. pieces_at xs (drop at t)) (rest_marks ms next m h e)
-    ∙ ap (λ u. record { key = m.key; text = take m.long (drop at t); txs = m.txs; drops = m.drops } ∷ pieces_at (drop (next + 1) ms) u) (drop-drop m.long at t)
-
-counted_at : (ms : List Mark) (k : ℕ) (m : Mark) → AllByRecursion (λ m. m.txs + m.drops ≤ m.long) ms → k < length ms → m ≡ get_or ms k m → m.txs + m.drops ≤ m.long
-counted_at [] k m h i e = absurd (omega (arith, i))
-counted_at (x ∷ ms) zero m h i e = subst (λ (y : Mark). y.txs + y.drops ≤ y.long) (sym e) h.0
-counted_at (x ∷ ms) (suc k) m h i e = counted_at ms k m h.1 (omega (arith, i)) e
-
-pub first_counted : (ms : List Mark) (t : List ℕ) (next at : ℕ) (m : Mark) → IsPart ms t next at → next < length ms → m ≡ get_or ms next m → m.txs + m.drops ≤ m.long
-first_counted ms t next at m s h e = counted_at ms next m s.counts h e
 
 -- pieces more were told, or none
 module _ {T E : Type 0} where

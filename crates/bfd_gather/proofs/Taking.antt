@@ -1,8 +1,8 @@
 -- The least first piece of the parts is the first of what is left.
-use Rattle.std.proofs.Common.{◌≡◌, ◌≢◌, ◌⊎◌, inl, inr, ◌<◌, ◌+◌, ◌==◌, ◌++◌, ℕ, suc, Bool, true, false, List, [], ◌∷◌, length, drop, get_or, set, get_or-set_same, get_or-set_other, length-set, refl, sym, ap, ◌∙◌, subst, append_assoc, append-nil, arith, None, Some}
+use Rattle.std.proofs.Common.{◌≡◌, ◌≢◌, ◌⊎◌, inl, inr, ◌<◌, ◌+◌, ◌==◌, ◌++◌, ℕ, Bool, true, false, List, [], ◌∷◌, length, drop, get_or, set, get_or-set_same, get_or-set_other, length-set, refl, sym, ap, ◌∙◌, subst, append_assoc, append-nil, arith, None, Some}
 use Rattle.std.specs.List.{AllByRecursion, sum_by}
 use Rattle.std.proofs.lemmas.Bool.Decides.{nat_tests}
-use Rattle.std.proofs.lemmas.List.Sums.{sum_by-set, sum_by-cons}
+use Rattle.std.proofs.lemmas.List.Sums.{sum_by-cons}
 use Rattle.bfd_gather.specs.declared.key.Key.{Key}
 use Rattle.bfd_gather.specs.Pieces.{Piece, precedes}
 use Rattle.bfd_gather.specs.Spread.{Dealt, pieces_in, IsBefore, IsSpread, text_of}
@@ -31,9 +31,6 @@ is_same a b e = grind (arith, nat_tests)
 
 not_same : (a b : ℕ) → a ≢ b → (a == b) ≡ false
 not_same a b e = grind (arith, nat_tests)
-
-same_from : (a b : ℕ) → (a == b) ≡ true → a ≡ b
-same_from a b e = grind (arith, nat_tests)
 
 -- a part has the first piece that is dealt to it, and passes over another's
 pub here : (d : Dealt) (ds : List Dealt) (s : ℕ) → d.part ≡ s → pieces_in s (d ∷ ds) ≡ d.piece ∷ pieces_in s ds
@@ -139,15 +136,3 @@ gone all parts before text txs drops none g =
       omega (arith, g.sent, ap txs_of empty),
       omega (arith, g.dropped, ap drops_of empty),
     )
-
--- one piece less is left in the parts
-some_there : (ps : List Piece) (key : Key) → first_key ps ≡ Some key → length ps ≡ suc (length (drop 1 ps))
-some_there [] key e = absurd (cc)
-some_there (p ∷ ps) key e = refl
-
-pub has_some : (parts : List (List Piece)) (s : ℕ) → IsLeast parts s → 0 < length (get_or parts s [])
-has_some parts s l = omega (arith, some_there (get_or parts s []) l.key l.there)
-
-pub fewer : (parts : List (List Piece)) (s : ℕ) → IsLeast parts s → sum_by length (set parts s (drop 1 (get_or parts s []))) < sum_by length parts
-fewer parts s l =
-    omega (arith, sum_by-set length parts s (drop 1 (get_or parts s [])) [] l.inside, some_there (get_or parts s []) l.key l.there)

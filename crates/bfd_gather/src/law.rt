@@ -16,9 +16,9 @@ ghost use Rattle.bfd_gather.specs.Happenings.{Happening, Apart, Among, AreParts,
 ghost use Rattle.bfd_gather.specs.Spread.{AreGathered};
 
 /// Laws of sessions that are dealt out, and no work. A shard's sessions after its history are those of the whole table after
-/// its events; the session at place k of the table stands at place k / shards of shard k % shards; an own event gives there what it gives of
-/// the table, and changes no session of another shard; the events of a shard's queue are its history; and one event more adds to the queue what
-/// the shard has of it.
+/// its events; the session at place k of the table stands at place k / shards of shard k % shards; an own event gives there
+/// what it gives of the table, and changes no session of another shard; the events of a shard's queue are its history; and
+/// one event more adds to the queue what the shard has of it.
 #[tactic(auto, using(crate::proofs::Sharing::there, crate::proofs::Sharing::own_gives, crate::proofs::Sharing::own_away, crate::proofs::Histories::runs_share, crate::proofs::Histories::queue_events, crate::proofs::Histories::queue_more))]
 pub fn dealing_laws()
     ensures sessions { (shards shard : ℕ) (events : List ShardEvent) (configs : List SessionConfig) → shard < shards
@@ -35,8 +35,9 @@ pub fn dealing_laws()
 {}
 
 /// Laws of what shards tell, and no work. One event more of a shard's queue adds the pieces of what it gives, of the sessions
-/// that the events before it left; an event of no session adds its one piece to the part of those; and of a table whose sessions ascend by discriminator, the parts of any number of shards, taken in
-/// the order of a report, are the pieces of the whole table.
+/// that the events before it left; an event of no session adds its one piece to the part of those; and of a table whose
+/// sessions ascend by discriminator, the parts of any number of shards, taken in the order of a report, are the pieces of the
+/// whole table.
 #[tactic(auto, using(crate::proofs::Histories::told_runs, crate::proofs::Histories::apart_more, crate::proofs::Histories::among_more, crate::proofs::Whole::parts_gathered))]
 pub fn telling_laws()
     ensures more { (events : List Numbered) (event : Numbered) (configs : List SessionConfig)

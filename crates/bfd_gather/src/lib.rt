@@ -6,9 +6,9 @@
 //! piece of all parts, by event and then by discriminator, until none is left. A part more has what was told of events of no
 //! session.
 //!
-//! It stands on `bfd_shard` for what a shard's events give and on `bfd_script` for the lines, and knows no lock and no thread. It
-//! promises that of sessions that are dealt out each shard's are what the whole table's would be, and that the report of the
-//! shards' parts is the report of the whole table, byte for byte, for every number of shards.
+//! It stands on `bfd_shard` for what a shard's events give and on `bfd_script` for the lines, and knows no lock and no thread.
+//! It promises that of sessions that are dealt out each shard's are what the whole table's would be, and that the report of
+//! the shards' parts is the report of the whole table, byte for byte, for every number of shards.
 #![tactic(auto)]
 
 mod counts;
