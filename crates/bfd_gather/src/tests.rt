@@ -141,7 +141,7 @@ fn on_one_two_and_seven_shards(rt: HostRuntime) -> Result<(), Fail> {
     let none = [0; 5];
     let rows = [
         event(Who::Tick, [1, 0, 1, 0, 0], [1, 1, 0, 0, 1], Answer::Ticked),
-        row(
+        event(
             Who::Own(3),
             [0, 0, 0, 1, 0],
             [0, 0, 0, 1, 0],
@@ -152,7 +152,7 @@ fn on_one_two_and_seven_shards(rt: HostRuntime) -> Result<(), Fail> {
         event(Who::Own(0), none, none, Answer::Refused(Refusal::PollBusy)),
         event(Who::Own(4), none, none, Answer::Handled),
         event(Who::Tick, none, none, Answer::Ticked),
-        row(
+        event(
             Who::Own(2),
             none,
             [0, 0, 1, 0, 0],
