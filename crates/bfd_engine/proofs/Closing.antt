@@ -1,5 +1,5 @@
 -- Shards that are taken out one by one.
-use Rattle.std.proofs.Common.{◌≡◌, ◌≢◌, ◌<◌, ◌≤◌, ◌+◌, ◌*◌, ◌++◌, ◌∷◌, [], ℕ, zero, suc, false, List, length, length-append, set, map, true, Option, Some, None, slice_get, refl, ap, sym, ◌∙◌, subst, arith}
+use Rattle.std.proofs.Common.{◌≡◌, ◌≢◌, ◌<◌, ◌≤◌, ◌+◌, ◌*◌, ◌++◌, ◌∷◌, [], ℕ, zero, suc, false, List, length, length-append, set, map, true, Some, slice_get, refl, ap, sym, ◌∙◌, subst, arith}
 use mathlib.Core.Logic.{dite}
 use native.Mathlib.Decide.{ℕ_discrete}
 use Rattle.bfd_turn.specs.Lists.{calls, has}
@@ -98,7 +98,7 @@ ended_more engine k at p shards more shard here base end long is all = record {
       (let f : slice_get (shards ++ shard ∷ []) number ≡ Some x = ap (λ (xs : List Shard). slice_get xs number) (sym is) ∙ e in
       dite (ℕ_discrete number at)
       (λ same. (let s : shard ≡ x = same_some shard x (sym (last_here shards shard number (same ∙ long)) ∙ f) in
-          subst (λ (y : ℕ × Shard). IsClosed engine k y.0 y.1) (λ i. (sym same i, s i)) (closed_here engine k at p shard here base end)))
+      subst (λ (y : ℕ × Shard). IsClosed engine k y.0 y.1) (λ i. (sym same i, s i)) (closed_here engine k at p shard here base end)))
       (λ other. all.each number x
-          (sym (front_here shards shard number (let w = within (shards ++ shard ∷ []) number x f in let l = length-append shards (shard ∷ []) in omega (arith, w, l, other, long))) ∙ f)));
+      (sym (front_here shards shard number (let w = within (shards ++ shard ∷ []) number x f in let l = length-append shards (shard ∷ []) in omega (arith, w, l, other, long))) ∙ f)));
 }

@@ -72,10 +72,10 @@ pub glue_more : (number at : ℕ) (before theirs after rest after2 rest2 : List 
 glue_more number at before theirs after rest after2 rest2 all one = record {
   below = λ k h. dite (ℕ_discrete k at)
       (λ same. subst (λ n. IsGlued number (slice_get before n) (slice_get theirs n) (slice_get after2 n)) (sym same)
-          (glued_as number (slice_get after at) (slice_get before at) (slice_get rest at) (slice_get theirs at) (slice_get after2 at) (slice_get after2 at)
-          (sym (all.left at (omega arith))) (sym (all.theirs_left at (omega arith))) refl one.glued))
+      (glued_as number (slice_get after at) (slice_get before at) (slice_get rest at) (slice_get theirs at) (slice_get after2 at) (slice_get after2 at)
+      (sym (all.left at (omega arith))) (sym (all.theirs_left at (omega arith))) refl one.glued))
       (λ other. glued_as number (slice_get before k) (slice_get before k) (slice_get theirs k) (slice_get theirs k) (slice_get after k) (slice_get after2 k)
-          refl refl (one.left k other) (all.below k (omega (arith, h, other))));
+      refl refl (one.left k other) (all.below k (omega (arith, h, other))));
   left = λ k h. one.left k (λ same. omega (arith, same, h)) ∙ all.left k (omega (arith, h));
   theirs_left = λ k h. one.theirs_left k (λ same. omega (arith, same, h)) ∙ all.theirs_left k (omega (arith, h));
 }

@@ -23,7 +23,7 @@ gains k l shard between new t =
     ap (λ n. calls by n (seen_at l shard)) t.number ∙ (ap (calls by k.0) t.here
     ∙ (filter-append (λ (e : Entry). by e == k.0) (seen_at k shard ++ between) new
     ∙ ap (λ (xs : List Entry). xs ++ calls by k.0 new)
-      (filter-append (λ (e : Entry). by e == k.0) (seen_at k shard) between ∙ (ap (λ (xs : List Entry). calls by k.0 (seen_at k shard) ++ xs) t.others ∙ append-nil (calls by k.0 (seen_at k shard))))))
+    (filter-append (λ (e : Entry). by e == k.0) (seen_at k shard) between ∙ (ap (λ (xs : List Entry). calls by k.0 (seen_at k shard) ++ xs) t.others ∙ append-nil (calls by k.0 (seen_at k shard))))))
 
 pub mine_elsewhere : (k l : Knows) (shard r : ℕ) (between new : List Entry) → Turned k l shard between new → r ≢ shard → mine l r ≡ mine k r
 mine_elsewhere k l shard r between new t other = ap (λ n. calls by n (seen_at l r)) t.number ∙ ap (calls by k.0) (t.seen_elsewhere r other)

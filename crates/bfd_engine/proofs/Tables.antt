@@ -9,7 +9,6 @@ use Rattle.bfd_demux.specs.declared.fault.BuildFault.{BuildFault}
 use Rattle.bfd_demux.specs.declared.fault.BuildFault.TheVariants.{SameDiscr, ZeroDiscr, TooMany}
 use Rattle.bfd_demux.specs.Rows.{same_discr, repeat_after, first_repeat, pair_fault, early_fault, build_fault}
 use Rattle.bfd_session.specs.declared.event.SessionConfig.{SessionConfig}
-use Rattle.bfd_session.specs.declared.event.SessionConfig.TheVariants.{Pair}
 use Rattle.bfd_session.specs.Kinds.{discr_of}
 use Rattle.bfd_session.specs.Rows.{Ascends, row_of, rows_of, row_of_reflector, table_of}
 use Rattle.bfd_sbfd.specs.declared.reflecting.Reflector.{Reflector}

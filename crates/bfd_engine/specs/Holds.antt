@@ -1,13 +1,13 @@
 -- A turn that is held, and why one isn't given.
-use Rattle.std.specs.Prelude.{ℕ, ◌≡◌, ◌≢◌, ◌≤◌, ◌<◌, ◌++◌, List, [], slice_get, slice_set, Some, None}
+use Rattle.std.specs.Prelude.{ℕ, ◌≡◌, ◌≢◌, ◌<◌, ◌++◌, List, [], slice_get, slice_set, Some, None}
 use Rattle.bfd_turn.specs.Lists.{calls}
 use Rattle.bfd_turn.specs.Passes.{TableId, WasBusy, WasSpent}
 use Rattle.bfd_shard.specs.declared.entry.Entry.{Entry}
 use Rattle.bfd_engine.specs.declared.holding.HoldFault.{HoldFault}
 use Rattle.bfd_engine.specs.declared.holding.HoldFault.TheVariants.{Busy, Spent}
 use Rattle.bfd_engine.specs.Turned.{by, OfShard}
-use Rattle.bfd_engine.specs.Engines.{Shards, Held, Knows, IsCallers, base_at}
-use Rattle.bfd_engine.specs.Calls.{seen_at, word_at, taken_at, made_at, kept_at, seen_of, word_of}
+use Rattle.bfd_engine.specs.Engines.{Shards, Knows, IsCallers, base_at}
+use Rattle.bfd_engine.specs.Calls.{seen_at, word_at, taken_at, made_at, kept_at}
 
 -- a held turn: the shard, its lock, and what the pass knows of it
 abbrev pub Holding : Type 0

@@ -57,11 +57,13 @@ impl<W: Timers> Engine<W> {
         let own = pass.lift(at);
         match self.locks[at].try_turn(own) {
             Ok(turn) => Ok(Hold { turn, shard }),
-            Err(TryFault::Busy {
-                pass: back,
-                read,
-                found,
-            }) => {
+            Err(
+                TryFault::Busy {
+                    pass: back,
+                    read,
+                    found,
+                },
+            ) => {
                 pass.put(at, back);
                 Err(HoldFault::Busy(read, found))
             }

@@ -57,11 +57,7 @@ impl<W: Timers> Engine<W> {
     }
 
     /// The shards, by number, once every pass that was made was joined. Want of memory is the one refusal, and hands all back.
-    pub fn close(
-        self,
-        alloc: Global,
-        pass: EnginePass,
-    ) -> Result<Vec<ShardState<W>>, Unclosed<W>>
+    pub fn close(self, alloc: Global, pass: EnginePass) -> Result<Vec<ShardState<W>>, Unclosed<W>>
         requires of { IsOf self pass.1 }
         requires there { AllThere pass.1 }
         requires first { pass.0 ≡ 0 }

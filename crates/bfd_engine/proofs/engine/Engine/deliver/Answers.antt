@@ -1,7 +1,7 @@
 -- A reflector's packet takes no turn; and what the answer tells.
 use Rattle.std.proofs.Common.{Ok, Some, IfOk, sym, subst}
 use Rattle.bfd_demux.specs.declared.target.Target.{Target}
-use Rattle.bfd_demux.specs.declared.target.Target.TheVariants.{Session, Reflector}
+use Rattle.bfd_demux.specs.declared.target.Target.TheVariants.{Session, Reflector, Echo}
 use Rattle.bfd_sbfd.specs.Reflect.{reflect}
 use Rattle.bfd_session.specs.Arrivals.{coming_to}
 use Rattle.bfd_engine.specs.Calls.{IsDone, coming_act}
@@ -23,6 +23,13 @@ returns-in-Session-clause-judged g c =
     (sym c.in-Session.is)
     (judged_target (Session c.in-Session.k) c.args.self.now c.args.moment c.args.arrival c.args.pass.now c.own.new.pass c.args.outs.now.items c.own.new.outs.items c.own.result
     c.requires.some c.requires.passes (subst (Arrives c.args.self.now.configs c.args.self.now.pool c.args.arrival) c.in-Session.is c.requires.arrives) c.own.ensures.call)
+
+pub returns-in-Echo-clause-judged : goal.returns-in-Echo-clause-judged
+returns-in-Echo-clause-judged g c =
+    subst (λ (t : Target). IfOk c.own-in-Echo.result (λ answer. judged_by c.args.self.now c.args.moment c.args.arrival (coming_to (Some t) c.args.arrival) c.own-in-Echo.new.pass answer))
+    (sym c.in-Echo.is)
+    (judged_target (Echo c.in-Echo.k c.in-Echo.sequence) c.args.self.now c.args.moment c.args.arrival c.args.pass.now c.own-in-Echo.new.pass c.args.outs.now.items c.own-in-Echo.new.outs.items c.own-in-Echo.result
+    c.requires.some c.requires.passes (subst (Arrives c.args.self.now.configs c.args.self.now.pool c.args.arrival) c.in-Echo.is c.requires.arrives) c.own-in-Echo.ensures.call)
 
 pub returns-in-Reflector-clause-judged : goal.returns-in-Reflector-clause-judged
 returns-in-Reflector-clause-judged g c =

@@ -39,8 +39,8 @@ returns-clause-of g c =
     sym (get_or_from_slice_get c.args.self.now.locks c.args.at c.lift-pass.result.0 c.index.result.now (c.requires.of.0.lock c.args.at c.lift-pass.result c.lift-pass.ensures.pass))
     ∙ (ap (λ (e : Shards). get_or e.locks c.args.at c.index.result.now) (sym c.self.view_is) ∙ sym c.index.ensures) in (
       subst (IsOf c.args.self.now) (sym (ap (λ (k : Knows). k.1) is))
-        (of_set c.args.self.now c.args.first.now.1 c.args.at c.lift-pass.result c.join.new.first c.lift-pass.ensures.pass
-        (ap (λ (x : K). x.0) c.join.ensures.first ∙ sym lock) (ap (λ (x : K). x.1.base) c.join.ensures.first) c.requires.of.0),
+          (of_set c.args.self.now c.args.first.now.1 c.args.at c.lift-pass.result c.join.new.first c.lift-pass.ensures.pass
+          (ap (λ (x : K). x.0) c.join.ensures.first ∙ sym lock) (ap (λ (x : K). x.1.base) c.join.ensures.first) c.requires.of.0),
       subst (IsOf c.args.self.now) (sym (ap (λ (k : Knows). k.1) c.lift-theirs.ensures.rest))
-        (none_set c.args.self.now c.args.other.now.1 c.args.at c.lift-theirs.result c.lift-theirs.ensures.pass c.requires.of.1),
+          (none_set c.args.self.now c.args.other.now.1 c.args.at c.lift-theirs.result c.lift-theirs.ensures.pass c.requires.of.1),
     )
