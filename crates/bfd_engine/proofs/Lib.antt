@@ -3,6 +3,17 @@ pub mod Places
 pub mod Sharing
 pub mod Parts
 pub mod Tables
+pub mod Mirrors
 pub mod Reaching
 pub mod Opening
 pub mod Turning
+pub mod Acts
+pub mod Seeking
+pub mod Timing
+pub mod Cutting
+pub mod Gluing
+pub mod Closing
+pub mod Lending
+pub mod Copies
+pub mod Growing
+pub mod Verdicts

@@ -1,6 +1,7 @@
 -- Shards that are opened one after another.
 use Rattle.std.proofs.Common.{◌≡◌, ℕ, zero, suc, ◌<◌, ◌≤◌, List, [], ◌∷◌, ◌++◌, length, map, length-append, Some, None, slice_get, get_or, Result, Ok, Err, IfOk, refl, ap, sym, ◌∙◌, subst, arith}
 use Rattle.std.specs.List.{AllByRecursion}
+use Rattle.std.proofs.lemmas.List.Elements.{All-nil}
 use Rattle.std.proofs.lemmas.List.{map-append}
 use mathlib.Core.Logic.{dite}
 use native.Mathlib.Decide.{ℕ_discrete}
@@ -13,7 +14,7 @@ use Rattle.bfd_sbfd.specs.declared.reflecting.Reflector.{Reflector}
 use Rattle.bfd_turn.specs.Passes.{TableId, opened}
 use Rattle.bfd_demux.specs.declared.row.Row.{Row}
 use Rattle.bfd_engine.specs.declared.kept.Base.{Base}
-use Rattle.bfd_engine.specs.Engines.{Shards, Held, AllOf, IsOf, AllThere, IsEngine, share, configs_at}
+use Rattle.bfd_engine.specs.Engines.{IsCallers, Shards, Held, AllOf, IsOf, AllThere, IsEngine, share, configs_at}
 use Rattle.bfd_engine.specs.Calls.{seen_of, word_of, taken_of, made_of, kept_of}
 use Rattle.bfd_engine.specs.Opening.{IsSorted, IsNewPass, opened_base, IsNewShard, MayOpen, ArePassed, IsOpened, AreOpened}
 use Rattle.bfd_engine.proofs.Places.{K, within, last_here, front_here, same_some, same_held}
@@ -117,10 +118,11 @@ module _ (limit n : ℕ) (configs : List SessionConfig) (parts : List (List Sess
   at : (k : ℕ) (p : K) → slice_get passes k ≡ Some (Some p) → k < n
   at k p e = let i = within passes k (Some p) e in let a = o.passes_long in omega (arith, i, a, s.long)
 
-  pub numbers : AllOf 0 passes
+  pub numbers : AllOf 0 0 passes
   numbers k p e =
       let x : IsOpened limit (share n k configs) (slice_get locks k) (slice_get passes k) (slice_get sizes k) = one k (at k p e) in
-      ap (λ (q : K). q.1.number) (sym (same_held (x.id, opened (opened_base limit (share n k configs)) 0) p (slice_get passes k) x.pass_is e))
+      subst (λ (q : K). IsCallers 0 0 q.1) (same_held (x.id, opened (opened_base limit (share n k configs)) 0) p (slice_get passes k) x.pass_is e)
+      (record { number_is = refl; used_up = All-nil (λ (m : ℕ). m < 1) })
 
   -- as an engine
   module _ (pool : List Reflector) where
@@ -152,11 +154,12 @@ module _ (limit n : ℕ) (configs : List SessionConfig) (parts : List (List Sess
           ((x.id, opened (opened_base limit (share n k configs)) 0), x.pass_is));
     }
 
-    pub new_pass : IsNewPass engine (0, passes)
+    pub new_pass : IsNewPass engine (0, passes, 0)
     new_pass = record {
       of = passes_of;
       there = passes_there;
       number = refl;
+      used = refl;
       seen = λ k h. ap seen_of (one k (omega (arith, h, count))).pass_is;
       word = λ k h. ap word_of (one k (omega (arith, h, count))).pass_is;
       taken = λ k h. ap taken_of (one k (omega (arith, h, count))).pass_is;
@@ -174,6 +177,7 @@ engine_is limit n configs known parts locks passes sizes discrs pool rows s o sa
     (record {
       some = omega (arith, some, long);
       few = omega (arith, few, long);
+      small = (let a = long_rows configs pool in let b = few_rows (table_of configs pool) sound in omega (arith, a, b));
       table = table;
       ascends = ascending configs pool sound sorted.0;
       pool_ascends = pool_ascending configs pool sound sorted.1;
@@ -182,9 +186,9 @@ engine_is limit n configs known parts locks passes sizes discrs pool rows s o sa
     })
 
 pub pass_is : (limit n : ℕ) (configs known : List SessionConfig) (parts : List (List SessionConfig)) (locks : List TableId) (passes : List Held) (sizes : List ℕ) (pool : List Reflector)
-    → AreShares n configs parts → AreOpened limit parts locks passes sizes → known ≡ configs → IsNewPass (record { locks = locks; configs = known; pool = pool; limit = limit }) (0, passes)
+    → AreShares n configs parts → AreOpened limit parts locks passes sizes → known ≡ configs → IsNewPass (record { locks = locks; configs = known; pool = pool; limit = limit }) (0, passes, 0)
 pass_is limit n configs known parts locks passes sizes pool s o same =
-    subst (λ cs. IsNewPass (record { locks = locks; configs = cs; pool = pool; limit = limit }) (0, passes)) (sym same) (new_pass limit n configs parts locks passes sizes s o pool)
+    subst (λ cs. IsNewPass (record { locks = locks; configs = cs; pool = pool; limit = limit }) (0, passes, 0)) (sym same) (new_pass limit n configs parts locks passes sizes s o pool)
 
 -- the same for the lists that were handed on
 pub planned : (rows : List Row) (cs cs2 : List SessionConfig) (ps ps2 : List Reflector) → cs2 ≡ cs → ps2 ≡ ps → (rows ≡ table_of cs2 ps2) × (build_fault (table_of cs2 ps2) ≡ None)

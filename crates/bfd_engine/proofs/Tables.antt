@@ -92,7 +92,7 @@ lower : (d e : ℕ) → d ≤ e → (e == d) ≡ false → d < e
 lower d e le differs = grind (arith, nat_tests)
 
 config_lower : (c later : SessionConfig) → discr_of c ≤ discr_of later → same_discr (row_of later) (row_of c) ≡ false → discr_of c < discr_of later
-config_lower (Pair c) (Pair d) le differs = lower c.discr d.discr le differs
+config_lower c d le differs = lower (discr_of c) (discr_of d) le differs
 
 head_lower : (c : SessionConfig) (cs : List SessionConfig) (ps : List Row) → AllByRecursion (λ later. same_discr later (row_of c) ≡ false) (rows_of cs ++ ps) → AllByRecursion (λ e. discr_of c ≤ e) (map discr_of cs)
     → AllByRecursion (λ later. discr_of c < discr_of later) cs

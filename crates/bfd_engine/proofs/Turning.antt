@@ -16,23 +16,24 @@ use Rattle.bfd_engine.specs.Engines.{Shards, Held, Knows, base_at, configs_at}
 use Rattle.bfd_engine.specs.Calls.{seen_of, seen_at, word_of, taken_of, made_of, kept_of, Turned, IsCause, fault_of, IsCall, IsFailed}
 use Rattle.bfd_engine.proofs.Places.{K, within, set_here, set_else}
 
-at_place : (k l : Knows) (s : ℕ) (p q : K) → slice_get k.1 s ≡ Some (Some p) → l ≡ (k.0, set k.1 s (Some q)) → slice_get l.1 s ≡ Some (Some q)
+pub at_place : (k l : Knows) (s : ℕ) (p q : K) → slice_get k.1 s ≡ Some (Some p) → l ≡ (k.0, set k.1 s (Some q), k.2) → slice_get l.1 s ≡ Some (Some q)
 at_place k l s p q here is = ap (λ (m : Knows). slice_get m.1 s) is ∙ set_here k.1 s (Some q) (within k.1 s (Some p) here)
 
-elsewhere : (k l : Knows) (s : ℕ) (q : K) (r : ℕ) → l ≡ (k.0, set k.1 s (Some q)) → r ≢ s → slice_get l.1 r ≡ slice_get k.1 r
+pub elsewhere : (k l : Knows) (s : ℕ) (q : K) (r : ℕ) → l ≡ (k.0, set k.1 s (Some q), k.2) → r ≢ s → slice_get l.1 r ≡ slice_get k.1 r
 elsewhere k l s q r is other = ap (λ (m : Knows). slice_get m.1 r) is ∙ set_else k.1 s r (Some q) other
 
-same_at : {X : Type 0} (f : Option Held → X) (k l : Knows) (s : ℕ) (p q : K) → slice_get k.1 s ≡ Some (Some p) → l ≡ (k.0, set k.1 s (Some q)) → f (Some (Some q)) ≡ f (Some (Some p))
+pub same_at : {X : Type 0} (f : Option Held → X) (k l : Knows) (s : ℕ) (p q : K) → slice_get k.1 s ≡ Some (Some p) → l ≡ (k.0, set k.1 s (Some q), k.2) → f (Some (Some q)) ≡ f (Some (Some p))
     → (r : ℕ) → f (slice_get l.1 r) ≡ f (slice_get k.1 r)
 same_at f k l s p q here is same r = dite (ℕ_discrete r s)
     (λ at. subst (λ i. f (slice_get l.1 i) ≡ f (slice_get k.1 i)) (sym at) (ap f (at_place k l s p q here is) ∙ (same ∙ ap f (sym here))))
     (λ other. ap f (elsewhere k l s q r is other))
 
-turned : (k l : Knows) (s : ℕ) (p q : K) (between new : List Entry) → slice_get k.1 s ≡ Some (Some p) → l ≡ (k.0, set k.1 s (Some q)) → p.1.number ≡ k.0 → IsSame p.1 q.1
+pub turned : (k l : Knows) (s : ℕ) (p q : K) (between new : List Entry) → slice_get k.1 s ≡ Some (Some p) → l ≡ (k.0, set k.1 s (Some q), k.2) → p.1.number ≡ k.0 → IsSame p.1 q.1
     → q.1.seen ≡ (p.1.seen ++ between) ++ new → calls by p.1.number between ≡ [] → Turned k l s between new
 turned k l s p q between new here is num same seen others =
     let at_l = at_place k l s p q here is in record {
       number = ap (λ (m : Knows). m.0) is;
+      used = ap (λ (m : Knows). m.2) is;
       others = subst (λ n. calls by n between ≡ []) num others;
       here = ap seen_of at_l ∙ (seen ∙ ap (λ (xs : List Entry). (xs ++ between) ++ new) (sym (ap seen_of here)));
       word = (let a = ap word_of at_l in let b = ap word_of here in let d = same.word in omega arith);
@@ -53,7 +54,7 @@ given_is engine k s p between event here base =
 limit_is : (engine : Shards) (s : ℕ) (p q : K) → p.1.base ≡ Some (base_at engine s) → IsSame p.1 q.1 → limit_in q.1.base ≡ engine.limit
 limit_is engine s p q base same = ap limit_in (same.base_is ∙ base)
 
-failed : (engine : Shards) (k l : Knows) (s : ℕ) (p q : K) (outs outs2 : List Out) (fault : EngineFault) → slice_get k.1 s ≡ Some (Some p) → l ≡ (k.0, set k.1 s (Some q)) → p.1.number ≡ k.0 → IsSame p.1 q.1
+failed : (engine : Shards) (k l : Knows) (s : ℕ) (p q : K) (outs outs2 : List Out) (fault : EngineFault) → slice_get k.1 s ≡ Some (Some p) → l ≡ (k.0, set k.1 s (Some q), k.2) → p.1.number ≡ k.0 → IsSame p.1 q.1
     → HasLooked p.1 q.1 → outs2 ≡ outs → IsCause fault engine s l → IsFailed engine s k l outs outs2 fault
 failed engine k l s p q outs outs2 fault here is num same looked told cause = record {
   between = looked.between;
@@ -63,7 +64,7 @@ failed engine k l s p q outs outs2 fault here is num same looked told cause = re
 }
 
 fault_by : (engine : Shards) (k l : Knows) (s : ℕ) (p q : K) (outs outs2 : List Out) (fault : TurnFault) → slice_get k.1 s ≡ Some (Some p) → p.1.base ≡ Some (base_at engine s)
-    → l ≡ (k.0, set k.1 s (Some q)) → p.1.number ≡ k.0 → IsSame p.1 q.1 → HasLooked p.1 q.1 → IsTurnCause fault q.1 → outs2 ≡ outs
+    → l ≡ (k.0, set k.1 s (Some q), k.2) → p.1.number ≡ k.0 → IsSame p.1 q.1 → HasLooked p.1 q.1 → IsTurnCause fault q.1 → outs2 ≡ outs
     → IsFailed engine s k l outs outs2 (fault_of s fault)
 fault_by engine k l s p q outs outs2 Memory here base is num same looked cause told =
     failed engine k l s p q outs outs2 (fault_of s Memory) here is num same looked told
@@ -77,7 +78,7 @@ fault_by engine k l s p q outs outs2 (Spent word) here base is num same looked c
 
 -- a turn that added no entry
 pub fault_done : (engine : Shards) (k l : Knows) (s : ℕ) (p q : K) (outs outs2 : Outputs) (r : Result Answer TurnFault) (fault : TurnFault) (told : EngineFault) → slice_get k.1 s ≡ Some (Some p)
-    → p.1.base ≡ Some (base_at engine s) → l ≡ (k.0, set k.1 s (Some q)) → p.1.number ≡ k.0 → IsSame p.1 q.1
+    → p.1.base ≡ Some (base_at engine s) → l ≡ (k.0, set k.1 s (Some q), k.2) → p.1.number ≡ k.0 → IsSame p.1 q.1
     → r ≡ Err fault → IfErr r (λ f. HasLooked p.1 q.1 × IsTurnCause f q.1) → OnErr r (outs2 ≡ outs) → told ≡ fault_of s fault → IsFailed engine s k l outs.items outs2.items told
 fault_done engine k l s p q outs outs2 r fault told here base is num same e looked untold is_told =
     let l1 : HasLooked p.1 q.1 × IsTurnCause fault q.1 = subst (λ x. IfErr x (λ f. HasLooked p.1 q.1 × IsTurnCause f q.1)) e looked in
@@ -86,7 +87,7 @@ fault_done engine k l s p q outs outs2 r fault told here base is num same e look
 
 -- a turn with its entry
 pub call_done : (engine : Shards) (k l : Knows) (s : ℕ) (event : ShardEvent) (p q : K) (outs outs2 : List Out) (r : Result Answer TurnFault) (answer : Answer) → slice_get k.1 s ≡ Some (Some p)
-    → p.1.base ≡ Some (base_at engine s) → l ≡ (k.0, set k.1 s (Some q)) → p.1.number ≡ k.0 → IsSame p.1 q.1
+    → p.1.base ≡ Some (base_at engine s) → l ≡ (k.0, set k.1 s (Some q), k.2) → p.1.number ≡ k.0 → IsSame p.1 q.1
     → r ≡ Ok answer → IfOk r (λ a. HasTurned p.1 event q.1 outs outs2 a) → IsCall engine s event k l outs outs2 answer
 call_done engine k l s event p q outs outs2 r answer here base is num same e all =
     let ok : HasTurned p.1 event q.1 outs outs2 answer = subst (λ x. IfOk x (λ a. HasTurned p.1 event q.1 outs outs2 a)) e all in record {

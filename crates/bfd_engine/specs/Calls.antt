@@ -78,6 +78,7 @@ mine pass shard = calls by pass.0 (seen_at pass shard)
 -- the pass k became l by a turn on a shard: it has seen others' entries, and then these
 pub record Turned (k l : Knows) (shard : ℕ) (between new : List Entry) : Type 0 where
   pub number : l.0 ≡ k.0
+  pub used : l.2 ≡ k.2
   pub others : calls by k.0 between ≡ []
   pub here : seen_at l shard ≡ (seen_at k shard ++ between) ++ new
   pub word : word_at k shard ≤ word_at l shard

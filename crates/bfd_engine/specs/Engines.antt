@@ -1,6 +1,6 @@
 -- What clauses see of an engine, and of a caller's pass over its shards.
-use Rattle.std.specs.Prelude.{ℕ, zero, suc, ◌≡◌, ◌≤◌, ◌<◌, ◌-◌, List, [], ◌∷◌, length, map, slice_get, Option, Some}
-use Rattle.bfd_turn.specs.Passes.{TableId}
+use Rattle.std.specs.Prelude.{ℕ, zero, suc, ◌≡◌, ◌≤◌, ◌<◌, ◌+◌, ◌-◌, List, [], ◌∷◌, length, map, slice_get, Option, Some}
+use Rattle.bfd_turn.specs.Passes.{TableId, IsNew}
 use Rattle.bfd_demux.specs.declared.row.Row.{Row}
 use Rattle.bfd_sbfd.specs.declared.reflecting.Reflector.{Reflector}
 use Rattle.bfd_sbfd.specs.Reflect.{Ascends as PoolAscends}
@@ -32,11 +32,12 @@ configs_at engine shard = share (length engine.locks) shard engine.configs
 abbrev pub base_at : Shards → ℕ → Base
 base_at engine shard = record { configs = configs_at engine shard; limit = engine.limit }
 
--- an engine of 1 to 64 shards, whose table of rows is that of its sessions and then its reflectors; it keeps each session's
+-- an engine of 1 to 64 shards and at most 65,536 sessions, whose table of rows is that of its sessions and then its reflectors; it keeps each session's
 -- discriminator, and how many sessions each shard has
 pub record IsEngine (engine : Shards) (rows : List Row) (discrs : List ℕ) (sizes : List ℕ) : Type 0 where
   pub some : 0 < length engine.locks
   pub few : length engine.locks ≤ 64
+  pub small : length engine.configs ≤ 65536
   pub table : rows ≡ table_of engine.configs engine.pool
   pub ascends : Ascends engine.configs
   pub pool_ascends : PoolAscends engine.pool
@@ -47,13 +48,18 @@ pub record IsEngine (engine : Shards) (rows : List Row) (discrs : List ℕ) (siz
 abbrev pub Held : Type 0
 Held = Option (TableId × OfShard)
 
--- a caller's number, and what it knows of each shard
+-- a caller's number, what it knows of each shard, and, of caller 0, how many numbers it has used for passes
 abbrev pub Knows : Type 0
-Knows = ℕ × List Held
+Knows = ℕ × List Held × ℕ
 
--- each shard's pass has the caller's number
-abbrev pub AllOf : ℕ → List Held → Type 0
-AllOf number passes = (k : ℕ) (p : TableId × OfShard) → slice_get passes k ≡ Some (Some p) → p.1.number ≡ number
+-- a shard's pass has the caller's number, and no pass that it made has a number that isn't used yet
+pub record IsCallers (number used : ℕ) (known : OfShard) : Type 0 where
+  pub number_is : known.number ≡ number
+  pub used_up : IsNew (used + 1) known
+
+-- each shard's pass is this caller's
+abbrev pub AllOf : ℕ → ℕ → List Held → Type 0
+AllOf number used passes = (k : ℕ) (p : TableId × OfShard) → slice_get passes k ≡ Some (Some p) → IsCallers number used p.1
 
 -- passes of this engine: one for each shard, of its lock and its base
 pub record IsOf (engine : Shards) (passes : List Held) : Type 0 where
@@ -64,3 +70,11 @@ pub record IsOf (engine : Shards) (passes : List Held) : Type 0 where
 -- no turn is held
 pub record AllThere (passes : List Held) : Type 0 where
   pub at : (k : ℕ) → k < length passes → (p : TableId × OfShard) × (slice_get passes k ≡ Some (Some p))
+
+-- no pass that was made has this number, or a greater one
+abbrev pub AreNew : ℕ → List Held → Type 0
+AreNew number passes = (k : ℕ) (p : TableId × OfShard) → slice_get passes k ≡ Some (Some p) → IsNew number p.1
+
+-- .. on a shard
+abbrev pub AreNewAt : ℕ → List Held → ℕ → Type 0
+AreNewAt number passes k = (p : TableId × OfShard) → slice_get passes k ≡ Some (Some p) → IsNew number p.1

@@ -29,6 +29,7 @@ pub record IsNewPass (engine : Shards) (pass : Knows) : Type 0 where
   pub of : IsOf engine pass.1
   pub there : AllThere pass.1
   pub number : pass.0 ≡ 0
+  pub used : pass.2 ≡ 0
   pub seen : (shard : ℕ) → shard < length engine.locks → seen_at pass shard ≡ []
   pub word : (shard : ℕ) → shard < length engine.locks → word_at pass shard ≡ 0
   pub taken : (shard : ℕ) → shard < length engine.locks → taken_at pass shard ≡ 0

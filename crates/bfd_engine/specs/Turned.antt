@@ -7,6 +7,8 @@ use Rattle.bfd_session.specs.declared.event.SessionConfig.{SessionConfig}
 use Rattle.bfd_shard.specs.declared.entry.Entry.{Entry}
 use Rattle.bfd_shard.specs.declared.entry.ShardEvent.{ShardEvent}
 use Rattle.bfd_shard.specs.declared.entry.ShardEvent.TheVariants.{Own, Tick}
+use Rattle.bfd_shard.specs.Expired.{expired, forgotten}
+use Rattle.bfd_shard.specs.Shard.{NoneDue}
 use Rattle.bfd_shard.specs.History.{events_of, last_tick, runs, outcome_of}
 use Rattle.bfd_turn.specs.Lists.{calls}
 use Rattle.bfd_turn.specs.declared.view.Known.{Known}
@@ -64,6 +66,19 @@ pub record HasTurned (p : OfShard) (event : ShardEvent) (q : OfShard) (outs outs
   pub seen : q.seen ≡ (p.seen ++ between) ++ entry_of p.number event ∷ []
   pub told : outs2 ≡ outs ++ (given_after (configs_in p.base) (p.seen ++ between) event).items
   pub answered : answer ≡ (given_after (configs_in p.base) (p.seen ++ between) event).answer
+
+-- what a tick did that ends all that was seen: the places of the sessions that forgot by it that a packet was heard are exactly
+-- those that it expires (RFC 5880 section 6.8.4), and nothing is left that is due by the last tick
+pub record HasExpired (configs : List SessionConfig) (caller t : ℕ) (seen : List Entry) : Type 0 where
+  pub before : List Entry
+  pub last : seen ≡ before ++ entry_of caller (Tick t) ∷ []
+  pub exact : forgotten (runs (events_of before) configs) (runs (events_of seen) configs) ≡ expired configs (events_of before) t
+  pub none_due : NoneDue (last_tick (events_of seen)) (runs (events_of seen) configs)
+
+-- of an own event this says nothing
+abbrev pub IsTimely : List SessionConfig → ℕ → ShardEvent → List Entry → Type 0
+IsTimely configs caller (Own place moment event) seen = Unit {0}
+IsTimely configs caller (Tick t) seen = HasExpired configs caller t seen
 
 -- q has seen what p had, and then entries of other callers alone
 pub record HasLooked (p q : OfShard) : Type 0 where

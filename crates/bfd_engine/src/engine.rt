@@ -1,10 +1,10 @@
 //! The engine, and its calls of one turn.
-ghost use Rattle.std.specs.Prelude.{◌≡◌, ◌≤◌, ◌<◌, ◌+◌, ◌*◌, length};
+ghost use Rattle.std.specs.Prelude.{◌≡◌, ◌≤◌, ◌<◌, ◌+◌, ◌*◌, length, IfOk};
 ghost use Rattle.bfd_shard.specs.Shard.{CanHappen, IsOwn};
 ghost use Rattle.bfd_shard.specs.declared.entry.ShardEvent.TheVariants.{Tick as TickEvent};
-ghost use Rattle.bfd_engine.specs.Turned.{room_in};
+ghost use Rattle.bfd_engine.specs.Turned.{IsTimely, room_in};
 ghost use Rattle.bfd_engine.specs.Engines.{IsOf, AllThere, configs_at};
-ghost use Rattle.bfd_engine.specs.Calls.{IsDone, Turns, fault_of};
+ghost use Rattle.bfd_engine.specs.Calls.{IsDone, Turns, fault_of, seen_at};
 
 use crate::fault::EngineFault;
 use crate::kept::Kept;
@@ -50,7 +50,7 @@ impl<W: Timers> Model for Engine<W> {
 }
 
 /// The fault of a shard's turn.
-fn fault_at(shard: u32, fault: TurnFault) -> EngineFault
+pub(crate) fn fault_at(shard: u32, fault: TurnFault) -> EngineFault
     ensures { result ≡ fault_of shard fault }
 {
     match fault {
@@ -95,6 +95,7 @@ impl<W: Timers> Engine<W> {
         ensures of { IsOf self.now pass.new.1 }
         ensures there { AllThere pass.new.1 }
         ensures call { IsDone (Turns shard event) self.now pass.old pass.new outs.old.items outs.new.items result }
+        ensures timely { IfOk result (λ _. IsTimely (configs_at self.now shard) pass.old.0 event (seen_at pass.new shard)) }
         ensures room { outs.new.room ≡ outs.old.room }
         ensures spare { outs.old.spare ≤ outs.new.spare + room_in (configs_at self.now shard) event }
         ensures cost { IsOwn event → steps.new ≤ steps.old + 2 }

@@ -11,16 +11,25 @@
 //! it; after a fault no entry is added, and Full and Spent have their causes. It promises nothing of waiting.
 #![tactic(auto)]
 
+mod asking;
 mod dealing;
 mod engine;
 mod fault;
+mod holding;
+mod joining;
+mod journal;
 mod kept;
+mod law;
 mod open;
+mod passing;
 mod pass;
 mod receive;
 mod turn;
 
 pub use engine::Engine;
+pub use holding::{Hold, HoldFault};
+pub use joining::Unclosed;
 pub use fault::{EngineFault, OpenFault};
 pub use kept::{Base, Kept};
+pub use law::turn_laws;
 pub use pass::EnginePass;

@@ -3,7 +3,7 @@ ghost use Rattle.std.specs.Prelude.{◌≡◌, ◌≤◌, ◌<◌, None, IfOk, M
 ghost use Rattle.bfd_demux.specs.Rows.{build_fault};
 ghost use Rattle.bfd_session.specs.Kinds.{discr_of};
 ghost use Rattle.bfd_session.specs.Rows as rows;
-ghost use Rattle.bfd_session.specs.Rows.{AreFit, table_of};
+ghost use Rattle.bfd_session.specs.Rows.{AreFit};
 ghost use Rattle.bfd_engine.specs.Opening.{IsSorted, IsNewPass, IsOpenFault, IsNewShard, ArePassed, AreOpened};
 
 use crate::dealing::deal;
@@ -11,47 +11,14 @@ use crate::engine::Engine;
 use crate::fault::OpenFault;
 use crate::kept::{Base, Kept};
 use crate::pass::EnginePass;
-use bfd_demux::{BuildFault, Demux, Row, RowKind};
+use bfd_demux::{BuildFault, Demux};
 use bfd_sbfd::Reflector;
-use bfd_session::{SessionConfig, rows_of};
+use bfd_session::{SessionConfig, table_of};
 use bfd_shard::{Entry, ShardState};
 use bfd_turn::{Pass, TurnLock};
 use bfd_wheel::Timers;
 use std::alloc::{AllocError, Global};
 use std::snapshot::Snapshot;
-
-/// The row of a reflector.
-fn row_of_reflector(reflector: &Reflector) -> Row
-    ensures { result ≡ rows.row_of_reflector reflector.now }
-{
-    Row {
-        discr: reflector.discr,
-        kind: RowKind::Reflect,
-    }
-}
-
-/// The rows of the reflectors, in their order.
-fn reflector_rows(alloc: Global, pool: &[Reflector]) -> Result<Vec<Row>, AllocError>
-    ensures { IfOk result (λ list. list.items ≡ map rows.row_of_reflector pool.now) }
-{
-    pool.iter()
-        .map(|reflector| row_of_reflector(reflector))
-        .collect(alloc)
-}
-
-/// The rows of the sessions, and then of the reflectors.
-fn table(
-    alloc: Global,
-    configs: &[SessionConfig],
-    pool: &[Reflector],
-) -> Result<Vec<Row>, AllocError>
-    ensures { IfOk result (λ list. list.items ≡ table_of configs.now pool.now) }
-{
-    let mut list = rows_of(alloc, configs)?;
-    let mut reflectors = reflector_rows(alloc, pool)?;
-    list.append(&mut reflectors)?;
-    Ok(list)
-}
 
 /// The discriminators of the sessions.
 fn discrs_of(alloc: Global, configs: &[SessionConfig]) -> Result<Vec<u32>, AllocError>
@@ -62,9 +29,9 @@ fn discrs_of(alloc: Global, configs: &[SessionConfig]) -> Result<Vec<u32>, Alloc
 
 /// The table of the sessions and reflectors, or what is wrong with it.
 fn plan(alloc: Global, configs: &[SessionConfig], pool: &[Reflector]) -> Result<Demux, OpenFault>
-    ensures { MatchResult result (λ demux. (demux ≡ table_of configs.now pool.now) × (build_fault (table_of configs.now pool.now) ≡ None)) (IsOpenFault (table_of configs.now pool.now)) }
+    ensures { MatchResult result (λ demux. (demux ≡ rows.table_of configs.now pool.now) × (build_fault (rows.table_of configs.now pool.now) ≡ None)) (IsOpenFault (rows.table_of configs.now pool.now)) }
 {
-    let Ok(list) = table(alloc, configs, pool) else {
+    let Ok(list) = table_of(alloc, configs, pool) else {
         return Err(OpenFault::Memory);
     };
     match Demux::build(alloc, list.as_slice()) {
@@ -139,7 +106,7 @@ impl<W: Timers> Engine<W> {
         ensures pool { IfOk result (λ r. r.0.pool ≡ pool.items) }
         ensures limit { IfOk result (λ r. r.0.limit ≡ limit) }
         ensures pass { IfOk result (λ r. IsNewPass r.0 r.1) }
-        ensures fault { MatchResult result (λ _. build_fault (table_of configs.items pool.items) ≡ None) (IsOpenFault (table_of configs.items pool.items)) }
+        ensures fault { MatchResult result (λ _. build_fault (rows.table_of configs.items pool.items) ≡ None) (IsOpenFault (rows.table_of configs.items pool.items)) }
     {
         let demux = plan(alloc, configs.as_slice(), pool.as_slice())?;
         let Ok(discrs) = discrs_of(alloc, configs.as_slice()) else {
@@ -161,6 +128,11 @@ impl<W: Timers> Engine<W> {
             limit,
             configs: known,
         };
-        Ok((engine, EnginePass { passes, number: 0 }))
+        let pass = EnginePass {
+            passes,
+            number: 0,
+            used: 0,
+        };
+        Ok((engine, pass))
     }
 }

@@ -2,14 +2,17 @@
 ghost use Rattle.std.specs.Prelude.{◌≡◌, ◌≤◌, ◌<◌, ◌+◌, ◌*◌, ◌/◌, ◌%◌, ◌++◌, ◌∷◌, [], None, Some, IfOk, OnOk, length};
 ghost use Rattle.std.specs.Result.{result_err};
 ghost use Rattle.bfd_demux.specs.Selection.{first_header_failing, first_table_failing, target_of};
+ghost use Rattle.bfd_packet.specs.Layout.{fields_of};
 ghost use Rattle.bfd_sbfd.specs.Reflect as reflecting;
-ghost use Rattle.bfd_session.specs.Arrivals.{coming_to};
+ghost use Rattle.bfd_session.specs.Arrivals.{coming_to, comes_to};
 ghost use Rattle.bfd_session.specs.Rows.{table_of};
 ghost use Rattle.bfd_shard.specs.Shard.{IsTaken};
 ghost use Rattle.bfd_shard.specs.declared.entry.ShardEvent.TheVariants.{Tick as TickEvent};
 ghost use Rattle.bfd_engine.specs.Engines.{IsOf, AllThere, configs_at};
-ghost use Rattle.bfd_engine.specs.Calls.{IsDone, Turns, own_act, arrival_act, coming_act, reflect_act};
-ghost use Rattle.bfd_engine.specs.Inside.{Arrives};
+ghost use Rattle.bfd_engine.specs.Calls.{IsDone, Turns, own_act, arrival_act, coming_act, reflect_act, seen_at};
+ghost use Rattle.bfd_engine.specs.Judging.{judged_by};
+ghost use Rattle.bfd_engine.specs.Turned.{HasExpired};
+ghost use Rattle.bfd_engine.specs.Inside.{Arrives, IsNamed, IsTold};
 
 use crate::engine::Engine;
 use crate::fault::EngineFault;
@@ -76,9 +79,98 @@ impl<W: Timers> Engine<W> {
         self.turn_on(rt, pass, k % shards, event, outs, steps)
     }
 
+    /// The answer to a packet for the reflector at this place of the pool, which Your Discriminator names.
+    fn reflected(&self, place: u32, arrival: &Arrival, outs: &mut Outs) -> Answer
+        requires named { IsNamed self.now.pool place (fields_of arrival.now.payload).your }
+        requires room { 0 < outs.old.spare }
+        ensures told { IsTold (reflecting.reflect self.now.pool arrival.now) arrival.now outs.old.items outs.new.items result }
+        ensures room { outs.new.room ≡ outs.old.room }
+        ensures spare { outs.old.spare ≤ outs.new.spare + 1 }
+    {
+        match self.reflect(arrival) {
+            Ok(datagram) => {
+                let discr = self.pool[place as usize].discr;
+                outs.push(Out::Sent { discr, datagram });
+                Answer::Handled
+            }
+            Err(test) => Answer::Dropped(test),
+        }
+    }
+
+    /// The arrival, which is for this target.
+    fn deliver<R: Wait, L: Ledger>(
+        &self,
+        rt: &R,
+        pass: &mut EnginePass,
+        moment: Moment,
+        target: Target,
+        arrival: Arrival,
+        outs: &mut Outs,
+        steps: &mut Steps<L>,
+    ) -> Result<Answer, EngineFault>
+        requires of { IsOf self.now pass.old.1 }
+        requires there { AllThere pass.old.1 }
+        requires arrives { Arrives self.now.configs self.now.pool arrival target }
+        requires some { 0 < length self.now.locks }
+        requires passes { None ≡ first_table_failing (table_of self.now.configs self.now.pool) arrival }
+        requires room { 5 ≤ outs.old.spare }
+        ensures of { IsOf self.now pass.new.1 }
+        ensures there { AllThere pass.new.1 }
+        ensures call { IsDone (coming_act self.now moment arrival (coming_to (Some target) arrival)) self.now pass.old pass.new outs.old.items outs.new.items result }
+        ensures judged { IfOk result (λ answer. judged_by self.now moment arrival (coming_to (Some target) arrival) pass.new answer) }
+        ensures room { outs.new.room ≡ outs.old.room }
+        ensures spare { outs.old.spare ≤ outs.new.spare + 5 }
+        ensures cost { steps.new ≤ steps.old + 2 }
+    {
+        match target {
+            Target::Session(k) => {
+                self.own(rt, pass, moment, k, Event::Packet(arrival), outs, steps)
+            }
+            Target::Echo(k, sequence) => {
+                self.own(rt, pass, moment, k, Event::Returned(sequence), outs, steps)
+            }
+            Target::Reflector(place) => Ok(self.reflected(place, &arrival, outs)),
+        }
+    }
+
+    /// Hands an arrival to what it is for. It may wait.
+    ///
+    /// An arrival that fails a test up to selection is answered `Dropped` with the first that it fails. A packet for a reflector
+    /// is answered by it: its answer is put out as `Sent` in the reflector's name, or it is `Dropped`. Neither takes a turn.
+    /// Any other arrival is one turn, whose entry is the session's own event at this moment. A packet of a session is `Dropped` by
+    /// the first test that it fails, over the session's variables after settling, and `Handled` where it fails none (RFC 5880
+    /// section 6.8.6). `outs` has room for five. At most 40 steps are taken.
+    #[tactic(auto, using(crate::proofs::Reaching::arrives))]
+    pub fn receive<R: Wait, L: Ledger>(
+        &self,
+        rt: &R,
+        pass: &mut EnginePass,
+        moment: Moment,
+        arrival: Arrival,
+        outs: &mut Outs,
+        steps: &mut Steps<L>,
+    ) -> Result<Answer, EngineFault>
+        requires of { IsOf self.now pass.old.1 }
+        requires there { AllThere pass.old.1 }
+        requires room { 5 ≤ outs.old.spare }
+        ensures of { IsOf self.now pass.new.1 }
+        ensures there { AllThere pass.new.1 }
+        ensures call { IsDone (arrival_act self.now moment arrival) self.now pass.old pass.new outs.old.items outs.new.items result }
+        ensures judged { IfOk result (λ answer. judged_by self.now moment arrival (comes_to (table_of self.now.configs self.now.pool) arrival) pass.new answer) }
+        ensures room { outs.new.room ≡ outs.old.room }
+        ensures spare { outs.old.spare ≤ outs.new.spare + 5 }
+        ensures cost { steps.new ≤ steps.old + 40 }
+    {
+        match self.demux.screen(&arrival, steps) {
+            Ok(target) => self.deliver(rt, pass, moment, target, arrival, outs, steps),
+            Err(test) => Ok(Answer::Dropped(test)),
+        }
+    }
+
     /// Advances a shard to this tick; one below its last tick counts as the last. It may wait.
     ///
-    /// It is one turn, whose entry is this tick. `outs` has room for five outputs for each session of the shard.
+    /// It is one turn, whose entry is this tick. Of the sessions of the shard exactly those forget that a packet was heard whose
+    /// Detection Time has expired by it (RFC 5880 section 6.8.4), and nothing is left that is due. `outs` has room for five outputs for each session of the shard.
     pub fn advance<R: Wait, L: Ledger>(
         &self,
         rt: &R,
@@ -95,6 +187,7 @@ impl<W: Timers> Engine<W> {
         ensures of { IsOf self.now pass.new.1 }
         ensures there { AllThere pass.new.1 }
         ensures call { IsDone (Turns shard (TickEvent tick)) self.now pass.old pass.new outs.old.items outs.new.items result }
+        ensures expires { IfOk result (λ _. HasExpired (configs_at self.now shard) pass.old.0 tick (seen_at pass.new shard)) }
         ensures room { outs.new.room ≡ outs.old.room }
         ensures spare { outs.old.spare ≤ outs.new.spare + 5 * length (configs_at self.now shard) }
     {

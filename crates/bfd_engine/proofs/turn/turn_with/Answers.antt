@@ -1,6 +1,8 @@
 -- The room for the outputs.
-use Rattle.std.proofs.Common.{rules, sym, length, ◌<◌, ◌≡◌, ◌∙◌, ap, arith}
-use Rattle.bfd_engine.specs.Turned.{configs_in, limit_in, room_in}
+use Rattle.std.proofs.Common.{rules, sym, length, ◌<◌, ◌≡◌, ◌∙◌, ◌++◌, ◌∷◌, [], ap, arith}
+use Rattle.bfd_session.specs.Kinds.{configs_of}
+use Rattle.bfd_engine.proofs.Timing.{timely}
+use Rattle.bfd_engine.specs.Turned.{configs_in, entry_of, limit_in, room_in}
 use Rattle.bfd_shard.specs.Shard.{room_for}
 use Rattle.bfd_engine.proofs.Rooms.{room_by}
 use Rattle.bfd_engine.proofs.turn.turn_with.Goals as goal
@@ -29,3 +31,13 @@ returns-then-is_err-clause-fault g c =
     ∙ (ap (λ k. k.shard.limit) (sym c.value-kept.ensures.value) ∙ sym c.prepare.ensures.limit))) in
     let below : length c.prepare.new.self.journal < c.prepare.new.self.limit = search rules in
     (record { between = l.adds.0; others = l.adds.2; seen = seen ∙ (kept ∙ l.adds.1) }, omega (arith, ap length seen, bound, below))
+
+pub returns-in-Ok-apply-clause-timely : goal.returns-in-Ok-apply-clause-timely
+returns-in-Ok-apply-clause-timely g c =
+    let same : c.prepare.new.self.sessions ≡ c.in-Ok.turn.2.shard.sessions = c.prepare.ensures.sessions ∙ ap (λ k. k.shard.sessions) c.value-kept.ensures.value in
+    let are : configs_of c.prepare.new.self.sessions ≡ configs_in c.args.pass.1.base = ap configs_of same ∙ ap configs_in c.in-Ok.ensures.1.base_is in
+    let more : c.apply.new.self.journal ≡ c.prepare.new.self.journal ++ entry_of c.args.pass.1.number c.args.event ∷ [] =
+    c.in-Ok-apply.ensures.journal ∙ ap (λ n. c.prepare.new.self.journal ++ entry_of n c.args.event ∷ []) c.caller-caller.ensures in
+    timely c.prepare.new.self c.apply.new.self c.args.pass.1.number c.args.event (configs_in c.args.pass.1.base) c.done-in-Ok-apply.result.1.seen
+    c.in-Ok-apply.ensures.stood c.in-Ok-apply.ensures.kept are c.in-Ok-apply.ensures.configs more (ap (λ p. p.1.seen) c.done-in-Ok-apply.ensures)
+    c.in-Ok-apply.ensures.exact c.in-Ok-apply.ensures.over

@@ -19,8 +19,8 @@ invariant_of-engine g c =
     c.in-Ok-open_shards.sizes.items c.in-Ok.discrs.items c.args.pool.items c.in_ok-demux.demux s c.in-Ok-open_shards.ensures (ap (λ v. v.items) c.of-known.ensures) c.requires.shards.0 c.requires.shards.1
     (planned c.in_ok-demux.demux c.args.configs.items c.as_slice.result.now c.args.pool.items c.as_slice-2.result.now c.as_slice.ensures.value c.as_slice-2.ensures.value c.in_ok-demux.ensures).0 (planned c.in_ok-demux.demux c.args.configs.items c.as_slice.result.now c.args.pool.items c.as_slice-2.result.now c.as_slice.ensures.value c.as_slice-2.ensures.value c.in_ok-demux.ensures).1 c.requires.sorted (c.in-Ok.ensures ∙ ap (map discr_of) c.as_slice-3.ensures.value)
 
-pub invariant_of-result : goal.invariant_of-result
-invariant_of-result g c =
+pub invariant_of-pass : goal.invariant_of-pass
+invariant_of-pass g c =
     let s : AreShares c.args.shards c.args.configs.items (map (λ q. q.items) c.in-Ok-deal.parts.items) =
     are_shares c.args.shards c.args.configs.items (map (λ q. q.items) c.in-Ok-deal.parts.items) (length-map c.in-Ok-deal.parts.items (λ q. q.items) ∙ c.in-Ok-deal.ensures.long) c.in-Ok-deal.ensures.each in
     numbers c.args.limit c.args.shards c.args.configs.items (map (λ q. q.items) c.in-Ok-deal.parts.items) c.in-Ok-open_shards.locks.items c.in-Ok-open_shards.passes.items c.in-Ok-open_shards.sizes.items s c.in-Ok-open_shards.ensures

@@ -1,0 +1,104 @@
+-- Shards that are taken out one by one.
+use Rattle.std.proofs.Common.{◌≡◌, ◌≢◌, ◌<◌, ◌≤◌, ◌+◌, ◌*◌, ◌++◌, ◌∷◌, [], ℕ, zero, suc, false, List, length, length-append, set, map, true, Option, Some, None, slice_get, refl, ap, sym, ◌∙◌, subst, arith}
+use mathlib.Core.Logic.{dite}
+use native.Mathlib.Decide.{ℕ_discrete}
+use Rattle.bfd_turn.specs.Lists.{calls, has}
+use Rattle.bfd_turn.specs.Passes.{TableId, AllJoined}
+use Rattle.bfd_turn.specs.Plays.{AllKept}
+use Rattle.bfd_session.specs.Kinds.{configs_of}
+use Rattle.bfd_shard.specs.Shard.{Shard}
+use Rattle.bfd_engine.specs.declared.kept.Base.{Base}
+use Rattle.bfd_engine.specs.Turned.{by, configs_in, limit_in}
+use Rattle.bfd_engine.specs.Engines.{Shards, Held, Knows, IsOf, AllThere, base_at}
+use Rattle.bfd_engine.specs.Calls.{seen_of, word_of, taken_of, made_of, kept_of}
+use Rattle.bfd_engine.specs.Passes.{EachJoined, IsClosed}
+use Rattle.bfd_engine.proofs.Places.{K, within, set_else, last_here, front_here, same_some}
+
+next_here : {X : Type 0} (xs ys : List X) (x : X) (i : ℕ) → i ≡ length xs → slice_get (xs ++ x ∷ ys) i ≡ Some x
+next_here [] ys x zero e = refl
+next_here [] ys x (suc i) e = absurd (omega arith)
+next_here (z ∷ zs) ys x zero e = absurd (omega arith)
+next_here (z ∷ zs) ys x (suc i) e = next_here zs ys x i (omega arith)
+
+-- the passes from a place on are as they were
+pub record LeftFrom (at : ℕ) (before after : List Held) : Type 0 where
+  pub left : (k : ℕ) → at ≤ k → slice_get after k ≡ slice_get before k
+
+pub left_start : (ps : List Held) → LeftFrom 0 ps ps
+left_start ps = record { left = λ k h. refl }
+
+pub left_more : (at at2 : ℕ) (before after : List Held) (h : Held) → at2 ≡ at + 1 → LeftFrom at before after → LeftFrom at2 before (set after at h)
+left_more at at2 before after h is l = record { left = λ k le. set_else after at k h (λ same. omega (arith, same, le, is)) ∙ l.left k (omega (arith, le, is)) }
+
+-- the pass at the next place is the one that was handed in, and of the next lock
+pub record IsNext (engine : Shards) (before after : List Held) (lock : TableId) (at : ℕ) : Type 0 where
+  pub pass : K
+  pub before_is : slice_get before at ≡ Some (Some pass)
+  pub after_is : slice_get after at ≡ Some (Some pass)
+  pub lock_is : pass.0 ≡ lock
+  pub base_is : pass.1.base ≡ Some (base_at engine at)
+  pub within_is : at < length engine.locks
+
+pub next_pass : (engine : Shards) (yielded rest : List TableId) (lock : TableId) (before after : List Held) (at : ℕ) → yielded ++ lock ∷ rest ≡ engine.locks
+    → at ≡ length yielded → IsOf engine before → AllThere before → LeftFrom at before after → IsNext engine before after lock at
+next_pass engine yielded rest lock before after at whole long of all l =
+    let here : slice_get engine.locks at ≡ Some lock = ap (λ (ls : List TableId). slice_get ls at) (sym whole) ∙ next_here yielded rest lock at long in
+    let inside : at < length engine.locks = within engine.locks at lock here in
+    let t = all.at at (let e = of.long in omega (arith, inside, e)) in record {
+      pass = t.0;
+      before_is = t.1;
+      after_is = l.left at (omega arith) ∙ t.1;
+      lock_is = same_some t.0.0 lock (sym (of.lock at t.0 t.1) ∙ here);
+      base_is = of.base_is at t.0 t.1;
+      within_is = inside;
+    }
+
+-- the pass that was lifted is that one
+pub lifted : (engine : Shards) (before after : List Held) (lock : TableId) (at : ℕ) (p : K) → IsNext engine before after lock at → slice_get after at ≡ Some (Some p)
+    → IsNext engine before after lock at × (slice_get before at ≡ Some (Some p)) × (p.0 ≡ lock) × (p.1.base ≡ Some (base_at engine at))
+lifted engine before after lock at p n e =
+    let same : n.pass ≡ p = same_some n.pass p (same_some (Some n.pass) (Some p) (sym n.after_is ∙ e)) in
+    (n, n.before_is ∙ ap (λ (x : K). Some (Some x)) same, sym (ap (λ (x : K). x.0) same) ∙ n.lock_is, sym (ap (λ (x : K). x.1.base) same) ∙ n.base_is)
+
+-- all that this pass made was joined
+pub joined_here : (engine : Shards) (k : Knows) (at : ℕ) (p : K) → slice_get k.1 at ≡ Some (Some p) → at < length engine.locks → EachJoined engine k → AllJoined p.1
+joined_here engine k at p here inside all n h =
+    subst (λ js. has n (map (λ j. j.0) js) ≡ true) (ap kept_of here) (all at n inside (ap (has n) (ap made_of here) ∙ h))
+
+-- what a lock says when it is closed
+pub record IsEnd (p : K) (shard : Shard) : Type 0 where
+  pub notes : shard.journal ≡ p.1.seen
+  pub base : (let b : Base = record { configs = configs_of shard.sessions; limit = shard.limit } in Some b) ≡ p.1.base
+  pub word : p.1.word ≤ 2 * p.1.taken
+  pub kept : AllKept by p.1.joined shard.journal
+  pub unmade : (n : ℕ) → n ≢ 0 → has n p.1.made ≡ false → calls by n shard.journal ≡ []
+
+closed_here : (engine : Shards) (k : Knows) (at : ℕ) (p : K) (shard : Shard) → slice_get k.1 at ≡ Some (Some p) → p.1.base ≡ Some (base_at engine at) → IsEnd p shard
+    → IsClosed engine k at shard
+closed_here engine k at p shard here base e = record {
+  journal = e.notes ∙ sym (ap seen_of here);
+  configs = ap configs_in (e.base ∙ base);
+  limit = ap limit_in (e.base ∙ base);
+  word = (let a = ap word_of here in let b = ap taken_of here in let d = e.word in omega arith);
+  kept = subst (λ js. AllKept by js shard.journal) (sym (ap kept_of here)) e.kept;
+  unmade = λ n other h. e.unmade n other (ap (has n) (sym (ap made_of here)) ∙ h);
+}
+
+-- the shards that were taken out
+pub record AreEnded (engine : Shards) (k : Knows) (shards : List Shard) : Type 0 where
+  pub each : (number : ℕ) (shard : Shard) → slice_get shards number ≡ Some shard → IsClosed engine k number shard
+
+pub ended_start : (engine : Shards) (k : Knows) → AreEnded engine k []
+ended_start engine k = record { each = λ number shard e. absurd (let i = within [] number shard e in omega (arith, i)) }
+
+pub ended_more : (engine : Shards) (k : Knows) (at : ℕ) (p : K) (shards more : List Shard) (shard : Shard) → slice_get k.1 at ≡ Some (Some p) → p.1.base ≡ Some (base_at engine at)
+    → IsEnd p shard → at ≡ length shards → more ≡ shards ++ shard ∷ [] → AreEnded engine k shards → AreEnded engine k more
+ended_more engine k at p shards more shard here base end long is all = record {
+  each = λ number x e.
+      (let f : slice_get (shards ++ shard ∷ []) number ≡ Some x = ap (λ (xs : List Shard). slice_get xs number) (sym is) ∙ e in
+      dite (ℕ_discrete number at)
+      (λ same. (let s : shard ≡ x = same_some shard x (sym (last_here shards shard number (same ∙ long)) ∙ f) in
+          subst (λ (y : ℕ × Shard). IsClosed engine k y.0 y.1) (λ i. (sym same i, s i)) (closed_here engine k at p shard here base end)))
+      (λ other. all.each number x
+          (sym (front_here shards shard number (let w = within (shards ++ shard ∷ []) number x f in let l = length-append shards (shard ∷ []) in omega (arith, w, l, other, long))) ∙ f)));
+}

@@ -1,0 +1,107 @@
+-- Passes that are joined, shard by shard.
+use Rattle.std.proofs.Common.{◌≡◌, ◌<◌, ◌≤◌, ◌+◌, ◌++◌, ◌∷◌, [], ℕ, List, length, set, Option, Some, None, slice_get, refl, ap, ap₂, sym, ◌∙◌, subst, arith}
+use mathlib.Core.Logic.{dite}
+use native.Mathlib.Decide.{ℕ_discrete}
+use Rattle.bfd_turn.specs.Lists.{Begins, longer, calls}
+use Rattle.bfd_turn.specs.Passes.{TableId, having_joined}
+use Rattle.bfd_shard.specs.declared.entry.Entry.{Entry}
+use Rattle.bfd_engine.specs.Turned.{by}
+use Rattle.bfd_engine.specs.Engines.{Held, Knows, AllThere}
+use Rattle.bfd_engine.specs.Calls.{seen_of, word_of, taken_of, made_of, kept_of, seen_at}
+use Rattle.bfd_engine.specs.Passes.{Joined, IsGlued, AreGlued, GluesAt}
+use Rattle.bfd_engine.proofs.Places.{K, within, set_here, set_else}
+
+-- what a shard's lock says of a join
+pub record IsJoin (id : TableId) (p q r : K) : Type 0 where
+  pub first_lock : p.0 ≡ id
+  pub result_is : r ≡ (id, having_joined by r.1.word p.1 q.1)
+  pub later : p.1.word ≤ r.1.word
+  pub later_theirs : q.1.word ≤ r.1.word
+  pub begins : Begins p.1.seen r.1.seen
+  pub begins_theirs : Begins q.1.seen r.1.seen
+  pub own : calls by 0 r.1.seen ≡ calls by 0 p.1.seen
+
+-- one shard is joined
+pub glue_here : (number at : ℕ) (ps qs : List Held) (id : TableId) (p q r : K) → slice_get ps at ≡ Some (Some p) → slice_get qs at ≡ Some (Some q) → q.1.number ≡ number
+    → IsJoin id p q r → GluesAt number at ps qs (set ps at (Some r)) (set qs at None)
+glue_here number at ps qs id p q r here theirs is j =
+    let seen : r.1.seen ≡ longer p.1.seen q.1.seen = ap (λ (x : K). x.1.seen) j.result_is in record {
+      glued = record {
+        pass = p;
+        other = q;
+        word = r.1.word;
+        before_is = here;
+        theirs_is = theirs;
+        after_is = set_here ps at (Some r) (within ps at (Some p) here)
+            ∙ ap (λ (x : K). Some (Some x)) (j.result_is ∙ ap (λ (i : TableId). (i, having_joined by r.1.word p.1 q.1)) (sym j.first_lock));
+        number_is = is;
+        later = j.later;
+        later_theirs = j.later_theirs;
+        begins = subst (λ xs. Begins p.1.seen xs) seen j.begins;
+        begins_theirs = subst (λ xs. Begins q.1.seen xs) seen j.begins_theirs;
+        own = ap (calls by 0) (sym seen) ∙ j.own;
+      };
+      left = λ k other. set_else ps at k (Some r) other;
+      theirs_left = λ k other. set_else qs at k None other;
+    }
+
+pub glue_start : (number : ℕ) (ps qs : List Held) → AreGlued number 0 ps qs ps qs
+glue_start number ps qs = record { below = λ k h. absurd (omega (arith, h)); left = λ k h. refl; theirs_left = λ k h. refl }
+
+-- the same, of what was before
+glued_as : (number : ℕ) (before before2 theirs theirs2 after after2 : Option Held) → before2 ≡ before → theirs2 ≡ theirs → after2 ≡ after
+    → IsGlued number before theirs after → IsGlued number before2 theirs2 after2
+glued_as number before before2 theirs theirs2 after after2 e f h g = record {
+  pass = g.pass;
+  other = g.other;
+  word = g.word;
+  before_is = e ∙ g.before_is;
+  theirs_is = f ∙ g.theirs_is;
+  after_is = h ∙ g.after_is;
+  number_is = g.number_is;
+  later = g.later;
+  later_theirs = g.later_theirs;
+  begins = g.begins;
+  begins_theirs = g.begins_theirs;
+  own = g.own;
+}
+
+-- one shard more
+pub glue_more : (number at : ℕ) (before theirs after rest after2 rest2 : List Held) → AreGlued number at before theirs after rest
+    → GluesAt number at after rest after2 rest2 → AreGlued number (at + 1) before theirs after2 rest2
+glue_more number at before theirs after rest after2 rest2 all one = record {
+  below = λ k h. dite (ℕ_discrete k at)
+      (λ same. subst (λ n. IsGlued number (slice_get before n) (slice_get theirs n) (slice_get after2 n)) (sym same)
+          (glued_as number (slice_get after at) (slice_get before at) (slice_get rest at) (slice_get theirs at) (slice_get after2 at) (slice_get after2 at)
+          (sym (all.left at (omega arith))) (sym (all.theirs_left at (omega arith))) refl one.glued))
+      (λ other. glued_as number (slice_get before k) (slice_get before k) (slice_get theirs k) (slice_get theirs k) (slice_get after k) (slice_get after2 k)
+          refl refl (one.left k other) (all.below k (omega (arith, h, other))));
+  left = λ k h. one.left k (λ same. omega (arith, same, h)) ∙ all.left k (omega (arith, h));
+  theirs_left = λ k h. one.theirs_left k (λ same. omega (arith, same, h)) ∙ all.theirs_left k (omega (arith, h));
+}
+
+-- the other's pass of a shard that isn't joined yet
+pub theirs_there : (number at : ℕ) (before theirs after rest : List Held) → AreGlued number at before theirs after rest → AllThere theirs → at < length theirs
+    → (q : K) × (slice_get rest at ≡ Some (Some q))
+theirs_there number at before theirs after rest all there h =
+    (let t = there.at at h in (t.0, all.theirs_left at (omega arith) ∙ t.1))
+
+joined_by : (k o l : Knows) (shard : ℕ) → k.0 ≡ 0 → l.0 ≡ 0 → IsGlued o.0 (slice_get k.1 shard) (slice_get o.1 shard) (slice_get l.1 shard) → Joined k o l shard
+joined_by k o l shard zero zero2 g =
+    let before : seen_at k shard ≡ g.pass.1.seen = ap seen_of g.before_is in
+    let theirs : seen_at o shard ≡ g.other.1.seen = ap seen_of g.theirs_is in
+    let after : seen_at l shard ≡ longer g.pass.1.seen g.other.1.seen = ap seen_of g.after_is in record {
+      seen = after ∙ ap₂ longer (sym before) (sym theirs);
+      first = subst (λ (xs : List Entry × List Entry). Begins xs.0 xs.1) (λ i. (sym before i, sym after i)) g.begins;
+      other = subst (λ (xs : List Entry × List Entry). Begins xs.0 xs.1) (λ i. (sym theirs i, sym after i)) g.begins_theirs;
+      own = ap₂ (λ n xs. calls by n xs) zero2 after ∙ (g.own ∙ sym (ap₂ (λ n xs. calls by n xs) zero before));
+      kept = ap kept_of g.after_is
+          ∙ ap₂ (λ a b. a ++ b ∷ []) (sym (ap kept_of g.before_is)) (ap₂ (λ n xs. (n, calls by n xs)) g.number_is (sym theirs));
+      word = (let a = ap word_of g.before_is in let b = ap word_of g.after_is in let d = g.later in omega arith);
+      word_other = (let a = ap word_of g.theirs_is in let b = ap word_of g.after_is in let d = g.later_theirs in omega arith);
+      taken = (let a = ap taken_of g.before_is in let b = ap taken_of g.theirs_is in let d = ap taken_of g.after_is in omega arith);
+      made = ap made_of g.after_is ∙ sym (ap made_of g.before_is);
+    }
+
+pub all_joined : (k o l : Knows) (at n : ℕ) (rest : List Held) → AreGlued o.0 at k.1 o.1 l.1 rest → n ≡ at → k.0 ≡ 0 → l.0 ≡ 0 → (shard : ℕ) → shard < n → Joined k o l shard
+all_joined k o l at n rest all is zero zero2 shard h = joined_by k o l shard zero zero2 (all.below shard (omega (arith, h, is)))

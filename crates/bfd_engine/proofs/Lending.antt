@@ -1,0 +1,58 @@
+-- A turn that is held, and one that isn't given.
+use Rattle.std.proofs.Common.{◌≡◌, ◌≢◌, ◌<◌, ◌+◌, ◌++◌, [], ℕ, All, List, set, Option, Some, None, slice_get, refl, ap, sym, ◌∙◌, subst, arith}
+use Rattle.bfd_turn.specs.Lists.{calls}
+use Rattle.bfd_turn.specs.Passes.{TableId, WasBusy, WasSpent, having_met, having_done}
+use Rattle.bfd_turn.specs.Plays.{Adds}
+use Rattle.bfd_shard.specs.declared.entry.Entry.{Entry}
+use Rattle.bfd_engine.specs.declared.holding.HoldFault.TheVariants.{Busy, Spent}
+use Rattle.bfd_engine.specs.Turned.{by, OfShard}
+use Rattle.bfd_engine.specs.Engines.{Shards, Held, Knows, IsOf, IsCallers}
+use Rattle.bfd_engine.specs.Calls.{seen_of, word_of, taken_of, made_of, kept_of, seen_at}
+use Rattle.bfd_engine.specs.Holds.{HasTaken, HasMet, IsHeld, IsKept}
+use Rattle.bfd_engine.proofs.Places.{K, within, set_here, of_set}
+use Rattle.bfd_engine.proofs.Turning.{at_place, elsewhere, same_at}
+
+pub has_taken : (engine : Shards) (shard : ℕ) (k l : Knows) (p : K) (id : TableId) (w : OfShard) (notes : List Entry) → IsOf engine k.1
+    → slice_get k.1 shard ≡ Some (Some p) → IsCallers k.0 k.2 p.1 → l ≡ (k.0, set k.1 shard None, k.2) → id ≡ p.0
+    → w ≡ record p.1 { seen = notes; word = w.word } → p.1.word < w.word → Adds by p.1.number p.1.seen notes → HasTaken engine shard k l (shard, id, w)
+has_taken engine shard k l p id w notes of here callers is lock same later adds = record {
+  between = adds.0;
+  shard_is = refl;
+  held = record {
+    lock_is = of.lock shard p here ∙ ap Some (sym lock);
+    base_is = ap (λ (v : OfShard). v.base) same ∙ of.base_is shard p here;
+    callers = subst (λ (m : Knows). IsCallers m.0 m.2 w) (sym is) (record {
+      number_is = ap (λ (v : OfShard). v.number) same ∙ callers.number_is;
+      used_up = subst (λ (ms : List ℕ). All (λ m. m < k.2 + 1) ms) (ap (λ (v : OfShard). v.made) (sym same)) callers.used_up;
+    });
+    out = ap (λ (m : Knows). slice_get m.1 shard) is ∙ set_here k.1 shard None (within k.1 shard (Some p) here);
+  };
+  rest = is;
+  others = subst (λ n. calls by n adds.0 ≡ []) callers.number_is adds.2;
+  seen = ap (λ (v : OfShard). v.seen) same ∙ (adds.1 ∙ ap (λ (xs : List Entry). xs ++ adds.0) (sym (ap seen_of here)));
+  word = (let a = ap word_of here in omega (arith, a, later));
+  taken = ap (λ (v : OfShard). v.taken) same ∙ sym (ap taken_of here);
+  made = ap (λ (v : OfShard). v.made) same ∙ sym (ap made_of here);
+  kept = ap (λ (v : OfShard). v.joined) same ∙ sym (ap kept_of here);
+}
+
+has_met : (k l : Knows) (shard word : ℕ) (p q : K) → slice_get k.1 shard ≡ Some (Some p) → l ≡ (k.0, set k.1 shard (Some q), k.2) → q.1 ≡ having_met word p.1
+    → HasMet word shard k l
+has_met k l shard word p q here is met = record {
+  number = ap (λ (m : Knows). m.0) is;
+  used = ap (λ (m : Knows). m.2) is;
+  here = ap word_of (at_place k l shard p q here is) ∙ ap (λ (v : OfShard). v.word) met;
+  seen = same_at seen_of k l shard p q here is (ap (λ (v : OfShard). v.seen) met);
+  taken = same_at taken_of k l shard p q here is (ap (λ (v : OfShard). v.taken) met);
+  made = same_at made_of k l shard p q here is (ap (λ (v : OfShard). v.made) met);
+  kept = same_at kept_of k l shard p q here is (ap (λ (v : OfShard). v.joined) met);
+  word_elsewhere = λ r other. ap word_of (elsewhere k l shard q r is other);
+}
+
+pub was_busy : (k l : Knows) (shard read found : ℕ) (p q : K) → slice_get k.1 shard ≡ Some (Some p) → l ≡ (k.0, set k.1 shard (Some q), k.2)
+    → q.1 ≡ having_met found p.1 → WasBusy p.1 read found → IsKept (Busy read found) shard k l
+was_busy k l shard read found p q here is met busy = (has_met k l shard found p q here is met, (p, here, busy))
+
+pub was_spent : (k l : Knows) (shard word : ℕ) (p q : K) → slice_get k.1 shard ≡ Some (Some p) → l ≡ (k.0, set k.1 shard (Some q), k.2)
+    → q.1 ≡ having_met word p.1 → WasSpent p.1 word → IsKept (Spent word) shard k l
+was_spent k l shard word p q here is met spent = (has_met k l shard word p q here is met, (p, here, spent))

@@ -1,0 +1,123 @@
+-- The reflector that a packet names stands at the place that selection tells.
+use Rattle.std.proofs.Common.{◌≡◌, ◌<◌, ◌≤◌, ◌==◌, ◌&&◌, ℕ, zero, suc, Bool, true, false, not, List, [], ◌∷◌, length, map, refl, sym, ap, ◌∙◌, subst, arith, Option, None, Some, if◌then◌else◌}
+use Rattle.std.specs.Prelude.{slice_get, nat_lt, unwrap_or}
+use Rattle.std.specs.List.{AllByRecursion}
+use Rattle.std.specs.Option.{option_map}
+use Rattle.std.proofs.lemmas.Bool.Decides.{nat_tests}
+use Rattle.bfd_packet.specs.declared.arrival.Addr.{Addr}
+use Rattle.bfd_packet.specs.declared.arrival.Arrival.{Arrival}
+use Rattle.bfd_packet.specs.declared.arrival.Port.{Port}
+use Rattle.bfd_packet.specs.declared.arrival.Port.TheVariants.{Single as SinglePort, Multi as MultiPort, Echo as EchoPort, Sbfd as SbfdPort, Answer as AnswerPort}
+use Rattle.bfd_packet.specs.Layout.{fields_of}
+use Rattle.bfd_rules.specs.declared.config.Role.{Role}
+use Rattle.bfd_rules.specs.declared.config.Role.TheVariants.{Single, Multi}
+use Rattle.bfd_demux.specs.declared.row.Row.{Row}
+use Rattle.bfd_demux.specs.declared.target.Target.{Target}
+use Rattle.bfd_demux.specs.declared.target.Target.TheVariants.{Session, Reflector as ReflectorAt, Echo}
+use Rattle.bfd_demux.specs.Table.{how_many}
+use Rattle.bfd_demux.specs.Selection.{is_session, names_on, reflector_index, target_on, target_of, the_one}
+use Rattle.bfd_sbfd.specs.declared.reflecting.Reflector.{Reflector}
+use Rattle.bfd_sbfd.specs.Reflect.{Ascends as PoolAscends}
+use Rattle.bfd_session.specs.declared.event.SessionConfig.{SessionConfig}
+use Rattle.bfd_session.specs.declared.event.SessionConfig.TheVariants.{Pair, Seek, Head, Tail}
+use Rattle.bfd_session.specs.Rows.{kind_of, row_of, row_of_reflector, table_of}
+use Rattle.bfd_session.proofs.Places.{Standing, AsSession, AsReflector, Found, found}
+use Rattle.bfd_session.proofs.Ports.{unreflected}
+use Rattle.bfd_engine.specs.Inside.{IsNamed}
+
+kind_session : (role : Role) (iface : ℕ) (local remote : Addr) → is_session (kind_of role iface local remote) ≡ true
+kind_session Single iface local remote = refl
+kind_session Multi iface local remote = refl
+
+session_row : (c : SessionConfig) → is_session (row_of c).kind ≡ true
+session_row (Pair c) = kind_session c.role c.iface c.local c.remote
+session_row (Seek c) = refl
+session_row (Head c) = refl
+session_row (Tail c) = refl
+
+-- a reflector's row counts as below a discriminator where its own is
+abbrev is_under : ℕ → Row → Bool
+is_under discr row = not (is_session row.kind) && nat_lt row.discr discr
+
+not_lower : (a discr : ℕ) → discr ≤ a → nat_lt a discr ≡ false
+not_lower a discr h = grind (arith, nat_tests)
+
+lower : (a discr : ℕ) → a < discr → nat_lt a discr ≡ true
+lower a discr h = grind (arith, nat_tests)
+
+none_under : (discr : ℕ) (pool : List Reflector) → AllByRecursion (λ r. discr < r.discr) pool → how_many (is_under discr) (map row_of_reflector pool) ≡ 0
+none_under discr [] h = refl
+none_under discr (r ∷ pool) h =
+    let out : nat_lt r.discr discr ≡ false = not_lower r.discr discr (omega (arith, h.0)) in
+    rw out (none_under discr pool h.1)
+
+at_place : (P : Reflector → Type 0) (pool : List Reflector) (k : ℕ) (r : Reflector) → AllByRecursion P pool → slice_get pool k ≡ Some r → P r
+at_place P [] zero r h e = cc
+at_place P [] (suc k) r h e = cc
+at_place P (x ∷ pool) zero r h e = subst P (ap (λ o. unwrap_or o r) e) h.0
+at_place P (x ∷ pool) (suc k) r h e = at_place P pool k r h.1 e
+
+-- a reflector's place is the number of reflectors below it
+place_in : (pool : List Reflector) (k : ℕ) (r : Reflector) → PoolAscends pool → slice_get pool k ≡ Some r → how_many (is_under r.discr) (map row_of_reflector pool) ≡ k
+place_in [] zero r h e = cc
+place_in [] (suc k) r h e = cc
+place_in (x ∷ pool) zero r h e =
+    let same : x ≡ r = ap (λ o. unwrap_or o r) e in
+    let above : AllByRecursion (λ later. r.discr < later.discr) pool = subst (λ y. AllByRecursion (λ later. y.discr < later.discr) pool) same h.0 in
+    let out : nat_lt x.discr r.discr ≡ false = not_lower x.discr r.discr (let s = ap (λ (y : Reflector). y.discr) same in omega (arith, s)) in
+    rw out (none_under r.discr pool above)
+place_in (x ∷ pool) (suc k) r h e =
+    let above : x.discr < r.discr = at_place (λ later. x.discr < later.discr) pool k r h.0 e in
+    let under : nat_lt x.discr r.discr ≡ true = lower x.discr r.discr above in
+    rw under (ap suc (place_in pool k r h.1 e))
+
+-- no session counts
+index_is : (cs : List SessionConfig) (pool : List Reflector) (k : ℕ) (r : Reflector) → PoolAscends pool → slice_get pool k ≡ Some r
+    → reflector_index (table_of cs pool) r.discr ≡ k
+index_is [] pool k r h e = place_in pool k r h e
+index_is (c ∷ cs) pool k r h e = let out : is_session (row_of c).kind ≡ true = session_row c in rw out (index_is cs pool k r h e)
+
+same_number : (a b : ℕ) (t : Bool) → t ≡ (a == b) → (if b == 0 then false else t) ≡ true → a ≡ b
+same_number a b true is h = grind (arith, nat_tests, is)
+same_number a b false is h = by (b == 0) h
+  where
+    by : (z : Bool) → (if z then false else false) ≡ true → a ≡ b
+    by true e = cc
+    by false e = cc
+
+stands : (arrival : Arrival) (cs : List SessionConfig) (pool : List Reflector) (row : Row) → PoolAscends pool → Standing cs pool row
+    → names_on SbfdPort arrival row ≡ true → IsNamed pool (reflector_index (table_of cs pool) row.discr) (fields_of arrival.payload).your
+stands arrival cs pool row up (AsSession place config there is) h =
+    absurd (unreflected config arrival (subst (λ (r : Row). names_on SbfdPort arrival r ≡ true) is h))
+stands arrival cs pool row up (AsReflector place reflector there is) h =
+    let at : reflector_index (table_of cs pool) row.discr ≡ place =
+    ap (λ (r : Row). reflector_index (table_of cs pool) r.discr) is ∙ index_is cs pool place reflector up there in
+    let named : names_on SbfdPort arrival (row_of_reflector reflector) ≡ true = subst (λ (r : Row). names_on SbfdPort arrival r ≡ true) is h in
+    record { reflector = reflector; there = ap (slice_get pool) at ∙ there; its = same_number reflector.discr (fields_of arrival.payload).your _ refl named }
+
+-- a target that is no reflector
+abbrev pub Mirrored : List Reflector → Arrival → Target → Type 0
+Mirrored pool arrival (Session place) = Unit {0}
+Mirrored pool arrival (ReflectorAt place) = IsNamed pool place (fields_of arrival.payload).your
+Mirrored pool arrival (Echo place sequence) = Unit {0}
+
+by_port : (port : Port) (arrival : Arrival) (cs : List SessionConfig) (pool : List Reflector) (row : Row) → PoolAscends pool
+    → Found (names_on port arrival) cs pool row → Mirrored pool arrival (target_on port (table_of cs pool) arrival row)
+by_port SinglePort arrival cs pool row up f = tt
+by_port MultiPort arrival cs pool row up f = tt
+by_port AnswerPort arrival cs pool row up f = tt
+by_port EchoPort arrival cs pool row up f = tt
+by_port SbfdPort arrival cs pool row up f = stands arrival cs pool row up f.standing f.passes
+
+by_row : (arrival : Arrival) (cs : List SessionConfig) (pool : List Reflector) (target : Target) (chosen : Option Row) → PoolAscends pool
+    → the_one (names_on arrival.port arrival) (table_of cs pool) ≡ chosen
+    → Some target ≡ option_map (target_on arrival.port (table_of cs pool) arrival) chosen → Mirrored pool arrival target
+by_row arrival cs pool target None up is e = cc
+by_row arrival cs pool target (Some row) up is e =
+    let same : target ≡ target_on arrival.port (table_of cs pool) arrival row = ap (λ o. unwrap_or o target) e in
+    subst (λ (t : Target). Mirrored pool arrival t) (sym same)
+    (by_port arrival.port arrival cs pool row up (found (names_on arrival.port arrival) cs pool row is))
+
+pub mirrored : (cs : List SessionConfig) (pool : List Reflector) (arrival : Arrival) (target : Target) → PoolAscends pool
+    → Some target ≡ target_of (table_of cs pool) arrival → Mirrored pool arrival target
+mirrored cs pool arrival target up e = by_row arrival cs pool target (the_one (names_on arrival.port arrival) (table_of cs pool)) up refl e

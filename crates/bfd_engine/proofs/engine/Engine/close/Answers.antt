@@ -1,0 +1,65 @@
+-- Lock by lock, the pass of the next shard closes it.
+use Rattle.std.proofs.Common.{rules, ◌≡◌, ◌+◌, ◌++◌, ◌∷◌, [], List, ℕ, Some, None, slice_get, slice_set, length, length-append, append-nil, append_assoc, refl, ap, sym, ◌∙◌, subst, arith}
+use Rattle.bfd_engine.specs.Engines.{Held}
+use Rattle.bfd_engine.proofs.Closing.{next_pass, lifted, joined_here, LeftFrom, left_more, ended_more}
+use Rattle.bfd_engine.proofs.engine.Engine.close.Goals as goal
+
+pub lift-own-requires : goal.lift-own-requires
+lift-own-requires g c =
+    let i = c.loop-lock.invariant in
+    let len : c.len-in-loop-lock.result ≡ length c.loop-lock.shards.items = search rules in
+    let n = next_pass c.args.self c.loop-lock.yielded c.next.new.self.rest.items c.in-Some.lock c.args.pass.1 c.loop-lock.pass.1 (length c.loop-lock.shards.items)
+            (ap (λ l. c.loop-lock.yielded ++ l) (sym c.in-Some.ensures.steps.0) ∙ i.all) i.long c.requires.of c.requires.there i.left in
+    (n.pass, ap (slice_get c.loop-lock.pass.1) len ∙ n.after_is)
+
+pub close-shard-requires-clause-pass : goal.close-shard-requires-clause-pass
+close-shard-requires-clause-pass g c =
+    let i = c.loop-lock.invariant in
+    let len : c.len-in-loop-lock.result ≡ length c.loop-lock.shards.items = search rules in
+    let n = next_pass c.args.self c.loop-lock.yielded c.next.new.self.rest.items c.in-Some.lock c.args.pass.1 c.loop-lock.pass.1 (length c.loop-lock.shards.items)
+            (ap (λ l. c.loop-lock.yielded ++ l) (sym c.in-Some.ensures.steps.0) ∙ i.all) i.long c.requires.of c.requires.there i.left in
+    let own = lifted c.args.self c.args.pass.1 c.loop-lock.pass.1 c.in-Some.lock (length c.loop-lock.shards.items) c.lift-own.result n
+            (ap (slice_get c.loop-lock.pass.1) (sym len) ∙ c.lift-own.ensures.pass) in
+    (own.2, c.lift-own.ensures.callers.number_is ∙ (i.number ∙ c.requires.first))
+
+pub close-shard-requires-clause-joined : goal.close-shard-requires-clause-joined
+close-shard-requires-clause-joined g c =
+    let i = c.loop-lock.invariant in
+    let len : c.len-in-loop-lock.result ≡ length c.loop-lock.shards.items = search rules in
+    let n = next_pass c.args.self c.loop-lock.yielded c.next.new.self.rest.items c.in-Some.lock c.args.pass.1 c.loop-lock.pass.1 (length c.loop-lock.shards.items)
+            (ap (λ l. c.loop-lock.yielded ++ l) (sym c.in-Some.ensures.steps.0) ∙ i.all) i.long c.requires.of c.requires.there i.left in
+    let own = lifted c.args.self c.args.pass.1 c.loop-lock.pass.1 c.in-Some.lock (length c.loop-lock.shards.items) c.lift-own.result n
+            (ap (slice_get c.loop-lock.pass.1) (sym len) ∙ c.lift-own.ensures.pass) in
+    joined_here c.args.self c.args.pass (length c.loop-lock.shards.items) c.lift-own.result own.1 n.within_is c.requires.joined
+
+pub loop-lock-preserved : goal.loop-lock-preserved
+loop-lock-preserved g c =
+    let i = c.loop-lock.invariant in
+    let len : c.len-in-loop-lock.result ≡ length c.loop-lock.shards.items = search rules in
+    let n = next_pass c.args.self c.loop-lock.yielded c.next.new.self.rest.items c.in-Some.lock c.args.pass.1 c.loop-lock.pass.1 (length c.loop-lock.shards.items)
+            (ap (λ l. c.loop-lock.yielded ++ l) (sym c.in-Some.ensures.steps.0) ∙ i.all) i.long c.requires.of c.requires.there i.left in
+    let own = lifted c.args.self c.args.pass.1 c.loop-lock.pass.1 c.in-Some.lock (length c.loop-lock.shards.items) c.lift-own.result n
+            (ap (slice_get c.loop-lock.pass.1) (sym len) ∙ c.lift-own.ensures.pass) in
+    let more = c.push_reserved.ensures.items in
+    let longer : length c.push_reserved.new.self.items ≡ length c.loop-lock.shards.items + 1 =
+    (let a = ap length more in let b = length-append c.loop-lock.shards.items (c.close-shard.result.shard ∷ []) in omega (arith, a, b)) in record {
+      can = tt;
+      ends = tt;
+      all = append_assoc c.loop-lock.yielded (c.in-Some.lock ∷ []) c.next.new.self.rest.items ∙ (ap (λ l. c.loop-lock.yielded ++ l) (sym c.in-Some.ensures.steps.0) ∙ i.all);
+      long = (let a = i.long in let b = length-append c.loop-lock.yielded (c.in-Some.lock ∷ []) in omega (arith, a, b, longer));
+      room = (let a = i.room in let b = c.push_reserved.ensures.capacity in omega arith);
+      number = ap (λ k. k.0) c.lift-own.ensures.rest ∙ i.number;
+      left = subst (λ (ps : List Held). LeftFrom (length c.push_reserved.new.self.items) c.args.pass.1 ps)
+          (sym (ap (λ k. k.1) c.lift-own.ensures.rest ∙ ap (λ (m : ℕ). slice_set c.loop-lock.pass.1 m None) len))
+          (left_more (length c.loop-lock.shards.items) (length c.push_reserved.new.self.items) c.args.pass.1 c.loop-lock.pass.1 None longer i.left);
+      ended = ended_more c.args.self c.args.pass (length c.loop-lock.shards.items) c.lift-own.result c.loop-lock.shards.items c.push_reserved.new.self.items c.close-shard.result.shard
+          own.1 own.3
+          (record { notes = c.close-shard.ensures.notes; base = c.close-shard.ensures.base; word = c.close-shard.ensures.word; kept = c.close-shard.ensures.kept; unmade = c.close-shard.ensures.unmade })
+          refl more i.ended;
+    }
+
+pub returns-clause-closed : goal.returns-clause-closed
+returns-clause-closed g c = let i = c.loop-lock.invariant in record {
+      long = i.long ∙ (sym (ap length (ap (λ l. c.loop-lock.yielded ++ l) c.in-None.ensures.steps ∙ append-nil c.loop-lock.yielded)) ∙ ap length i.all);
+      each = i.ended.each;
+    }

@@ -1,0 +1,17 @@
+-- The other's pass is there until its shard is joined.
+use Rattle.std.proofs.Common.{length, ap, arith}
+use Rattle.bfd_engine.specs.Engines.{Shards}
+use Rattle.bfd_engine.proofs.Gluing.{theirs_there, all_joined}
+use Rattle.bfd_engine.proofs.engine.Engine.join.Goals as goal
+
+pub join_at-requires-clause-here : goal.join_at-requires-clause-here
+join_at-requires-clause-here g c =
+    theirs_there c.args.other.0 c.loop-at.at c.args.first.now.1 c.args.other.1 c.loop-at.first.1 c.loop-at.other.1 c.loop-at.invariant.glued c.requires.there.1
+    (let b = c.len-at-end.ensures in let v = ap (λ (e : Shards). length e.locks) c.self.view_is in let d = c.loop-at-test.true in let l = c.requires.of.1.long in omega arith)
+
+pub returns-clause-joined : goal.returns-clause-joined
+returns-clause-joined g c =
+    let i = c.loop-at.invariant in
+    all_joined c.args.first.now c.args.other c.loop-at.first c.loop-at.at (length c.args.self.now.locks) c.loop-at.other.1 i.glued
+    (let b = c.len-at-end.ensures in let v = ap (λ (e : Shards). length e.locks) c.self.view_is in let d = c.loop-at-test.false in let u = c.loop-at.auto.at-end in omega arith)
+    c.requires.numbers.0 i.number

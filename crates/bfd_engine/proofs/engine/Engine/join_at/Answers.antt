@@ -1,0 +1,46 @@
+-- The pass that took in the other is put back in its place.
+use Rattle.std.proofs.Common.{get_or, ◌≡◌, ◌∙◌, Some, None, slice_set, set-set, sym, ap, refl, subst}
+use Rattle.std.proofs.lemmas.Option.{get_or_from_slice_get}
+use Rattle.bfd_engine.specs.Engines.{Shards, Knows, IsOf, AllThere}
+use Rattle.bfd_engine.specs.Passes.{GluesAt}
+use Rattle.bfd_engine.proofs.Places.{K, of_set, none_set, there_set}
+use Rattle.bfd_engine.proofs.Gluing.{glue_here}
+use Rattle.bfd_engine.proofs.engine.Engine.join_at.Goals as goal
+
+pub returns-clause-glued : goal.returns-clause-glued
+returns-clause-glued g c =
+    let is : c.put.new.self ≡ (c.args.first.now.0, slice_set c.args.first.now.1 c.args.at (Some c.join.new.first), c.args.first.now.2) = rw (c.put.ensures, c.lift-pass.ensures.rest, set-set) refl in
+    let rest : c.lift-theirs.new.self ≡ (c.args.other.now.0, slice_set c.args.other.now.1 c.args.at None, c.args.other.now.2) = c.lift-theirs.ensures.rest in
+    let lock : c.lift-pass.result.0 ≡ c.index.result.now =
+    sym (get_or_from_slice_get c.args.self.now.locks c.args.at c.lift-pass.result.0 c.index.result.now (c.requires.of.0.lock c.args.at c.lift-pass.result c.lift-pass.ensures.pass))
+    ∙ (ap (λ (e : Shards). get_or e.locks c.args.at c.index.result.now) (sym c.self.view_is) ∙ sym c.index.ensures) in
+    subst (λ (k : Knows × Knows). GluesAt c.args.other.now.0 c.args.at c.args.first.now.1 c.args.other.now.1 k.0.1 k.1.1) (λ i. (sym is i, sym rest i))
+    (glue_here c.args.other.now.0 c.args.at c.args.first.now.1 c.args.other.now.1 c.index.result.now c.lift-pass.result c.lift-theirs.result c.join.new.first
+    c.lift-pass.ensures.pass c.lift-theirs.ensures.pass c.lift-theirs.ensures.callers.number_is
+    (record {
+      first_lock = lock;
+      result_is = c.join.ensures.first;
+      later = c.join.ensures.word.0;
+      later_theirs = c.join.ensures.word.1;
+      begins = c.join.ensures.prefix.0;
+      begins_theirs = c.join.ensures.prefix.1;
+      own = c.join.ensures.mine;
+    }))
+
+pub returns-clause-there : goal.returns-clause-there
+returns-clause-there g c =
+    let is : c.put.new.self ≡ (c.args.first.now.0, slice_set c.args.first.now.1 c.args.at (Some c.join.new.first), c.args.first.now.2) = rw (c.put.ensures, c.lift-pass.ensures.rest, set-set) refl in
+    subst AllThere (sym (ap (λ (k : Knows). k.1) is)) (there_set c.args.first.now.1 c.args.at c.join.new.first c.requires.there)
+
+pub returns-clause-of : goal.returns-clause-of
+returns-clause-of g c =
+    let is : c.put.new.self ≡ (c.args.first.now.0, slice_set c.args.first.now.1 c.args.at (Some c.join.new.first), c.args.first.now.2) = rw (c.put.ensures, c.lift-pass.ensures.rest, set-set) refl in
+    let lock : c.lift-pass.result.0 ≡ c.index.result.now =
+    sym (get_or_from_slice_get c.args.self.now.locks c.args.at c.lift-pass.result.0 c.index.result.now (c.requires.of.0.lock c.args.at c.lift-pass.result c.lift-pass.ensures.pass))
+    ∙ (ap (λ (e : Shards). get_or e.locks c.args.at c.index.result.now) (sym c.self.view_is) ∙ sym c.index.ensures) in (
+      subst (IsOf c.args.self.now) (sym (ap (λ (k : Knows). k.1) is))
+        (of_set c.args.self.now c.args.first.now.1 c.args.at c.lift-pass.result c.join.new.first c.lift-pass.ensures.pass
+        (ap (λ (x : K). x.0) c.join.ensures.first ∙ sym lock) (ap (λ (x : K). x.1.base) c.join.ensures.first) c.requires.of.0),
+      subst (IsOf c.args.self.now) (sym (ap (λ (k : Knows). k.1) c.lift-theirs.ensures.rest))
+        (none_set c.args.self.now c.args.other.now.1 c.args.at c.lift-theirs.result c.lift-theirs.ensures.pass c.requires.of.1),
+    )

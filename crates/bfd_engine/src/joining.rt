@@ -1,0 +1,84 @@
+//! The end of passes: joined into that of caller 0, and closed with the engine.
+ghost use Rattle.std.specs.Prelude.{◌≡◌, ◌≢◌, ◌<◌, ℕ, Some, IfOk, IfErr, length, slice_get, map};
+ghost use Rattle.bfd_turn.specs.Passes.{TableId};
+ghost use Rattle.bfd_engine.specs.Engines.{IsOf, AllThere};
+ghost use Rattle.bfd_engine.specs.Passes.{Joined, GluesAt, EachJoined, AreClosed};
+ghost use Rattle.bfd_engine.specs.Turned.{OfShard};
+
+use crate::engine::Engine;
+use crate::kept::Kept;
+use crate::pass::EnginePass;
+use bfd_shard::ShardState;
+use bfd_wheel::Timers;
+use std::alloc::Global;
+
+/// An engine that isn't closed, for want of memory: both are as they were.
+pub struct Unclosed<W: Timers> {
+    pub engine: Engine<W>,
+    pub pass: EnginePass,
+}
+
+impl<W: Timers> Engine<W> {
+    /// Takes another pass of one shard into that of caller 0.
+    fn join_at(&self, first: &mut EnginePass, other: &mut EnginePass, at: usize)
+        requires of { IsOf self.now first.old.1 × IsOf self.now other.old.1 }
+        requires there { AllThere first.old.1 }
+        requires here { (q : TableId × OfShard) × (slice_get other.old.1 at ≡ Some (Some q)) }
+        requires at { at < length self.now.locks }
+        requires numbers { (first.old.0 ≡ 0) × (other.old.0 ≢ 0) }
+        ensures of { IsOf self.now first.new.1 × IsOf self.now other.new.1 }
+        ensures there { AllThere first.new.1 }
+        ensures numbers { (first.new.0 ≡ 0) × (other.new.0 ≡ other.old.0) }
+        ensures used { first.new.2 ≡ first.old.2 }
+        ensures glued { GluesAt other.old.0 at first.old.1 other.old.1 first.new.1 other.new.1 }
+    {
+        let mut pass = first.lift(at);
+        let theirs = other.lift(at);
+        self.locks[at].join(&mut pass, theirs);
+        first.put(at, pass);
+    }
+
+    /// Takes another caller's pass into that of caller 0, which has then seen on each shard the longer of the two lists, of which
+    /// each is a beginning, and keeps the other's number and calls. No later entry names that number.
+    pub fn join(&self, first: &mut EnginePass, other: EnginePass)
+        requires of { IsOf self.now first.old.1 × IsOf self.now other.1 }
+        requires there { AllThere first.old.1 × AllThere other.1 }
+        requires numbers { (first.old.0 ≡ 0) × (other.0 ≢ 0) }
+        ensures of { IsOf self.now first.new.1 }
+        ensures there { AllThere first.new.1 }
+        ensures number { first.new.0 ≡ 0 }
+        ensures used { first.new.2 ≡ first.old.2 }
+        ensures joined { (shard : ℕ) → shard < length self.now.locks → Joined first.old other first.new shard }
+    {
+        let mut other = other;
+        for at in 0..self.locks.len() {
+            self.join_at(first, &mut other, at);
+        }
+    }
+
+    /// The shards, by number, once every pass that was made was joined. Want of memory is the one refusal, and hands all back.
+    pub fn close(
+        self,
+        alloc: Global,
+        pass: EnginePass,
+    ) -> Result<Vec<ShardState<W>>, Unclosed<W>>
+        requires of { IsOf self pass.1 }
+        requires there { AllThere pass.1 }
+        requires first { pass.0 ≡ 0 }
+        requires joined { EachJoined self pass }
+        ensures closed { IfOk result (λ shards. AreClosed self pass shards.items) }
+        ensures back { IfErr result (λ unclosed. (unclosed.engine ≡ self) × (unclosed.pass ≡ pass)) }
+    {
+        let Ok(mut shards) = Vec::with_capacity(alloc, self.locks.len()) else {
+            return Err(Unclosed { engine: self, pass });
+        };
+        let mut pass = pass;
+        let Engine { locks, .. } = self;
+        for lock in locks {
+            let own = pass.lift(shards.len());
+            let Kept { shard } = lock.close(own);
+            shards.push_reserved(shard);
+        }
+        Ok(shards)
+    }
+}
