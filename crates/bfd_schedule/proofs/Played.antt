@@ -7,9 +7,22 @@ use Rattle.bfd_pair.specs.Run.{Both, Turn, pair_run, turn}
 use Rattle.bfd_pair.specs.Inside.{Pairing}
 use Rattle.bfd_schedule.specs.declared.playing.Tally.{Tally}
 use Rattle.bfd_schedule.specs.Schedule.{left, right, run, draw, event_by, schedule}
-use Rattle.bfd_schedule.specs.Line.{given_in, rises_in, total_of, line_by, sent_in, pair_line}
+use Rattle.bfd_schedule.specs.Line.{given_in, rises_in, total, total_of, line_by, sent_in, pair_line}
 use Rattle.bfd_schedule.specs.Inside.{IsPlayed}
 use Rattle.bfd_schedule.proofs.Totals.{total_more, length_schedule}
+
+-- at the start nothing was played
+pub starts : (seed : ℕ) (p : Pairing) → p ≡ record { left = Pair (left seed); right = Pair (right seed); past = [] }
+    → IsPlayed seed 0 p (record { draw = seed; given = 0; rises = 0 })
+unfolding schedule draw total
+starts seed p is = record {
+  pair = is;
+  draw = refl;
+  given = refl;
+  rises = refl;
+  few_given = omega arith;
+  few_rises = omega arith;
+}
 
 -- a sum over the schedule and one event more
 sum_more : (count : PairEvent → Turn → ℕ) (seed e sum sum2 : ℕ) (event : PairEvent) (w : Both)

@@ -1,5 +1,5 @@
 -- Sums over events, and one event more.
-use Rattle.std.proofs.Common.{◌≡◌, ◌+◌, ◌++◌, ℕ, List, [], ◌∷◌, zero, suc, length, length-append, refl, ap, ◌∙◌, arith}
+use Rattle.std.proofs.Common.{◌≡◌, ◌+◌, ◌++◌, ℕ, List, [], ◌∷◌, zero, suc, length, length-append, refl, arith}
 use Rattle.bfd_pair.specs.declared.event.PairEvent.{PairEvent}
 use Rattle.bfd_pair.specs.Run.{Both, Turn, turn, after, pair_run}
 use Rattle.bfd_schedule.specs.Schedule.{run, schedule}
@@ -15,10 +15,6 @@ pub total_more : (count : PairEvent → Turn → ℕ) (seed : ℕ) (past : List 
     → total_of count seed (past ++ event ∷ []) ≡ total_of count seed past + count event (turn event (run seed past))
 unfolding pair_run
 total_more count seed past event = total-append count past event (run seed [])
-
-pub total_none : (count : PairEvent → Turn → ℕ) (seed : ℕ) → total_of count seed [] ≡ 0
-unfolding total
-total_none count seed = refl
 
 pub length_schedule : (seed e : ℕ) → length (schedule seed e) ≡ e
 unfolding schedule
