@@ -23,9 +23,9 @@ event_in shards number (Tick t) = Some (Tick t)
 abbrev pub history_of : ℕ → ℕ → List ShardEvent → List ShardEvent
 history_of shards number events = filter_map (event_in shards number) events
 
--- of a list that is dealt out in turn to so many shards, every so-manieth element, after the first c are passed over: where
--- c is the number of a shard, this is what it is dealt
+-- of a list that is dealt out in turn to n shards, every n-th element, after the first c are passed over: where c is a shard's
+-- number, this is what it is dealt
 unfoldable pub share : {A : Type 0} → ℕ → ℕ → List A → List A
-share shards c [] = []
-share shards zero (x ∷ xs) = x ∷ share shards (shards - 1) xs
-share shards (suc c) (x ∷ xs) = share shards c xs
+share n c [] = []
+share n zero (x ∷ xs) = x ∷ share n (n - 1) xs
+share n (suc c) (x ∷ xs) = share n c xs
