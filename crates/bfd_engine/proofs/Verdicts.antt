@@ -57,8 +57,8 @@ packet_is : (engine : Shards) (arrival : Arrival) (eff : ℕ) (s : Running) → 
 packet_is engine arrival eff s none =
     reply_first s eff arrival
     ∙ ap answer_by (only_own (first_table_failing (table_of engine.configs engine.pool) arrival) (first_own_failing s.config (judging eff s) arrival)
-      (first_discarding (table_of engine.configs engine.pool) s.config (judging eff s) arrival)
-      (discards_first (table_of engine.configs engine.pool) s.config (judging eff s) arrival) none)
+    (first_discarding (table_of engine.configs engine.pool) s.config (judging eff s) arrival)
+    (discards_first (table_of engine.configs engine.pool) s.config (judging eff s) arrival) none)
 
 return_is : (sequence eff : ℕ) (s : Running) → reply eff (Returned sequence) s ≡ return_answer sequence eff s
 unfolding reply

@@ -38,3 +38,6 @@ pub use joining::Unclosed;
 pub use kept::{Base, Kept};
 pub use law::turn_laws;
 pub use pass::EnginePass;
+
+#[cfg(test)]
+mod tests;
