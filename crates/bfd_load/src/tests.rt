@@ -1,7 +1,7 @@
 //! Scripts as text, beside what a model of the definition in another language wrote.
 
 use crate::generate;
-use bfd_script::write;
+use bfd_spelling::write;
 use std::test::Fail;
 
 #[test]

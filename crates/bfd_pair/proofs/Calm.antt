@@ -18,13 +18,18 @@ use Rattle.bfd_rules.specs.Quantities.{is_up, same_state}
 use Rattle.bfd_rules.specs.Course.{Course, course, changes, sends, told}
 use Rattle.bfd_p2p.specs.Transmit.{transmits}
 use Rattle.bfd_p2p.specs.Receive as receiving
+use Rattle.bfd_echo.specs.declared.echo.Echo.{Echo}
+use Rattle.bfd_echo.specs.declared.echo.EchoResult.{EchoResult}
+use Rattle.bfd_echo.specs.declared.echo.EchoResult.TheVariants.{Nothing, Sent as EchoSent, Failed}
 use Rattle.bfd_session.specs.declared.event.SessionConfig.{SessionConfig}
-use Rattle.bfd_session.specs.declared.event.SessionConfig.TheVariants.{Pair}
+use Rattle.bfd_session.specs.declared.event.SessionConfig.TheVariants.{Pair, Seek, Head, Tail}
 use Rattle.bfd_session.specs.declared.event.Event.TheVariants.{Packet, Command}
-use Rattle.bfd_session.specs.Kinds.{Running}
-use Rattle.bfd_session.specs.Step.{begun, settled, acted, finished, step, tick, next, next_vars, ticked_vars, emits, tick_next, tick_emits}
+use Rattle.bfd_session.specs.Kinds.{Running, Flow}
+use Rattle.bfd_session.specs.Echoing.{settled_by, settled_running, settles_echo}
+use Rattle.bfd_session.specs.Step.{begun, settled, acted, finished, step, step_from, stepped_flow, tick, tick_from, ticked_flow, next, emits, tick_next, tick_emits}
 use Rattle.bfd_pair.specs.Handshake.{tells_up}
-use Rattle.bfd_pair.proofs.Rules.{Goes, settle_keeps, commanded_keeps, finish_keeps, low_keeps}
+use Rattle.bfd_pair.proofs.Points.{IsPoint}
+use Rattle.bfd_pair.proofs.Rules.{Goes, moves_keeps, settle_keeps, commanded_keeps, finish_keeps, low_keeps}
 
 -- no change to Up was told so far, and the session is Up only if it was at first
 pub record Calm (was : Bool) (s : Course) : Type 0 where
@@ -99,22 +104,53 @@ calm_puts was c poll fin s h = record { untold = tells-append s.outs _ h.untold 
 
 -- whole events
 
-begun_calm : (at : Option ℕ) (v : Vars) → Calm (is_up v.state) (begun at v [])
-begun_calm None v = record { untold = refl; low = λ up. up }
-begun_calm (Some eff) v = record { untold = refl; low = λ up. up }
+begun_calm : (own : Option ℕ) (s : Running) → Calm (is_up s.vars.state) (begun own s []).course
+begun_calm None s = record { untold = refl; low = λ up. up }
+begun_calm (Some eff) s = record { untold = refl; low = λ up. up }
 
-settled_calm : (was : Bool) (c : SessionConfig) (limit eff : ℕ) (s : Course) → Calm was s → Calm was (settled c limit eff s)
-settled_calm was (Pair c) limit eff s h =
-    settle_keeps (Calm was) low_state (calm_still was) (calm_goes was) (calm_puts was) refl refl c limit eff s h
+-- the Echo function sends a packet, or the session goes Down
+result_calm : (was : Bool) (c : Config) (eff : ℕ) (result : EchoResult) (after : Echo) (f : Flow) → Calm was f.course
+    → Calm was (settled_by c eff result after f).course
+unfolding sends
+result_calm was c eff Nothing after f h = h
+result_calm was c eff (EchoSent bytes) after f h =
+    record { untold = tells-append f.course.outs _ h.untold refl; low = h.low }
+result_calm was c eff Failed after f h =
+    moves_keeps (Calm was) low_state (calm_still was) (calm_goes was) (calm_puts was) refl refl c.discr eff _ f.course (inr refl) h
 
-finished_calm : (was : Bool) (c : SessionConfig) (eff : ℕ) (s : Course) → Calm was s → Calm was (finished c eff s)
-finished_calm was (Pair c) eff s h =
-    finish_keeps (Calm was) low_state (calm_still was) (calm_goes was) (calm_puts was) refl refl c eff s h
+running_calm : (was : Bool) (c : Config) (limit eff : ℕ) (echo : Option Echo) (f : Flow) → Calm was f.course
+    → Calm was (settled_running c limit eff echo f).course
+running_calm was c limit eff None f h = h
+running_calm was c limit eff (Some e) f h = result_calm was c eff _ _ f h
 
-ordered_calm : (was : Bool) (c : SessionConfig) (eff : ℕ) (cmd : Cmd) (s : Course) → Calm was s
-    → Calm was (acted c eff (Command cmd) s)
-ordered_calm was (Pair c) eff cmd s h =
-    commanded_keeps (Calm was) low_state (calm_still was) (calm_goes was) (calm_puts was) refl refl c eff cmd s h
+echo_calm : (was : Bool) (c : Config) (limit eff : ℕ) (f : Flow) → Calm was f.course → Calm was (settles_echo c limit eff f).course
+unfolding settles_echo
+echo_calm was c limit eff f h = running_calm was c limit eff _ f h
+
+settled_calm : (was : Bool) (c : SessionConfig) (limit eff : ℕ) (f : Flow) → IsPoint c → Calm was f.course
+    → Calm was (settled c limit eff f).course
+settled_calm was (Pair c) limit eff f p h =
+    echo_calm was c limit eff _
+    (settle_keeps (Calm was) low_state (calm_still was) (calm_goes was) (calm_puts was) refl refl c limit eff f.course h)
+settled_calm was (Seek c) limit eff f p h = absurd p
+settled_calm was (Head c) limit eff f p h = absurd p
+settled_calm was (Tail c) limit eff f p h = absurd p
+
+finished_calm : (was : Bool) (c : SessionConfig) (eff : ℕ) (f : Flow) → IsPoint c → Calm was f.course
+    → Calm was (finished c eff f).course
+finished_calm was (Pair c) eff f p h =
+    finish_keeps (Calm was) low_state (calm_still was) (calm_goes was) (calm_puts was) refl refl c eff f.course h
+finished_calm was (Seek c) eff f p h = absurd p
+finished_calm was (Head c) eff f p h = absurd p
+finished_calm was (Tail c) eff f p h = absurd p
+
+ordered_calm : (was : Bool) (c : SessionConfig) (eff : ℕ) (cmd : Cmd) (f : Flow) → IsPoint c → Calm was f.course
+    → Calm was (acted c eff (Command cmd) f).course
+ordered_calm was (Pair c) eff cmd f p h =
+    commanded_keeps (Calm was) low_state (calm_still was) (calm_goes was) (calm_puts was) refl refl c eff cmd f.course h
+ordered_calm was (Seek c) eff cmd f p h = absurd p
+ordered_calm was (Head c) eff cmd f p h = absurd p
+ordered_calm was (Tail c) eff cmd f p h = absurd p
 
 received_calm : (was : Bool) (c : Config) (eff : ℕ) (packet : Control) (judgement : Result SeqState Test) (s : Course)
     → is_init_or_up packet.state ≡ false → Calm was s → Calm was (receiving.received_on c eff packet judgement s)
@@ -123,50 +159,57 @@ received_calm was c eff packet (Ok seq) s low h =
     low_keeps (Calm was) low_state (calm_still was) (calm_goes was) (calm_puts was) refl refl refl c eff packet seq s low h
 received_calm was c eff packet (Err test) s low h = h
 
-acted_calm : (was : Bool) (c : SessionConfig) (eff : ℕ) (arrival : Arrival) (s : Course)
-    → is_init_or_up (fields_of arrival.payload).state ≡ false → Calm was s → Calm was (acted c eff (Packet arrival) s)
+acted_calm : (was : Bool) (c : SessionConfig) (eff : ℕ) (arrival : Arrival) (f : Flow) → IsPoint c
+    → is_init_or_up (fields_of arrival.payload).state ≡ false → Calm was f.course → Calm was (acted c eff (Packet arrival) f).course
 unfolding receiving.received
-acted_calm was (Pair c) eff arrival s low h = received_calm was c eff (fields_of arrival.payload) _ s low h
+acted_calm was (Pair c) eff arrival f p low h = received_calm was c eff (fields_of arrival.payload) _ f.course low h
+acted_calm was (Seek c) eff arrival f p low h = absurd p
+acted_calm was (Head c) eff arrival f p low h = absurd p
+acted_calm was (Tail c) eff arrival f p low h = absurd p
 
-tick_calm : (s : Running) (limit eff : ℕ) → Calm (is_up s.vars.state) (tick s.config limit eff (begun None s.vars []))
+tick_calm : (s : Running) (limit eff : ℕ) → IsPoint s.config → Calm (is_up s.vars.state) (tick_from limit eff s []).course
 unfolding tick
-tick_calm s limit eff = finished_calm _ s.config eff _ (settled_calm _ s.config limit eff _ (begun_calm None s.vars))
+tick_calm s limit eff p = finished_calm _ s.config eff _ p (settled_calm _ s.config limit eff _ p (begun_calm None s))
 
-pub tick_untold : (s : Running) (limit eff : ℕ) → tells_up (tick_emits limit eff s) ≡ false
-unfolding tick_emits
-tick_untold s limit eff = (tick_calm s limit eff).untold
+pub tick_untold : (s : Running) (limit eff : ℕ) → IsPoint s.config → tells_up (tick_emits limit eff s) ≡ false
+unfolding tick_emits ticked_flow
+tick_untold s limit eff p = (tick_calm s limit eff p).untold
 
-pub tick_low : (s : Running) (limit eff : ℕ) → is_up (tick_next limit eff s).vars.state ≡ true → is_up s.vars.state ≡ true
-unfolding ticked_vars
-tick_low s limit eff = (tick_calm s limit eff).low
+pub tick_low : (s : Running) (limit eff : ℕ) → IsPoint s.config → is_up (tick_next limit eff s).vars.state ≡ true
+    → is_up s.vars.state ≡ true
+unfolding ticked_flow
+tick_low s limit eff p = (tick_calm s limit eff p).low
 
-order_calm : (s : Running) (eff : ℕ) (cmd : Cmd)
-    → Calm (is_up s.vars.state) (step s.config eff (Command cmd) (begun (Some eff) s.vars []))
+order_calm : (s : Running) (eff : ℕ) (cmd : Cmd) → IsPoint s.config
+    → Calm (is_up s.vars.state) (step_from eff (Command cmd) s []).course
 unfolding step
-order_calm s eff cmd =
-    finished_calm _ s.config eff _ (ordered_calm _ s.config eff cmd _ (settled_calm _ s.config eff eff _ (begun_calm (Some eff) s.vars)))
+order_calm s eff cmd p =
+    finished_calm _ s.config eff _ p
+    (ordered_calm _ s.config eff cmd _ p (settled_calm _ s.config eff eff _ p (begun_calm (Some eff) s)))
 
-pub order_untold : (s : Running) (eff : ℕ) (cmd : Cmd) → tells_up (emits eff (Command cmd) s) ≡ false
-unfolding emits
-order_untold s eff cmd = (order_calm s eff cmd).untold
+pub order_untold : (s : Running) (eff : ℕ) (cmd : Cmd) → IsPoint s.config → tells_up (emits eff (Command cmd) s) ≡ false
+unfolding emits stepped_flow
+order_untold s eff cmd p = (order_calm s eff cmd p).untold
 
-pub order_low : (s : Running) (eff : ℕ) (cmd : Cmd) → is_up (next eff (Command cmd) s).vars.state ≡ true → is_up s.vars.state ≡ true
-unfolding next_vars
-order_low s eff cmd = (order_calm s eff cmd).low
+pub order_low : (s : Running) (eff : ℕ) (cmd : Cmd) → IsPoint s.config → is_up (next eff (Command cmd) s).vars.state ≡ true
+    → is_up s.vars.state ≡ true
+unfolding stepped_flow
+order_low s eff cmd p = (order_calm s eff cmd p).low
 
-packet_calm : (s : Running) (eff : ℕ) (arrival : Arrival) → is_init_or_up (fields_of arrival.payload).state ≡ false
-    → Calm (is_up s.vars.state) (step s.config eff (Packet arrival) (begun (Some eff) s.vars []))
+packet_calm : (s : Running) (eff : ℕ) (arrival : Arrival) → IsPoint s.config → is_init_or_up (fields_of arrival.payload).state ≡ false
+    → Calm (is_up s.vars.state) (step_from eff (Packet arrival) s []).course
 unfolding step
-packet_calm s eff arrival low =
-    finished_calm _ s.config eff _ (acted_calm _ s.config eff arrival _ low
-    (settled_calm _ s.config eff eff _ (begun_calm (Some eff) s.vars)))
+packet_calm s eff arrival p low =
+    finished_calm _ s.config eff _ p (acted_calm _ s.config eff arrival _ p low
+    (settled_calm _ s.config eff eff _ p (begun_calm (Some eff) s)))
 
-pub packet_untold : (s : Running) (eff : ℕ) (arrival : Arrival) → is_init_or_up (fields_of arrival.payload).state ≡ false
-    → tells_up (emits eff (Packet arrival) s) ≡ false
-unfolding emits
-packet_untold s eff arrival low = (packet_calm s eff arrival low).untold
+pub packet_untold : (s : Running) (eff : ℕ) (arrival : Arrival) → IsPoint s.config
+    → is_init_or_up (fields_of arrival.payload).state ≡ false → tells_up (emits eff (Packet arrival) s) ≡ false
+unfolding emits stepped_flow
+packet_untold s eff arrival p low = (packet_calm s eff arrival p low).untold
 
-pub packet_low : (s : Running) (eff : ℕ) (arrival : Arrival) → is_init_or_up (fields_of arrival.payload).state ≡ false
-    → is_up (next eff (Packet arrival) s).vars.state ≡ true → is_up s.vars.state ≡ true
-unfolding next_vars
-packet_low s eff arrival low = (packet_calm s eff arrival low).low
+pub packet_low : (s : Running) (eff : ℕ) (arrival : Arrival) → IsPoint s.config
+    → is_init_or_up (fields_of arrival.payload).state ≡ false → is_up (next eff (Packet arrival) s).vars.state ≡ true
+    → is_up s.vars.state ≡ true
+unfolding stepped_flow
+packet_low s eff arrival p low = (packet_calm s eff arrival p low).low

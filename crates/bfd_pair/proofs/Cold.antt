@@ -1,5 +1,5 @@
 -- A session outside Init and Up that handles no packet stays there, and sends no packet in Init or Up.
-use Rattle.std.proofs.Common.{◌≡◌, inl, inr, ◌≤◌, ◌++◌, ◌^◌, ◌+◌, ◌*◌, ◌/◌, not, ℕ, Bool, true, false, List, [], refl, sym, ap, ◌∙◌, subst, Option, None, Some, Result, Ok, Err, if◌then◌else◌, arith}
+use Rattle.std.proofs.Common.{◌≡◌, inl, inr, ◌≤◌, ◌++◌, ◌^◌, ◌+◌, ◌*◌, ◌/◌, not, ◌&&◌, ℕ, Bool, true, false, List, [], refl, sym, ap, ◌∙◌, subst, Option, None, Some, Result, Ok, Err, if◌then◌else◌, arith}
 use Rattle.bfd_auth.specs.Sealed.{sealed, section_of}
 use Rattle.bfd_packet.specs.declared.arrival.Arrival.{Arrival}
 use Rattle.bfd_packet.specs.declared.control.Control.{Control}
@@ -17,20 +17,23 @@ use Rattle.bfd_rules.specs.declared.outputs.Out.{Out}
 use Rattle.bfd_rules.specs.declared.variables.Mark.{Mark}
 use Rattle.bfd_rules.specs.declared.variables.Vars.{Vars}
 use Rattle.bfd_rules.specs.declared.verdict.Verdict.TheVariants.{Accepted, Dropped}
-use Rattle.bfd_rules.specs.Quantities.{is_admin_down}
+use Rattle.bfd_rules.specs.Quantities.{is_admin_down, is_up}
 use Rattle.bfd_rules.specs.Course.{Course, course, changes, sends, told}
 use Rattle.bfd_p2p.specs.Frame.{renews}
 use Rattle.bfd_p2p.specs.Transmit.{transmits, bytes_of, packet_of}
-use Rattle.bfd_p2p.specs.Settle.{settle}
 use Rattle.bfd_p2p.specs.Receive as receiving
+use Rattle.bfd_p2p.specs.Receive.{is_single}
+use Rattle.bfd_echo.specs.declared.echo.Echo.{Echo}
 use Rattle.bfd_session.specs.declared.event.SessionConfig.{SessionConfig}
-use Rattle.bfd_session.specs.declared.event.SessionConfig.TheVariants.{Pair}
+use Rattle.bfd_session.specs.declared.event.SessionConfig.TheVariants.{Pair, Seek, Head, Tail}
 use Rattle.bfd_session.specs.declared.event.Event.TheVariants.{Packet, Command}
 use Rattle.bfd_session.specs.declared.event.Answer.{Answer}
 use Rattle.bfd_session.specs.declared.event.Answer.TheVariants.{Handled}
-use Rattle.bfd_session.specs.Kinds.{Running}
-use Rattle.bfd_session.specs.Step.{begun, settled, acted, finished, step, tick, next, next_vars, ticked_vars, emits, tick_next, tick_emits, reply, answer_to_packet}
+use Rattle.bfd_session.specs.Kinds.{Running, Flow}
+use Rattle.bfd_session.specs.Echoing.{echoing, settles_echo}
+use Rattle.bfd_session.specs.Step.{begun, settled, acted, finished, step, step_from, stepped_flow, tick, tick_from, ticked_flow, next, emits, tick_next, tick_emits, reply, answer_of, answer_to_packet}
 use Rattle.bfd_pair.specs.Run.{packets_in}
+use Rattle.bfd_pair.proofs.Points.{IsPoint}
 use Rattle.bfd_pair.proofs.Packets.{Each, each_append, packets-append, told_packets}
 use Rattle.bfd_pair.proofs.Rules.{Goes, renewed_state, settle_keeps, commanded_keeps, finish_keeps, kept_keeps}
 
@@ -113,48 +116,80 @@ cold_puts c poll fin s h = record {
 
 -- whole events
 
-begun_cold : (at : Option ℕ) (v : Vars) → is_init_or_up v.state ≡ false → Cold (begun at v [])
-begun_cold None v low = record { state = low; packets = tt }
-begun_cold (Some eff) v low = record { state = low; packets = tt }
+begun_cold : (own : Option ℕ) (s : Running) → is_init_or_up s.vars.state ≡ false → Cold (begun own s []).course
+begun_cold None s low = record { state = low; packets = tt }
+begun_cold (Some eff) s low = record { state = low; packets = tt }
 
-settled_cold : (c : SessionConfig) (limit eff : ℕ) (s : Course) → Cold s → Cold (settled c limit eff s)
-settled_cold (Pair c) limit eff s h = settle_keeps Cold cold_state cold_still cold_goes cold_puts refl refl c limit eff s h
+-- outside Up no Echo function runs
 
-finished_cold : (c : SessionConfig) (eff : ℕ) (s : Course) → Cold s → Cold (finished c eff s)
-finished_cold (Pair c) eff s h = finish_keeps Cold cold_state cold_still cold_goes cold_puts refl refl c eff s h
+not_up : (state : State) → is_init_or_up state ≡ false → is_up state ≡ false
+not_up AdminDown low = refl
+not_up Down low = refl
+not_up Init low = cc
+not_up Up low = cc
 
-ordered_cold : (c : SessionConfig) (eff : ℕ) (cmd : Cmd) (s : Course) → Cold s → Cold (acted c eff (Command cmd) s)
-ordered_cold (Pair c) eff cmd s h = commanded_keeps Cold cold_state cold_still cold_goes cold_puts refl refl c eff cmd s h
+and_false : (b : Bool) → (b && false) ≡ false
+and_false true = refl
+and_false false = refl
 
-tick_cold : (s : Running) (limit eff : ℕ) → is_init_or_up s.vars.state ≡ false → Cold (tick s.config limit eff (begun None s.vars []))
+no_echo : (c : Config) (v : Vars) (echo : Option Echo) → is_init_or_up v.state ≡ false → echoing c v echo ≡ None
+no_echo c v echo low = rw (not_up v.state low, and_false (is_single c.role)) refl
+
+echo_cold : (c : Config) (limit eff : ℕ) (f : Flow) → Cold f.course → Cold (settles_echo c limit eff f).course
+unfolding settles_echo
+echo_cold c limit eff f h = rw (no_echo c f.course.vars f.echo h.state) h
+
+settled_cold : (c : SessionConfig) (limit eff : ℕ) (f : Flow) → IsPoint c → Cold f.course → Cold (settled c limit eff f).course
+settled_cold (Pair c) limit eff f p h =
+    echo_cold c limit eff _ (settle_keeps Cold cold_state cold_still cold_goes cold_puts refl refl c limit eff f.course h)
+settled_cold (Seek c) limit eff f p h = absurd p
+settled_cold (Head c) limit eff f p h = absurd p
+settled_cold (Tail c) limit eff f p h = absurd p
+
+finished_cold : (c : SessionConfig) (eff : ℕ) (f : Flow) → IsPoint c → Cold f.course → Cold (finished c eff f).course
+finished_cold (Pair c) eff f p h = finish_keeps Cold cold_state cold_still cold_goes cold_puts refl refl c eff f.course h
+finished_cold (Seek c) eff f p h = absurd p
+finished_cold (Head c) eff f p h = absurd p
+finished_cold (Tail c) eff f p h = absurd p
+
+ordered_cold : (c : SessionConfig) (eff : ℕ) (cmd : Cmd) (f : Flow) → IsPoint c → Cold f.course
+    → Cold (acted c eff (Command cmd) f).course
+ordered_cold (Pair c) eff cmd f p h = commanded_keeps Cold cold_state cold_still cold_goes cold_puts refl refl c eff cmd f.course h
+ordered_cold (Seek c) eff cmd f p h = absurd p
+ordered_cold (Head c) eff cmd f p h = absurd p
+ordered_cold (Tail c) eff cmd f p h = absurd p
+
+tick_cold : (s : Running) (limit eff : ℕ) → IsPoint s.config → is_init_or_up s.vars.state ≡ false
+    → Cold (tick_from limit eff s []).course
 unfolding tick
-tick_cold s limit eff low = finished_cold s.config eff _ (settled_cold s.config limit eff _ (begun_cold None s.vars low))
+tick_cold s limit eff p low = finished_cold s.config eff _ p (settled_cold s.config limit eff _ p (begun_cold None s low))
 
-pub tick_state : (s : Running) (limit eff : ℕ) → is_init_or_up s.vars.state ≡ false
+pub tick_state : (s : Running) (limit eff : ℕ) → IsPoint s.config → is_init_or_up s.vars.state ≡ false
     → is_init_or_up (tick_next limit eff s).vars.state ≡ false
-unfolding ticked_vars
-tick_state s limit eff low = (tick_cold s limit eff low).state
+unfolding ticked_flow
+tick_state s limit eff p low = (tick_cold s limit eff p low).state
 
-pub tick_packets : (s : Running) (limit eff : ℕ) → is_init_or_up s.vars.state ≡ false
+pub tick_packets : (s : Running) (limit eff : ℕ) → IsPoint s.config → is_init_or_up s.vars.state ≡ false
     → Each IsCold (packets_in (tick_emits limit eff s))
-unfolding tick_emits
-tick_packets s limit eff low = (tick_cold s limit eff low).packets
+unfolding tick_emits ticked_flow
+tick_packets s limit eff p low = (tick_cold s limit eff p low).packets
 
-order_cold : (s : Running) (eff : ℕ) (cmd : Cmd) → is_init_or_up s.vars.state ≡ false
-    → Cold (step s.config eff (Command cmd) (begun (Some eff) s.vars []))
+order_cold : (s : Running) (eff : ℕ) (cmd : Cmd) → IsPoint s.config → is_init_or_up s.vars.state ≡ false
+    → Cold (step_from eff (Command cmd) s []).course
 unfolding step
-order_cold s eff cmd low =
-    finished_cold s.config eff _ (ordered_cold s.config eff cmd _ (settled_cold s.config eff eff _ (begun_cold (Some eff) s.vars low)))
+order_cold s eff cmd p low =
+    finished_cold s.config eff _ p
+    (ordered_cold s.config eff cmd _ p (settled_cold s.config eff eff _ p (begun_cold (Some eff) s low)))
 
-pub order_state : (s : Running) (eff : ℕ) (cmd : Cmd) → is_init_or_up s.vars.state ≡ false
+pub order_state : (s : Running) (eff : ℕ) (cmd : Cmd) → IsPoint s.config → is_init_or_up s.vars.state ≡ false
     → is_init_or_up (next eff (Command cmd) s).vars.state ≡ false
-unfolding next_vars
-order_state s eff cmd low = (order_cold s eff cmd low).state
+unfolding stepped_flow
+order_state s eff cmd p low = (order_cold s eff cmd p low).state
 
-pub order_packets : (s : Running) (eff : ℕ) (cmd : Cmd) → is_init_or_up s.vars.state ≡ false
+pub order_packets : (s : Running) (eff : ℕ) (cmd : Cmd) → IsPoint s.config → is_init_or_up s.vars.state ≡ false
     → Each IsCold (packets_in (emits eff (Command cmd) s))
-unfolding emits
-order_packets s eff cmd low = (order_cold s eff cmd low).packets
+unfolding emits stepped_flow
+order_packets s eff cmd p low = (order_cold s eff cmd p low).packets
 
 -- a packet that isn't handled
 
@@ -185,28 +220,29 @@ unhandled_cold c eff packet (Ok seq) s refused h =
     rw admin (kept_keeps Cold cold_state cold_still cold_goes cold_puts refl refl c eff packet seq s h)
 unhandled_cold c eff packet (Err test) s refused h = h
 
-acted_cold : (c : SessionConfig) (eff : ℕ) (arrival : Arrival) (v : Vars)
-    → is_handled (reply eff (Packet arrival) (record { config = c; vars = v; echo = None; echo_next = 0 })) ≡ false
-    → Cold (settled c eff eff (begun (Some eff) v []))
-    → Cold (acted c eff (Packet arrival) (settled c eff eff (begun (Some eff) v [])))
-unfolding reply receiving.received
-acted_cold (Pair c) eff arrival v refused h =
-    let s : Course = settle c eff eff (begun (Some eff) v []) in
+acted_cold : (c : SessionConfig) (eff : ℕ) (arrival : Arrival) (f : Flow) → IsPoint c
+    → is_handled (answer_of c (Packet arrival) f) ≡ false → Cold f.course → Cold (acted c eff (Packet arrival) f).course
+unfolding receiving.received
+acted_cold (Pair c) eff arrival f p refused h =
+    let s : Course = f.course in
     unhandled_cold c eff (fields_of arrival.payload) (receiving.judged c s.vars arrival.ttl arrival.payload) s refused h
+acted_cold (Seek c) eff arrival f p refused h = absurd p
+acted_cold (Head c) eff arrival f p refused h = absurd p
+acted_cold (Tail c) eff arrival f p refused h = absurd p
 
-packet_cold : (s : Running) (eff : ℕ) (arrival : Arrival) → is_handled (reply eff (Packet arrival) s) ≡ false
-    → is_init_or_up s.vars.state ≡ false → Cold (step s.config eff (Packet arrival) (begun (Some eff) s.vars []))
+packet_cold : (s : Running) (eff : ℕ) (arrival : Arrival) → IsPoint s.config → is_handled (reply eff (Packet arrival) s) ≡ false
+    → is_init_or_up s.vars.state ≡ false → Cold (step_from eff (Packet arrival) s []).course
 unfolding step reply
-packet_cold s eff arrival refused low =
-    finished_cold s.config eff _ (acted_cold s.config eff arrival s.vars refused
-    (settled_cold s.config eff eff _ (begun_cold (Some eff) s.vars low)))
+packet_cold s eff arrival p refused low =
+    finished_cold s.config eff _ p (acted_cold s.config eff arrival _ p refused
+    (settled_cold s.config eff eff _ p (begun_cold (Some eff) s low)))
 
-pub packet_state : (s : Running) (eff : ℕ) (arrival : Arrival) → is_handled (reply eff (Packet arrival) s) ≡ false
+pub packet_state : (s : Running) (eff : ℕ) (arrival : Arrival) → IsPoint s.config → is_handled (reply eff (Packet arrival) s) ≡ false
     → is_init_or_up s.vars.state ≡ false → is_init_or_up (next eff (Packet arrival) s).vars.state ≡ false
-unfolding next_vars
-packet_state s eff arrival refused low = (packet_cold s eff arrival refused low).state
+unfolding stepped_flow
+packet_state s eff arrival p refused low = (packet_cold s eff arrival p refused low).state
 
-pub packet_packets : (s : Running) (eff : ℕ) (arrival : Arrival) → is_handled (reply eff (Packet arrival) s) ≡ false
+pub packet_packets : (s : Running) (eff : ℕ) (arrival : Arrival) → IsPoint s.config → is_handled (reply eff (Packet arrival) s) ≡ false
     → is_init_or_up s.vars.state ≡ false → Each IsCold (packets_in (emits eff (Packet arrival) s))
-unfolding emits
-packet_packets s eff arrival refused low = (packet_cold s eff arrival refused low).packets
+unfolding emits stepped_flow
+packet_packets s eff arrival p refused low = (packet_cold s eff arrival p refused low).packets

@@ -6,7 +6,7 @@ use Rattle.bfd_packet.specs.Layout.{fields_of}
 use Rattle.bfd_packet.specs.States.{is_init_or_up}
 use Rattle.bfd_p2p.specs.Machine.{made as pair_made}
 use Rattle.bfd_session.specs.declared.event.SessionConfig.{SessionConfig}
-use Rattle.bfd_session.specs.declared.event.SessionConfig.TheVariants.{Pair}
+use Rattle.bfd_session.specs.declared.event.SessionConfig.TheVariants.{Pair, Seek, Head, Tail}
 use Rattle.bfd_session.specs.Step.{started}
 use Rattle.bfd_pair.specs.declared.event.Side.{Side}
 use Rattle.bfd_pair.specs.declared.event.Side.TheVariants.{Left, Right}
@@ -14,6 +14,7 @@ use Rattle.bfd_pair.specs.declared.event.PairEvent.{PairEvent}
 use Rattle.bfd_pair.specs.declared.event.PairEvent.TheVariants.{Give}
 use Rattle.bfd_pair.specs.Run.{End, Both, end_of, packet_at, after, pair_run, turn}
 use Rattle.bfd_pair.specs.Handshake.{Heard, sent_by_then}
+use Rattle.bfd_pair.proofs.Points.{IsPoint, run_point}
 use Rattle.bfd_pair.proofs.Packets.{each_at, Later, first_or_later}
 use Rattle.bfd_pair.proofs.Rules.{drawn_state}
 use Rattle.bfd_pair.proofs.Cold.{IsCold}
@@ -125,35 +126,39 @@ told_quiet left right side past event e e2 t q = elim (either (is_init_or_up e.s
 ]
 
 told_step : (left right : SessionConfig) (side : Side) (past : List PairEvent) (event : PairEvent)
+    → IsPoint (end_of side (pair_run left right past)).session.config
     → Told left right side past (end_of side (pair_run left right past))
     → Told left right side (past ++ event ∷ []) (end_of side (turn event (pair_run left right past)).both)
-told_step left right side past event t = elim (hears_or_quiet (pair_run left right past) event side) [
+told_step left right side past event p t = elim (hears_or_quiet (pair_run left right past) event side p) [
   | inl quiet ↦ told_quiet left right side past event _ _ t quiet
   | inr hears ↦ told_warm left right side past event _ _ t hears.grows (λ n le. heard_now left right side past event n _ _ le hears)
 ]
 
-started_cold : (config : SessionConfig) → is_init_or_up (started config).vars.state ≡ false
+started_cold : (config : SessionConfig) → IsPoint config → is_init_or_up (started config).vars.state ≡ false
 unfolding pair_made
-started_cold (Pair c) = ap is_init_or_up (drawn_state c.active _ _)
+started_cold (Pair c) p = ap is_init_or_up (drawn_state c.active _ _)
+started_cold (Seek c) p = absurd p
+started_cold (Head c) p = absurd p
+started_cold (Tail c) p = absurd p
 
-told_start : (left right : SessionConfig) (side : Side) → Told left right side [] (end_of side (pair_run left right []))
-unfolding pair_run
-told_start left right Left = record { state = λ warm. absurd (never _ (started_cold left) warm); packets = λ k bytes there warm. cc }
-told_start left right Right = record { state = λ warm. absurd (never _ (started_cold right) warm); packets = λ k bytes there warm. cc }
+module _ (left right : SessionConfig) (l : IsPoint left) (r : IsPoint right) where
+  told_start : (side : Side) → Told left right side [] (end_of side (pair_run left right []))
+  unfolding pair_run
+  told_start Left = record { state = λ warm. absurd (never _ (started_cold left l) warm); packets = λ k bytes there warm. cc }
+  told_start Right = record { state = λ warm. absurd (never _ (started_cold right r) warm); packets = λ k bytes there warm. cc }
 
-told_on : (left right : SessionConfig) (side : Side) (past events : List PairEvent)
-    → Told left right side past (end_of side (pair_run left right past))
-    → Told left right side (past ++ events) (end_of side (pair_run left right (past ++ events)))
-told_on left right side past [] t =
-    subst (λ (es : List PairEvent). Told left right side es (end_of side (pair_run left right es))) (sym (append-nil past)) t
-told_on left right side past (event ∷ events) t =
-    subst (λ (es : List PairEvent). Told left right side es (end_of side (pair_run left right es))) (append_assoc past (event ∷ []) events)
-    (told_on left right side (past ++ event ∷ []) events
-    (subst (λ (w : Both). Told left right side (past ++ event ∷ []) (end_of side w)) (sym (run_more left right past event))
-    (told_step left right side past event t)))
+  told_on : (side : Side) (past events : List PairEvent) → Told left right side past (end_of side (pair_run left right past))
+      → Told left right side (past ++ events) (end_of side (pair_run left right (past ++ events)))
+  told_on side past [] t =
+      subst (λ (es : List PairEvent). Told left right side es (end_of side (pair_run left right es))) (sym (append-nil past)) t
+  told_on side past (event ∷ events) t =
+      subst (λ (es : List PairEvent). Told left right side es (end_of side (pair_run left right es))) (append_assoc past (event ∷ []) events)
+      (told_on side (past ++ event ∷ []) events
+      (subst (λ (w : Both). Told left right side (past ++ event ∷ []) (end_of side w)) (sym (run_more left right past event))
+      (told_step left right side past event (run_point left right l r past side) t)))
 
-told : (left right : SessionConfig) (side : Side) (past : List PairEvent) → Told left right side past (end_of side (pair_run left right past))
-told left right side past = told_on left right side [] past (told_start left right side)
+  told : (side : Side) (past : List PairEvent) → Told left right side past (end_of side (pair_run left right past))
+  told side past = told_on side [] past (told_start side)
 
 -- where the packet of a number stands
 pub record At (number : ℕ) (sent : List (List ℕ)) (bytes : List ℕ) : Type 0 where
@@ -171,10 +176,10 @@ place_by number sent bytes false is found = record {
 }
 
 -- a packet in Init or Up was sent after its sender had heard the other side
-pub packet_heard : (left right : SessionConfig) (side : Side) (past : List PairEvent) (number : ℕ) (bytes : List ℕ)
+pub packet_heard : (left right : SessionConfig) → IsPoint left → IsPoint right → (side : Side) (past : List PairEvent) (number : ℕ) (bytes : List ℕ)
     → packet_at number (end_of side (pair_run left right past)).sent ≡ Some bytes → is_init_or_up (fields_of bytes).state ≡ true
     → (heard : Heard left right side past) × (sent_by_then left right side past heard < number)
-packet_heard left right side past number bytes found warm =
+packet_heard left right l r side past number bytes found warm =
     let at : At number (end_of side (pair_run left right past)).sent bytes = place_by number _ bytes _ refl found in
-    let h : HeardBy left right side past at.place = (told left right side past).packets at.place bytes at.there warm in
+    let h : HeardBy left right side past at.place = (told left right l r side past).packets at.place bytes at.there warm in
     (h.heard, (let b = h.by in let l = at.below in omega arith))

@@ -1,3 +1,4 @@
+pub mod Points
 pub mod Packets
 pub mod Rules
 pub mod Cold

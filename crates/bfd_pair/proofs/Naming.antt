@@ -1,6 +1,6 @@
 -- A packet that fails no test up to selection over a session's one row: the session takes it, and in Init or Up it names the session.
 use Rattle.std.proofs.Common.{◌≡◌, ◌==◌, ◌&&◌, ◌||◌, ◌++◌, not, ℕ, Bool, true, false, List, [], ◌∷◌, refl, sym, ap, ◌∙◌, subst, Option, None, Some, if◌then◌else◌, arith}
-use Rattle.std.specs.Prelude.{find}
+use Rattle.std.specs.Prelude.{find, unwrap_or}
 use Rattle.std.proofs.lemmas.Bool.Decides.{nat_tests}
 use Rattle.bfd_packet.specs.declared.arrival.Addr.{Addr}
 use Rattle.bfd_packet.specs.declared.arrival.Arrival.{Arrival}
@@ -11,13 +11,14 @@ use Rattle.bfd_packet.specs.declared.discard.Test.TheVariants.{Short, Version, L
 use Rattle.bfd_packet.specs.HeaderTests.{header_fails, first_failing}
 use Rattle.bfd_packet.specs.Layout.{fields_of}
 use Rattle.bfd_packet.specs.States.{is_init_or_up}
+use Rattle.bfd_rules.specs.declared.config.Config.{Config}
 use Rattle.bfd_rules.specs.declared.config.Role.{Role}
 use Rattle.bfd_rules.specs.declared.config.Role.TheVariants.{Single, Multi}
 use Rattle.bfd_p2p.specs.Port.{port_of}
 use Rattle.bfd_demux.specs.declared.row.Row.{Row}
 use Rattle.bfd_demux.specs.Selection.{first_header_failing, first_table_failing, first_failing_on, is_multipoint, table_fails, tests_on_header}
 use Rattle.bfd_session.specs.declared.event.SessionConfig.{SessionConfig}
-use Rattle.bfd_session.specs.declared.event.SessionConfig.TheVariants.{Pair}
+use Rattle.bfd_session.specs.declared.event.SessionConfig.TheVariants.{Pair, Seek, Head, Tail}
 use Rattle.bfd_session.specs.declared.event.Event.TheVariants.{Packet}
 use Rattle.bfd_session.specs.Kinds.{discr_of}
 use Rattle.bfd_session.specs.Rows.{kind_of, row_of}
@@ -95,9 +96,31 @@ names_by Single discr iface local remote arrival state h =
     (single_plain discr iface local remote arrival (is_multipoint SinglePort arrival) refl h) state h
 names_by Multi discr iface local remote arrival state h = names_multi discr iface local remote arrival state h
 
-pub names : (config : SessionConfig) (bytes : List ℕ) → is_init_or_up (fields_of bytes).state ≡ true → screened config bytes ≡ None
-    → (fields_of bytes).your ≡ discr_of config
-names (Pair c) bytes state h = names_by c.role c.discr c.iface c.local c.remote (arrival_to (Pair c) bytes) state h
+-- an arrival that is on its way to a session
+same_arrival : (a b : Arrival) → Some a ≡ Some b → a ≡ b
+same_arrival a b e = ap (λ o. unwrap_or o a) e
+
+pub way_payload : (config : SessionConfig) (bytes : List ℕ) (arrival : Arrival) → arrival_to config bytes ≡ Some arrival
+    → arrival.payload ≡ bytes
+way_payload (Pair c) bytes arrival is = ap (λ (a : Arrival). a.payload) (sym (same_arrival _ arrival is))
+way_payload (Seek c) bytes arrival is = cc
+way_payload (Head c) bytes arrival is = cc
+way_payload (Tail c) bytes arrival is = cc
+
+way_port : (c : Config) (bytes : List ℕ) (arrival : Arrival) → arrival_to (Pair c) bytes ≡ Some arrival → arrival.port ≡ port_of c.role
+way_port c bytes arrival is = ap (λ (a : Arrival). a.port) (sym (same_arrival _ arrival is))
+
+pub names : (config : SessionConfig) (bytes : List ℕ) (arrival : Arrival) → arrival_to config bytes ≡ Some arrival
+    → is_init_or_up (fields_of bytes).state ≡ true → screened config arrival ≡ None → (fields_of bytes).your ≡ discr_of config
+names (Pair c) bytes arrival is state h =
+    let payload : arrival.payload ≡ bytes = way_payload (Pair c) bytes arrival is in
+    ap (λ (raw : List ℕ). (fields_of raw).your) (sym payload)
+    ∙ names_by c.role c.discr c.iface c.local c.remote arrival
+    (ap (λ (raw : List ℕ). is_init_or_up (fields_of raw).state) payload ∙ state)
+    (subst (λ (p : Port). first_failing_on p (row_of (Pair c) ∷ []) arrival ≡ None) (way_port c bytes arrival is) h)
+names (Seek c) bytes arrival is state h = cc
+names (Head c) bytes arrival is state h = cc
+names (Tail c) bytes arrival is state h = cc
 
 -- the session takes it
 
@@ -116,15 +139,18 @@ header_by : (role : Role) (payload : List ℕ) → find (λ test. header_fails t
 header_by Single payload h = h
 header_by Multi payload h = h
 
-pub takes : (config : SessionConfig) (arrival : Arrival) → arrival ≡ arrival_to config arrival.payload
+pub takes : (config : SessionConfig) (arrival : Arrival) → arrival_to config arrival.payload ≡ Some arrival
     → first_header_failing arrival ≡ None → first_table_failing (row_of config ∷ []) arrival ≡ None → CanTake config (Packet arrival)
 takes (Pair c) arrival is header none =
-    let port : arrival.port ≡ port_of c.role = ap (λ (a : Arrival). a.port) is in
+    let port : arrival.port ≡ port_of c.role = way_port c arrival.payload arrival is in
     record {
       port = port;
       header = subst (λ (p : Port). first_failing p arrival.payload ≡ None) (sym port)
           (header_by c.role arrival.payload
           (subst (λ (p : Port). find (λ test. header_fails test arrival.payload) (tests_on_header p) ≡ None) port header));
-      plain = plain_by c.role c.discr c.iface c.local c.remote arrival
+      multi = plain_by c.role c.discr c.iface c.local c.remote arrival
           (subst (λ (p : Port). first_failing_on p (row_of (Pair c) ∷ []) arrival ≡ None) port none);
     }
+takes (Seek c) arrival is header none = cc
+takes (Head c) arrival is header none = cc
+takes (Tail c) arrival is header none = cc

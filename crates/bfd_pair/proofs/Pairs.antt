@@ -1,43 +1,21 @@
 -- An event leaves a pair of what the past, with it, makes.
-use Rattle.std.proofs.Common.{◌≡◌, ◌≤◌, ◌++◌, ℕ, true, false, List, [], ◌∷◌, refl, sym, ap, ◌∙◌, arith, length, Option, None, Some}
+use Rattle.std.proofs.Common.{◌≡◌, ◌≤◌, ◌++◌, ℕ, true, false, List, [], ◌∷◌, sym, ap, ◌∙◌, subst, arith}
 use Rattle.bfd_num.specs.Numbers.{greatest_tick}
-use Rattle.bfd_packet.specs.declared.discard.Test.{Test}
 use Rattle.bfd_session.specs.declared.event.SessionConfig.{SessionConfig}
 use Rattle.bfd_pair.specs.declared.event.Side.{Side}
 use Rattle.bfd_pair.specs.declared.event.Side.TheVariants.{Left, Right}
 use Rattle.bfd_pair.specs.declared.event.PairEvent.{PairEvent}
-use Rattle.bfd_pair.specs.declared.event.PairEvent.TheVariants.{Tick, Give, Order}
 use Rattle.bfd_pair.specs.declared.peer.Peer.{Peer}
-use Rattle.bfd_pair.specs.Run.{End, Both, end_of, packet_at, screened, comes, given, opened, pair_run, turn}
-use Rattle.bfd_pair.specs.Handshake.{IsHandshake, is_up_after}
+use Rattle.bfd_pair.specs.Run.{End, Both, items_of, opened, pair_run, turn}
+use Rattle.bfd_pair.specs.Handshake.{IsHandshake, tells_up, is_up_after}
 use Rattle.bfd_pair.specs.Inside.{seen, both_of, Pairing, pairing_of, IsPeer, IsPair}
+use Rattle.bfd_pair.proofs.Points.{IsPoint, way_point, turn_config}
 use Rattle.bfd_pair.proofs.Hearing.{run_more}
-use Rattle.bfd_pair.proofs.Handshakes.{comes_up}
+use Rattle.bfd_pair.proofs.Handshakes.{handshakes, comes_up}
 
--- no event changes a configuration
-
-comes_config : (failing : Option Test) (moment last : ℕ) (bytes : List ℕ) (e : End)
-    → (comes failing moment last bytes e).end.session.config ≡ e.session.config
-comes_config (Some test) moment last bytes e = refl
-comes_config None moment last bytes e = refl
-
-given_config : (found : Option (List ℕ)) (count moment last : ℕ) (e : End)
-    → (given found count moment last e).end.session.config ≡ e.session.config
-given_config None count moment last e = refl
-given_config (Some bytes) count moment last e = comes_config (screened e.session.config bytes) moment last bytes e
-
-turn_config : (event : PairEvent) (w : Both) (side : Side)
-    → (end_of side (turn event w).both).session.config ≡ (end_of side w).session.config
-turn_config (Tick t) w Left = refl
-turn_config (Tick t) w Right = refl
-turn_config (Give Left moment number) w Left = given_config (packet_at number w.right.sent) (length w.right.sent) moment w.last w.left
-turn_config (Give Right moment number) w Left = refl
-turn_config (Give Left moment number) w Right = refl
-turn_config (Give Right moment number) w Right = given_config (packet_at number w.left.sent) (length w.left.sent) moment w.last w.right
-turn_config (Order Left moment cmd) w Left = refl
-turn_config (Order Right moment cmd) w Left = refl
-turn_config (Order Left moment cmd) w Right = refl
-turn_config (Order Right moment cmd) w Right = refl
+-- a side's session is point-to-point
+peer_point : (p : Peer) → IsPeer p → IsPoint p.session.config
+peer_point p peer = way_point p.session.config [] _ (peer.way [])
 
 module _ (l r l2 r2 : Peer) (last last2 : ℕ) (past past2 : List PairEvent) (event : PairEvent) (p : Pairing)
     (pair : IsPair l r last past) (view : pairing_of l r past ≡ p)
@@ -67,10 +45,20 @@ module _ (l r l2 r2 : Peer) (last last2 : ℕ) (past past2 : List PairEvent) (ev
       ∙ (ap (λ (es : List PairEvent). record { left = l.session.config; right = r.session.config; past = es }) more
       ∙ ap (λ (q : Pairing). record q { past = q.past ++ event ∷ [] }) view))
 
+  left_point : IsPoint p.left
+  left_point = subst (λ (q : Pairing). IsPoint q.left) view (peer_point l pair.left_peer)
+
+  right_point : IsPoint p.right
+  right_point = subst (λ (q : Pairing). IsPoint q.right) view (peer_point r pair.right_peer)
+
+  pub handshake_more : (side : Side) → tells_up (items_of side (turn event (pair_run p.left p.right p.past))) ≡ true
+      → IsHandshake p.left p.right side event p.past
+  handshake_more side up = handshakes p.left p.right left_point right_point p.past event side up
+
   pub rises_more : (side : Side) → is_up_after p.left p.right side p.past ≡ false
       → is_up_after l2.session.config r2.session.config side past2 ≡ true → IsHandshake p.left p.right side event p.past
   rises_more side low up =
-      comes_up p.left p.right p.past event side low
+      comes_up p.left p.right left_point right_point p.past event side low
       (ap (λ (x : Pairing). is_up_after x.left x.right side x.past) (sym pairing_more) ∙ up)
 
 -- two sides at the start

@@ -1,28 +1,39 @@
 -- A side of the program as a side of the definitions.
-use Rattle.std.proofs.Common.{◌≡◌, ◌≤◌, ◌-◌, ◌++◌, ℕ, Bool, not, true, false, List, [], ◌∷◌, length, take, drop, refl, ap, ◌∙◌, subst, arith, None}
+use Rattle.std.proofs.Common.{◌≡◌, ◌≤◌, ◌<◌, ◌-◌, ◌++◌, ℕ, List, [], ◌∷◌, length, take, drop, sym, ap, ◌∙◌, subst, arith, Option, None, Some}
 use Rattle.std.proofs.lemmas.List.{take_all, length-drop}
 use Rattle.std.proofs.Math.Seq.{drop-append_seam}
+use Rattle.bfd_num.specs.Numbers.{moment_bound}
 use Rattle.bfd_packet.specs.declared.arrival.Arrival.{Arrival}
-use Rattle.bfd_rules.specs.declared.commands.Cmd.{Cmd}
+use Rattle.bfd_rules.specs.declared.config.Config.{Config}
 use Rattle.bfd_rules.specs.declared.outputs.Out.{Out}
 use Rattle.bfd_demux.specs.declared.row.Row.{Row}
 use Rattle.bfd_demux.specs.Rows.{build_fault}
 use Rattle.bfd_demux.specs.Selection.{first_header_failing, first_table_failing}
 use Rattle.bfd_session.specs.declared.event.SessionConfig.{SessionConfig}
-use Rattle.bfd_session.specs.declared.event.SessionConfig.TheVariants.{Pair}
-use Rattle.bfd_session.specs.declared.event.Event.TheVariants.{Packet, Command}
+use Rattle.bfd_session.specs.declared.event.SessionConfig.TheVariants.{Pair, Seek, Head, Tail}
+use Rattle.bfd_session.specs.declared.event.Event.TheVariants.{Packet}
+use Rattle.bfd_session.specs.Kinds.{Running}
 use Rattle.bfd_session.specs.Rows.{row_of}
-use Rattle.bfd_session.specs.Step.{IsFit, CanTake, is_echo_command}
+use Rattle.bfd_session.specs.Step.{IsFit, IsSound, CanTake, sound_by, started}
 use Rattle.bfd_session.proofs.Tables.{no_fault as no_faults}
 use Rattle.bfd_pair.specs.declared.peer.Peer.{Peer}
-use Rattle.bfd_pair.specs.Run.{arrival_to, packets_in}
-use Rattle.bfd_pair.specs.Inside.{IsPeer}
+use Rattle.bfd_pair.specs.Run.{arrival_to, packets_in, arrives, comes}
+use Rattle.bfd_pair.specs.Inside.{seen, by_way, IsPeer}
+use Rattle.bfd_pair.proofs.Points.{IsPoint, way_point}
 use Rattle.bfd_pair.proofs.Packets.{packets_few}
 use Rattle.bfd_pair.proofs.Naming.{takes}
 
 -- a table of one row has no fault
 pub no_fault : (config : SessionConfig) → IsFit config → build_fault (row_of config ∷ []) ≡ None
 no_fault config fit = no_faults (config ∷ []) (tt, tt) (tt, tt) (fit, tt) (omega arith)
+
+-- a side at the start
+pub opened_peer : (p : Peer) (config : Config) → p.session ≡ started (Pair config) → p.table ≡ row_of (Pair config) ∷ []
+    → ((bytes : List ℕ) → arrival_to (Pair config) bytes ≡ Some (by_way p.way bytes)) → IsPeer p
+opened_peer p config is table way = record {
+  table = table ∙ ap (λ (s : Running). row_of s.config ∷ []) (sym is);
+  way = λ bytes. ap (λ (s : Running). arrival_to s.config bytes) is ∙ way bytes;
+}
 
 -- no more packets are kept than there were outputs since
 pub few : (from : ℕ) (items : List Out) → length (packets_in (drop from items)) ≤ length items - from
@@ -44,15 +55,25 @@ to_the_end from items = take_all (length items - from) (drop from items) (let re
 pub whole : (bytes : List ℕ) → length bytes ≤ 52 → take 256 bytes ≡ bytes
 whole bytes few = take_all 256 bytes (omega arith)
 
-pub takes_packet : (p : Peer) (arrival : Arrival) → IsPeer p → arrival ≡ arrival_to p.session.config arrival.payload
+pub takes_packet : (p : Peer) (arrival : Arrival) → IsPeer p → arrival ≡ by_way p.way arrival.payload
     → first_header_failing arrival ≡ None → first_table_failing p.table arrival ≡ None → CanTake p.session.config (Packet arrival)
 takes_packet p arrival peer is header none =
-    takes p.session.config arrival is header
+    takes p.session.config arrival (peer.way arrival.payload ∙ ap (λ (a : Arrival). Some a) (sym is)) header
     (subst (λ (rows : List Row). first_table_failing rows arrival ≡ None) peer.table none)
 
-not_true : (b : Bool) → not b ≡ true → b ≡ false
-not_true true h = cc
-not_true false h = refl
+-- a packet comes to a side as it arrives
+pub comes_by : (p : Peer) (moment last : ℕ) (arrival : Arrival) (bytes : List ℕ) → IsPeer p → arrival ≡ by_way p.way bytes
+    → comes (arrival_to p.session.config bytes) moment last (seen p) ≡ arrives moment last arrival (seen p)
+comes_by p moment last arrival bytes peer is =
+    ap (λ (o : Option Arrival). comes o moment last (seen p)) (peer.way bytes)
+    ∙ ap (λ (a : Arrival). arrives moment last a (seen p)) (sym is)
 
-pub takes_command : (cmd : Cmd) (config : SessionConfig) → not (is_echo_command cmd) ≡ true → CanTake config (Command cmd)
-takes_command cmd (Pair c) built = not_true (is_echo_command cmd) built
+-- the last own event of a side was at a moment
+at_by : (config : SessionConfig) (s : Running) → IsPoint config → sound_by config s → s.vars.at < moment_bound
+at_by (Pair c) s p sound = sound.vars.steady.plain.at_below
+at_by (Seek c) s p sound = absurd p
+at_by (Head c) s p sound = absurd p
+at_by (Tail c) s p sound = absurd p
+
+pub at_below : (p : Peer) → IsPeer p → IsSound p.session → p.session.vars.at < moment_bound
+at_below p peer sound = at_by p.session.config p.session (way_point p.session.config [] _ (peer.way [])) sound

@@ -63,7 +63,7 @@ module _ (P : Course → Type 0) (ok : State → Bool)
   unfolding renews
   renews_keeps eff v s same h = still s (renewed eff s.vars v) s.mark (renewed_state eff s.vars v ∙ same) h
 
-  moves_keeps : (discr eff : ℕ) (v : Vars) (s : Course) → Goes ok s.vars v → P s → P (moves discr eff v s)
+  pub moves_keeps : (discr eff : ℕ) (v : Vars) (s : Course) → Goes ok s.vars v → P s → P (moves discr eff v s)
   unfolding moves
   moves_keeps discr eff v s to h =
       goes discr (renewed eff s.vars v) s (goes_by ok s.vars v (renewed eff s.vars v) (renewed_state eff s.vars v) to) h

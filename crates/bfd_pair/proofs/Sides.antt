@@ -13,7 +13,8 @@ use Rattle.bfd_pair.specs.declared.event.Side.TheVariants.{Left, Right}
 use Rattle.bfd_pair.specs.declared.event.PairEvent.{PairEvent}
 use Rattle.bfd_pair.specs.declared.event.PairEvent.TheVariants.{Tick, Give, Order}
 use Rattle.bfd_pair.specs.declared.event.PairAnswer.TheVariants.{Did}
-use Rattle.bfd_pair.specs.Run.{End, Both, Move, other, end_of, packets_in, packet_at, arrival_to, screened, own, comes, given, ticking, moves, turn}
+use Rattle.bfd_pair.specs.Run.{End, Both, Move, other, end_of, packets_in, packet_at, arrival_to, screened, own, judged, comes, given, ticking, moves, turn}
+use Rattle.bfd_pair.proofs.Points.{IsPoint}
 use Rattle.bfd_pair.proofs.Packets.{Each}
 use Rattle.bfd_pair.proofs.Cold.{IsCold, is_handled, tick_state, tick_packets, order_state, order_packets, packet_state, packet_packets}
 
@@ -35,31 +36,31 @@ rests_quiet e = record {
   packets = λ h. tt;
 }
 
-ticking_quiet : (last : ℕ) (e : End) → Quiet e (ticking last e)
-ticking_quiet last e = record {
+ticking_quiet : (last : ℕ) (e : End) → IsPoint e.session.config → Quiet e (ticking last e)
+ticking_quiet last e p = record {
   grows = record { more = packets_in (tick_items last e.session); appended = refl };
-  state = λ h. tick_state e.session (1000 * last) (max (1000 * last) e.session.vars.at) h;
-  packets = λ h. tick_packets e.session (1000 * last) (max (1000 * last) e.session.vars.at) h;
+  state = λ h. tick_state e.session (1000 * last) (max (1000 * last) e.session.vars.at) p h;
+  packets = λ h. tick_packets e.session (1000 * last) (max (1000 * last) e.session.vars.at) p h;
 }
 
-order_quiet : (moment last : ℕ) (cmd : Cmd) (e : End) → Quiet e (own moment last (Command cmd) e).end
-order_quiet moment last cmd e = record {
+order_quiet : (moment last : ℕ) (cmd : Cmd) (e : End) → IsPoint e.session.config → Quiet e (own moment last (Command cmd) e).end
+order_quiet moment last cmd e p = record {
   grows = record { more = packets_in (step_outcome moment last (Command cmd) e.session).items; appended = refl };
-  state = λ h. order_state e.session (effective moment last e.session) cmd h;
-  packets = λ h. order_packets e.session (effective moment last e.session) cmd h;
+  state = λ h. order_state e.session (effective moment last e.session) cmd p h;
+  packets = λ h. order_packets e.session (effective moment last e.session) cmd p h;
 }
 
 packet_grows : (moment last : ℕ) (arrival : Arrival) (e : End) → Grows e (own moment last (Packet arrival) e).end
 packet_grows moment last arrival e =
     record { more = packets_in (step_outcome moment last (Packet arrival) e.session).items; appended = refl }
 
-packet_quiet : (moment last : ℕ) (arrival : Arrival) (e : End)
+packet_quiet : (moment last : ℕ) (arrival : Arrival) (e : End) → IsPoint e.session.config
     → is_handled (step_outcome moment last (Packet arrival) e.session).answer ≡ false → Quiet e (own moment last (Packet arrival) e).end
 unfolding packet_grows
-packet_quiet moment last arrival e refused = record {
+packet_quiet moment last arrival e p refused = record {
   grows = packet_grows moment last arrival e;
-  state = λ h. packet_state e.session (effective moment last e.session) arrival refused h;
-  packets = λ h. packet_packets e.session (effective moment last e.session) arrival refused h;
+  state = λ h. packet_state e.session (effective moment last e.session) arrival p refused h;
+  packets = λ h. packet_packets e.session (effective moment last e.session) arrival p refused h;
 }
 
 -- the side is given a packet of the other side, and handles it
@@ -83,27 +84,33 @@ is_answer (Dropped test) h = cc
 is_answer (Refused refusal) h = cc
 is_answer (Shown shown) h = cc
 
-by_answer : (moment last : ℕ) (arrival : Arrival) (e : End) (b : Bool)
+by_answer : (moment last : ℕ) (arrival : Arrival) (e : End) (b : Bool) → IsPoint e.session.config
     → is_handled (step_outcome moment last (Packet arrival) e.session).answer ≡ b
     → Quiet e (own moment last (Packet arrival) e).end
     ⊎ (((own moment last (Packet arrival) e).answer ≡ Did Handled) × Grows e (own moment last (Packet arrival) e).end)
-by_answer moment last arrival e true is = inr (ap Did (is_answer _ is), packet_grows moment last arrival e)
-by_answer moment last arrival e false is = inl (packet_quiet moment last arrival e is)
+by_answer moment last arrival e true p is = inr (ap Did (is_answer _ is), packet_grows moment last arrival e)
+by_answer moment last arrival e false p is = inl (packet_quiet moment last arrival e p is)
 
-by_test : (failing : Option Test) (moment last : ℕ) (bytes : List ℕ) (e : End)
-    → Quiet e (comes failing moment last bytes e).end
-    ⊎ (((comes failing moment last bytes e).answer ≡ Did Handled) × Grows e (comes failing moment last bytes e).end)
-by_test (Some test) moment last bytes e = inl (rests_quiet e)
-by_test None moment last bytes e = by_answer moment last (arrival_to e.session.config bytes) e _ refl
+by_test : (failing : Option Test) (moment last : ℕ) (arrival : Arrival) (e : End) → IsPoint e.session.config
+    → Quiet e (judged failing moment last arrival e).end
+    ⊎ (((judged failing moment last arrival e).answer ≡ Did Handled) × Grows e (judged failing moment last arrival e).end)
+by_test (Some test) moment last arrival e p = inl (rests_quiet e)
+by_test None moment last arrival e p = by_answer moment last arrival e _ p refl
 
-by_packet : (w : Both) (side : Side) (moment number : ℕ) (found : Option (List ℕ))
+by_arrival : (arrival : Option Arrival) (moment last : ℕ) (e : End) → IsPoint e.session.config
+    → Quiet e (comes arrival moment last e).end
+    ⊎ (((comes arrival moment last e).answer ≡ Did Handled) × Grows e (comes arrival moment last e).end)
+by_arrival None moment last e p = inl (rests_quiet e)
+by_arrival (Some arrival) moment last e p = by_test (screened e.session.config arrival) moment last arrival e p
+
+by_packet : (w : Both) (side : Side) (moment number : ℕ) (found : Option (List ℕ)) → IsPoint (end_of side w).session.config
     → packet_at number (end_of (other side) w).sent ≡ found
     → Quiet (end_of side w) (given found (length (end_of (other side) w).sent) moment w.last (end_of side w)).end
     ⊎ Hears w (Give side moment number) side (end_of side w)
     (given found (length (end_of (other side) w).sent) moment w.last (end_of side w)).end
-by_packet w side moment number None is = inl (rests_quiet (end_of side w))
-by_packet w side moment number (Some bytes) is =
-    elim (by_test (screened (end_of side w).session.config bytes) moment w.last bytes (end_of side w)) [
+by_packet w side moment number None p is = inl (rests_quiet (end_of side w))
+by_packet w side moment number (Some bytes) p is =
+    elim (by_arrival (arrival_to (end_of side w).session.config bytes) moment w.last (end_of side w) p) [
       | inl quiet ↦ inl quiet
       | inr heard ↦ inr (record {
         moment = moment;
@@ -117,16 +124,16 @@ by_packet w side moment number (Some bytes) is =
       })
     ]
 
-pub hears_or_quiet : (w : Both) (event : PairEvent) (side : Side)
+pub hears_or_quiet : (w : Both) (event : PairEvent) (side : Side) → IsPoint (end_of side w).session.config
     → Quiet (end_of side w) (end_of side (turn event w).both)
     ⊎ Hears w event side (end_of side w) (end_of side (turn event w).both)
-hears_or_quiet w (Tick t) Left = inl (ticking_quiet (max w.last t) w.left)
-hears_or_quiet w (Tick t) Right = inl (ticking_quiet (max w.last t) w.right)
-hears_or_quiet w (Give Left moment number) Left = by_packet w Left moment number _ refl
-hears_or_quiet w (Give Right moment number) Left = inl (rests_quiet w.left)
-hears_or_quiet w (Give Left moment number) Right = inl (rests_quiet w.right)
-hears_or_quiet w (Give Right moment number) Right = by_packet w Right moment number _ refl
-hears_or_quiet w (Order Left moment cmd) Left = inl (order_quiet moment w.last cmd w.left)
-hears_or_quiet w (Order Right moment cmd) Left = inl (rests_quiet w.left)
-hears_or_quiet w (Order Left moment cmd) Right = inl (rests_quiet w.right)
-hears_or_quiet w (Order Right moment cmd) Right = inl (order_quiet moment w.last cmd w.right)
+hears_or_quiet w (Tick t) Left p = inl (ticking_quiet (max w.last t) w.left p)
+hears_or_quiet w (Tick t) Right p = inl (ticking_quiet (max w.last t) w.right p)
+hears_or_quiet w (Give Left moment number) Left p = by_packet w Left moment number _ p refl
+hears_or_quiet w (Give Right moment number) Left p = inl (rests_quiet w.left)
+hears_or_quiet w (Give Left moment number) Right p = inl (rests_quiet w.right)
+hears_or_quiet w (Give Right moment number) Right p = by_packet w Right moment number _ p refl
+hears_or_quiet w (Order Left moment cmd) Left p = inl (order_quiet moment w.last cmd w.left p)
+hears_or_quiet w (Order Right moment cmd) Left p = inl (rests_quiet w.left)
+hears_or_quiet w (Order Left moment cmd) Right p = inl (rests_quiet w.right)
+hears_or_quiet w (Order Right moment cmd) Right p = inl (order_quiet moment w.last cmd w.right p)

@@ -1,17 +1,9 @@
--- What may happen to a pair, and which configurations are of peers.
-use Rattle.std.specs.Prelude.{Bool, true, false, not, ◌&&◌}
+-- Which configurations are of peers.
+use Rattle.std.specs.Prelude.{Bool, true, false, ◌&&◌}
 use Rattle.bfd_packet.specs.Addresses.{same_addr}
 use Rattle.bfd_rules.specs.declared.config.Config.{Config}
 use Rattle.bfd_rules.specs.declared.config.Role.{Role}
 use Rattle.bfd_rules.specs.declared.config.Role.TheVariants.{Single, Multi}
-use Rattle.bfd_session.specs.Step.{is_echo_command}
-use Rattle.bfd_pair.specs.declared.event.PairEvent.{PairEvent}
-use Rattle.bfd_pair.specs.declared.event.PairEvent.TheVariants.{Order}
-
--- the event isn't a command of the Echo function, which isn't built
-abbrev pub is_built : PairEvent → Bool
-is_built (Order side moment cmd) = not (is_echo_command cmd)
-is_built event = true
 
 abbrev pub same_role : Role → Role → Bool
 same_role Single Single = true

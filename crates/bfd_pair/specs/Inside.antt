@@ -1,5 +1,5 @@
 -- What the program keeps of the two sides, as the definitions see it.
-use Rattle.std.specs.Prelude.{◌≡◌, ◌≤◌, ℕ, List, [], ◌∷◌}
+use Rattle.std.specs.Prelude.{◌≡◌, ◌≤◌, ℕ, Some, List, [], ◌∷◌}
 use Rattle.bfd_num.specs.Numbers.{greatest_tick}
 use Rattle.bfd_packet.specs.declared.arrival.Arrival.{Arrival}
 use Rattle.bfd_session.specs.declared.event.SessionConfig.{SessionConfig}
@@ -28,10 +28,10 @@ by_way way bytes = record {
   payload = bytes;
 }
 
--- the table has the session's one row, and packets come to it as its configuration says
+-- the session is point-to-point, the table has its one row, and packets come to it as its configuration says
 pub record IsPeer (p : Peer) : Type 0 where
   pub table : p.table ≡ row_of p.session.config ∷ []
-  pub way : (bytes : List ℕ) → by_way p.way bytes ≡ arrival_to p.session.config bytes
+  pub way : (bytes : List ℕ) → arrival_to p.session.config bytes ≡ Some (by_way p.way bytes)
 
 -- two sides and all that has happened to them
 pub record Pairing : Type 0 where

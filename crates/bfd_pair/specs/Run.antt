@@ -2,6 +2,7 @@
 use Rattle.std.specs.Prelude.{ℕ, ◌-◌, ◌==◌, max, if◌then◌else◌, Option, None, Some, List, [], ◌∷◌, ◌++◌, length, slice_get}
 use Rattle.bfd_packet.specs.declared.arrival.Arrival.{Arrival}
 use Rattle.bfd_packet.specs.declared.discard.Test.{Test}
+use Rattle.bfd_packet.specs.declared.discard.Test.TheVariants.{NoSession}
 use Rattle.bfd_rules.specs.declared.outputs.Out.{Out}
 use Rattle.bfd_rules.specs.declared.outputs.Out.TheVariants.{Changed, Sent}
 use Rattle.bfd_p2p.specs.Port.{port_of}
@@ -22,7 +23,7 @@ use Rattle.bfd_pair.specs.declared.event.PairEvent.TheVariants.{Tick, Give, Orde
 use Rattle.bfd_pair.specs.declared.event.PairAnswer.{PairAnswer}
 use Rattle.bfd_pair.specs.declared.event.PairAnswer.TheVariants.{Did, NoPacket}
 
--- one side: its session, and the packets that it has sent, in their order
+-- one side: its session, and the packets that it has sent, in their order, those of its Echo function too
 pub record End : Type 0 where
   pub session : Running
   pub sent : List (List ℕ)
@@ -69,9 +70,10 @@ abbrev pub packet_at : ℕ → List (List ℕ) → Option (List ℕ)
 packet_at number sent = if number == 0 then None else slice_get sent (number - 1)
 
 -- a packet on its way to a session of this configuration: to its port and its interface, from the peer's address to its own,
--- with the TTL that it was sent with (RFC 5881 sections 4 and 5, RFC 5883 section 5)
-abbrev pub arrival_to : SessionConfig → List ℕ → Arrival
-arrival_to (Pair c) bytes = record {
+-- with the TTL that it was sent with (RFC 5881 sections 4 and 5, RFC 5883 section 5); the two are point-to-point sessions, and
+-- to one of another kind nothing is on its way
+abbrev pub arrival_to : SessionConfig → List ℕ → Option Arrival
+arrival_to (Pair c) bytes = Some (record {
   port = port_of c.role;
   iface = c.iface;
   src = c.remote;
@@ -79,11 +81,12 @@ arrival_to (Pair c) bytes = record {
   dst = c.local;
   ttl = 255;
   payload = bytes;
-}
+})
+arrival_to _ bytes = None
 
--- the first test that it fails up to selection, over the one row of that session; one that fails none names that row
-abbrev pub screened : SessionConfig → List ℕ → Option Test
-screened config bytes = first_table_failing (row_of config ∷ []) (arrival_to config bytes)
+-- the first test that an arrival fails up to selection, over the one row of that session; one that fails none names that row
+abbrev pub screened : SessionConfig → Arrival → Option Test
+screened config arrival = first_table_failing (row_of config ∷ []) arrival
 
 -- the packets that an event puts out have been sent
 abbrev pub sending : Running → List Out → End → End
@@ -101,15 +104,23 @@ own moment last event e = record {
 abbrev pub rests : PairAnswer → End → Move
 rests answer e = record { end = e; items = []; answer = answer }
 
--- a packet comes to a side: it is discarded by the first test that fails, or is an own event
-abbrev pub comes : Option Test → ℕ → ℕ → List ℕ → End → Move
-comes (Some test) moment last bytes e = rests (Did (Dropped test)) e
-comes None moment last bytes e = own moment last (Packet (arrival_to e.session.config bytes)) e
+-- a packet arrives: it is discarded by the first test that fails, or is an own event
+abbrev pub judged : Option Test → ℕ → ℕ → Arrival → End → Move
+judged (Some test) moment last arrival e = rests (Did (Dropped test)) e
+judged None moment last arrival e = own moment last (Packet arrival) e
+
+abbrev pub arrives : ℕ → ℕ → Arrival → End → Move
+arrives moment last arrival e = judged (screened e.session.config arrival) moment last arrival e
+
+-- a packet comes to a side
+abbrev pub comes : Option Arrival → ℕ → ℕ → End → Move
+comes None moment last e = rests (Did (Dropped NoSession)) e
+comes (Some arrival) moment last e = arrives moment last arrival e
 
 -- a side is given a packet, or there is none among so many
 abbrev pub given : Option (List ℕ) → ℕ → ℕ → ℕ → End → Move
 given None count moment last e = rests (NoPacket count) e
-given (Some bytes) count moment last e = comes (screened e.session.config bytes) moment last bytes e
+given (Some bytes) count moment last e = comes (arrival_to e.session.config bytes) moment last e
 
 -- a side is given the packet of a number among those that were sent
 abbrev pub gives : ℕ → List (List ℕ) → ℕ → ℕ → End → Move

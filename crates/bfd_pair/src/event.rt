@@ -1,6 +1,4 @@
 //! The two sides, what can happen to them, and what is answered.
-ghost use Rattle.std.specs.Prelude.{◌≡◌};
-ghost use Rattle.bfd_pair.specs.Events as events;
 
 use bfd_num::{Moment, Tick};
 use bfd_rules::Cmd;
@@ -49,16 +47,4 @@ pub enum PairAnswer {
     Did(Answer),
     /// There is no packet of the number: the other side has sent so many.
     NoPacket(u64),
-}
-
-impl PairEvent {
-    /// Whether the event may be handed to a pair: a command isn't one of the Echo function, which isn't built.
-    pub fn is_built(&self) -> bool
-        ensures { result ≡ events.is_built self.now }
-    {
-        match self {
-            PairEvent::Order { cmd, .. } => !matches!(cmd, Cmd::EchoEvery(_)),
-            PairEvent::Tick(_) | PairEvent::Give { .. } => true,
-        }
-    }
 }

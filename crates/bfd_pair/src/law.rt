@@ -1,27 +1,28 @@
 //! What two peers promise whatever packets are lost, repeated or late.
 ghost use Rattle.std.specs.Prelude.{◌≡◌, ◌++◌, ◌∷◌, [], List, true, false};
-ghost use Rattle.bfd_session.specs.declared.event.SessionConfig.{SessionConfig};
+ghost use Rattle.bfd_rules.specs.declared.config.Config.{Config};
+ghost use Rattle.bfd_session.specs.declared.event.SessionConfig.TheVariants.{Pair as PairOf};
 ghost use Rattle.bfd_pair.specs.declared.event.Side.{Side};
 ghost use Rattle.bfd_pair.specs.declared.event.PairEvent.{PairEvent};
 ghost use Rattle.bfd_pair.specs.Run.{items_of, pair_run, turn};
 ghost use Rattle.bfd_pair.specs.Handshake.{IsHandshake, tells_up, is_up_after};
 
-/// A law, and no work: whatever two sessions and whatever has happened to them, where a side puts out a change to Up, the event
+/// A law, and no work: whatever two point-to-point sessions and whatever has happened to them, where a side puts out a change to Up, the event
 /// gives it a packet of the other side in Init or Up with its own discriminator as Your Discriminator; before, the other
 /// side handled a packet of this side; and the packet given isn't one that it had sent before that (RFC 5880 sections 6.2 and
 /// 6.8.6). Keys, commands, ticks, loss, repeats and order have no part in it.
-#[tactic(auto, using(crate::proofs::Handshakes::handshakes))]
+#[tactic(auto, using(crate::proofs::Handshakes::pair_handshakes))]
 pub fn handshake_law()
-    ensures { (left right : SessionConfig) (past : List PairEvent) (event : PairEvent) (side : Side)
-        → tells_up (items_of side (turn event (pair_run left right past))) ≡ true
-        → IsHandshake left right side event past }
+    ensures { (left right : Config) (past : List PairEvent) (event : PairEvent) (side : Side)
+        → tells_up (items_of side (turn event (pair_run (PairOf left) (PairOf right) past))) ≡ true
+        → IsHandshake (PairOf left) (PairOf right) side event past }
 {}
 
 /// A law, and no work: the same of a side that is Up after an event and wasn't before it.
-#[tactic(auto, using(crate::proofs::Handshakes::comes_up))]
+#[tactic(auto, using(crate::proofs::Handshakes::pair_comes_up))]
 pub fn up_law()
-    ensures { (left right : SessionConfig) (past : List PairEvent) (event : PairEvent) (side : Side)
-        → is_up_after left right side past ≡ false
-        → is_up_after left right side (past ++ event ∷ []) ≡ true
-        → IsHandshake left right side event past }
+    ensures { (left right : Config) (past : List PairEvent) (event : PairEvent) (side : Side)
+        → is_up_after (PairOf left) (PairOf right) side past ≡ false
+        → is_up_after (PairOf left) (PairOf right) side (past ++ event ∷ []) ≡ true
+        → IsHandshake (PairOf left) (PairOf right) side event past }
 {}

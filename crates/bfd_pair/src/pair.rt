@@ -1,9 +1,9 @@
 //! Two sides, and all that has happened to them.
-ghost use Rattle.std.specs.Prelude.{◌≡◌, ◌<◌, ◌≤◌, ◌+◌, ◌++◌, ◌∷◌, [], not, true, false, max, vec_len, vec_capacity, IfOk, OnOk, OnErr, Err};
+ghost use Rattle.std.specs.Prelude.{◌≡◌, ◌<◌, ◌≤◌, ◌+◌, ◌++◌, ◌∷◌, [], true, false, max, vec_len, vec_capacity, IfOk, OnOk, OnErr, Err};
 ghost use Rattle.bfd_num.specs.Numbers.{greatest_tick};
 ghost use Rattle.bfd_session.specs.declared.event.SessionConfig.TheVariants.{Pair as PairOf};
 ghost use Rattle.bfd_session.specs.Alone as alone;
-ghost use Rattle.bfd_session.specs.Step.{IsFit, is_echo_command};
+ghost use Rattle.bfd_session.specs.Step.{IsFit};
 ghost use Rattle.bfd_pair.specs.declared.event.Side.{Side};
 ghost use Rattle.bfd_pair.specs.Events as events;
 ghost use Rattle.bfd_pair.specs.Run.{Both, Turn, end_of, items_of, pair_run, turn};
@@ -16,7 +16,7 @@ use crate::{PairAnswer, PairEvent, PairFault, Side};
 use bfd_num::Moment;
 use bfd_packet::Wire;
 use bfd_rules::{Cmd, Config, Outs};
-use bfd_session::{Answer, Event, Session, SessionConfig};
+use bfd_session::{Answer, Event, Session};
 use std::alloc::{AllocError, Global};
 use std::marker::Model;
 
@@ -69,10 +69,8 @@ fn tick_both(left: &mut Peer, right: &mut Peer, last: u64, outs: &mut Outs)
 }
 
 /// A command to a side.
-#[tactic(auto, using(crate::proofs::Peers::takes_command))]
 fn order(peer: &mut Peer, last: u64, moment: Moment, cmd: Cmd, outs: &mut Outs) -> PairAnswer
     requires peer { IsPeer peer.old }
-    requires built { not (is_echo_command cmd) ≡ true }
     requires last { last ≤ greatest_tick }
     requires room { 5 ≤ outs.old.spare }
     requires more { vec_len peer.old.sent + 5 ≤ vec_capacity peer.old.sent }
@@ -98,7 +96,6 @@ fn happen(
     requires left { IsPeer left.old }
     requires right { IsPeer right.old }
     requires last { last ≤ greatest_tick }
-    requires built { events.is_built event.now ≡ true }
     requires room { 10 ≤ outs.old.spare }
     requires more_left { vec_len left.old.sent + 5 ≤ vec_capacity left.old.sent }
     requires more_right { vec_len right.old.sent + 5 ≤ vec_capacity right.old.sent }
@@ -153,7 +150,7 @@ fn happen(
 impl Pair {
     /// Two sessions at the start, which know nothing of each other. NotPeers comes exactly where the roles differ or the
     /// local address of one isn't the remote address of the other, and is tested first; the only other refusal is want of memory.
-    /// The configurations are within their ranges, and have no Echo function, which isn't built.
+    /// The configurations are within their ranges.
     pub fn make(alloc: Global, left: Config, right: Config) -> Result<Pair, PairFault>
         requires left { IsFit (PairOf left) }
         requires right { IsFit (PairOf right) }
@@ -165,10 +162,10 @@ impl Pair {
         if !are_peers(&left, &right) {
             return Err(PairFault::NotPeers);
         }
-        let Ok(left) = open(alloc, SessionConfig::Pair(left)) else {
+        let Ok(left) = open(alloc, left) else {
             return Err(PairFault::Memory);
         };
-        let Ok(right) = open(alloc, SessionConfig::Pair(right)) else {
+        let Ok(right) = open(alloc, right) else {
             return Err(PairFault::Memory);
         };
         Ok(Pair {
@@ -180,11 +177,10 @@ impl Pair {
         })
     }
 
-    /// One event, which `PairEvent::is_built` says yes to. It answers NoPacket with the count exactly where a Give names no
-    /// packet of the other side, and then only the list of past events grows. It adds at most ten outputs, Left's first. Room is
+    /// One event. It answers NoPacket with the count exactly where a Give names no packet of the other side, and then only
+    /// the list of past events grows. It adds at most ten outputs, Left's first. Room is
     /// made first; after a refusal, for want of memory, all is as before.
     pub fn step(&mut self, event: PairEvent, outs: &mut Outs) -> Result<PairAnswer, AllocError>
-        requires built { events.is_built event ≡ true }
         requires room { 10 ≤ outs.old.spare }
         ensures past { OnOk result (self.new ≡ record self.old { past = self.old.past ++ event ∷ [] }) }
         ensures answer { IfOk result (λ a. a ≡ (turn event (pair_run self.old.left self.old.right self.old.past)).answer) }

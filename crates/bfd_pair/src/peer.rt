@@ -4,6 +4,7 @@ ghost use Rattle.std.specs.Result.{result_err};
 ghost use Rattle.bfd_num.specs.Numbers.{moment_bound, greatest_tick};
 ghost use Rattle.bfd_packet.specs.declared.arrival.Arrival.{Arrival};
 ghost use Rattle.bfd_demux.specs.Selection.{first_header_failing, first_table_failing};
+ghost use Rattle.bfd_session.specs.declared.event.SessionConfig.TheVariants.{Pair as PairOf};
 ghost use Rattle.bfd_session.specs.Alone as alone;
 ghost use Rattle.bfd_session.specs.Step.{IsFit, CanTake};
 ghost use Rattle.bfd_session.specs.Rows as rows;
@@ -16,7 +17,7 @@ use bfd_demux::{BuildFault, Demux, Row, Target};
 use bfd_num::Steps;
 use bfd_p2p::control_port;
 use bfd_packet::{Addr, Arrival, Payload, Port, Test, Wire};
-use bfd_rules::{Out, Outs};
+use bfd_rules::{Config, Out, Outs};
 use bfd_session::{Answer, Event, Session, SessionConfig, row_of};
 use std::alloc::{AllocError, Global};
 use std::marker::Brand;
@@ -54,26 +55,26 @@ fn table(alloc: Global, config: &SessionConfig) -> Result<Demux, AllocError>
 }
 
 /// How packets come to a session of this configuration.
-fn way_to(config: &SessionConfig) -> Way
-    ensures { (bytes : List ℕ) → by_way result bytes ≡ arrival_to config.now bytes }
+fn way_to(config: &Config) -> Way
+    ensures { (bytes : List ℕ) → arrival_to (PairOf config.now) bytes ≡ Some (by_way result bytes) }
 {
-    let SessionConfig::Pair(c) = config;
     Way {
-        port: control_port(c.role),
-        iface: c.iface,
-        local: c.local,
-        remote: c.remote,
+        port: control_port(config.role),
+        iface: config.iface,
+        local: config.local,
+        remote: config.remote,
     }
 }
 
 /// A side at the start. The one refusal is want of memory.
-pub(crate) fn open(alloc: Global, config: SessionConfig) -> Result<Peer, AllocError>
-    requires { IsFit config }
+pub(crate) fn open(alloc: Global, config: Config) -> Result<Peer, AllocError>
+    requires { IsFit (PairOf config) }
     ensures peer { IfOk result (λ p. IsPeer p) }
-    ensures opened { IfOk result (λ p. seen p ≡ run.opened config) }
+    ensures opened { IfOk result (λ p. seen p ≡ run.opened (PairOf config)) }
 {
-    let table = table(alloc, &config)?;
     let way = way_to(&config);
+    let config = SessionConfig::Pair(config);
+    let table = table(alloc, &config)?;
     Ok(Peer {
         session: Session::make(config),
         table,
@@ -115,7 +116,7 @@ fn since(outs: &Outs, from: usize) -> &[Out]
 }
 
 /// A tick of a side.
-#[tactic(auto, using(crate::proofs::Peers::few, crate::proofs::Peers::put_since))]
+#[tactic(auto, using(crate::proofs::Peers::few, crate::proofs::Peers::put_since, crate::proofs::Peers::at_below))]
 pub(crate) fn tick(peer: &mut Peer, last: u64, outs: &mut Outs)
     requires peer { IsPeer peer.old }
     requires last { last ≤ greatest_tick }
@@ -135,7 +136,7 @@ pub(crate) fn tick(peer: &mut Peer, last: u64, outs: &mut Outs)
 }
 
 /// An own event of a side.
-#[tactic(auto, using(crate::proofs::Peers::few, crate::proofs::Peers::put_since))]
+#[tactic(auto, using(crate::proofs::Peers::few, crate::proofs::Peers::put_since, crate::proofs::Peers::at_below))]
 pub(crate) fn own(peer: &mut Peer, last: u64, moment: u64, event: &Event, outs: &mut Outs) -> Answer
     requires peer { IsPeer peer.old }
     requires takes { CanTake peer.old.session.config event.now }
@@ -190,16 +191,16 @@ fn screened<L: Ledger>(table: &Demux, arrival: &Arrival, blank: Blank) -> Result
 #[tactic(auto, using(crate::proofs::Peers::takes_packet))]
 fn receive(peer: &mut Peer, last: u64, moment: u64, arrival: Arrival, outs: &mut Outs) -> PairAnswer
     requires peer { IsPeer peer.old }
-    requires comes { arrival ≡ arrival_to peer.old.session.config arrival.payload }
+    requires comes { arrival ≡ by_way peer.old.way arrival.payload }
     requires last { last ≤ greatest_tick }
     requires moment { moment < moment_bound }
     requires room { 5 ≤ outs.old.spare }
     requires more { vec_len peer.old.sent + 5 ≤ vec_capacity peer.old.sent }
     ensures peer { IsPeer peer.new }
-    ensures seen { seen peer.new ≡ (run.comes (run.screened peer.old.session.config arrival.payload) moment last arrival.payload (seen peer.old)).end }
+    ensures seen { seen peer.new ≡ (run.arrives moment last arrival (seen peer.old)).end }
     ensures outs { outs.new.items ≡ outs.old.items
-        ++ (run.comes (run.screened peer.old.session.config arrival.payload) moment last arrival.payload (seen peer.old)).items }
-    ensures answer { result ≡ (run.comes (run.screened peer.old.session.config arrival.payload) moment last arrival.payload (seen peer.old)).answer }
+        ++ (run.arrives moment last arrival (seen peer.old)).items }
+    ensures answer { result ≡ (run.arrives moment last arrival (seen peer.old)).answer }
     ensures spare { outs.old.spare ≤ outs.new.spare + 5 }
     ensures room { outs.new.room ≡ outs.old.room }
 {
@@ -220,6 +221,7 @@ fn packet(sent: &[Wire], number: u64) -> Option<&Wire>
 }
 
 /// A side is given the packet of this number among those that were sent. After a refusal, for want of memory, all is as before.
+#[tactic(auto, using(crate::proofs::Peers::comes_by))]
 pub(crate) fn give(
     peer: &mut Peer,
     sent: &[Wire],

@@ -44,27 +44,19 @@ fn give(to: Side, us: u64, number: u64) -> Option<PairEvent> {
     Some(PairEvent::Give { to, moment, number })
 }
 
-fn disable(side: Side, us: u64) -> Option<PairEvent> {
+fn order(side: Side, us: u64, cmd: Cmd) -> Option<PairEvent> {
     let moment = Moment::new(us)?;
-    Some(PairEvent::Order {
-        side,
-        moment,
-        cmd: Cmd::Disable,
-    })
+    Some(PairEvent::Order { side, moment, cmd })
 }
 
-/// One event, with room for its outputs; None where there is no event, it isn't built, or there is no memory.
+/// One event, with room for its outputs; None where there is no event or no memory.
 fn play(pair: &mut Pair, event: Option<PairEvent>, outs: &mut Outs) -> Option<PairAnswer>
     requires { 10 ≤ outs.old.room }
     ensures { outs.new.room ≡ outs.old.room }
 {
     let event = event?;
     outs.clear();
-    if event.is_built() {
-        pair.step(event, outs).ok()
-    } else {
-        None
-    }
+    pair.step(event, outs).ok()
 }
 
 #[test]
@@ -127,7 +119,7 @@ fn handshake(rt: HostRuntime) {
             3,
         ),
         (
-            disable(Side::Right, 756_000),
+            order(Side::Right, 756_000, Cmd::Disable),
             handled,
             State::Down,
             3,
@@ -138,6 +130,15 @@ fn handshake(rt: HostRuntime) {
         (
             give(Side::Right, 757_000, 2),
             dropped,
+            State::Down,
+            3,
+            State::AdminDown,
+            3,
+            4,
+        ),
+        (
+            order(Side::Left, 757_500, Cmd::EchoEvery(50_000)),
+            handled,
             State::Down,
             3,
             State::AdminDown,
@@ -172,7 +173,7 @@ fn handshake(rt: HostRuntime) {
         assert_eq!(rt; pair.sent(Side::Left).len(), from_left);
         assert_eq!(rt; pair.sent(Side::Right).len(), from_right);
     }
-    assert_eq!(rt; pair.past().len(), 11);
+    assert_eq!(rt; pair.past().len(), 12);
     let alike = Pair::make(
         rt.alloc(),
         config(1, FIRST, SECOND),

@@ -1,16 +1,6 @@
--- What is true of each element, and the bytes that a field may have.
-use Rattle.std.proofs.Common.{◌≡◌, ℕ, ◌≤◌, Bool, true, false, ◌&&◌, List, [], ◌∷◌, ◌++◌, refl, arith, nat_lt}
-use Rattle.std.proofs.lemmas.Bool.Decides.{nat_tests}
-use Rattle.std.specs.List.{list_all, AllByRecursion}
-
--- a byte that a field may have
-pub record IsVisible (byte : ℕ) : Type 0 where
-  pub above : 33 ≤ byte
-  pub below : byte ≤ 126
-
--- the bytes of a field
-abbrev pub IsField : List ℕ → Type 0
-IsField field = AllByRecursion IsVisible field
+-- What is true of each element.
+use Rattle.std.proofs.Common.{List, [], ◌∷◌, ◌++◌}
+use Rattle.std.specs.List.{AllByRecursion}
 
 pub each_more : {X : Type 0} (P : X → Type 0) (xs ys : List X) → AllByRecursion P xs → AllByRecursion P ys → AllByRecursion P (xs ++ ys)
 each_more P [] ys a b = b
@@ -19,19 +9,3 @@ each_more P (x ∷ xs) ys a b = (a.0, each_more P xs ys a.1 b)
 pub each_to : {X : Type 0} {P Q : X → Type 0} (xs : List X) → ((x : X) → P x → Q x) → AllByRecursion P xs → AllByRecursion Q xs
 each_to [] f all = tt
 each_to (x ∷ xs) f all = (f x all.0, each_to xs f all.1)
-
--- the same as a test, which computes on a word
-abbrev pub is_visible : ℕ → Bool
-is_visible b = nat_lt 32 b && nat_lt b 127
-
-pub seen : (b : ℕ) → is_visible b ≡ true → IsVisible b
-seen b h = grind (arith, nat_tests)
-
-pub both : (p q : Bool) → (p && q) ≡ true → (p ≡ true) × (q ≡ true)
-both true q h = (refl, h)
-both false q h = cc
-
--- a word of visible bytes, by computing
-pub word : (w : List ℕ) → list_all is_visible w ≡ true → IsField w
-word [] h = tt
-word (b ∷ w) h = let e = both (is_visible b) (list_all is_visible w) h in (seen b e.0, word w e.1)

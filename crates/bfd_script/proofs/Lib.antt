@@ -5,13 +5,6 @@ pub mod Numbered
 pub mod Inserting
 pub mod Pooling
 pub mod Kept
-pub mod Splitting
-pub mod Numerals
-pub mod Rereading
-pub mod RowsAgain
-pub mod LinesAgain
-pub mod ScriptAgain
 pub mod Elements
-pub mod Following
 pub mod Naming
 pub mod Giving

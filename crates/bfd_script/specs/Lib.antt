@@ -17,4 +17,3 @@ pub mod Trees
 pub mod Secrets
 pub mod Arrivals
 pub mod Verbs
-pub mod Written

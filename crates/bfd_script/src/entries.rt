@@ -50,7 +50,7 @@ pub enum Line {
 
 /// What one line says.
 #[derive(Drop)]
-pub(crate) enum Entry {
+pub enum Entry {
     Version(Version),
     Row(SessionConfig),
     Reflect(Reflector),

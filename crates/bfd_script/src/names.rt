@@ -33,7 +33,7 @@ pub(crate) fn refusal_name(refusal: Refusal) -> &'static str
 }
 
 /// Bytes as hexadecimal digits in lower case, and `-` where there are none.
-pub(crate) fn hex_text(alloc: Global, bytes: &[u8]) -> Result<String, AllocError>
+pub fn hex_text(alloc: Global, bytes: &[u8]) -> Result<String, AllocError>
     ensures { IfOk result (λ text. string_bytes text ≡ hex_field bytes.now) }
 {
     match bytes {

@@ -42,7 +42,7 @@ impl Model for Table {
 }
 
 /// The keys of a session.
-pub(crate) fn keys_in(config: &SessionConfig) -> Option<&Keys>
+pub fn keys_in(config: &SessionConfig) -> Option<&Keys>
     ensures { option_copied result ≡ keys_in (Some config.now) }
 {
     match config {

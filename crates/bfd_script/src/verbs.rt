@@ -8,7 +8,7 @@ use bfd_rules::Cmd;
 
 /// What a session is told to do.
 #[derive(Clone, Copy)]
-pub(crate) enum Verb {
+pub enum Verb {
     Disable,
     Enable,
     Reset,

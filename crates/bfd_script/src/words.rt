@@ -4,7 +4,7 @@ ghost use Rattle.bfd_script.specs.Words.{word_of, stands};
 
 /// The version of a packet file. Before its first line the words of version 1 are known.
 #[derive(Clone, Copy, PartialEq, Eq)]
-pub(crate) enum Version {
+pub enum Version {
     /// A session has one key at most.
     One,
 
@@ -33,7 +33,7 @@ pub(crate) enum Word {
 
 /// How far the text is read: what may come next.
 #[derive(Clone, Copy, PartialEq, Eq)]
-pub(crate) enum Place {
+pub enum Place {
     /// The line with the version.
     Version,
 

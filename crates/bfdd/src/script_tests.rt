@@ -1,5 +1,6 @@
 // What bfd_script does and the program doesn't ask for: live scripts, and the one spelling.
-use bfd_script::{BadLine, LineFault, ScriptFault, read, write};
+use bfd_script::{BadLine, LineFault, ScriptFault, read};
+use bfd_spelling::write;
 use std::test::Fail;
 
 /// How many event lines a live text has, or its first faulty line.
@@ -88,6 +89,34 @@ fn one_spelling(rt: HostRuntime) -> Result<(), Fail> {
             auth 9 1 8 61\n\
             key 9 7 6a\n\
             run\nend\n",
+        ),
+        (
+            "bfd 1\n\
+            reflector 900 50000 up\n\
+            tail 30 77 1 239.0.0.1 10.0.0.2\n\
+            reflector 31 60000000 admin\n\
+            head 40 1 10.0.0.1 239.0.0.1 100000 3 4294967295\n\
+            sbfd 5 900 65535 10.0.0.1 20010DB8000000000000000000000009 10000 255 0\n\
+            p2p 6 single 1 10.0.0.1 10.0.0.6 passive 1000000 1000000 3 50000 0\n\
+            run\n\
+            rx 1500 echo 1 10.0.0.1 10.0.0.1 255 42464465000000060000000000000000\n\
+            rx 1500 sbfd 1 10.0.0.9 10.0.0.1 255 -\n\
+            rx 1500 answer 1 10.0.0.9 10.0.0.1 255 -\n\
+            cmd 1500 6 echo 0\n\
+            end",
+            "bfd 1\n\
+            sbfd 5 900 65535 10.0.0.1 20010db8000000000000000000000009 10000 255 0\n\
+            p2p 6 single 1 10.0.0.1 10.0.0.6 passive 1000000 1000000 3 50000 0\n\
+            tail 30 77 1 239.0.0.1 10.0.0.2\n\
+            head 40 1 10.0.0.1 239.0.0.1 100000 3 4294967295\n\
+            reflector 31 60000000 admin\n\
+            reflector 900 50000 up\n\
+            run\n\
+            rx 1500 echo 1 10.0.0.1 10.0.0.1 255 42464465000000060000000000000000\n\
+            rx 1500 sbfd 1 10.0.0.9 10.0.0.1 255 -\n\
+            rx 1500 answer 1 10.0.0.9 10.0.0.1 255 -\n\
+            cmd 1500 6 echo 0\n\
+            end\n",
         ),
         ("bfd 2\nrun\nend\n", "bfd 1\nrun\nend\n"),
     ];

@@ -4,8 +4,7 @@ use Rattle.bfd_pair.specs.declared.event.PairEvent.{PairEvent}
 use Rattle.bfd_pair.specs.declared.peer.Peer.{Peer}
 use Rattle.bfd_pair.specs.Run.{Both, turn}
 use Rattle.bfd_pair.specs.Inside.{seen, both_of}
-use Rattle.bfd_pair.proofs.Handshakes.{handshakes}
-use Rattle.bfd_pair.proofs.Pairs.{pair_more, pairing_more, rises_more}
+use Rattle.bfd_pair.proofs.Pairs.{pair_more, pairing_more, handshake_more, rises_more}
 use Rattle.bfd_pair.proofs.pair.Pair.step.Goals as goal
 
 -- two sides, with these packets sent
@@ -36,7 +35,9 @@ returns-clause-past c =
     c.self.inside.past.items c.push_reserved.new.self.items c.args.event c.args.self.now c.self.invariant c.self.view_is (both c) (more c)
 
 pub returns-clause-handshake : goal.returns-clause-handshake
-returns-clause-handshake c = handshakes c.args.self.now.left c.args.self.now.right c.args.self.now.past c.args.event
+returns-clause-handshake c =
+    handshake_more c.self.inside.left c.self.inside.right c.happen.new.left c.happen.new.right c.self.inside.last c.in_ok-last.last
+    c.self.inside.past.items c.push_reserved.new.self.items c.args.event c.args.self.now c.self.invariant c.self.view_is (both c) (more c)
 
 pub returns-clause-rises : goal.returns-clause-rises
 returns-clause-rises c =

@@ -1,0 +1,12 @@
+-- The first queues have the tick.
+use Rattle.std.proofs.Common.{ℕ, ◌≡◌, ◌<◌, ◌≤◌, ◌++◌, ◌∷◌, [], length, map, get_or}
+use Rattle.bfd_shard.specs.declared.entry.ShardEvent.TheVariants.{Tick}
+use Rattle.bfd_gather.proofs.queue.deal_tick.Given as goal
+
+abbrev pub invariant-loop-shard : goal.invariant-loop-shard
+invariant-loop-shard l = record {
+  long : length l.queues.items ≡ length l.fn.queues.items;
+  told : (r : ℕ) → r < l.shard → get_or (map (λ q. q.items) l.queues.items) r []
+      ≡ get_or (map (λ q. q.items) l.fn.queues.items) r [] ++ record { number = l.number; event = Tick l.tick } ∷ [];
+  others : (r : ℕ) → l.shard ≤ r → get_or (map (λ q. q.items) l.queues.items) r [] ≡ get_or (map (λ q. q.items) l.fn.queues.items) r [];
+}

@@ -1,7 +1,0 @@
-use Rattle.std.proofs.Common.{◌≡◌, take}
-use Rattle.std.specs.String.{string_bytes}
-use Rattle.bfd_script.specs.Written.{pool_text}
-use Rattle.bfd_script.proofs.writing.pool_text.Given as goal
-
-abbrev pub invariant-loop-reflector : goal.invariant-loop-reflector
-invariant-loop-reflector l = string_bytes l.text ≡ pool_text (take l.reflector-index l.pool)

@@ -1,0 +1,7 @@
+use Rattle.std.proofs.Common.{◌≡◌, take}
+use Rattle.std.specs.String.{string_bytes}
+use Rattle.bfd_spelling.specs.Written.{events_text}
+use Rattle.bfd_spelling.proofs.events.events_text.Given as goal
+
+abbrev pub invariant-loop-event : goal.invariant-loop-event
+invariant-loop-event l = string_bytes l.text ≡ events_text (take l.event-index l.events)
