@@ -12,7 +12,7 @@ use std::alloc::{AllocError, Global};
 use std::fmt::Write;
 
 /// The line of a packet.
-fn packet_text(alloc: Global, moment: u64, arrival: &Arrival) -> Result<String, AllocError>
+pub(crate) fn packet_text(alloc: Global, moment: u64, arrival: &Arrival) -> Result<String, AllocError>
     ensures { IfOk result (λ text. string_bytes text ≡ line (event_fields (Line.Rx moment arrival.now))) }
 {
     let port = port_text(arrival.port);
@@ -50,7 +50,7 @@ fn number_text(
 }
 
 /// The line of a command.
-fn command_text(alloc: Global, moment: u64, discr: u32, cmd: Cmd) -> Result<String, AllocError>
+pub(crate) fn command_text(alloc: Global, moment: u64, discr: u32, cmd: Cmd) -> Result<String, AllocError>
     ensures { IfOk result (λ text. string_bytes text ≡ line (event_fields (Line.Cmd moment discr cmd))) }
 {
     match cmd {
@@ -67,21 +67,29 @@ fn command_text(alloc: Global, moment: u64, discr: u32, cmd: Cmd) -> Result<Stri
     }
 }
 
+/// The line of a tick.
+pub(crate) fn tick_text(alloc: Global, tick: u64) -> Result<String, AllocError>
+    ensures { IfOk result (λ text. string_bytes text ≡ line (event_fields (Line.Tick tick))) }
+{
+    format!(in alloc; "tick {tick}\n")
+}
+
+/// The line of a question.
+pub(crate) fn show_text(alloc: Global, moment: u64, discr: u32) -> Result<String, AllocError>
+    ensures { IfOk result (λ text. string_bytes text ≡ line (event_fields (Line.Show moment discr))) }
+{
+    format!(in alloc; "show {moment} {discr}\n")
+}
+
 /// The line of an event.
 fn event_text(alloc: Global, event: &Line) -> Result<String, AllocError>
     ensures { IfOk result (λ text. string_bytes text ≡ line (event_fields event.now)) }
 {
     match event {
         Line::Rx { moment, arrival } => packet_text(alloc, moment.get(), arrival),
-        Line::Tick(tick) => {
-            let tick = tick.get();
-            format!(in alloc; "tick {tick}\n")
-        }
+        Line::Tick(tick) => tick_text(alloc, tick.get()),
         Line::Cmd { moment, discr, cmd } => command_text(alloc, moment.get(), *discr, *cmd),
-        Line::Show { moment, discr } => {
-            let moment = moment.get();
-            format!(in alloc; "show {moment} {discr}\n")
-        }
+        Line::Show { moment, discr } => show_text(alloc, moment.get(), *discr),
     }
 }
 

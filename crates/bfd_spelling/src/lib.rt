@@ -1,20 +1,24 @@
 //! The one spelling of a script.
 //!
 //! [`write`] gives a script as the bytes of a packet file: `specs/Written.antt` says which, as a definition over lists. It
-//! promises that `read` of `bfd_script` gives that script back, for each script that `read` gives.
+//! promises that `read` of `bfd_script` gives that script back, for each script that `read` gives. [`line_of`] appends the line of
+//! an event of a shard: `specs/Happening.antt` says which.
 //!
 //! Layers, lowest first: `fields` (words and addresses), `rows`, `keys` (the lines of one session or reflector), `table` (those
-//! of all), `events`, `versions` (the first version that has lines for all of a script), `writing` (the whole text).
+//! of all), `events` and `happening` (an event of a shard), `versions` (the first version that has lines for all of a script),
+//! `writing` (the whole text).
 //!
-//! It stands on `bfd_script` and what that stands on, and on `byteorder` and `hex`.
+//! It stands on `bfd_script` and `bfd_shard` and what those stand on, and on `byteorder` and `hex`.
 #![tactic(auto)]
 
 mod events;
 mod fields;
+mod happening;
 mod keys;
 mod rows;
 mod table;
 mod versions;
 mod writing;
 
+pub use happening::line_of;
 pub use writing::write;

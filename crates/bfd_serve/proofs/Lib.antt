@@ -1,0 +1,5 @@
+pub mod Packets
+pub mod Histories
+pub mod Gains
+pub mod Doing
+pub mod Turning

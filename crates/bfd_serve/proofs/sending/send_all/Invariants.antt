@@ -1,0 +1,7 @@
+use Rattle.std.proofs.Common.{[], take}
+use Rattle.bfd_serve.specs.Calls.{datagrams}
+use Rattle.bfd_serve.specs.Works.{HasSent}
+use Rattle.bfd_serve.proofs.sending.send_all.Given as goal
+
+abbrev pub invariant-loop-out : goal.invariant-loop-out
+invariant-loop-out g l = HasSent (datagrams (take l.out-index l.outs)) [] (g.L.Link.told l.initial.link) (g.L.Link.told l.link) l.initial.lost l.lost

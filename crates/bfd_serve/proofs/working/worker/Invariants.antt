@@ -1,0 +1,12 @@
+use Rattle.std.proofs.Common.{◌≤◌}
+use Rattle.bfd_engine.specs.Engines.{IsOf, AllThere}
+use Rattle.bfd_serve.specs.Works.{IsWorking}
+use Rattle.bfd_serve.proofs.working.worker.Given as goal
+
+abbrev pub invariant-loop-turn : goal.invariant-loop-turn
+invariant-loop-turn g l = record {
+  of : IsOf l.engine l.pass.1;
+  there : AllThere l.pass.1;
+  room : 5 ≤ l.outs.room;
+  working : IsWorking l.engine l.initial.pass l.pass (g.L.Link.told l.initial.link) (g.L.Link.told l.link) l.turn l.lost;
+}

@@ -1,0 +1,152 @@
+-- What a worker and a timer did.
+use Rattle.std.specs.Prelude.{◌≡◌, ℕ, ◌+◌, ◌*◌, ◌<◌, ◌≤◌, true, false, List, [], ◌∷◌, ◌++◌, length, Result, Ok, Err}
+use Rattle.bfd_packet.specs.declared.arrival.Arrival.{Arrival}
+use Rattle.bfd_packet.specs.declared.arrival.Datagram.{Datagram}
+use Rattle.bfd_session.specs.declared.event.Answer.{Answer}
+use Rattle.bfd_rules.specs.declared.outputs.Out.{Out}
+use Rattle.bfd_shard.specs.declared.entry.Entry.{Entry}
+use Rattle.bfd_shard.specs.declared.entry.ShardEvent.{ShardEvent}
+use Rattle.bfd_turn.specs.Lists.{Begins}
+use Rattle.bfd_turn.specs.Passes.{last_word}
+use Rattle.bfd_edge.specs.Faults.{risen}
+use Rattle.bfd_edge.specs.Links.{LinkTold, more_traffic}
+use Rattle.bfd_engine.specs.declared.fault.EngineFault.{EngineFault}
+use Rattle.bfd_engine.specs.declared.fault.EngineFault.TheVariants as fault
+use Rattle.bfd_engine.specs.Engines.{Shards, Knows, configs_at}
+use Rattle.bfd_engine.specs.Calls.{Act, Turns, seen_at, word_at, taken_at, made_at, kept_at, mine}
+use Rattle.bfd_serve.specs.declared.ending.End.{End}
+use Rattle.bfd_serve.specs.declared.ending.End.TheVariants.{Ended, LinkFault, ClockFault, Full, Turns as TurnsMade, Spent, Memory}
+use Rattle.bfd_serve.specs.Calls.{calls_of, entries, datagrams, sends, Lacks, worker_acts}
+
+-- the packets of some outputs were sent, but for those that failed and for these last ones that weren't tried
+pub record HasSent (packets untried : List Datagram) (t u : LinkTold) (lost after : ℕ) : Type 0 where
+  pub tried : List Datagram
+  pub kept : List Datagram
+  pub missing : ℕ
+  pub parts : packets ≡ tried ++ untried
+  pub lacks : Lacks tried kept missing
+  pub told : u ≡ record {
+    traffic = more_traffic [] kept t.traffic;
+    counts = record t.counts { send_faults = risen t.counts.send_faults missing };
+  }
+  pub lost_is : after ≡ risen lost missing
+
+-- the end that a fault of the engine brings
+abbrev pub end_of : EngineFault → End
+end_of fault.Memory = Memory
+end_of (fault.Full shard length) = Full shard length
+end_of (fault.Spent shard word) = Spent shard word
+
+-- what was sent after a call of the engine: nothing after a fault; all, or with want of memory the first ones
+abbrev pub IsSettled : Result Answer EngineFault → List Out → LinkTold → LinkTold → ℕ → ℕ → Result (Unit {0}) End → Type 0
+IsSettled (Err f) outs t u lost after result = (result ≡ Err (end_of f)) × (u ≡ t) × (after ≡ lost)
+IsSettled (Ok answer) outs t u lost after (Ok done) = HasSent (datagrams outs) [] t u lost after
+IsSettled (Ok answer) outs t u lost after (Err end) =
+    (untried : List Datagram) × HasSent (datagrams outs) untried t u lost after × (end ≡ Memory)
+
+-- a caller's pass k became l by the acts `done`, and its link told t and then u. What it gained on each shard are exactly the
+-- entries of their calls. What they send was sent in order, but for those that failed and for the last ones that weren't
+-- tried. Of the acts `cut` no call was made
+pub record Did (engine : Shards) (k l : Knows) (t u : LinkTold) (heard : List (ℕ × Arrival)) (done cut : List Act) (untried : List Datagram) (lost after : ℕ) : Type 0 where
+  pub number : l.0 ≡ k.0
+  pub used : l.2 ≡ k.2
+  pub gains : (shard : ℕ) → mine l shard ≡ mine k shard ++ entries k.0 shard (calls_of done)
+  pub grows : (shard : ℕ) → Begins (seen_at k shard) (seen_at l shard)
+  pub words : (shard : ℕ) → word_at k shard ≤ word_at l shard
+  pub taken : (shard : ℕ) → taken_at l shard ≤ taken_at k shard + length (entries k.0 shard (calls_of (done ++ cut)))
+  pub made : (shard : ℕ) → made_at l shard ≡ made_at k shard
+  pub keeps : (shard : ℕ) → kept_at l shard ≡ kept_at k shard
+  pub tried : List Datagram
+  pub kept : List Datagram
+  pub missing : ℕ
+  pub sends_are : sends engine k.0 (seen_at l) (λ shard. length (mine k shard)) [] done ≡ tried ++ untried
+  pub lacks : Lacks tried kept missing
+  pub traffic : u.traffic ≡ more_traffic heard kept t.traffic
+  pub send_faults : u.counts.send_faults ≡ risen t.counts.send_faults missing
+  pub lost_is : after ≡ risen lost missing
+
+-- the first of these acts is a call on the shard
+abbrev pub StartsOn : ℕ → List Act → Type 0
+StartsOn shard cut = (event : ShardEvent) × (rest : List Act) × (cut ≡ Turns shard event ∷ rest)
+
+-- why a caller stopped in its acts, of which `cut` are left out, where the shards' histories and words are at least these. By
+-- Full the refused call is the first that is left out, on a shard whose journal is at its limit; by Spent on one whose lock
+-- has no turn left. By want of memory any last acts may be left out
+abbrev pub Stops : Shards → (ℕ → List Entry) → (ℕ → ℕ) → List Act → List Datagram → End → Type 0
+Stops engine histories words cut untried (Full shard n) =
+    (untried ≡ []) × (n ≤ length (histories shard)) × StartsOn shard cut × (n ≡ engine.limit)
+Stops engine histories words cut untried (Spent shard word) =
+    (untried ≡ []) × (word ≡ last_word) × (word ≤ words shard) × StartsOn shard cut
+Stops engine histories words cut untried Memory = Unit {0}
+Stops engine histories words cut untried Ended = ⊥
+Stops engine histories words cut untried LinkFault = ⊥
+Stops engine histories words cut untried ClockFault = ⊥
+Stops engine histories words cut untried (TurnsMade n) = ⊥
+
+-- what a link tells of receiving is as before
+pub record IsAside (t u : LinkTold) : Type 0 where
+  pub over : u.counts.over ≡ t.counts.over
+  pub receive_faults : u.counts.receive_faults ≡ t.counts.receive_faults
+  pub gave : u.counts.gave ≡ t.counts.gave
+
+-- the acts were done up to a place
+pub record IsStopped (engine : Shards) (acts : List Act) (k l : Knows) (t u : LinkTold) (lost after : ℕ) (end : End) : Type 0 where
+  pub done : List Act
+  pub cut : List Act
+  pub untried : List Datagram
+  pub all : done ++ cut ≡ acts
+  pub did : Did engine k l t u [] done cut untried lost after
+  pub aside : IsAside t u
+  pub stops : Stops engine (seen_at l) (word_at l) cut untried end
+
+-- all acts were done
+pub record IsWhole (engine : Shards) (acts : List Act) (k l : Knows) (t u : LinkTold) (lost after : ℕ) : Type 0 where
+  pub did : Did engine k l t u [] acts [] [] lost after
+  pub aside : IsAside t u
+
+-- what was done of some acts
+abbrev pub AreDone : Shards → List Act → Knows → Knows → LinkTold → LinkTold → ℕ → ℕ → Result (Unit {0}) End → Type 0
+AreDone engine acts k l t u lost after (Ok done) = IsWhole engine acts k l t u lost after
+AreDone engine acts k l t u lost after (Err end) = IsStopped engine acts k l t u lost after end
+
+-- room for the outputs of any one call of the engine: five for an own event, five for each session of a shard at a tick
+pub record HasRoom (engine : Shards) (room : ℕ) : Type 0 where
+  pub five : 5 ≤ room
+  pub each : (shard : ℕ) → shard < length engine.locks → 5 * length (configs_at engine shard) ≤ room
+
+-- why a worker ended, and what is left out of its acts and its sends
+abbrev pub IsWorkerEnd : Shards → (ℕ → List Entry) → (ℕ → ℕ) → LinkTold → LinkTold → ℕ → List Act → List Datagram → End → Type 0
+IsWorkerEnd engine histories words t u turns cut untried Ended =
+    (cut ≡ []) × (untried ≡ []) × (u.counts.over ≡ true) × (u.counts.receive_faults ≡ t.counts.receive_faults)
+IsWorkerEnd engine histories words t u turns cut untried LinkFault =
+    (cut ≡ []) × (untried ≡ []) × (u.counts.over ≡ false) × (u.counts.receive_faults ≡ risen t.counts.receive_faults 1)
+IsWorkerEnd engine histories words t u turns cut untried (TurnsMade n) =
+    (cut ≡ []) × (untried ≡ []) × (u.counts.over ≡ false) × (u.counts.receive_faults ≡ t.counts.receive_faults)
+    × (n ≡ turns) × (u.counts.gave ≡ risen t.counts.gave turns)
+IsWorkerEnd engine histories words t u turns cut untried (Full shard n) =
+    (u.counts.over ≡ false) × (u.counts.receive_faults ≡ t.counts.receive_faults) × Stops engine histories words cut untried (Full shard n)
+IsWorkerEnd engine histories words t u turns cut untried (Spent shard word) =
+    (u.counts.over ≡ false) × (u.counts.receive_faults ≡ t.counts.receive_faults) × Stops engine histories words cut untried (Spent shard word)
+IsWorkerEnd engine histories words t u turns cut untried Memory =
+    (u.counts.over ≡ false) × (u.counts.receive_faults ≡ t.counts.receive_faults)
+IsWorkerEnd engine histories words t u turns cut untried ClockFault = ⊥
+
+-- what a worker did: of the arrivals that its link gave in this run, those of `done` were handled, and those of `cut`, of which
+-- there are none but after Full, Spent or Memory, were not
+pub record HasWorked (engine : Shards) (k l : Knows) (t u : LinkTold) (turns : ℕ) (end : End) (lost : ℕ) : Type 0 where
+  pub done : List (ℕ × Arrival)
+  pub cut : List (ℕ × Arrival)
+  pub untried : List Datagram
+  pub did : Did engine k l t u (done ++ cut) (worker_acts engine done) (worker_acts engine cut) untried 0 lost
+  pub ends : IsWorkerEnd engine (seen_at l) (word_at l) t u turns (worker_acts engine cut) untried end
+  pub few : length (done ++ cut) ≤ turns
+
+-- the same after so many turns, with no end
+pub record IsWorking (engine : Shards) (k l : Knows) (t u : LinkTold) (count : ℕ) (lost : ℕ) : Type 0 where
+  pub done : List (ℕ × Arrival)
+  pub did : Did engine k l t u done (worker_acts engine done) [] [] 0 lost
+  pub over : u.counts.over ≡ false
+  pub no_fault : u.counts.receive_faults ≡ t.counts.receive_faults
+  pub gave : u.counts.gave ≡ risen t.counts.gave count
+  pub few : length done ≤ count
+
