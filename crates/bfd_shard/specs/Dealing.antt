@@ -1,5 +1,5 @@
 -- A session's own events, and sessions that are dealt out to shards.
-use Rattle.std.specs.Prelude.{ℕ, ◌/◌, ◌%◌, ◌==◌, List, if◌then◌else◌, Option, None, Some}
+use Rattle.std.specs.Prelude.{ℕ, zero, suc, ◌-◌, ◌/◌, ◌%◌, ◌==◌, List, [], ◌∷◌, if◌then◌else◌, Option, None, Some}
 use Rattle.std.specs.List.{filter_map}
 use Rattle.bfd_shard.specs.declared.entry.ShardEvent.{ShardEvent}
 use Rattle.bfd_shard.specs.declared.entry.ShardEvent.TheVariants.{Own, Tick}
@@ -22,3 +22,10 @@ event_in shards number (Tick t) = Some (Tick t)
 -- the history of that shard
 abbrev pub history_of : ℕ → ℕ → List ShardEvent → List ShardEvent
 history_of shards number events = filter_map (event_in shards number) events
+
+-- of a list that is dealt out in turn to so many shards, every so-manieth element, after the first c are passed over: where
+-- c is the number of a shard, this is what it is dealt
+unfoldable pub share : {A : Type 0} → ℕ → ℕ → List A → List A
+share shards c [] = []
+share shards zero (x ∷ xs) = x ∷ share shards (shards - 1) xs
+share shards (suc c) (x ∷ xs) = share shards c xs

@@ -1,0 +1,111 @@
+-- A shard's sessions after its history, and what it tells of one event more.
+use Rattle.std.proofs.Common.{◌≡◌, ◌≢◌, ◌⊎◌, inl, inr, ◌<◌, ◌+◌, ◌/◌, ◌%◌, ◌==◌, ◌++◌, max, ℕ, Bool, true, false, List, [], ◌∷◌, length, map, get_or, refl, sym, ap, ◌∙◌, subst, append_assoc, append-nil, arith, Option, None, Some, if◌then◌else◌, ext_get_or}
+use Rattle.std.specs.List.{cons_option, filter_map}
+use Rattle.std.proofs.lemmas.Bool.Decides.{nat_tests}
+use Rattle.std.proofs.lemmas.List.{get_or-map, length-map}
+use Rattle.bfd_session.specs.declared.event.SessionConfig.{SessionConfig}
+use Rattle.bfd_session.specs.declared.event.Event.{Event}
+use Rattle.bfd_session.specs.Kinds.{Running}
+use Rattle.bfd_session.specs.Step.{started}
+use Rattle.bfd_shard.specs.declared.entry.ShardEvent.{ShardEvent}
+use Rattle.bfd_shard.specs.declared.entry.ShardEvent.TheVariants.{Own, Tick}
+use Rattle.bfd_shard.specs.Dealing.{event_in, history_of, share}
+use Rattle.bfd_shard.specs.History.{later, last_from, last_tick, run_from, moved, outcome_of, runs}
+use Rattle.bfd_shard.proofs.Runs.{moved_at, moved_long, runs_at, runs_long}
+use Rattle.bfd_shard.proofs.Ticks.{nobody}
+use Rattle.bfd_gather.specs.declared.queue.Numbered.{Numbered}
+use Rattle.bfd_gather.specs.Pieces.{event_pieces}
+use Rattle.bfd_gather.specs.Happenings.{Happening, Apart, Among, numbered, among, queue, told}
+use Rattle.bfd_gather.proofs.Sharing.{own_here, own_away, tick_here, share_map}
+
+-- sessions after events, from these sessions and this last tick on
+abbrev pub left_by : ℕ → List ShardEvent → List Running → List Running
+left_by last [] ss = ss
+left_by last (e ∷ es) ss = left_by (later last e) es (moved last e ss)
+
+long_left : (last : ℕ) (es : List ShardEvent) (ss : List Running) → length (left_by last es ss) ≡ length ss
+long_left last [] ss = refl
+long_left last (e ∷ es) ss = long_left (later last e) es (moved last e ss) ∙ moved_long last e ss
+
+left_at : (last : ℕ) (es : List ShardEvent) (ss : List Running) (k : ℕ) (d : Running) → k < length ss → get_or (left_by last es ss) k d ≡ run_from k last es (get_or ss k d)
+unfolding run_from
+left_at last [] ss k d h = refl
+left_at last (e ∷ es) ss k d h =
+    left_at (later last e) es (moved last e ss) k d (omega (arith, h, moved_long last e ss)) ∙ ap (run_from k (later last e) es) (moved_at last e ss k d h)
+
+-- from the start on they are the runs
+pub left_runs : (es : List ShardEvent) (cs : List SessionConfig) → left_by 0 es (map started cs) ≡ runs es cs
+left_runs es cs =
+    let c : SessionConfig = nobody.config in
+    let long : length (left_by 0 es (map started cs)) ≡ length cs = long_left 0 es (map started cs) ∙ length-map cs started in
+    ext_get_or nobody (left_by 0 es (map started cs)) (runs es cs) (long ∙ sym (runs_long 0 es cs))
+    (λ k h. left_at 0 es (map started cs) k nobody (omega (arith, h, long, length-map cs started))
+    ∙ (ap (run_from k 0 es) (get_or-map started cs k c nobody (omega (arith, h, long)))
+    ∙ sym (runs_at 0 es cs k k c nobody (omega (arith, h, long)) (omega arith))))
+
+-- a shard's sessions after its history
+
+same_or_not : (a b : ℕ) → (a ≡ b) ⊎ (a ≢ b)
+same_or_not a b = grind arith
+
+is_same : (a b : ℕ) → a ≡ b → (a == b) ≡ true
+is_same a b e = grind (arith, nat_tests)
+
+not_same : (a b : ℕ) → a ≢ b → (a == b) ≡ false
+not_same a b e = grind (arith, nat_tests)
+
+abbrev pub goes_on : Bool → ℕ → ℕ → ℕ → Event → List ShardEvent → List Running → List Running
+goes_on b last p m event rest ss = left_by last (cons_option (if b then Some (Own p m event) else None) rest) ss
+
+own_left : (n r last k m : ℕ) (event : Event) (es : List ShardEvent) (ss : List Running) → 0 < n → r < n → (k % n ≡ r) ⊎ (k % n ≢ r)
+    → share n r (left_by last es (moved last (Own k m event) ss)) ≡ left_by last (history_of n r es) (share n r (moved last (Own k m event) ss))
+    → share n r (left_by last (Own k m event ∷ es) ss) ≡ left_by last (history_of n r (Own k m event ∷ es)) (share n r ss)
+own_left n r last k m event es ss some h (inl same) rest =
+    let here : share n r (moved last (Own k m event) ss) ≡ moved last (Own (k / n) m event) (share n r ss) =
+    subst (λ i. share n i (moved last (Own k m event) ss) ≡ moved last (Own (k / n) m event) (share n i ss)) same (own_here n k m last event ss some) in
+    rest ∙ (ap (left_by last (history_of n r es)) here ∙ sym (ap (λ b. goes_on b last (k / n) m event (history_of n r es) (share n r ss)) (is_same (k % n) r same)))
+own_left n r last k m event es ss some h (inr other) rest =
+    rest ∙ (ap (left_by last (history_of n r es)) (own_away n r k m last event ss some h other)
+    ∙ sym (ap (λ b. goes_on b last (k / n) m event (history_of n r es) (share n r ss)) (not_same (k % n) r other)))
+
+share_left : (n r last : ℕ) (es : List ShardEvent) (ss : List Running) → 0 < n → r < n → share n r (left_by last es ss) ≡ left_by last (history_of n r es) (share n r ss)
+share_left n r last [] ss some h = refl
+share_left n r last (Own k m event ∷ es) ss some h =
+    own_left n r last k m event es ss some h (same_or_not (k % n) r) (share_left n r last es (moved last (Own k m event) ss) some h)
+share_left n r last (Tick t ∷ es) ss some h =
+    share_left n r (max last t) es (moved last (Tick t) ss) some h ∙ ap (left_by (max last t) (history_of n r es)) (tick_here n r t last ss)
+
+pub runs_share : (n r : ℕ) (es : List ShardEvent) (cs : List SessionConfig) → r < n → runs (history_of n r es) (share n r cs) ≡ share n r (runs es cs)
+runs_share n r es cs h =
+    sym (left_runs (history_of n r es) (share n r cs))
+    ∙ (ap (left_by 0 (history_of n r es)) (sym (share_map started n r cs))
+    ∙ (sym (share_left n r 0 es (map started cs) (omega (arith, h)) h) ∙ ap (share n r) (left_runs es cs)))
+
+-- the events of a queue
+
+queued : (n number : ℕ) (o : Option ShardEvent) (rest : List Numbered) → map (λ (e : Numbered). e.event) (cons_option (numbered number o) rest) ≡ cons_option o (map (λ (e : Numbered). e.event) rest)
+queued n number None rest = refl
+queued n number (Some e) rest = refl
+
+pub queue_events : (n r number : ℕ) (hs : List Happening) → map (λ (e : Numbered). e.event) (queue n r number hs) ≡ history_of n r (filter_map among hs)
+queue_events n r number [] = refl
+queue_events n r number (Apart o ∷ hs) = queue_events n r (number + 1) hs
+queue_events n r number (Among e ∷ hs) =
+    queued n number (event_in n r e) (queue n r (number + 1) hs) ∙ ap (cons_option (event_in n r e)) (queue_events n r (number + 1) hs)
+
+-- one event more
+
+told_more : (last : ℕ) (xs : List Numbered) (x : Numbered) (ss : List Running)
+    → told last (xs ++ x ∷ []) ss ≡ told last xs ss ++ event_pieces x.number x.event (outcome_of (last_from last (map (λ (e : Numbered). e.event) xs)) x.event (left_by last (map (λ (e : Numbered). e.event) xs) ss))
+unfolding last_from
+told_more last [] x ss = append-nil (event_pieces x.number x.event (outcome_of last x.event ss))
+told_more last (y ∷ xs) x ss =
+    ap (λ ps. event_pieces y.number y.event (outcome_of last y.event ss) ++ ps) (told_more (later last y.event) xs x (moved last y.event ss))
+    ∙ sym (append_assoc (event_pieces y.number y.event (outcome_of last y.event ss)) (told (later last y.event) xs (moved last y.event ss))
+    (event_pieces x.number x.event (outcome_of (last_from (later last y.event) (map (λ (e : Numbered). e.event) xs)) x.event (left_by (later last y.event) (map (λ (e : Numbered). e.event) xs) (moved last y.event ss)))))
+
+pub told_runs : (xs : List Numbered) (x : Numbered) (cs : List SessionConfig)
+    → told 0 (xs ++ x ∷ []) (map started cs) ≡ told 0 xs (map started cs) ++ event_pieces x.number x.event (outcome_of (last_tick (map (λ (e : Numbered). e.event) xs)) x.event (runs (map (λ (e : Numbered). e.event) xs) cs))
+told_runs xs x cs =
+    told_more 0 xs x (map started cs)
+    ∙ ap (λ ss. told 0 xs (map started cs) ++ event_pieces x.number x.event (outcome_of (last_tick (map (λ (e : Numbered). e.event) xs)) x.event ss)) (left_runs (map (λ (e : Numbered). e.event) xs) cs)

@@ -1,0 +1,10 @@
+pub mod Keys
+pub mod Sizes
+pub mod Marks
+pub mod Scan
+pub mod Taking
+pub mod Sharing
+pub mod Queues
+pub mod Histories
+pub mod Telling
+pub mod Whole

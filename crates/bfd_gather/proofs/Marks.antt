@@ -1,0 +1,193 @@
+-- A part's marks and text, as pieces are told and taken.
+use Rattle.std.proofs.Common.{◌≡◌, ◌≤◌, ◌<◌, ◌+◌, ◌++◌, ℕ, zero, suc, List, [], ◌∷◌, length, take, drop, map, get_or, subst, Result, Ok, Err, OnOk, OnErr, drop-cons, refl, sym, ap, ◌∙◌, append_assoc, append-nil, arith, length-append, length-drop}
+use Rattle.std.specs.List.{AllByRecursion, flat_map, sum_by}
+use Rattle.std.proofs.lemmas.List.{take-append-le, drop-append-le, drop-drop, map-append}
+use Rattle.std.proofs.lemmas.List.Sums.{sum_by-append, sum_by-cons}
+use Rattle.std.proofs.Math.Seq.{take-append_seam, drop-append_seam, take-add}
+use Rattle.bfd_rules.specs.declared.outputs.Out.{Out}
+use Rattle.bfd_session.specs.declared.event.Answer.TheVariants.{Handled}
+use Rattle.bfd_session.specs.Alone.{Outcome}
+use Rattle.std.proofs.lemmas.Grind.{flat_map-append}
+use Rattle.bfd_session.specs.Names.{named}
+use Rattle.bfd_script.specs.Report.{event_lines, item_line, sent_by}
+use Rattle.bfd_gather.specs.declared.key.Key.{Key}
+use Rattle.bfd_gather.specs.declared.key.Mark.{Mark}
+use Rattle.bfd_gather.specs.Pieces.{Piece, texts, key, whole_piece, item_piece}
+use Rattle.bfd_gather.specs.Inside.{pieces_at, mark_of, IsPart}
+use Rattle.bfd_gather.proofs.Sizes.{item_some, event_some}
+
+-- each packet that the piece counts has a byte of text
+abbrev pub HasText : Piece → Type 0
+HasText p = p.txs + p.drops ≤ length p.text
+
+-- the text of all these marks
+abbrev pub long_of : List Mark → ℕ
+long_of ms = sum_by (λ m. m.long) ms
+
+-- pieces that are marked are pieces again
+pub pieces_back : (ps : List Piece) → pieces_at (map mark_of ps) (texts ps) ≡ ps
+pieces_back [] = refl
+pieces_back (p ∷ ps) =
+    ap (λ t. record { key = p.key; text = t; txs = p.txs; drops = p.drops } ∷ pieces_at (map mark_of ps) (drop (length p.text) (texts (p ∷ ps)))) (take-append_seam p.text (texts ps))
+    ∙ (ap (λ t. p ∷ pieces_at (map mark_of ps) t) (drop-append_seam p.text (texts ps)) ∙ ap (λ qs. p ∷ qs) (pieces_back ps))
+
+-- marks that have all the text, and others behind them
+pub pieces_append : (ms ns : List Mark) (t u : List ℕ) → long_of ms ≡ length t → pieces_at (ms ++ ns) (t ++ u) ≡ pieces_at ms t ++ pieces_at ns u
+pieces_append [] ns [] u h = refl
+pieces_append [] ns (x ∷ t) u h = absurd (omega (arith, h))
+pieces_append (m ∷ ms) ns t u h =
+    let s = sum_by-cons (λ (n : Mark). n.long) m ms in
+    let fits : m.long ≤ length t = omega (arith, h, s) in
+    let left : long_of ms ≡ length (drop m.long t) = omega (arith, h, s, length-drop m.long t) in
+    ap (λ v. record { key = m.key; text = v; txs = m.txs; drops = m.drops } ∷ pieces_at (ms ++ ns) (drop m.long (t ++ u))) (take-append-le m.long t u fits)
+    ∙ (ap (λ v. record { key = m.key; text = take m.long t; txs = m.txs; drops = m.drops } ∷ pieces_at (ms ++ ns) v) (drop-append-le m.long t u fits)
+    ∙ ap (λ qs. record { key = m.key; text = take m.long t; txs = m.txs; drops = m.drops } ∷ qs) (pieces_append ms ns (drop m.long t) u left))
+
+-- marks have all of their pieces' text
+pub long_marks : (ps : List Piece) → long_of (map mark_of ps) ≡ length (texts ps)
+long_marks [] = refl
+long_marks (p ∷ ps) =
+    omega (arith, long_marks ps, sum_by-cons (λ (n : Mark). n.long) (mark_of p) (map mark_of ps), length-append p.text (texts ps))
+
+all_append : (ms : List Mark) (ps : List Piece) → AllByRecursion (λ m. m.txs + m.drops ≤ m.long) ms → AllByRecursion HasText ps
+    → AllByRecursion (λ m. m.txs + m.drops ≤ m.long) (ms ++ map mark_of ps)
+all_append [] [] h k = tt
+all_append [] (p ∷ ps) h k = (k.0, all_append [] ps tt k.1)
+all_append (m ∷ ms) ps h k = (h.0, all_append ms ps h.1 k)
+
+-- a part where these pieces more were told
+pub part_more : (ms ms2 : List Mark) (t t2 : List ℕ) (next at : ℕ) (ps : List Piece) → IsPart ms t next at → ms2 ≡ ms ++ map mark_of ps → t2 ≡ t ++ texts ps
+    → AllByRecursion HasText ps → IsPart ms2 t2 next at
+part_more ms ms2 t t2 next at ps s m e k =
+    subst (λ xs. IsPart xs t2 next at) (sym m) (subst (λ ys. IsPart (ms ++ map mark_of ps) ys next at) (sym e) (record {
+      inside = omega (arith, s.inside, length-append ms (map mark_of ps));
+      whole = omega (
+        arith,
+        s.whole,
+        length-append t (texts ps),
+        long_marks ps,
+        ap long_of (drop-append-le next ms (map mark_of ps) s.inside),
+        sum_by-append (λ (n : Mark). n.long) (drop next ms) (map mark_of ps),
+      );
+      counts = all_append ms ps s.counts k;
+    }))
+
+-- and what it tells then
+pub told_more : (ms ms2 : List Mark) (t t2 : List ℕ) (next at : ℕ) (ps : List Piece) → IsPart ms t next at → ms2 ≡ ms ++ map mark_of ps → t2 ≡ t ++ texts ps
+    → pieces_at (drop next ms2) (drop at t2) ≡ pieces_at (drop next ms) (drop at t) ++ ps
+told_more ms ms2 t t2 next at ps s m e =
+    let fits : at ≤ length t = omega (arith, s.whole) in
+    let left : long_of (drop next ms) ≡ length (drop at t) = omega (arith, s.whole, length-drop at t) in
+    ap (λ xs. pieces_at (drop next xs) (drop at t2)) m ∙ (ap (λ ys. pieces_at (drop next (ms ++ map mark_of ps)) (drop at ys)) e
+    ∙ (ap (λ xs. pieces_at xs (drop at (t ++ texts ps))) (drop-append-le next ms (map mark_of ps) s.inside)
+    ∙ (ap (λ ys. pieces_at (drop next ms ++ map mark_of ps) ys) (drop-append-le at t (texts ps) fits)
+    ∙ (pieces_append (drop next ms) (map mark_of ps) (drop at t) (texts ps) left ∙ ap (λ qs. pieces_at (drop next ms) (drop at t) ++ qs) (pieces_back ps)))))
+
+-- the pieces of a tick and of an event have text
+pub items_have : (n : ℕ) (os : List Out) → AllByRecursion HasText (map (item_piece n) os)
+items_have n [] = tt
+items_have n (o ∷ os) = (omega (arith, item_some n o), items_have n os)
+
+pub whole_has : (n : ℕ) (o : Outcome) → HasText (whole_piece n o)
+whole_has n o = event_some n o
+
+abbrev mark : Key → ℕ → ℕ → ℕ → Mark
+mark k l t d = record { key = k; long = l; txs = t; drops = d }
+
+same_mark : (m n : Mark) → m.key ≡ n.key → m.long ≡ n.long → m.txs ≡ n.txs → m.drops ≡ n.drops → m ≡ n
+same_mark m n k l t d =
+    ap (λ (x : Key). mark x m.long m.txs m.drops) k ∙ (ap (λ (x : ℕ). mark n.key x m.txs m.drops) l
+    ∙ (ap (λ (x : ℕ). mark n.key n.long x m.drops) t ∙ ap (λ (x : ℕ). mark n.key n.long n.txs x) d))
+
+-- a list of one output
+pub one_text : (n : ℕ) (os : List Out) → event_lines n (record { items = os; answer = Handled }) ≡ texts (map (item_piece n) os)
+one_text n [] = refl
+one_text n (o ∷ os) = append_assoc (item_line n o) (flat_map (item_line n) os) [] ∙ ap (λ t. item_line n o ++ t) (one_text n os)
+
+pub one_mark : (n : ℕ) (os : List Out) (o : Out) (m : Mark) → length os ≡ 1 → o ≡ get_or os 0 o → m.long ≡ length (event_lines n (record { items = os; answer = Handled }))
+    → m.key ≡ key n (named o) → m.txs ≡ sent_by o → m.drops ≡ 0 → m ∷ [] ≡ map mark_of (map (item_piece n) os)
+one_mark n [] o m h e long k txs drops = absurd (omega (arith, h))
+one_mark n (x ∷ []) o m h e long k txs drops =
+    let here : m.long ≡ length (item_line n x) = long ∙ (ap length (one_text n (x ∷ [])) ∙ ap length (append-nil (item_line n x))) in
+    ap (λ (y : Mark). y ∷ []) (same_mark m (mark_of (item_piece n x)) (k ∙ ap (λ z. key n (named z)) e) here (txs ∙ ap sent_by e) drops)
+one_mark n (x ∷ y ∷ os) o m h e long k txs drops = absurd (omega (arith, h))
+
+-- a part has a mark for each piece
+long_at : (ms : List Mark) (t : List ℕ) → length (pieces_at ms t) ≡ length ms
+long_at [] t = refl
+long_at (m ∷ ms) t = ap suc (long_at ms (drop m.long t))
+
+pub has_next : (ms : List Mark) (t : List ℕ) (next at : ℕ) (ps : List Piece) → pieces_at (drop next ms) (drop at t) ≡ ps → 0 < length ps → next < length ms
+has_next ms t next at ps e h = omega (arith, h, ap length e, long_at (drop next ms) (drop at t), length-drop next ms)
+
+-- the first mark that is left, and those behind it
+rest_marks : (ms : List Mark) (next : ℕ) (m : Mark) → next < length ms → m ≡ get_or ms next m → drop next ms ≡ m ∷ drop (next + 1) ms
+rest_marks ms next m h e =
+    drop-cons ms next m h ∙ (ap (λ (k : ℕ). get_or ms next m ∷ drop k ms) (let one : suc next ≡ next + 1 = omega arith in one)
+    ∙ ap (λ (x : Mark). x ∷ drop (next + 1) ms) (sym e))
+
+pub first_fits : (ms : List Mark) (t : List ℕ) (next at : ℕ) (m : Mark) → IsPart ms t next at → next < length ms → m ≡ get_or ms next m → at + m.long ≤ length t
+first_fits ms t next at m s h e =
+    omega (arith, s.whole, ap long_of (rest_marks ms next m h e), sum_by-cons (λ (n : Mark). n.long) m (drop (next + 1) ms))
+
+-- a part without its first piece
+pub part_less : (ms : List Mark) (t : List ℕ) (next at : ℕ) (m : Mark) → IsPart ms t next at → next < length ms → m ≡ get_or ms next m → IsPart ms t (next + 1) (at + m.long)
+part_less ms t next at m s h e = record {
+  inside = omega (arith, h);
+  whole = omega (arith, s.whole, ap long_of (rest_marks ms next m h e), sum_by-cons (λ (n : Mark). n.long) m (drop (next + 1) ms));
+  counts = s.counts;
+}
+
+pub told_less : (ms : List Mark) (t : List ℕ) (next at : ℕ) (m : Mark) → next < length ms → m ≡ get_or ms next m
+    → pieces_at (drop next ms) (drop at t)
+    ≡ record { key = m.key; text = take m.long (drop at t); txs = m.txs; drops = m.drops } ∷ pieces_at (drop (next + 1) ms) (drop (at + m.long) t)
+told_less ms t next at m h e =
+    ap (λ xs. pieces_at xs (drop at t)) (rest_marks ms next m h e)
+    ∙ ap (λ u. record { key = m.key; text = take m.long (drop at t); txs = m.txs; drops = m.drops } ∷ pieces_at (drop (next + 1) ms) u) (drop-drop m.long at t)
+
+counted_at : (ms : List Mark) (k : ℕ) (m : Mark) → AllByRecursion (λ m. m.txs + m.drops ≤ m.long) ms → k < length ms → m ≡ get_or ms k m → m.txs + m.drops ≤ m.long
+counted_at [] k m h i e = absurd (omega (arith, i))
+counted_at (x ∷ ms) zero m h i e = subst (λ (y : Mark). y.txs + y.drops ≤ y.long) (sym e) h.0
+counted_at (x ∷ ms) (suc k) m h i e = counted_at ms k m h.1 (omega (arith, i)) e
+
+pub first_counted : (ms : List Mark) (t : List ℕ) (next at : ℕ) (m : Mark) → IsPart ms t next at → next < length ms → m ≡ get_or ms next m → m.txs + m.drops ≤ m.long
+first_counted ms t next at m s h e = counted_at ms next m s.counts h e
+
+-- pieces more were told, or none
+module _ {T E : Type 0} where
+  pub part_by : (r : Result T E) (ms ms2 : List Mark) (t t2 : List ℕ) (next at : ℕ) (ps : List Piece) → IsPart ms t next at
+      → OnOk r (ms2 ≡ ms ++ map mark_of ps) → OnOk r (t2 ≡ t ++ texts ps) → OnErr r (ms2 ≡ ms) → OnErr r (t2 ≡ t)
+      → AllByRecursion HasText ps → IsPart ms2 t2 next at
+  part_by (Ok x) ms ms2 t t2 next at ps s m e n f k = part_more ms ms2 t t2 next at ps s m e k
+  part_by (Err x) ms ms2 t t2 next at ps s m e n f k =
+      subst (λ xs. IsPart xs t2 next at) (sym n) (subst (λ ys. IsPart ms ys next at) (sym f) s)
+
+  pub told_by : (r : Result T E) (ms ms2 : List Mark) (t t2 : List ℕ) (next at : ℕ) (ps before : List Piece) → IsPart ms t next at → pieces_at (drop next ms) (drop at t) ≡ before
+      → OnOk r (ms2 ≡ ms ++ map mark_of ps) → OnOk r (t2 ≡ t ++ texts ps) → OnOk r (pieces_at (drop next ms2) (drop at t2) ≡ before ++ ps)
+  told_by (Ok x) ms ms2 t t2 next at ps before s v m e = told_more ms ms2 t t2 next at ps s m e ∙ ap (λ qs. qs ++ ps) v
+  told_by (Err x) ms ms2 t t2 next at ps before s v m e = tt
+
+  pub same_by : (r : Result T E) (ms ms2 : List Mark) (t t2 : List ℕ) (next at : ℕ) (before : List Piece) → pieces_at (drop next ms) (drop at t) ≡ before
+      → OnErr r (ms2 ≡ ms) → OnErr r (t2 ≡ t) → OnErr r (pieces_at (drop next ms2) (drop at t2) ≡ before)
+  same_by (Ok x) ms ms2 t t2 next at before v n f = tt
+  same_by (Err x) ms ms2 t t2 next at before v n f = ap (λ xs. pieces_at (drop next xs) (drop at t2)) n ∙ (ap (λ ys. pieces_at (drop next ms) (drop at ys)) f ∙ v)
+
+  -- one piece's text is the text of it alone
+  pub single : (r : Result T E) (t t2 : List ℕ) (p : Piece) → OnOk r (t2 ≡ t ++ p.text) → OnOk r (t2 ≡ t ++ texts (p ∷ []))
+  single (Ok x) t t2 p e = e ∙ ap (λ u. t ++ u) (sym (append-nil p.text))
+  single (Err x) t t2 p e = tt
+
+-- one output more of a tick
+pub texts_next : (n at w : ℕ) (os : List Out) (t u v : List ℕ) → w ≡ 1 → u ≡ t ++ texts (map (item_piece n) (take at os))
+    → v ≡ u ++ texts (map (item_piece n) (take w (drop at os))) → v ≡ t ++ texts (map (item_piece n) (take (at + 1) os))
+texts_next n at w os t u v one e f =
+    f ∙ (ap (λ x. x ++ texts (map (item_piece n) (take w (drop at os)))) e ∙ (append_assoc t (texts (map (item_piece n) (take at os))) (texts (map (item_piece n) (take w (drop at os))))
+    ∙ ap (λ x. t ++ x) (sym (flat_map-append (λ (p : Piece). p.text) (map (item_piece n) (take at os)) (map (item_piece n) (take w (drop at os))))
+    ∙ ap texts (sym (map-append (item_piece n) (take at os) (take w (drop at os))) ∙ ap (map (item_piece n)) (sym (take-add at w os) ∙ ap (λ k. take (at + k) os) one)))))
+
+pub marks_next : (n at w : ℕ) (os : List Out) (t u v : List Mark) → w ≡ 1 → u ≡ t ++ map mark_of (map (item_piece n) (take at os))
+    → v ≡ u ++ map mark_of (map (item_piece n) (take w (drop at os))) → v ≡ t ++ map mark_of (map (item_piece n) (take (at + 1) os))
+marks_next n at w os t u v one e f =
+    f ∙ (ap (λ x. x ++ map mark_of (map (item_piece n) (take w (drop at os)))) e ∙ (append_assoc t (map mark_of (map (item_piece n) (take at os))) (map mark_of (map (item_piece n) (take w (drop at os))))
+    ∙ ap (λ x. t ++ x) (sym (map-append mark_of (map (item_piece n) (take at os)) (map (item_piece n) (take w (drop at os))))
+    ∙ ap (map mark_of) (sym (map-append (item_piece n) (take at os) (take w (drop at os))) ∙ ap (map (item_piece n)) (sym (take-add at w os) ∙ ap (λ k. take (at + k) os) one)))))

@@ -1,0 +1,314 @@
+-- The parts of a replay have the pieces of its report, in its order, and their text is the report's lines.
+use Rattle.std.proofs.Common.{◌≡◌, ◌⊎◌, inl, inr, ◌<◌, ◌≤◌, ◌+◌, ◌*◌, ◌%◌, ◌++◌, max, ℕ, suc, List, [], ◌∷◌, length, map, get_or, refl, sym, ap, ◌∙◌, subst, append-nil, arith}
+use Rattle.std.specs.List.{AllByRecursion, flat_map, sum_by}
+use Rattle.std.proofs.lemmas.Grind.{flat_map-append}
+use Rattle.std.proofs.lemmas.List.{map-append}
+use Rattle.std.proofs.lemmas.List.Sums.{sum_by-append, sum_by-cons}
+use Rattle.std.proofs.Math.Nat.{mod-lt}
+use Rattle.bfd_rules.specs.declared.outputs.Out.{Out}
+use Rattle.bfd_session.specs.Alone.{Outcome, tick_items}
+use Rattle.bfd_session.specs.Kinds.{Running, discr_of, configs_of}
+use Rattle.bfd_session.specs.Names.{named}
+use Rattle.bfd_session.specs.Rows.{Ascends}
+use Rattle.bfd_session.proofs.Naming.{tick_named}
+use Rattle.bfd_shard.specs.declared.entry.ShardEvent.{ShardEvent}
+use Rattle.bfd_shard.specs.declared.entry.ShardEvent.TheVariants.{Own, Tick}
+use Rattle.bfd_shard.specs.History.{later, moved, outcome_of}
+use Rattle.bfd_shard.proofs.Runs.{moved_configs}
+use Rattle.bfd_script.specs.Report.{item_line, event_lines, lines_from, sent_by, sent, dropped, done_line, report}
+use Rattle.bfd_gather.specs.Pieces.{Piece, whole_piece, item_piece, event_pieces}
+use Rattle.bfd_gather.specs.Happenings.{Happening, Apart, Among, outcomes, told_whole, AreParts}
+use Rattle.bfd_gather.specs.Spread.{Dealt, deal, pieces_in, IsBefore, Ordered, IsSpread, AreGathered, text_of}
+use Rattle.bfd_gather.proofs.Keys.{earlier, lower}
+use Rattle.bfd_gather.proofs.Taking.{txs_of, drops_of}
+use Rattle.bfd_gather.proofs.Telling.{deal_items, deal_event, deal_all, tick_gives, told_each, apart_is}
+
+all_append : (P : Dealt → Type 0) (ds es : List Dealt) → AllByRecursion P ds → AllByRecursion P es → AllByRecursion P (ds ++ es)
+all_append P [] es h k = k
+all_append P (d ∷ ds) es h k = (h.0, all_append P ds es h.1 k)
+
+-- every piece has its part
+
+session_within : (number q n : ℕ) (os : List Out) → q < n → AllByRecursion (λ d. d.part < n) (map (λ o. deal q (item_piece number o)) os)
+session_within number q n [] h = tt
+session_within number q n (o ∷ os) h = (h, session_within number q n os h)
+
+items_within : (n number : ℕ) (items : Running → List Out) (k : ℕ) (ss : List Running) → 0 < n → AllByRecursion (λ d. d.part < n + 1) (deal_items n number items k ss)
+items_within n number items k [] some = tt
+items_within n number items k (s ∷ ss) some =
+    all_append (λ d. d.part < n + 1) (map (λ o. deal (k % n) (item_piece number o)) (items s)) (deal_items n number items (k + 1) ss)
+    (session_within number (k % n) (n + 1) (items s) (omega (arith, mod-lt k some))) (items_within n number items (k + 1) ss some)
+
+all_within : (n number last : ℕ) (hs : List Happening) (ss : List Running) → 0 < n → AllByRecursion (λ d. d.part < n + 1) (deal_all n number last hs ss)
+all_within n number last [] ss some = tt
+all_within n number last (Apart o ∷ hs) ss some = (omega arith, all_within n (number + 1) last hs ss some)
+all_within n number last (Among (Own k m event) ∷ hs) ss some =
+    (omega (arith, mod-lt k some), all_within n (number + 1) last hs (moved last (Own k m event) ss) some)
+all_within n number last (Among (Tick t) ∷ hs) ss some =
+    all_append (λ d. d.part < n + 1) (deal_items n number (tick_items (max last t)) 0 ss) (deal_all n (number + 1) (max last t) hs (moved last (Tick t) ss))
+    (items_within n number (tick_items (max last t)) 0 ss some) (all_within n (number + 1) (max last t) hs (moved last (Tick t) ss) some)
+
+-- pieces of an event, and of events from one on
+
+abbrev pub OfEvent : ℕ → List Dealt → Type 0
+OfEvent number ds = AllByRecursion (λ d. d.piece.key.event ≡ number) ds
+
+abbrev pub From : ℕ → List Dealt → Type 0
+From number ds = AllByRecursion (λ d. number ≤ d.piece.key.event) ds
+
+session_of : (number q : ℕ) (os : List Out) → OfEvent number (map (λ o. deal q (item_piece number o)) os)
+session_of number q [] = tt
+session_of number q (o ∷ os) = (refl, session_of number q os)
+
+items_of : (n number : ℕ) (items : Running → List Out) (k : ℕ) (ss : List Running) → OfEvent number (deal_items n number items k ss)
+items_of n number items k [] = tt
+items_of n number items k (s ∷ ss) =
+    all_append (λ d. d.piece.key.event ≡ number) (map (λ o. deal (k % n) (item_piece number o)) (items s)) (deal_items n number items (k + 1) ss)
+    (session_of number (k % n) (items s)) (items_of n number items (k + 1) ss)
+
+event_of : (n number last : ℕ) (e : ShardEvent) (ss : List Running) → OfEvent number (deal_event n number last e ss)
+event_of n number last (Own k m event) ss = (refl, tt)
+event_of n number last (Tick t) ss = items_of n number (tick_items (max last t)) 0 ss
+
+of_from : (number : ℕ) (ds : List Dealt) → OfEvent number ds → From number ds
+of_from number [] h = tt
+of_from number (d ∷ ds) h = (let x = h.0 in omega (arith, x), of_from number ds h.1)
+
+from_less : (number : ℕ) (ds : List Dealt) → From (number + 1) ds → From number ds
+from_less number [] h = tt
+from_less number (d ∷ ds) h = (let x = h.0 in omega (arith, x), from_less number ds h.1)
+
+all_from : (n number last : ℕ) (hs : List Happening) (ss : List Running) → From number (deal_all n number last hs ss)
+all_from n number last [] ss = tt
+all_from n number last (Apart o ∷ hs) ss = (omega arith, from_less number (deal_all n (number + 1) last hs ss) (all_from n (number + 1) last hs ss))
+all_from n number last (Among e ∷ hs) ss =
+    all_append (λ d. number ≤ d.piece.key.event) (deal_event n number last e ss) (deal_all n (number + 1) (later last e) hs (moved last e ss))
+    (of_from number (deal_event n number last e ss) (event_of n number last e ss))
+    (from_less number (deal_all n (number + 1) (later last e) hs (moved last e ss)) (all_from n (number + 1) (later last e) hs (moved last e ss)))
+
+-- a piece is before those of later events
+before_later : (number : ℕ) (d : Dealt) (es : List Dealt) → d.piece.key.event ≡ number → From (number + 1) es → AllByRecursion (IsBefore d) es
+before_later number d [] e h = tt
+before_later number d (x ∷ es) e h = (inr (earlier d.piece.key x.piece.key (let l = h.0 in omega (arith, e, l))), before_later number d es e h.1)
+
+event_first : (number : ℕ) (ds es : List Dealt) → OfEvent number ds → Ordered ds → From (number + 1) es → Ordered es → Ordered (ds ++ es)
+event_first number [] es h o f p = p
+event_first number (d ∷ ds) es h o f p = (all_append (IsBefore d) ds es o.0 (before_later number d es h.0 f), event_first number ds es h.1 o.1 f p)
+
+-- the pieces of a tick ascend with the sessions
+
+abbrev pub IsLaterItem : ℕ → ℕ → Dealt → Type 0
+IsLaterItem number discr d = (d.piece.key.event ≡ number) × (discr < d.piece.key.discr)
+
+abbrev pub Names : ℕ → List Out → Type 0
+Names discr os = AllByRecursion (λ o. named o ≡ discr) os
+
+session_later : (number q discr own : ℕ) (os : List Out) → discr < own → Names own os → AllByRecursion (IsLaterItem number discr) (map (λ o. deal q (item_piece number o)) os)
+session_later number q discr own [] h n = tt
+session_later number q discr own (o ∷ os) h n = ((refl, (let x = n.0 in omega (arith, h, x))), session_later number q discr own os h n.1)
+
+same_part : (number q : ℕ) (o : Out) (os : List Out) → AllByRecursion (IsBefore (deal q (item_piece number o))) (map (λ x. deal q (item_piece number x)) os)
+same_part number q o [] = tt
+same_part number q o (x ∷ os) = (inl refl, same_part number q o os)
+
+before_item : (number q discr : ℕ) (o : Out) (es : List Dealt) → named o ≡ discr → AllByRecursion (IsLaterItem number discr) es → AllByRecursion (IsBefore (deal q (item_piece number o))) es
+before_item number q discr o [] n h = tt
+before_item number q discr o (x ∷ es) n h =
+    (inr (lower (item_piece number o).key x.piece.key (sym h.0.0) (let l = h.0.1 in omega (arith, n, l))), before_item number q discr o es n h.1)
+
+session_first : (number q discr : ℕ) (os : List Out) (es : List Dealt) → Names discr os → AllByRecursion (IsLaterItem number discr) es → Ordered es
+    → Ordered (map (λ o. deal q (item_piece number o)) os ++ es)
+session_first number q discr [] es n h o = o
+session_first number q discr (x ∷ os) es n h o =
+    (all_append (IsBefore (deal q (item_piece number x))) (map (λ y. deal q (item_piece number y)) os) es (same_part number q x os) (before_item number q discr x es n.0 h), session_first number q discr os es n.1 h o)
+
+module _ (items : Running → List Out) (names : (s : Running) → Names (discr_of s.config) (items s)) where
+  items_later : (n number discr k : ℕ) (ss : List Running) → AllByRecursion (λ c. discr < discr_of c) (configs_of ss) → AllByRecursion (IsLaterItem number discr) (deal_items n number items k ss)
+  items_later n number discr k [] h = tt
+  items_later n number discr k (s ∷ ss) h =
+      all_append (IsLaterItem number discr) (map (λ o. deal (k % n) (item_piece number o)) (items s)) (deal_items n number items (k + 1) ss)
+      (session_later number (k % n) discr (discr_of s.config) (items s) h.0 (names s)) (items_later n number discr (k + 1) ss h.1)
+
+  pub items_ordered : (n number k : ℕ) (ss : List Running) → Ascends (configs_of ss) → Ordered (deal_items n number items k ss)
+  items_ordered n number k [] h = tt
+  items_ordered n number k (s ∷ ss) h =
+      session_first number (k % n) (discr_of s.config) (items s) (deal_items n number items (k + 1) ss) (names s)
+      (items_later n number (discr_of s.config) (k + 1) ss h.0) (items_ordered n number (k + 1) ss h.1)
+
+event_ordered : (n number last : ℕ) (e : ShardEvent) (ss : List Running) → Ascends (configs_of ss) → Ordered (deal_event n number last e ss)
+event_ordered n number last (Own k m event) ss h = (tt, tt)
+event_ordered n number last (Tick t) ss h =
+    items_ordered (tick_items (max last t)) (λ s. tick_named s (1000 * max last t) (max (1000 * max last t) s.vars.at)) n number 0 ss h
+
+all_ordered : (n number last : ℕ) (hs : List Happening) (ss : List Running) → Ascends (configs_of ss) → Ordered (deal_all n number last hs ss)
+all_ordered n number last [] ss h = tt
+all_ordered n number last (Apart o ∷ hs) ss h =
+    (before_later number (deal n (whole_piece number o)) (deal_all n (number + 1) last hs ss) refl (all_from n (number + 1) last hs ss), all_ordered n (number + 1) last hs ss h)
+all_ordered n number last (Among e ∷ hs) ss h =
+    event_first number (deal_event n number last e ss) (deal_all n (number + 1) (later last e) hs (moved last e ss))
+    (event_of n number last e ss) (event_ordered n number last e ss h) (all_from n (number + 1) (later last e) hs (moved last e ss))
+    (all_ordered n (number + 1) (later last e) hs (moved last e ss) (subst (λ cs. Ascends cs) (sym (moved_configs last e ss)) h))
+
+below_or : (r n : ℕ) → r < n + 1 → (r < n) ⊎ (r ≡ n)
+below_or r n h = grind arith
+
+-- the parts of a replay are a spread of its pieces
+pub parts_spread : (n number last : ℕ) (hs : List Happening) (ss : List Running) (parts : List (List Piece)) → AreParts n number last hs ss parts
+    → IsSpread (deal_all n number last hs ss) parts
+parts_spread n number last hs ss parts p = record {
+  each = λ r h. elim (below_or r n (omega (arith, h, p.long))) [
+    | inl below ↦ p.each r below ∙ told_each n number last r hs ss p.some below
+    | inr last_one ↦ ap (λ i. get_or parts i []) last_one ∙ (p.others ∙ (apart_is n number last hs ss p.some ∙ ap (λ i. pieces_in i (deal_all n number last hs ss)) (sym last_one)))
+  ];
+  within = subst (λ m. AllByRecursion (λ d. d.part < m) (deal_all n number last hs ss)) (sym p.long) (all_within n number last hs ss p.some);
+  ordered = all_ordered n number last hs ss p.ascends;
+}
+
+-- and all of them are the pieces of the whole table
+
+session_pieces : (number q : ℕ) (os : List Out) → map (λ (d : Dealt). d.piece) (map (λ o. deal q (item_piece number o)) os) ≡ map (item_piece number) os
+session_pieces number q [] = refl
+session_pieces number q (o ∷ os) = ap (λ ps. item_piece number o ∷ ps) (session_pieces number q os)
+
+items_pieces : (n number : ℕ) (items : Running → List Out) (k : ℕ) (ss : List Running)
+    → map (λ (d : Dealt). d.piece) (deal_items n number items k ss) ≡ map (item_piece number) (flat_map items ss)
+items_pieces n number items k [] = refl
+items_pieces n number items k (s ∷ ss) =
+    map-append (λ (d : Dealt). d.piece) (map (λ o. deal (k % n) (item_piece number o)) (items s)) (deal_items n number items (k + 1) ss)
+    ∙ (ap (λ ps. ps ++ map (λ (d : Dealt). d.piece) (deal_items n number items (k + 1) ss)) (session_pieces number (k % n) (items s))
+    ∙ (ap (λ ps. map (item_piece number) (items s) ++ ps) (items_pieces n number items (k + 1) ss)
+    ∙ sym (map-append (item_piece number) (items s) (flat_map items ss))))
+
+event_pieces_are : (n number last : ℕ) (e : ShardEvent) (ss : List Running) → map (λ (d : Dealt). d.piece) (deal_event n number last e ss) ≡ event_pieces number e (outcome_of last e ss)
+event_pieces_are n number last (Own k m event) ss = refl
+event_pieces_are n number last (Tick t) ss = items_pieces n number (tick_items (max last t)) 0 ss ∙ sym (tick_gives number last t ss)
+
+all_pieces : (n number last : ℕ) (hs : List Happening) (ss : List Running) → map (λ (d : Dealt). d.piece) (deal_all n number last hs ss) ≡ told_whole number last hs ss
+all_pieces n number last [] ss = refl
+all_pieces n number last (Apart o ∷ hs) ss = ap (λ ps. whole_piece number o ∷ ps) (all_pieces n (number + 1) last hs ss)
+all_pieces n number last (Among e ∷ hs) ss =
+    map-append (λ (d : Dealt). d.piece) (deal_event n number last e ss) (deal_all n (number + 1) (later last e) hs (moved last e ss))
+    ∙ (ap (λ ps. ps ++ map (λ (d : Dealt). d.piece) (deal_all n (number + 1) (later last e) hs (moved last e ss))) (event_pieces_are n number last e ss)
+    ∙ ap (λ ps. event_pieces number e (outcome_of last e ss) ++ ps) (all_pieces n (number + 1) (later last e) hs (moved last e ss)))
+
+pub parts_gathered : (n number last : ℕ) (hs : List Happening) (ss : List Running) (parts : List (List Piece)) → AreParts n number last hs ss parts
+    → AreGathered parts (told_whole number last hs ss)
+parts_gathered n number last hs ss parts p = record {
+  dealt = deal_all n number last hs ss;
+  spread = parts_spread n number last hs ss parts p;
+  pieces_are = all_pieces n number last hs ss;
+}
+
+-- their text, and what they count
+
+session_text : (number q : ℕ) (os : List Out) → text_of (map (λ o. deal q (item_piece number o)) os) ≡ flat_map (item_line number) os
+session_text number q [] = refl
+session_text number q (o ∷ os) = ap (λ t. item_line number o ++ t) (session_text number q os)
+
+text_append : (ds es : List Dealt) → text_of (ds ++ es) ≡ text_of ds ++ text_of es
+text_append ds es = flat_map-append (λ (d : Dealt). d.piece.text) ds es
+
+items_text : (n number : ℕ) (items : Running → List Out) (k : ℕ) (ss : List Running) → text_of (deal_items n number items k ss) ≡ flat_map (item_line number) (flat_map items ss)
+items_text n number items k [] = refl
+items_text n number items k (s ∷ ss) =
+    text_append (map (λ o. deal (k % n) (item_piece number o)) (items s)) (deal_items n number items (k + 1) ss)
+    ∙ (ap (λ t. t ++ text_of (deal_items n number items (k + 1) ss)) (session_text number (k % n) (items s))
+    ∙ (ap (λ t. flat_map (item_line number) (items s) ++ t) (items_text n number items (k + 1) ss)
+    ∙ sym (flat_map-append (item_line number) (items s) (flat_map items ss))))
+
+event_text : (n number last : ℕ) (e : ShardEvent) (ss : List Running) → text_of (deal_event n number last e ss) ≡ event_lines number (outcome_of last e ss)
+unfolding outcome_of
+event_text n number last (Own k m event) ss = append-nil (event_lines number (outcome_of last (Own k m event) ss))
+event_text n number last (Tick t) ss =
+    items_text n number (tick_items (max last t)) 0 ss ∙ sym (append-nil (flat_map (item_line number) (flat_map (tick_items (max last t)) ss)))
+
+pub all_text : (n number last : ℕ) (hs : List Happening) (ss : List Running) → text_of (deal_all n number last hs ss) ≡ lines_from number (outcomes last hs ss)
+all_text n number last [] ss = refl
+all_text n number last (Apart o ∷ hs) ss = ap (λ t. event_lines number o ++ t) (all_text n (number + 1) last hs ss)
+all_text n number last (Among e ∷ hs) ss =
+    text_append (deal_event n number last e ss) (deal_all n (number + 1) (later last e) hs (moved last e ss))
+    ∙ (ap (λ t. t ++ text_of (deal_all n (number + 1) (later last e) hs (moved last e ss))) (event_text n number last e ss)
+    ∙ ap (λ t. event_lines number (outcome_of last e ss) ++ t) (all_text n (number + 1) (later last e) hs (moved last e ss)))
+
+session_txs : (number q : ℕ) (os : List Out) → txs_of (map (λ o. deal q (item_piece number o)) os) ≡ sum_by sent_by os
+session_txs number q [] = refl
+session_txs number q (o ∷ os) =
+    omega (arith, sum_by-cons (λ (d : Dealt). d.piece.txs) (deal q (item_piece number o)) (map (λ x. deal q (item_piece number x)) os), sum_by-cons sent_by o os, session_txs number q os)
+
+items_txs : (n number : ℕ) (items : Running → List Out) (k : ℕ) (ss : List Running) → txs_of (deal_items n number items k ss) ≡ sum_by sent_by (flat_map items ss)
+items_txs n number items k [] = refl
+items_txs n number items k (s ∷ ss) =
+    omega (
+      arith,
+      sum_by-append (λ (d : Dealt). d.piece.txs) (map (λ o. deal (k % n) (item_piece number o)) (items s)) (deal_items n number items (k + 1) ss),
+      session_txs number (k % n) (items s),
+      items_txs n number items (k + 1) ss,
+      sum_by-append sent_by (items s) (flat_map items ss),
+    )
+
+event_txs : (n number last : ℕ) (e : ShardEvent) (ss : List Running) → txs_of (deal_event n number last e ss) ≡ sent (outcome_of last e ss)
+unfolding outcome_of
+event_txs n number last (Own k m event) ss = sum_by-cons (λ (d : Dealt). d.piece.txs) (deal (k % n) (whole_piece number (outcome_of last (Own k m event) ss))) [] ∙ (let z : sent (outcome_of last (Own k m event) ss) + 0 ≡ sent (outcome_of last (Own k m event) ss) = omega arith in z)
+event_txs n number last (Tick t) ss = items_txs n number (tick_items (max last t)) 0 ss
+
+pub all_txs : (n number last : ℕ) (hs : List Happening) (ss : List Running) → txs_of (deal_all n number last hs ss) ≡ sum_by sent (outcomes last hs ss)
+all_txs n number last [] ss = refl
+all_txs n number last (Apart o ∷ hs) ss =
+    omega (arith, sum_by-cons (λ (d : Dealt). d.piece.txs) (deal n (whole_piece number o)) (deal_all n (number + 1) last hs ss), sum_by-cons sent o (outcomes last hs ss), all_txs n (number + 1) last hs ss)
+all_txs n number last (Among e ∷ hs) ss =
+    omega (
+      arith,
+      sum_by-append (λ (d : Dealt). d.piece.txs) (deal_event n number last e ss) (deal_all n (number + 1) (later last e) hs (moved last e ss)),
+      event_txs n number last e ss,
+      sum_by-cons sent (outcome_of last e ss) (outcomes (later last e) hs (moved last e ss)),
+      all_txs n (number + 1) (later last e) hs (moved last e ss),
+    )
+
+session_drops : (number q : ℕ) (os : List Out) → drops_of (map (λ o. deal q (item_piece number o)) os) ≡ 0
+session_drops number q [] = refl
+session_drops number q (o ∷ os) =
+    omega (arith, sum_by-cons (λ (d : Dealt). d.piece.drops) (deal q (item_piece number o)) (map (λ x. deal q (item_piece number x)) os), session_drops number q os)
+
+items_drops : (n number : ℕ) (items : Running → List Out) (k : ℕ) (ss : List Running) → drops_of (deal_items n number items k ss) ≡ 0
+items_drops n number items k [] = refl
+items_drops n number items k (s ∷ ss) =
+    omega (
+      arith,
+      sum_by-append (λ (d : Dealt). d.piece.drops) (map (λ o. deal (k % n) (item_piece number o)) (items s)) (deal_items n number items (k + 1) ss),
+      session_drops number (k % n) (items s),
+      items_drops n number items (k + 1) ss,
+    )
+
+event_drops : (n number last : ℕ) (e : ShardEvent) (ss : List Running) → drops_of (deal_event n number last e ss) ≡ dropped (outcome_of last e ss)
+unfolding outcome_of
+event_drops n number last (Own k m event) ss = sum_by-cons (λ (d : Dealt). d.piece.drops) (deal (k % n) (whole_piece number (outcome_of last (Own k m event) ss))) [] ∙ (let z : dropped (outcome_of last (Own k m event) ss) + 0 ≡ dropped (outcome_of last (Own k m event) ss) = omega arith in z)
+event_drops n number last (Tick t) ss = items_drops n number (tick_items (max last t)) 0 ss
+
+pub all_drops : (n number last : ℕ) (hs : List Happening) (ss : List Running) → drops_of (deal_all n number last hs ss) ≡ sum_by dropped (outcomes last hs ss)
+all_drops n number last [] ss = refl
+all_drops n number last (Apart o ∷ hs) ss =
+    omega (arith, sum_by-cons (λ (d : Dealt). d.piece.drops) (deal n (whole_piece number o)) (deal_all n (number + 1) last hs ss), sum_by-cons dropped o (outcomes last hs ss), all_drops n (number + 1) last hs ss)
+all_drops n number last (Among e ∷ hs) ss =
+    omega (
+      arith,
+      sum_by-append (λ (d : Dealt). d.piece.drops) (deal_event n number last e ss) (deal_all n (number + 1) (later last e) hs (moved last e ss)),
+      event_drops n number last e ss,
+      sum_by-cons dropped (outcome_of last e ss) (outcomes (later last e) hs (moved last e ss)),
+      all_drops n (number + 1) (later last e) hs (moved last e ss),
+    )
+
+one_each : (last : ℕ) (hs : List Happening) (ss : List Running) → length (outcomes last hs ss) ≡ length hs
+one_each last [] ss = refl
+one_each last (Apart o ∷ hs) ss = ap suc (one_each last hs ss)
+one_each last (Among e ∷ hs) ss = ap suc (one_each (later last e) hs (moved last e ss))
+
+-- the lines, and the last line behind them, are the report
+pub whole_report : (n last : ℕ) (hs : List Happening) (ss : List Running) (text more done : List ℕ) (events txs drops : ℕ) → length hs ≡ events
+    → text ≡ text_of (deal_all n 1 last hs ss) → txs ≡ txs_of (deal_all n 1 last hs ss) → drops ≡ drops_of (deal_all n 1 last hs ss)
+    → done ≡ done_line events txs drops → more ≡ text ++ done → more ≡ report (outcomes last hs ss)
+whole_report n last hs ss text more done events txs drops count told sends fell is added =
+    let os : List Outcome = outcomes last hs ss in
+    added ∙ (ap (λ ds. text ++ ds) is ∙ (ap (λ ts. ts ++ done_line events txs drops) (told ∙ all_text n 1 last hs ss)
+    ∙ (ap (λ k. lines_from 1 os ++ done_line k txs drops) (sym (one_each last hs ss ∙ count))
+    ∙ (ap (λ k. lines_from 1 os ++ done_line (length os) k drops) (sends ∙ all_txs n 1 last hs ss)
+    ∙ ap (λ k. lines_from 1 os ++ done_line (length os) (sum_by sent os) k) (fell ∙ all_drops n 1 last hs ss)))))

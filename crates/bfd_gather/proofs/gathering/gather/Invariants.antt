@@ -1,0 +1,15 @@
+-- What is left of the pieces is dealt out to the parts, and the others were taken.
+use Rattle.std.proofs.Common.{List, length, ◌+◌, ◌≤◌}
+use Rattle.std.specs.List.{sum_by}
+use Rattle.bfd_gather.specs.Spread.{Dealt, IsSpread}
+use Rattle.bfd_gather.proofs.Taking.{Going}
+use Rattle.bfd_gather.proofs.gathering.gather.Given as goal
+
+abbrev pub invariant-loop-s : goal.invariant-loop-s
+invariant-loop-s l = record {
+  goes : (dealt : List Dealt) → IsSpread dealt l.initial.parts.items → Going dealt l.parts.items l.initial.text.items l.text.items l.txs l.drops;
+  few : l.txs + l.drops + length l.initial.text.items ≤ length l.text.items;
+}
+
+abbrev pub decreases-loop-s : goal.decreases-loop-s
+decreases-loop-s l = sum_by length l.parts.items

@@ -1,0 +1,11 @@
+-- The outputs so far have their marks and their text.
+use Rattle.std.proofs.Common.{◌≡◌, ◌++◌, map, take}
+use Rattle.bfd_gather.specs.Pieces.{texts, item_piece}
+use Rattle.bfd_gather.specs.Inside.{mark_of}
+use Rattle.bfd_gather.proofs.part.append_items.Given as goal
+
+abbrev pub invariant-loop-at : goal.invariant-loop-at
+invariant-loop-at l = record {
+  texts_are : l.text.items ≡ l.fn.text.items ++ texts (map (item_piece l.number) (take l.at l.outs));
+  marks_are : l.marks.items ≡ l.fn.marks.items ++ map mark_of (map (item_piece l.number) (take l.at l.outs));
+}

@@ -1,0 +1,4 @@
+pub mod Pieces
+pub mod Happenings
+pub mod Spread
+pub mod Inside

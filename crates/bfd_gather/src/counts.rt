@@ -1,0 +1,50 @@
+//! What outputs name, and how many packets outputs and answers tell of.
+ghost use Rattle.std.specs.Prelude.{◌≡◌, ◌≤◌, length, sum_by};
+ghost use Rattle.bfd_session.specs.Names as names;
+ghost use Rattle.bfd_script.specs.Report.{sent_by, dropped_by};
+
+use bfd_rules::Out;
+use bfd_session::Answer;
+
+/// The discriminator that an output names.
+pub(crate) fn named(out: &Out) -> u32
+    ensures { result ≡ names.named out.now }
+{
+    match out {
+        Out::Changed { discr, .. } => *discr,
+        Out::Sent { discr, .. } => *discr,
+    }
+}
+
+/// How many packets an output tells of.
+pub(crate) fn packets(out: &Out) -> u64
+    ensures value { result ≡ sent_by out.now }
+    ensures few { result ≤ 1 }
+{
+    match out {
+        Out::Sent { .. } => 1,
+        Out::Changed { .. } => 0,
+    }
+}
+
+/// How many packets the outputs tell of.
+pub(crate) fn sent(outs: &[Out]) -> u64
+    ensures value { result ≡ sum_by sent_by outs.now }
+    ensures few { result ≤ length outs.now }
+{
+    let mut count = 0u64;
+    for out in outs {
+        count += packets(out);
+    }
+    count
+}
+
+/// How many packets the answer says were dropped.
+pub(crate) fn dropped(answer: &Answer) -> u64
+    ensures { result ≡ dropped_by answer.now }
+{
+    match answer {
+        Answer::Dropped(_) => 1,
+        Answer::Handled | Answer::Ticked | Answer::Refused(_) | Answer::Shown(_) => 0,
+    }
+}

@@ -1,0 +1,44 @@
+//! What the definitions promise by themselves, of tables that are dealt out.
+ghost use Rattle.std.specs.Prelude.{ℕ, ◌≡◌, ◌<◌, ◌/◌, ◌%◌, ◌++◌, ◌∷◌, [], List, map, slice_get};
+ghost use Rattle.std.specs.List.{filter_map};
+ghost use Rattle.bfd_session.specs.declared.event.Event.{Event};
+ghost use Rattle.bfd_session.specs.declared.event.SessionConfig.{SessionConfig};
+ghost use Rattle.bfd_session.specs.Kinds.{Running};
+ghost use Rattle.bfd_session.specs.Step.{started};
+ghost use Rattle.bfd_shard.specs.declared.entry.ShardEvent.{ShardEvent};
+ghost use Rattle.bfd_shard.specs.declared.entry.ShardEvent.TheVariants.{Own};
+ghost use Rattle.bfd_shard.specs.Dealing.{history_of, share};
+ghost use Rattle.bfd_shard.specs.History.{last_tick, moved, outcome_of, runs};
+ghost use Rattle.bfd_gather.specs.declared.queue.Numbered.{Numbered};
+ghost use Rattle.bfd_gather.specs.Pieces.{Piece, event_pieces};
+ghost use Rattle.bfd_gather.specs.Happenings.{Happening, AreParts, among, queue, told, told_whole};
+ghost use Rattle.bfd_gather.specs.Spread.{AreGathered};
+
+/// Laws of sessions that are dealt out, and no work. A shard's sessions after its history are those of the whole table after
+/// its events; the session at place k of the table stands at place k / shards of shard k % shards; an own event gives there what it gives of
+/// the table, and changes no session of another shard; and the events of a shard's queue are its history.
+#[tactic(auto, using(crate::proofs::Sharing::there, crate::proofs::Sharing::own_gives, crate::proofs::Sharing::own_away, crate::proofs::Histories::runs_share, crate::proofs::Histories::queue_events))]
+pub fn dealing_laws()
+    ensures sessions { (shards shard : ℕ) (events : List ShardEvent) (configs : List SessionConfig) → shard < shards
+        → runs (history_of shards shard events) (share shards shard configs) ≡ share shards shard (runs events configs) }
+    ensures at { (shards k : ℕ) (sessions : List Running) → 0 < shards → slice_get (share shards (k % shards) sessions) (k / shards) ≡ slice_get sessions k }
+    ensures own { (shards k moment last : ℕ) (event : Event) (sessions : List Running) → 0 < shards
+        → outcome_of last (Own (k / shards) moment event) (share shards (k % shards) sessions) ≡ outcome_of last (Own k moment event) sessions }
+    ensures others { (shards shard k moment last : ℕ) (event : Event) (sessions : List Running) → 0 < shards → shard < shards → (k % shards ≡ shard → ⊥)
+        → share shards shard (moved last (Own k moment event) sessions) ≡ share shards shard sessions }
+    ensures queue { (shards shard number : ℕ) (events : List Happening)
+        → map (λ e. e.event) (queue shards shard number events) ≡ history_of shards shard (filter_map among events) }
+{}
+
+/// Laws of what shards tell, and no work. One event more of a shard's queue adds the pieces of what it gives, of the sessions
+/// that the events before it left; and of a table whose sessions ascend by discriminator, the parts of any number of shards, taken in
+/// the order of a report, are the pieces of the whole table.
+#[tactic(auto, using(crate::proofs::Histories::told_runs, crate::proofs::Whole::parts_gathered))]
+pub fn telling_laws()
+    ensures more { (events : List Numbered) (event : Numbered) (configs : List SessionConfig)
+        → told 0 (events ++ event ∷ []) (map started configs)
+        ≡ told 0 events (map started configs) ++ event_pieces event.number event.event
+        (outcome_of (last_tick (map (λ e. e.event) events)) event.event (runs (map (λ e. e.event) events) configs)) }
+    ensures gathered { (shards number last : ℕ) (events : List Happening) (sessions : List Running) (parts : List (List Piece))
+        → AreParts shards number last events sessions parts → AreGathered parts (told_whole number last events sessions) }
+{}

@@ -1,0 +1,28 @@
+//! What the shards of a replay tell of their events, gathered into one report.
+//!
+//! A replay deals a table's sessions out to shards, and the events to the shards that have their sessions. Each shard tells
+//! what its events gave in a [`Part`], as text in pieces: all lines of an own event, or one line for each output of a tick,
+//! each piece with the number of its event and, of a tick, the discriminator that it names. [`report`] then takes the least
+//! piece of all parts, by event and then by discriminator, until none is left. A part more has what was told of events of no
+//! session.
+//!
+//! It stands on `bfd_shard` for what a shard's events give and on `bfd_script` for the lines, and knows no lock and no thread. It
+//! promises that of sessions that are dealt out each shard's are what the whole table's would be, and that the report of the
+//! shards' parts is the report of the whole table, byte for byte, for every number of shards.
+#![tactic(auto)]
+
+mod counts;
+mod gathering;
+mod key;
+mod law;
+mod part;
+mod queue;
+mod reporting;
+
+pub use law::{dealing_laws, telling_laws};
+pub use part::Part;
+pub use queue::{Numbered, deal};
+pub use reporting::report;
+
+#[cfg(test)]
+mod tests;

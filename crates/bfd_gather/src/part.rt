@@ -1,0 +1,215 @@
+//! What one shard tells of its events.
+ghost use Rattle.std.specs.Prelude.{◌≡◌, ◌<◌, ◌≤◌, ◌+◌, ◌++◌, ◌∷◌, [], IfOk, OnErr, OnOk, drop, length, map, take};
+ghost use Rattle.bfd_script.specs.Report.{event_lines};
+ghost use Rattle.bfd_gather.specs.Pieces.{texts, whole_piece, item_piece};
+ghost use Rattle.bfd_gather.specs.Inside.{mark_of, first_key, first_text, first_txs, first_drops};
+
+use crate::counts::{dropped, named, packets, sent};
+use crate::key::{Key, Mark};
+use bfd_rules::Out;
+use bfd_script::lines;
+use bfd_session::Answer;
+use std::alloc::{AllocError, Global};
+use std::marker::Model;
+
+/// What one shard tells of its events, or what is told of the events of no session: text in pieces, of which the first are
+/// taken off again. Its value is the pieces that are left.
+#[derive(Drop)]
+pub struct Part {
+    text: Vec<u8>,
+    marks: Vec<Mark>,
+    next: usize,
+    at: usize,
+}
+
+impl Model for Part {
+    ghost use Rattle.std.specs.Prelude.{List, drop};
+    ghost use Rattle.bfd_gather.specs.Pieces.{Piece};
+    ghost use Rattle.bfd_gather.specs.Inside.{IsPart, pieces_at};
+
+    ghost Value = { List Piece };
+
+    ghost view = { λ p. pieces_at (drop p.next p.marks.items) (drop p.at p.text.items) };
+
+    ghost invariant = { λ p. IsPart p.marks.items p.text.items p.next p.at };
+}
+
+/// Appends the text of an event, and its mark.
+fn append_event(
+    marks: &mut Vec<Mark>,
+    text: &mut Vec<u8>,
+    number: u64,
+    outs: &[Out],
+    answer: &Answer,
+) -> Result<(), AllocError>
+    ensures text { OnOk result (text.new.items ≡ text.old.items ++ (whole_piece number (record { items = outs.now; answer = answer.now })).text) }
+    ensures mark { OnOk result (marks.new.items ≡ marks.old.items ++ mark_of (whole_piece number (record { items = outs.now; answer = answer.now })) ∷ []) }
+    ensures same_text { OnErr result (text.new.items ≡ text.old.items) }
+    ensures same_marks { OnErr result (marks.new.items ≡ marks.old.items) }
+{
+    marks.reserve(1)?;
+    let before = text.len();
+    lines(number, outs, answer, text)?;
+    let mark = Mark {
+        key: Key {
+            event: number,
+            discr: 0,
+        },
+        long: text.len() - before,
+        txs: sent(outs),
+        drops: dropped(answer),
+    };
+    marks.push_reserved(mark);
+    Ok(())
+}
+
+/// Appends the lines of outputs, and gives how long they are.
+fn append_lines(text: &mut Vec<u8>, number: u64, item: &[Out]) -> Result<usize, AllocError>
+    ensures text { OnOk result (text.new.items ≡ text.old.items ++ event_lines number (record { items = item.now; answer = Answer.Handled })) }
+    ensures long { IfOk result (λ long. long ≡ length (event_lines number (record { items = item.now; answer = Answer.Handled }))) }
+    ensures same { OnErr result (text.new.items ≡ text.old.items) }
+{
+    let before = text.len();
+    lines(number, item, &Answer::Handled, text)?;
+    Ok(text.len() - before)
+}
+
+/// The mark of one output of a tick, whose line is so long.
+#[tactic(auto, using(crate::proofs::Marks::one_mark))]
+fn item_mark(number: u64, item: &[Out], long: usize) -> Mark
+    requires one { length item.now ≡ 1 }
+    requires long { long ≡ length (event_lines number (record { items = item.now; answer = Answer.Handled })) }
+    ensures { result ∷ [] ≡ map mark_of (map (item_piece number) item.now) }
+{
+    let out = &item[0];
+    Mark {
+        key: Key {
+            event: number,
+            discr: named(out),
+        },
+        long,
+        txs: packets(out),
+        drops: 0,
+    }
+}
+
+/// Appends the line of one output of a tick, and its mark.
+#[tactic(auto, using(crate::proofs::Marks::one_text))]
+fn append_item(
+    marks: &mut Vec<Mark>,
+    text: &mut Vec<u8>,
+    number: u64,
+    item: &[Out],
+) -> Result<(), AllocError>
+    requires { length item.now ≡ 1 }
+    ensures text { OnOk result (text.new.items ≡ text.old.items ++ texts (map (item_piece number) item.now)) }
+    ensures mark { OnOk result (marks.new.items ≡ marks.old.items ++ map mark_of (map (item_piece number) item.now)) }
+    ensures same_text { OnErr result (text.new.items ≡ text.old.items) }
+    ensures same_marks { OnErr result (marks.new.items ≡ marks.old.items) }
+{
+    marks.reserve(1)?;
+    let long = append_lines(text, number, item)?;
+    marks.push_reserved(item_mark(number, item, long));
+    Ok(())
+}
+
+/// Appends the lines of the outputs of a tick, and their marks; or none of them.
+fn append_items(
+    marks: &mut Vec<Mark>,
+    text: &mut Vec<u8>,
+    number: u64,
+    outs: &[Out],
+) -> Result<(), AllocError>
+    ensures text { OnOk result (text.new.items ≡ text.old.items ++ texts (map (item_piece number) outs.now)) }
+    ensures mark { OnOk result (marks.new.items ≡ marks.old.items ++ map mark_of (map (item_piece number) outs.now)) }
+    ensures same_text { OnErr result (text.new.items ≡ text.old.items) }
+    ensures same_marks { OnErr result (marks.new.items ≡ marks.old.items) }
+{
+    let (marks_before, text_before) = (marks.len(), text.len());
+    for at in 0..outs.len() {
+        if let Err(error) = append_item(marks, text, number, &outs[at..at + 1]) {
+            marks.truncate(marks_before);
+            text.truncate(text_before);
+            return Err(error);
+        }
+    }
+    Ok(())
+}
+
+/// Appends so many bytes of the text, from `at` on.
+fn copy(from: &[u8], at: usize, long: usize, text: &mut Vec<u8>) -> Result<(), AllocError>
+    requires { at + long ≤ length from.now }
+    ensures text { OnOk result (text.new.items ≡ text.old.items ++ take long (drop at from.now)) }
+    ensures long { OnOk result (length text.new.items ≡ length text.old.items + long) }
+    ensures same { OnErr result (text.new.items ≡ text.old.items) }
+{
+    text.extend_from_slice(&from[at..at + long])
+}
+
+impl Part {
+    /// A part that tells nothing.
+    pub fn new(alloc: Global) -> Part
+        ensures { result ≡ [] }
+    {
+        Part {
+            text: Vec::new(alloc),
+            marks: Vec::new(alloc),
+            next: 0,
+            at: 0,
+        }
+    }
+
+    /// Tells all that an event of one session, or of none, gave. `number` is the event's in the replay. The one refusal is
+    /// want of memory, and then the part is as before.
+    pub fn tell_event(
+        &mut self,
+        number: u64,
+        outs: &[Out],
+        answer: &Answer,
+    ) -> Result<(), AllocError>
+        ensures told { OnOk result (self.new ≡ self.old ++ whole_piece number (record { items = outs.now; answer = answer.now }) ∷ []) }
+        ensures same { OnErr result (self.new ≡ self.old) }
+    {
+        append_event(&mut self.marks, &mut self.text, number, outs, answer)
+    }
+
+    /// Tells what a tick put out, one piece for each output. `number` is the tick's in the replay. The one refusal is want of
+    /// memory, and then the part is as before.
+    pub fn tell_tick(&mut self, number: u64, outs: &[Out]) -> Result<(), AllocError>
+        ensures told { OnOk result (self.new ≡ self.old ++ map (item_piece number) outs.now) }
+        ensures same { OnErr result (self.new ≡ self.old) }
+    {
+        append_items(&mut self.marks, &mut self.text, number, outs)
+    }
+
+    /// The key of the first piece that is left.
+    pub(crate) fn first(&self) -> Option<Key>
+        ensures { result ≡ first_key self.now }
+    {
+        if self.next < self.marks.len() {
+            Some(self.marks[self.next].key)
+        } else {
+            None
+        }
+    }
+
+    /// Takes the first piece off, appends its text, and gives how many packets it tells were sent and were dropped. The one
+    /// refusal is want of memory, and then all is as before.
+    #[tactic(auto, using(crate::proofs::Marks::first_fits, crate::proofs::Marks::has_next))]
+    pub(crate) fn take(&mut self, text: &mut Vec<u8>) -> Result<(u64, u64), AllocError>
+        requires { 0 < length self.old }
+        ensures rest { OnOk result (self.new ≡ drop 1 self.old) }
+        ensures text { OnOk result (text.new.items ≡ text.old.items ++ first_text self.old) }
+        ensures txs { IfOk result (λ counts. counts.0 ≡ first_txs self.old) }
+        ensures drops { IfOk result (λ counts. counts.1 ≡ first_drops self.old) }
+        ensures few { IfOk result (λ counts. counts.0 + counts.1 + length text.old.items ≤ length text.new.items) }
+        ensures same { OnErr result (self.new ≡ self.old) }
+        ensures same_text { OnErr result (text.new.items ≡ text.old.items) }
+    {
+        let mark = self.marks[self.next];
+        copy(&self.text, self.at, mark.long, text)?;
+        self.next += 1;
+        self.at += mark.long;
+        Ok((mark.txs, mark.drops))
+    }
+}

@@ -1,0 +1,32 @@
+//! The report of the parts of a replay.
+ghost use Rattle.std.specs.Prelude.{ℕ, ◌≡◌, List, IfOk, length, string_bytes};
+ghost use Rattle.bfd_session.specs.Kinds.{Running};
+ghost use Rattle.bfd_script.specs.Report.{done_line};
+ghost use Rattle.bfd_script.specs.Report as script;
+ghost use Rattle.bfd_gather.specs.Happenings.{Happening, AreParts, outcomes};
+
+use crate::gathering::gather;
+use crate::part::Part;
+use std::alloc::{AllocError, Global};
+
+/// The last line of a report.
+fn done_text(alloc: Global, events: u64, txs: u64, drops: u64) -> Result<String, AllocError>
+    ensures { IfOk result (λ text. string_bytes text ≡ done_line events txs drops) }
+{
+    format!(in alloc; "done {events} {txs} {drops}\n")
+}
+
+/// The report of a replay of so many events, of the parts of its shards and, last, of what was told of events of no session:
+/// it is what the whole table would tell, whatever the number of shards. The one refusal is want of memory.
+
+pub fn report(alloc: Global, parts: Vec<Part>, events: u64) -> Result<Vec<u8>, AllocError>
+    ensures { (shards last : ℕ) (happenings : List Happening) (sessions : List Running) → length happenings ≡ events
+        → AreParts shards 1 last happenings sessions parts.items → IfOk result (λ text. text.items ≡ script.report (outcomes last happenings sessions)) }
+{
+    let mut parts = parts;
+    let mut text = Vec::new(alloc);
+    let (txs, drops) = gather(&mut parts, &mut text)?;
+    let done = done_text(alloc, events, txs, drops)?;
+    text.extend_from_slice(done.as_bytes())?;
+    Ok(text)
+}
