@@ -1,8 +1,4 @@
-pub mod Ticks
+pub mod Routing
 pub mod Searches
-pub mod Loops
-pub mod Turns
 pub mod Kept
-pub mod Stages
-pub mod Counts
-pub mod Telling
+pub mod Tables

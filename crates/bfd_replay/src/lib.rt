@@ -8,7 +8,4 @@
 //! which knows of no table, no index and no due tick.
 #![tactic(auto)]
 
-mod replaying;
-mod world;
-
-pub use replaying::replay;
+mod routing;
