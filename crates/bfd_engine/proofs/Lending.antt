@@ -1,15 +1,21 @@
 -- A turn that is held, and one that isn't given.
-use Rattle.std.proofs.Common.{◌≡◌, ◌≢◌, ◌<◌, ◌+◌, ◌++◌, [], ℕ, All, List, set, Option, Some, None, slice_get, refl, ap, sym, ◌∙◌, subst, arith}
+use Rattle.std.proofs.Common.{◌≡◌, ◌≢◌, ◌<◌, ◌+◌, ◌++◌, [], ℕ, All, List, set, length-set, Option, Some, None, slice_get, refl, ap, sym, ◌∙◌, subst, arith}
 use Rattle.bfd_turn.specs.Lists.{calls}
-use Rattle.bfd_turn.specs.Passes.{TableId, WasBusy, WasSpent, having_met, having_done}
+use mathlib.Core.Logic.{dite}
+use native.Mathlib.Decide.{ℕ_discrete}
+use Rattle.bfd_turn.specs.Passes.{TableId, IsBack, WasBusy, WasSpent, having_met}
+use Rattle.bfd_turn.specs.Refusals.{IsRefused}
+use Rattle.bfd_turn.specs.declared.fault.TryFault.{TryFault}
+use Rattle.bfd_turn.specs.declared.fault.TryFault.TheVariants.{Busy as TryBusy, Spent as TrySpent}
+use Rattle.bfd_engine.specs.declared.kept.Base.{Base}
 use Rattle.bfd_turn.specs.Plays.{Adds}
 use Rattle.bfd_shard.specs.declared.entry.Entry.{Entry}
 use Rattle.bfd_engine.specs.declared.holding.HoldFault.TheVariants.{Busy, Spent}
 use Rattle.bfd_engine.specs.Turned.{by, OfShard}
-use Rattle.bfd_engine.specs.Engines.{Shards, Held, Knows, IsOf, IsCallers}
+use Rattle.bfd_engine.specs.Engines.{Shards, Held, Knows, IsOf, IsCallers, base_at}
 use Rattle.bfd_engine.specs.Calls.{seen_of, word_of, taken_of, made_of, kept_of, seen_at}
 use Rattle.bfd_engine.specs.Holds.{HasTaken, HasMet, IsHeld, IsKept}
-use Rattle.bfd_engine.proofs.Places.{K, within, set_here, of_set}
+use Rattle.bfd_engine.proofs.Places.{K, within, set_here, set_else, same_held}
 use Rattle.bfd_engine.proofs.Turning.{at_place, elsewhere, same_at}
 
 pub has_taken : (engine : Shards) (shard : ℕ) (k l : Knows) (p : K) (id : TableId) (w : OfShard) (notes : List Entry) → IsOf engine k.1
@@ -56,3 +62,35 @@ was_busy k l shard read found p q here is met busy = (has_met k l shard found p 
 pub was_spent : (k l : Knows) (shard word : ℕ) (p q : K) → slice_get k.1 shard ≡ Some (Some p) → l ≡ (k.0, set k.1 shard (Some q), k.2)
     → q.1 ≡ having_met word p.1 → WasSpent p.1 word → IsKept (Spent word) shard k l
 was_spent k l shard word p q here is met spent = (has_met k l shard word p q here is met, (p, here, spent))
+
+-- what a refusal tells, of the fault that it is
+pub busy_is : (id : TableId) (v : OfShard) (f : TryFault Entry Base) (pass : K) (read found : ℕ) → f ≡ TryBusy pass read found → IsRefused id v f
+    → IsBack id v found pass × WasBusy v read found
+busy_is id v f pass read found is h = subst (IsRefused id v) is h
+
+pub spent_is : (id : TableId) (v : OfShard) (f : TryFault Entry Base) (pass : K) (word : ℕ) → f ≡ TrySpent pass word → IsRefused id v f
+    → IsBack id v word pass × WasSpent v word
+spent_is id v f pass word is h = subst (IsRefused id v) is h
+
+-- a pass of its lock and base is put back where a turn was held
+pub of_back : (engine : Shards) (ps : List Held) (at : ℕ) (q : K) → slice_get ps at ≡ Some None → slice_get engine.locks at ≡ Some q.0
+    → q.1.base ≡ Some (base_at engine at) → IsOf engine ps → IsOf engine (set ps at (Some q))
+of_back engine ps at q out lock base of =
+    let here : slice_get (set ps at (Some q)) at ≡ Some (Some q) = set_here ps at (Some q) (within ps at None out) in record {
+      long = length-set ps at (Some q) ∙ of.long;
+      lock = λ k r e. dite (ℕ_discrete k at)
+          (λ is. (let qr : q ≡ r = same_held q r (slice_get (set ps at (Some q)) at) here (ap (slice_get (set ps at (Some q))) (sym is) ∙ e) in
+              ap (slice_get engine.locks) is ∙ (lock ∙ ap (λ (x : K). Some x.0) qr)))
+          (λ other. of.lock k r (sym (set_else ps at k (Some q) other) ∙ e));
+      base_is = λ k r e. dite (ℕ_discrete k at)
+          (λ is. (let qr : q ≡ r = same_held q r (slice_get (set ps at (Some q)) at) here (ap (slice_get (set ps at (Some q))) (sym is) ∙ e) in
+              ap (λ (x : K). x.1.base) (sym qr) ∙ (base ∙ ap (λ s. Some (base_at engine s)) (sym is))))
+          (λ other. of.base_is k r (sym (set_else ps at k (Some q) other) ∙ e));
+    }
+
+-- a pass that gave its turn back is the caller's still
+pub still : (number used : ℕ) (p q : OfShard) → q.number ≡ p.number → q.made ≡ p.made → IsCallers number used p → IsCallers number used q
+still number used p q same made c = record {
+  number_is = same ∙ c.number_is;
+  used_up = subst (λ (ms : List ℕ). All (λ m. m < used + 1) ms) (sym made) c.used_up;
+}

@@ -1,6 +1,6 @@
 //! A shard's history, as a caller reads it.
 ghost use Rattle.std.specs.Prelude.{◌≡◌, ◌≤◌, ◌<◌, ◌++◌, IfOk, IfErr, OnOk, length, drop};
-ghost use Rattle.bfd_engine.specs.Calls.{seen_at};
+ghost use Rattle.bfd_engine.specs.Calls.{fault_of, seen_at};
 ghost use Rattle.bfd_engine.specs.Engines.{IsOf, AllThere, configs_at};
 ghost use Rattle.bfd_engine.specs.Reads.{HasRead, IsUnread, IsUnreadAt, AreGiven};
 ghost use Rattle.bfd_engine.specs.Turned.{HasLooked, IsSame, configs_in};
@@ -61,6 +61,33 @@ fn read_with<W: Timers, R: Wait>(
 }
 
 impl<W: Timers> Engine<W> {
+    /// The same, under a turn of the engine's lock.
+    fn read_on<R: Wait>(
+        &self,
+        rt: &R,
+        alloc: Global,
+        pass: &mut EnginePass,
+        shard: u32,
+        from: usize,
+    ) -> Result<Vec<Entry>, TurnFault>
+        requires of { IsOf self.now pass.old.1 }
+        requires there { AllThere pass.old.1 }
+        requires shard { shard < length self.now.locks }
+        requires from { from ≤ length (seen_at pass.old shard) }
+        ensures of { IsOf self.now pass.new.1 }
+        ensures there { AllThere pass.new.1 }
+        ensures read { HasRead pass.old pass.new shard }
+        ensures list { IfOk result (λ list. list.items ≡ drop from (seen_at pass.new shard)) }
+        ensures given { IfOk result (λ list. AreGiven (configs_at self.now shard) list.items) }
+        ensures fault { IfErr result (λ fault. IsUnreadAt (fault_of shard fault) shard pass.new) }
+    {
+        let at = shard as usize;
+        let own = pass.lift(at);
+        let (back, outcome) = read_with(rt, alloc, &self.locks[at], own, from);
+        pass.put(at, back);
+        outcome
+    }
+
     /// Appends a shard's history from a place on, which is at most the length of what the pass has seen of it; the pass has then
     /// seen it whole. It may wait.
     ///
@@ -86,11 +113,7 @@ impl<W: Timers> Engine<W> {
         ensures given { OnOk result (AreGiven (configs_at self.now shard) (drop from (seen_at pass.new shard))) }
         ensures fault { IfErr result (λ fault. (out.new.items ≡ out.old.items) × IsUnreadAt fault shard pass.new) }
     {
-        let at = shard as usize;
-        let own = pass.lift(at);
-        let (back, outcome) = read_with(rt, alloc, &self.locks[at], own, from);
-        pass.put(at, back);
-        match outcome {
+        match self.read_on(rt, alloc, pass, shard, from) {
             Ok(mut list) => match out.append(&mut list) {
                 Ok(()) => Ok(()),
                 Err(_) => Err(EngineFault::Memory),

@@ -1,0 +1,58 @@
+-- The turn is the pass's, or the pass is put back in its place.
+use Rattle.std.proofs.Common.{◌≡◌, ◌∙◌, get_or, Some, None, slice_set, set-set, sym, ap, refl, subst}
+use Rattle.std.proofs.lemmas.Option.{get_or_from_slice_get}
+use Rattle.bfd_turn.specs.Passes.{IsBack, WasBusy, WasSpent}
+use Rattle.bfd_engine.specs.Turned.{OfShard}
+use Rattle.bfd_engine.specs.Engines.{Shards, Knows, IsOf}
+use Rattle.bfd_engine.proofs.Places.{of_set, none_set}
+use Rattle.bfd_engine.proofs.Lending.{has_taken, busy_is, spent_is, was_busy, was_spent}
+use Rattle.bfd_engine.proofs.engine.Engine.try_hold.Goals as goal
+
+pub returns-in-Ok-clause-of : goal.returns-in-Ok-clause-of
+returns-in-Ok-clause-of g c =
+    subst (IsOf c.args.self.now) (sym (ap (λ (k : Knows). k.1) c.lift-own.ensures.rest))
+    (none_set c.args.self.now c.args.pass.now.1 c.args.shard c.lift-own.result c.lift-own.ensures.pass c.requires.of)
+
+pub returns-in-Ok-clause-hold : goal.returns-in-Ok-clause-hold
+returns-in-Ok-clause-hold g c =
+    let lock : c.lift-own.result.0 ≡ c.index.result.now =
+    sym (get_or_from_slice_get c.args.self.now.locks c.args.shard c.lift-own.result.0 c.index.result.now (c.requires.of.lock c.args.shard c.lift-own.result c.lift-own.ensures.pass))
+    ∙ (ap (λ (e : Shards). get_or e.locks c.args.shard c.index.result.now) (sym c.self.view_is) ∙ sym c.index.ensures) in
+    has_taken c.args.self.now c.args.shard c.args.pass.now c.lift-own.new.self c.lift-own.result c.in-Ok.turn.0 c.in-Ok.turn.1 c.in-Ok.turn.2.shard.journal c.requires.of
+    c.lift-own.ensures.pass c.lift-own.ensures.callers c.lift-own.ensures.rest (c.in-Ok.ensures.0 ∙ sym lock) c.in-Ok.ensures.1.same c.in-Ok.ensures.1.later c.in-Ok.ensures.1.adds
+
+pub returns-in-Err-Busy-clause-of : goal.returns-in-Err-Busy-clause-of
+returns-in-Err-Busy-clause-of g c =
+    let e : IsBack c.index.result.now c.lift-own.result.1 c.in-Err-Busy.found c.in-Err-Busy.back × WasBusy c.lift-own.result.1 c.in-Err-Busy.read c.in-Err-Busy.found = busy_is c.index.result.now c.lift-own.result.1 c.in-Err-Busy.field-0 c.in-Err-Busy.back c.in-Err-Busy.read c.in-Err-Busy.found c.in-Err-Busy.field-0-is c.in-Err-Busy.ensures in
+    let is : c.put.new.self ≡ (c.args.pass.now.0, slice_set c.args.pass.now.1 c.args.shard (Some c.in-Err-Busy.back), c.args.pass.now.2) = rw (c.put.ensures, c.lift-own.ensures.rest, set-set) refl in
+    let lock : c.lift-own.result.0 ≡ c.index.result.now =
+    sym (get_or_from_slice_get c.args.self.now.locks c.args.shard c.lift-own.result.0 c.index.result.now (c.requires.of.lock c.args.shard c.lift-own.result c.lift-own.ensures.pass))
+    ∙ (ap (λ (e : Shards). get_or e.locks c.args.shard c.index.result.now) (sym c.self.view_is) ∙ sym c.index.ensures) in
+    subst (IsOf c.args.self.now) (sym (ap (λ (k : Knows). k.1) is))
+    (of_set c.args.self.now c.args.pass.now.1 c.args.shard c.lift-own.result c.in-Err-Busy.back c.lift-own.ensures.pass
+    (e.0.0 ∙ sym lock) (ap (λ (v : OfShard). v.base) e.0.1) c.requires.of)
+
+pub returns-in-Err-Busy-clause-kept : goal.returns-in-Err-Busy-clause-kept
+returns-in-Err-Busy-clause-kept g c =
+    let e : IsBack c.index.result.now c.lift-own.result.1 c.in-Err-Busy.found c.in-Err-Busy.back × WasBusy c.lift-own.result.1 c.in-Err-Busy.read c.in-Err-Busy.found = busy_is c.index.result.now c.lift-own.result.1 c.in-Err-Busy.field-0 c.in-Err-Busy.back c.in-Err-Busy.read c.in-Err-Busy.found c.in-Err-Busy.field-0-is c.in-Err-Busy.ensures in
+    let is : c.put.new.self ≡ (c.args.pass.now.0, slice_set c.args.pass.now.1 c.args.shard (Some c.in-Err-Busy.back), c.args.pass.now.2) = rw (c.put.ensures, c.lift-own.ensures.rest, set-set) refl in
+    was_busy c.args.pass.now c.put.new.self c.args.shard c.in-Err-Busy.read c.in-Err-Busy.found c.lift-own.result c.in-Err-Busy.back c.lift-own.ensures.pass is
+    e.0.1 e.1
+
+pub returns-in-Err-Spent-clause-of : goal.returns-in-Err-Spent-clause-of
+returns-in-Err-Spent-clause-of g c =
+    let e : IsBack c.index.result.now c.lift-own.result.1 c.in-Err-Spent.word c.in-Err-Spent.back × WasSpent c.lift-own.result.1 c.in-Err-Spent.word = spent_is c.index.result.now c.lift-own.result.1 c.in-Err-Spent.field-0 c.in-Err-Spent.back c.in-Err-Spent.word c.in-Err-Spent.field-0-is c.in-Err-Spent.ensures in
+    let is : c.put-in-Err-Spent.new.self ≡ (c.args.pass.now.0, slice_set c.args.pass.now.1 c.args.shard (Some c.in-Err-Spent.back), c.args.pass.now.2) = rw (c.put-in-Err-Spent.ensures, c.lift-own.ensures.rest, set-set) refl in
+    let lock : c.lift-own.result.0 ≡ c.index.result.now =
+    sym (get_or_from_slice_get c.args.self.now.locks c.args.shard c.lift-own.result.0 c.index.result.now (c.requires.of.lock c.args.shard c.lift-own.result c.lift-own.ensures.pass))
+    ∙ (ap (λ (e : Shards). get_or e.locks c.args.shard c.index.result.now) (sym c.self.view_is) ∙ sym c.index.ensures) in
+    subst (IsOf c.args.self.now) (sym (ap (λ (k : Knows). k.1) is))
+    (of_set c.args.self.now c.args.pass.now.1 c.args.shard c.lift-own.result c.in-Err-Spent.back c.lift-own.ensures.pass
+    (e.0.0 ∙ sym lock) (ap (λ (v : OfShard). v.base) e.0.1) c.requires.of)
+
+pub returns-in-Err-Spent-clause-kept : goal.returns-in-Err-Spent-clause-kept
+returns-in-Err-Spent-clause-kept g c =
+    let e : IsBack c.index.result.now c.lift-own.result.1 c.in-Err-Spent.word c.in-Err-Spent.back × WasSpent c.lift-own.result.1 c.in-Err-Spent.word = spent_is c.index.result.now c.lift-own.result.1 c.in-Err-Spent.field-0 c.in-Err-Spent.back c.in-Err-Spent.word c.in-Err-Spent.field-0-is c.in-Err-Spent.ensures in
+    let is : c.put-in-Err-Spent.new.self ≡ (c.args.pass.now.0, slice_set c.args.pass.now.1 c.args.shard (Some c.in-Err-Spent.back), c.args.pass.now.2) = rw (c.put-in-Err-Spent.ensures, c.lift-own.ensures.rest, set-set) refl in
+    was_spent c.args.pass.now c.put-in-Err-Spent.new.self c.args.shard c.in-Err-Spent.word c.lift-own.result c.in-Err-Spent.back c.lift-own.ensures.pass is
+    e.0.1 e.1
