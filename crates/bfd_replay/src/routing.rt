@@ -131,7 +131,7 @@ fn asked(configs: &[Config], moment: Moment, discr: u32, event: Event) -> Route
 }
 
 /// What a line is.
-pub(crate) fn route(demux: &Demux, configs: &[Config], pool: &[Reflector], line: Line) -> Route
+pub(crate) fn route_of(demux: &Demux, configs: &[Config], pool: &[Reflector], line: Line) -> Route
     requires table { demux.now ≡ table_of configs.now pool.now }
     requires ascends { Ascends configs.now }
     requires few { length configs.now ≤ 65536 }

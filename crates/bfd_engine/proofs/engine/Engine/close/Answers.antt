@@ -1,5 +1,6 @@
 -- Lock by lock, the pass of the next shard closes it.
 use Rattle.std.proofs.Common.{rules, ◌≡◌, ◌+◌, ◌++◌, ◌∷◌, [], List, ℕ, Some, None, slice_get, slice_set, length, length-append, append-nil, append_assoc, refl, ap, sym, ◌∙◌, subst, arith}
+use Rattle.std.proofs.lemmas.List.{nil_from_length}
 use Rattle.bfd_engine.specs.Engines.{Held}
 use Rattle.bfd_engine.proofs.Closing.{next_pass, lifted, joined_here, LeftFrom, left_more, ended_more}
 use Rattle.bfd_engine.proofs.engine.Engine.close.Goals as goal
@@ -59,7 +60,10 @@ loop-lock-preserved g c =
     }
 
 pub returns-clause-closed : goal.returns-clause-closed
-returns-clause-closed g c = let i = c.loop-lock.invariant in record {
-      long = i.long ∙ (sym (ap length (ap (λ l. c.loop-lock.yielded ++ l) c.in-None.ensures.steps ∙ append-nil c.loop-lock.yielded)) ∙ ap length i.all);
+returns-clause-closed g c =
+    let i = c.loop-lock.invariant in
+    let none : c.loop-lock.lock-iterator.rest.items ≡ [] =
+    nil_from_length c.loop-lock.lock-iterator.rest.items (sym c.loop-lock.lock-iterator.rest.ok.0 ∙ c.in-None.ensures.steps.0) in record {
+      long = i.long ∙ (sym (ap length (ap (λ l. c.loop-lock.yielded ++ l) none ∙ append-nil c.loop-lock.yielded)) ∙ ap length i.all);
       each = i.ended.each;
     }
