@@ -1,4 +1,9 @@
-pub mod Routing
+pub mod Standing
 pub mod Searches
 pub mod Kept
 pub mod Tables
+pub mod Planning
+pub mod Soles
+pub mod Courses
+pub mod Passes
+pub mod Endings

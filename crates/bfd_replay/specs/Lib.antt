@@ -1,2 +1,5 @@
 pub mod World
 pub mod Planned
+pub mod Working
+pub mod Jobs
+pub mod Ends

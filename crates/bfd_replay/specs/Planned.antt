@@ -1,6 +1,6 @@
 -- What each line of a script is, where its sessions are dealt out to shards.
-use Rattle.std.specs.Prelude.{ℕ, ◌≡◌, ◌<◌, ◌≤◌, ◌+◌, List, [], ◌∷◌, length, map, slice_get, Option, None, Some, Result, Ok, Err}
-use Rattle.std.specs.List.{AllByRecursion, filter_map}
+use Rattle.std.specs.Prelude.{ℕ, ◌≡◌, ◌<◌, ◌≤◌, ◌+◌, ◌++◌, List, [], ◌∷◌, length, map, slice_get, slice_index_or, Option, None, Some, Result, Ok, Err}
+use Rattle.std.specs.List.{AllByRecursion, cons_option, filter_map}
 use Rattle.bfd_packet.specs.declared.arrival.Datagram.{Datagram}
 use Rattle.bfd_packet.specs.declared.discard.Test.{Test}
 use Rattle.bfd_rules.specs.declared.outputs.Out.TheVariants.{Sent}
@@ -17,7 +17,9 @@ use Rattle.bfd_script.specs.declared.entries.Line.{Line}
 use Rattle.bfd_script.specs.Doing.{Doing, Rests, Reflects, Happens, Passes, doing}
 use Rattle.bfd_script.specs.Reading.{Lists}
 use Rattle.bfd_script.specs.Sound.{AreConfigs, ArePool, AreApart}
-use Rattle.bfd_gather.specs.Happenings.{Happening, Apart, Among, among}
+use Rattle.bfd_gather.specs.declared.queue.Numbered.{Numbered}
+use Rattle.bfd_gather.specs.Pieces.{Piece}
+use Rattle.bfd_gather.specs.Happenings.{Happening, Apart, Among, among, in_shard, numbered, queue, told_apart}
 use Rattle.bfd_replay.specs.declared.routing.Route.{Route}
 use Rattle.bfd_replay.specs.declared.routing.Route.TheVariants as routes
 
@@ -70,3 +72,14 @@ pub record IsTable (sessions : List SessionConfig) (reflectors : List Reflector)
   pub pool : ArePool reflectors
   pub apart : AreApart sessions reflectors
   pub few : length sessions + length reflectors ≤ 65536
+
+-- the queues of so many shards, of all these events
+pub record AreQueues (shards : ℕ) (events : List Happening) (queues : List (List Numbered)) : Type 0 where
+  pub long : length queues ≡ shards
+  pub each : (shard : ℕ) → shard < shards → slice_index_or queues shard [] ≡ queue shards shard 1 events
+
+-- the event of this number was taken into the queues, and into what is told of the events of no session
+pub record IsPlanned (number : ℕ) (h : Happening) (before after : List (List Numbered)) (apart apart2 : List Piece) : Type 0 where
+  pub queued : (shard : ℕ) → shard < length before
+      → slice_index_or after shard [] ≡ slice_index_or before shard [] ++ cons_option (numbered number (in_shard (length before) shard h)) []
+  pub told : apart2 ≡ apart ++ told_apart number (h ∷ [])

@@ -8,4 +8,7 @@
 //! which knows of no table, no index and no due tick.
 #![tactic(auto)]
 
+mod jobs;
+mod plan;
 mod routing;
+mod working;

@@ -112,7 +112,7 @@ fn place_of(configs: &[Config], discr: u32) -> Option<usize>
 }
 
 /// What a command or a question to the session with this discriminator is.
-#[tactic(auto, using(crate::proofs::Routing::taken_within))]
+#[tactic(auto, using(crate::proofs::Standing::taken_within))]
 fn asked(configs: &[Config], moment: Moment, discr: u32, event: Event) -> Route
     requires free { (config : SessionConfig) → CanTake config event }
     requires ascends { Ascends configs.now }
