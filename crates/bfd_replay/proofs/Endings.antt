@@ -23,7 +23,7 @@ use Rattle.bfd_engine.specs.Passes.{EachJoined, IsClosed, AreClosed}
 use Rattle.bfd_gather.specs.declared.queue.Numbered.{Numbered}
 use Rattle.bfd_gather.specs.Pieces.{Piece}
 use Rattle.bfd_gather.specs.Happenings.{told}
-use Rattle.bfd_replay.specs.Working.{entries, events_in, HasDoneAt, HasFinished, HasLeft, HasStopped, HasUsed, IsIdle, IsSole, IsStop, IsStopAt}
+use Rattle.bfd_replay.specs.Working.{AreMet, entries, events_in, IsReady, HasDoneAt, HasFinished, HasLeft, HasStopped, HasUsed, IsIdle, IsSole, IsStop, IsStopAt}
 use Rattle.bfd_replay.specs.Jobs.{AllJoined, AreJobs, AreJoined, AreOwn, HasEnded, HasWorked, IsFresh, IsJoining, IsNewJob, Work, number_of, own_queue}
 use Rattle.bfd_replay.specs.Ends.{AreStates, AreTold, IsDoneJob, IsFine, IsState, IsTold}
 use Rattle.bfd_replay.proofs.Soles.{all_calls, front_sole, sole_of}
@@ -290,7 +290,7 @@ state_at : (engine : Shards) (queues : List (List Numbered)) (workers : ℕ) (k 
 state_at engine queues workers k l works shards tolds s shard c all_ok e =
     let h : s < length engine.locks = (let a = slice_get_within shards s shard e in let b = c.closed.long in omega (arith, a, b)) in
     let closed = c.closed.each s shard e in
-    let inside : s % workers < length works = (let a = mod-lt s workers c.atend.some in let b = c.atend.long in omega (arith, a, b)) in
+    let inside : s % workers < length works = (let a = mod-lt s c.atend.some in let b = c.atend.long in omega (arith, a, b)) in
     let some : (v : Work) × (slice_get works (s % workers) ≡ Some v) = work_there (s % workers) works inside in
     let v = some.0 in
     let d = c.atend.each (s % workers) v some.1 in
@@ -310,3 +310,53 @@ states engine queues workers k l works shards tolds c all_ok = record {
   long = c.closed.long;
   each = λ s shard e. state_at engine queues workers k l works shards tolds s shard c all_ok e;
 }
+
+-- a new job is ready to be worked on
+met_by : (b : Bool) (engine : Shards) (s : ℕ) (queue : List Numbered) → AreMet engine s queue → AreMet engine s (if b then queue else [])
+met_by true engine s queue met = met
+met_by false engine s queue met = tt
+
+ready_own : (engine : Shards) (queues : List (List Numbered)) (workers i s : ℕ) (own : List (List Numbered)) → AreOwn workers i queues own → s < length queues → AreMet engine s (slice_index_or queues s []) → AreMet engine s (slice_index_or own s [])
+ready_own engine queues workers i s own are h met =
+    subst (AreMet engine s) (sym (are.each s h)) (met_by (s % workers == i) engine s (slice_index_or queues s []) met)
+
+pub all_ready : (engine : Shards) (queues : List (List Numbered)) (workers at : ℕ) (l : Knows) (works : List Work) → 0 < length engine.locks → length engine.locks ≤ 64 → length queues ≡ length engine.locks
+    → ((s : ℕ) → s < length engine.locks → AreMet engine s (slice_index_or queues s [])) → AreJobs engine queues workers at l works → (i : ℕ) (d : Work) → i < length works
+    → IsReady engine (get_or works i d).queues (get_or works i d).pass
+all_ready engine queues workers at l works some few long met jobs i d h =
+    let w = jobs.each i (get_or works i d) (slice_get-get_or works i d h) in
+    record {
+      of = w.of; there = w.there; some = some; few = few; long = w.own.long ∙ long;
+      met = λ s inside. ready_own engine queues workers i s (get_or works i d).queues w.own (omega (arith, inside, long)) (met s inside);
+      idle = w.idle;
+    }
+
+ok_is : (a b : List (List Piece)) → ◌≡◌ {A = Result (List (List Piece)) EngineFault} (Ok a) (Ok b) → a ≡ b
+ok_is a b e = cc
+
+-- the parts of all workers
+pub told_all : (engine : Shards) (queues : List (List Numbered)) (workers : ℕ) (k l : Knows) (works : List Work) (shards : List Shard) (all : List (List (List Piece))) → AllClosed engine queues workers k l works shards
+    → map (λ w. w.told) works ≡ map Ok all → AreTold engine queues workers all
+told_all engine queues workers k l works shards all c all_ok =
+    let many : length all ≡ workers = (let a = ap length all_ok in let b = length-map works (λ (w : Work). w.told) in
+        let d = length-map all (λ (x : List (List Piece)). (let r : Result (List (List Piece)) EngineFault = Ok x in r)) in let e = c.atend.long in omega (arith, a, b, d, e)) in
+    let worker : (i : ℕ) → i < workers → IsTold engine queues workers i (Ok (get_or all i [])) = λ i h.
+        (let v = work_there i works (let e = c.atend.long in omega (arith, h, e)) in
+        told_at engine queues workers k l works shards i v.0 c v.1 (Ok (get_or all i [])) (all_told i v.0 works all all_ok v.1)) in
+    record {
+      long = many;
+      wide = λ i h. (worker i h).0;
+      each = λ s h. (worker (s % workers) (mod-lt s c.atend.some)).1 s h refl;
+    }
+
+-- what is known once the engine is closed
+pub all_closed : (engine : Shards) (queues : List (List Numbered)) (workers : ℕ) (k l : Knows) (works after : List Work) (shards : List Shard) → 0 < workers → workers ≤ 64 → length queues ≡ length engine.locks
+    → AreJobs engine queues workers workers k works → length after ≡ length works
+    → ((i : ℕ) (d : Work) → i < length works → HasWorked engine (get_or works i d) (get_or after i d)) → AllJoined engine 200000 k l after → AreClosed engine l shards
+    → ((s : ℕ) → length (slice_index_or queues s []) ≤ engine.limit) → engine.limit ≤ 200000 → AllClosed engine queues workers k l after shards
+all_closed engine queues workers k l works after shards some few long jobs same worked joined closed short small =
+    record { atend = at_end engine queues workers k l works after some few long jobs same worked joined; closed = closed; queues_long = long; short_queues = short; small = small }
+
+pub fine_ends : (engine : Shards) (queues : List (List Numbered)) (workers : ℕ) (k l : Knows) (works : List Work) (shards : List Shard) (tolds : List (Result (List (List Piece)) EngineFault)) → AllClosed engine queues workers k l works shards
+    → tolds ≡ map (λ w. w.told) works → (i : ℕ) (end : Result (List (List Piece)) EngineFault) → slice_get tolds i ≡ Some end → IsFine end
+fine_ends engine queues workers k l works shards tolds c are i end e = (ends engine queues workers k l works shards tolds c are i end e).fine

@@ -63,7 +63,7 @@ between_none : (w : ℕ) (seen between more : List Entry) → calls by w between
 between_none w seen between more others sole =
     ap (λ b. seen ++ b) (nobody w between (back_sole w seen between (front_sole w (seen ++ between) more sole)) others) ∙ append-nil seen
 
-events_entries : (w : ℕ) (es : List ShardEvent) → events_of (entries w es) ≡ es
+pub events_entries : (w : ℕ) (es : List ShardEvent) → events_of (entries w es) ≡ es
 events_entries w [] = refl
 events_entries w (e ∷ es) = ap (λ xs. e ∷ xs) (events_entries w es)
 

@@ -3,3 +3,5 @@ pub mod Planned
 pub mod Working
 pub mod Jobs
 pub mod Ends
+pub mod Counts
+pub mod Replayed

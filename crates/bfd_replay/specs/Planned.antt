@@ -83,3 +83,7 @@ pub record IsPlanned (number : ℕ) (h : Happening) (before after : List (List N
   pub queued : (shard : ℕ) → shard < length before
       → slice_index_or after shard [] ≡ slice_index_or before shard [] ++ cons_option (numbered number (in_shard (length before) shard h)) []
   pub told : apart2 ≡ apart ++ told_apart number (h ∷ [])
+
+-- a script of these sessions, reflectors and events
+abbrev pub script_of : List SessionConfig → List Reflector → List Line → Lists
+script_of configs pool events = record { configs = configs; pool = pool; events = events }

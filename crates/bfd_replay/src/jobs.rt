@@ -18,8 +18,6 @@ use std::marker::{Brand, Model};
 use std::mem;
 use std::sync::Wait;
 use std::sync::ledger::{Blank, Ledger};
-use std::thread;
-use std::thread::Threads;
 
 /// A worker's pass, its queues by shard, and what it told of each shard, or why it stopped.
 #[derive(Drop)]
@@ -81,29 +79,23 @@ fn work<W: Timers, R: Wait, G: Gate>(
     job.told = run::<W, R, G, Brand>(rt, alloc, engine, &mut job.pass, queues, room, gate, Blank::new(1));
 }
 
-/// Works on all jobs at once, each on a thread of its own where one can be made.
-pub(crate) fn work_all<W: Timers + Send, R: Threads + Wait + Sync, G: Gate + Sync>(
+/// Works on all jobs.
+pub(crate) fn work_all<W: Timers, R: Wait, G: Gate>(
     rt: &R,
     alloc: Global,
     engine: &Engine<W>,
-    jobs: &mut [Job],
+    jobs: &mut Vec<Job>,
     room: usize,
     gate: &G,
 )
-    requires ready { All (λ (j : Work). IsReady engine.now j.queues j.pass) jobs.old }
+    requires ready { All (λ (j : Work). IsReady engine.now j.queues j.pass) jobs.old.items }
     requires room { (shard : ℕ) → 5 * length (configs_at engine.now shard) + 5 ≤ room }
-    ensures worked { (i : ℕ) (d : Work) → i < length jobs.old → HasWorked engine.now (slice_index_or jobs.old i d) (slice_index_or jobs.new i d) }
-    ensures long { length jobs.new ≡ length jobs.old }
+    ensures worked { (i : ℕ) (d : Work) → i < length jobs.old.items → HasWorked engine.now (slice_index_or jobs.old.items i d) (slice_index_or jobs.new.items i d) }
+    ensures long { length jobs.new.items ≡ length jobs.old.items }
 {
-    thread::for_each_mut(
-        rt,
-        jobs,
-        64,
-        &|_, job: &mut Job|
-            requires { IsReady engine.now job.now.queues job.now.pass × ((shard : ℕ) → 5 * length (configs_at engine.now shard) + 5 ≤ room) }
-            ensures { HasWorked engine.entry.now job.entry.now job.exit.now }
-        { work(rt, alloc, engine, job, room, gate) },
-    );
+    for k in 0..jobs.len() {
+        work(rt, alloc, engine, &mut jobs[k], room, gate);
+    }
 }
 
 /// Takes a queue out where it is the worker's own, and gives an empty one where it isn't.

@@ -8,7 +8,14 @@
 //! which knows of no table, no index and no due tick.
 #![tactic(auto)]
 
+mod counting;
+mod finish;
 mod jobs;
+mod passes;
 mod plan;
+mod replaying;
 mod routing;
+mod running;
 mod working;
+
+pub use replaying::{Outcome, replay};

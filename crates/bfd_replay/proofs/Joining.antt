@@ -1,7 +1,8 @@
 -- Passes that are made for the workers, and taken in again.
-use Rattle.std.proofs.Common.{◌≡◌, ◌≢◌, ◌⊎◌, inl, inr, ◌<◌, ◌≤◌, ◌+◌, ◌*◌, ◌++◌, ◌∙◌, ◌∷◌, ℕ, zero, suc, [], List, length, map, sym, ap, subst, refl, append_assoc, append-nil, arith, length-append, Some, None}
-use Rattle.std.specs.Prelude.{slice_get}
-use Rattle.std.proofs.lemmas.List.{map-append}
+use Rattle.std.proofs.Common.{◌≡◌, ◌≢◌, ◌⊎◌, inl, inr, ◌<◌, ◌≤◌, ◌+◌, ◌*◌, ◌%◌, ◌==◌, false, ◌++◌, ◌∙◌, ◌∷◌, ℕ, zero, suc, [], List, length, map, sym, ap, subst, refl, take, take_all, drop, append_assoc, append-nil, arith, length-append, Some, None}
+use Rattle.std.specs.Prelude.{slice_get, slice_index_or}
+use Rattle.std.proofs.lemmas.Bool.Decides.{nat_tests}
+use Rattle.std.proofs.lemmas.List.{drop_all, map-append}
 use mathlib.Core.Logic.{dite}
 use native.Mathlib.Decide.{ℕ_discrete}
 use Rattle.bfd_turn.specs.Lists.{Begins}
@@ -13,7 +14,7 @@ use Rattle.bfd_engine.specs.Opening.{IsNewPass}
 use Rattle.bfd_engine.specs.Passes.{Parted, Joined}
 use Rattle.bfd_gather.specs.declared.queue.Numbered.{Numbered}
 use Rattle.bfd_replay.specs.Working.{IsIdle}
-use Rattle.bfd_replay.specs.Jobs.{Work, AllJoined, AreJobs, AreJoined, AreOwn, IsFresh, IsJoining, IsNewJob, number_of}
+use Rattle.bfd_replay.specs.Jobs.{Work, AllJoined, AreJobs, AreJoined, AreOwn, IsFresh, IsJoining, IsNewJob, number_of, own_queue}
 
 module _ {A : Type 0} where
   within : (xs : List A) (i : ℕ) (x : A) → slice_get xs i ≡ Some x → i < length xs
@@ -115,3 +116,23 @@ joined_more engine most k l m works w j is of there zero_is joined = record {
   of = of; there = there; number = zero_is;
   each = λ s h. one_joined most k l m works w s (j.each s h) (joined s h) (is.few s h);
 }
+
+not_same : (a b : ℕ) → a ≢ b → (a == b) ≡ false
+not_same a b h = grind (arith, nat_tests)
+
+away : (workers at s : ℕ) (queue : List Numbered) → s % workers ≢ at → own_queue workers at s queue ≡ []
+away workers at s queue h = rw (not_same (s % workers) at h) refl
+
+-- a worker's own queues of those that were left, which are those of the start where they are its own
+pub own_of_left : (workers at : ℕ) (all left own : List (List Numbered)) → length left ≡ length all → ((s : ℕ) → s % workers ≡ at → slice_index_or left s [] ≡ slice_index_or all s [])
+    → AreOwn workers at left own → AreOwn workers at all own
+own_of_left workers at all left own long same are = record {
+  long = are.long ∙ long;
+  each = λ s h. are.each s (omega (arith, h, long)) ∙ dite (ℕ_discrete (s % workers) at)
+      (λ e. ap (own_queue workers at s) (same s e))
+      (λ other. away workers at s (slice_index_or left s []) other ∙ sym (away workers at s (slice_index_or all s []) other));
+}
+
+-- what a Vec is after its slice was changed
+pub whole_back : (new items : List Work) (n : ℕ) → length new ≡ length items → n ≡ length items → take n (new ++ drop (length new) items) ≡ new
+whole_back new items n same long = ap (λ w. take n (new ++ w)) (drop_all (length new) items (omega (arith, same))) ∙ (ap (take n) (append-nil new) ∙ take_all n new (omega (arith, same, long)))
