@@ -14,7 +14,7 @@ pub record UpTo (engine : Shards) (k : ℕ) (before now : List Work) : Type 0 wh
 pub up_none : (engine : Shards) (before : List Work) → UpTo engine 0 before before
 up_none engine before = record { long = refl; done = λ i d h. absurd (omega (arith, h)); later = λ i d h. refl }
 
-any : (xs : List Work) (k : ℕ) (d e : Work) → k < length xs → get_or xs k d ≡ get_or xs k e
+pub any : (xs : List Work) (k : ℕ) (d e : Work) → k < length xs → get_or xs k d ≡ get_or xs k e
 any [] k d e h = absurd (omega (arith, h))
 any (x ∷ xs) zero d e h = refl
 any (x ∷ xs) (suc k) d e h = any xs k d e (omega (arith, h))

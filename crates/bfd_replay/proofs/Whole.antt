@@ -1,5 +1,5 @@
 -- A script on shards is the script on the whole table.
-use Rattle.std.proofs.Common.{◌≡◌, ◌≢◌, ◌⊎◌, inl, inr, ◌<◌, ◌≤◌, ◌+◌, ◌-◌, ◌*◌, ◌/◌, ◌%◌, ◌==◌, ◌∙◌, ◌∷◌, Bool, true, false, ℕ, zero, suc, [], List, length, map, get_or, refl, sym, ap, subst, arith, Some, None, Option, add-comm}
+use Rattle.std.proofs.Common.{◌≡◌, ◌≢◌, ◌⊎◌, inl, inr, ◌<◌, ◌≤◌, ◌+◌, ◌-◌, ◌*◌, ◌/◌, ◌%◌, ◌==◌, ◌∙◌, ◌∷◌, Bool, true, false, ℕ, zero, suc, [], List, length, map, get_or, refl, sym, ap, subst, arith, Some, None, Option, add_comm}
 use Rattle.std.specs.Prelude.{slice_get, slice_index_or, sum_by, if◌then◌else◌}
 use Rattle.std.specs.List.{AllByRecursion, cons_option, filter, filter_map}
 use Rattle.std.proofs.lemmas.Bool.Decides.{nat_tests}
@@ -34,9 +34,9 @@ use Rattle.bfd_replay.specs.Planned.{AreQueues, IsMet, IsTable, events_of_table,
 use Rattle.bfd_replay.specs.Working.{AreMet, entries, events_in}
 use Rattle.bfd_replay.specs.Ends.{AreStates, AreTold}
 use Rattle.bfd_replay.specs.Replayed.{HasReplayed, HaveReplayed}
-use Rattle.bfd_replay.specs.Counts.{sum_to, ups}
+use Rattle.bfd_replay.specs.Counts.{one_up, sum_to, ups}
 use Rattle.bfd_replay.proofs.Soles.{events_entries}
-use Rattle.bfd_replay.proofs.Summing.{sum_same, ups_shared}
+use Rattle.bfd_replay.proofs.Summing.{sum_same, ups_are as counted, ups_shared}
 use Rattle.bfd_replay.proofs.Worlds.{left_is, world_is}
 
 pub is_table : (script : Lists) → IsScript script → IsTable script.configs script.pool
@@ -44,8 +44,7 @@ is_table script s = record { configs = s.configs; pool = s.pool; apart = s.apart
 
 -- the one definition of what a shard is dealt is the other
 pub same_share : {A : Type 0} (n c : ℕ) (xs : List A) → engines.share n c xs ≡ share n c xs
-unfolding engines.share
-unfolding share
+unfolding engines.share share
 same_share n c [] = refl
 same_share n zero (x ∷ xs) = ap (λ ys. x ∷ ys) (same_share n (n - 1) xs)
 same_share n (suc c) (x ∷ xs) = same_share n c xs
@@ -137,22 +136,22 @@ have_replayed engine script shards workers queues states locks is are all = reco
         journal = one.journal
             ∙ (ap (λ q. entries (s % workers + 1) (events_in q)) (are.each s inside)
             ∙ (ap (entries (s % workers + 1)) (queue_events shards s 1 (happenings script.configs script.pool script.events))
-            ∙ ap (λ n. entries n (history_of shards s (events_of_table script))) (add-comm (s % workers) 1)));
+            ∙ ap (λ n. entries n (history_of shards s (events_of_table script))) (add_comm (s % workers) 1)));
       });
 }
 
 -- how many sessions are Up
 pub ups_are : (script : Lists) (shards workers up : ℕ) (states : List Shard) (d : Shard) → 0 < shards → HaveReplayed script shards workers states
-    → ((k : ℕ) (e : Shard) → k < length states → IsShard (get_or states k e)) → up ≡ sum_to (λ k. ups (get_or states k d).sessions) (length states) → up ≡ (totals script).ups
+    → ((k : ℕ) (e : Shard) → k < length states → IsShard (get_or states k e)) → up ≡ sum_to (λ k. sum_by one_up (get_or states k d).sessions) (length states) → up ≡ (totals script).ups
 ups_are script zero workers up states d some have kept is = absurd (omega (arith, some))
 ups_are script (suc n) workers up states d some have kept is =
-    is ∙ (ap (sum_to (λ k. ups (get_or states k d).sessions)) have.long
-    ∙ (sum_same (λ k. ups (get_or states k d).sessions) (λ k. ups (share (suc n) k (runs (events_of_table script) script.configs))) (suc n) (λ k h.
+    is ∙ (ap (sum_to (λ k. sum_by one_up (get_or states k d).sessions)) have.long
+    ∙ (sum_same (λ k. sum_by one_up (get_or states k d).sessions) (λ k. ups (share (suc n) k (runs (events_of_table script) script.configs))) (suc n) (λ k h.
         (let inside : k < length states = (let a = have.long in omega (arith, h, a)) in
         let state = get_or states k d in
         let one = have.each k state (slice_get-get_or states k d inside) in
         let whole = (kept k d inside).whole in
-        ap ups (whole
+        counted state.sessions ∙ ap ups (whole
         ∙ (ap (λ j. runs (events_of j) (configs_of state.sessions)) one.journal
         ∙ (ap (λ es. runs es (configs_of state.sessions)) (events_entries (1 + k % workers) (history_of (suc n) k (events_of_table script)))
         ∙ (ap (runs (history_of (suc n) k (events_of_table script))) one.configs

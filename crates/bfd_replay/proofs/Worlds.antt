@@ -41,15 +41,11 @@ own_by None place moment event w = refl
 own_by (Some s) place moment event w = refl
 
 own_is : (place moment : ℕ) (event : Event) (w : World) → own place moment event w ≡ turn_of (Among (Own place moment event)) w
-unfolding own
-unfolding moved
-unfolding outcome_of
+unfolding own moved outcome_of
 own_is place moment event w = own_by (slice_get w.sessions place) place moment event w
 
 ticks_is : (t : ℕ) (w : World) → ticks t w ≡ turn_of (Among (Tick t)) w
-unfolding ticks
-unfolding moved
-unfolding outcome_of
+unfolding ticks moved outcome_of
 ticks_is t w = refl
 
 done_is : (what : Doing) (w : World) → done what w ≡ turn_of (happening_by w.pool what) w
@@ -75,9 +71,9 @@ left_step (Apart outcome) es w = refl
 left_step (Among event) es w = refl
 
 -- a line, of configurations and a pool that stay
-record Stays (cs : List SessionConfig) (pool : List Reflector) (w : World) : Type 0 where
-  configs : configs_of w.sessions ≡ cs
-  same_pool : w.pool ≡ pool
+pub record Stays (cs : List SessionConfig) (pool : List Reflector) (w : World) : Type 0 where
+  pub configs : configs_of w.sessions ≡ cs
+  pub same_pool : w.pool ≡ pool
 
 stays_on : (cs : List SessionConfig) (pool : List Reflector) (line : Line) (w : World) → Stays cs pool w → Stays cs pool (happens line w).world
 stays_on cs pool line w s = record {

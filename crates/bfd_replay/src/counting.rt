@@ -2,7 +2,7 @@
 ghost use Rattle.std.specs.Prelude.{ℕ, ◌≡◌, ◌≤◌, ◌<◌, ◌*◌, length, slice_index_or, sum_by};
 ghost use Rattle.bfd_rules.specs.Quantities as quantities;
 ghost use Rattle.bfd_shard.specs.Shard.{Shard, IsShard};
-ghost use Rattle.bfd_replay.specs.Counts.{one_up, sum_to, ups};
+ghost use Rattle.bfd_replay.specs.Counts.{one_up, sum_to};
 
 use bfd_packet::State;
 use bfd_session::Session;
@@ -21,10 +21,9 @@ fn counted(session: &Session) -> u32
 }
 
 /// How many of the sessions are Up.
-#[tactic(auto, using(crate::proofs::Summing::ups_are))]
 fn up_in(sessions: &[Session]) -> u32
     requires few { length sessions.now ≤ 65536 }
-    ensures value { result ≡ ups sessions.now }
+    ensures value { result ≡ sum_by one_up sessions.now }
     ensures few { result ≤ 65536 }
 {
     let mut count = 0u32;
@@ -36,7 +35,7 @@ fn up_in(sessions: &[Session]) -> u32
 
 /// How many of a shard's sessions are Up.
 fn up_of<W: Timers>(state: &ShardState<W>) -> u32
-    ensures value { result ≡ ups state.now.sessions }
+    ensures value { result ≡ sum_by one_up state.now.sessions }
     ensures kept { IsShard state.now }
     ensures few { result ≤ 65536 }
 {
@@ -44,10 +43,10 @@ fn up_of<W: Timers>(state: &ShardState<W>) -> u32
 }
 
 /// How many sessions of all shards are Up.
-pub(crate) fn up_all<W: Timers>(states: &[ShardState<W>]) -> u32
-    requires few { length states.now ≤ 64 }
-    ensures value { (d : Shard) → result ≡ sum_to (λ k. ups (slice_index_or states.now k d).sessions) (length states.now) }
-    ensures kept { (k : ℕ) (d : Shard) → k < length states.now → IsShard (slice_index_or states.now k d) }
+pub(crate) fn up_all<W: Timers>(states: &Vec<ShardState<W>>) -> u32
+    requires few { length states.now.items ≤ 64 }
+    ensures value { (d : Shard) → result ≡ sum_to (λ k. sum_by one_up (slice_index_or states.now.items k d).sessions) (length states.now.items) }
+    ensures kept { (k : ℕ) (d : Shard) → k < length states.now.items → IsShard (slice_index_or states.now.items k d) }
 {
     let mut count = 0u32;
     for k in 0..states.len() {

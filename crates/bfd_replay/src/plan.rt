@@ -97,17 +97,17 @@ pub(crate) fn plan(
 /// The same, of sessions and reflectors that make a table.
 pub(crate) fn planned(
     alloc: Global,
-    configs: &[SessionConfig],
-    pool: &[Reflector],
+    configs: &Vec<SessionConfig>,
+    pool: &Vec<Reflector>,
     events: Vec<Line>,
     shards: u32,
 ) -> Result<(Vec<Vec<Numbered>>, Part), AllocError>
-    requires table { IsTable configs.now pool.now }
+    requires table { IsTable configs.now.items pool.now.items }
     requires shards { (0 < shards) × (shards ≤ 64) }
     requires events { length events.items ≤ 200000 }
-    ensures queues { IfOk result (λ r. AreQueues shards (happenings configs.now pool.now events.items) (map (λ q. q.items) r.0.items)) }
-    ensures apart { IfOk result (λ r. r.1 ≡ told_apart 1 (happenings configs.now pool.now events.items)) }
-    ensures met { IfOk result (λ r. AllByRecursion (IsMet configs.now) (happenings configs.now pool.now events.items)) }
+    ensures queues { IfOk result (λ r. AreQueues shards (happenings configs.now.items pool.now.items events.items) (map (λ q. q.items) r.0.items)) }
+    ensures apart { IfOk result (λ r. r.1 ≡ told_apart 1 (happenings configs.now.items pool.now.items events.items)) }
+    ensures met { IfOk result (λ r. AllByRecursion (IsMet configs.now.items) (happenings configs.now.items pool.now.items events.items)) }
 {
     let demux = table(alloc, configs, pool)?;
     plan(alloc, &demux, configs, pool, events, shards)

@@ -61,13 +61,13 @@ fn replay_parts<W: Timers + Send, R: Threads + Wait + Sync, G: Gate + Sync>(
     ensures states { IfOk result (λ outcome. HaveReplayed (script_of configs.items pool.items events.items) shards workers outcome.states.items) }
 {
     let count = events.len();
-    let room = 5 * configs.as_slice().len() + 5;
-    let (queues, apart) = planned(alloc, configs.as_slice(), pool.as_slice(), events, shards)?;
+    let room = 5 * configs.len() + 5;
+    let (queues, apart) = planned(alloc, &configs, &pool, events, shards)?;
     let (engine, first) = opened(alloc, configs, pool, shards, count)?;
     let (states, all) = run_all(rt, alloc, engine, first, queues, workers, room, gate)?;
     let parts = in_order(alloc, all, shards, apart)?;
     let gathered = report(alloc, parts, count as u64)?;
-    let up = up_all(states.as_slice());
+    let up = up_all(&states);
     Ok(Outcome {
         text: gathered.text,
         events: count as u64,

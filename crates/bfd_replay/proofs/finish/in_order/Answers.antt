@@ -1,8 +1,7 @@
 -- One part more.
 use Rattle.std.proofs.Common.{rules, ◌≡◌, ◌≤◌, ◌<◌, ◌%◌, ◌∙◌, length, map, ap, sym, arith}
 use Rattle.std.proofs.lemmas.List.{length-map}
-use Rattle.std.proofs.Math.Nat.{mod-lt}
-use Rattle.bfd_replay.proofs.Ordering.{order_none, order_more, order_end, order_last}
+use Rattle.bfd_replay.proofs.Ordering.{order_none}
 use Rattle.bfd_replay.proofs.finish.in_order.Goals as goal
 
 pub loop-shard-init : goal.loop-shard-init

@@ -13,19 +13,19 @@ use Rattle.bfd_replay.proofs.Worlds.{world_is}
 use Rattle.bfd_replay.proofs.replaying.replay_parts.Goals as goal
 
 pub run_all-requires-clause-long : goal.run_all-requires-clause-long
-run_all-requires-clause-long g c = sym (length-map c.in_ok-queues.queues.items (λ q. q.items)) ∙ (c.in_ok-queues.ensures.queues.long ∙ sym c.in_ok-engine.ensures.shards)
+run_all-requires-clause-long g c = λ κs within. sym (length-map c.in_ok-queues.queues.items (λ q. q.items)) ∙ (c.in_ok-queues.ensures.queues.long ∙ sym c.in_ok-engine.ensures.shards)
 
 pub run_all-requires-clause-met : goal.run_all-requires-clause-met
-run_all-requires-clause-met g c =
+run_all-requires-clause-met g c = λ κs within.
     met_queues c.in_ok-engine.engine c.args.shards (happenings c.args.configs.items c.args.pool.items c.args.events.items) (map (λ q. q.items) c.in_ok-queues.queues.items)
         (sym c.in_ok-engine.ensures.shards) c.requires.shards.0 c.in_ok-queues.ensures.queues
         (subst (λ cs. AllByRecursion (IsMet cs) (happenings c.args.configs.items c.args.pool.items c.args.events.items)) (sym c.in_ok-engine.ensures.configs) c.in_ok-queues.ensures.met)
 
 pub run_all-requires-clause-room : goal.run_all-requires-clause-room
-run_all-requires-clause-room g c = λ s. room_enough c.in_ok-engine.engine s _ c.args.configs.items c.in_ok-engine.ensures.configs (search rules)
+run_all-requires-clause-room g c = λ κs within s. room_enough c.in_ok-engine.engine s _ c.args.configs.items c.in_ok-engine.ensures.configs (search rules)
 
 pub run_all-requires-clause-short : goal.run_all-requires-clause-short
-run_all-requires-clause-short g c = λ s.
+run_all-requires-clause-short g c = λ κs within s.
     (let a = short_queues c.args.shards (happenings c.args.configs.items c.args.pool.items c.args.events.items) (map (λ q. q.items) c.in_ok-queues.queues.items) s c.in_ok-queues.ensures.queues in
     let b = c.in_ok-engine.ensures.limit in let d : c.len-count.result ≡ length c.args.events.items = search rules in
     let e = happenings_long c.args.configs.items c.args.pool.items c.args.events.items in omega (arith, a, b, d, e))
