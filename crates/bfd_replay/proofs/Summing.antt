@@ -12,7 +12,7 @@ use Rattle.bfd_shard.specs.Shard.{Shard, IsShard}
 use Rattle.bfd_replay.specs.Counts.{one_up, sum_to, ups}
 
 one_more : (b : Bool) (s : Running) (ss : List Running) → is_up s.vars.state ≡ b → ups (s ∷ ss) ≡ (if b then 1 else 0) + ups ss
-one_more true s ss is = rw is refl
+one_more true s ss is = rw is (omega arith)
 one_more false s ss is = rw is (omega arith)
 
 ups_more : (s : Running) (ss : List Running) → ups (s ∷ ss) ≡ one_up s + ups ss

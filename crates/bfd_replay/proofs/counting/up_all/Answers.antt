@@ -17,3 +17,8 @@ loop-k-preserved g c =
       few = (let a = i.few in let b = c.up_of-count.ensures.few in omega (arith, a, b));
       kept = kept_more c.args.states.now.items c.loop-k.k c.index.result.now inside c.index.ensures c.up_of-count.ensures.kept i.kept;
     }
+
+pub returns-clause-value : goal.returns-clause-value
+returns-clause-value g c = λ d.
+    let e : c.loop-k.k ≡ length c.args.states.now.items = search rules in
+    c.loop-k.invariant.count d ∙ ap (sum_to (λ k. sum_by one_up (slice_index_or c.args.states.now.items k d).sessions)) e
