@@ -77,8 +77,10 @@ impl<W: Timers> Engine<W> {
         self.sizes[shard as usize]
     }
 
-    /// One turn of a shard, with an event that its sessions take.
-    pub(crate) fn turn_on<R: Wait, L: Ledger>(
+    /// One turn of a shard, with an event that its sessions take, for a caller that knows already whose it is. It may wait.
+    ///
+    /// Its entry is this event, at a place of the shard. `outs` has room for five outputs, or at a tick for five of each session of the shard.
+    pub fn turn_on<R: Wait, L: Ledger>(
         &self,
         rt: &R,
         pass: &mut EnginePass,

@@ -22,7 +22,7 @@ mod reporting;
 pub use law::{dealing_laws, telling_laws};
 pub use part::Part;
 pub use queue::{Numbered, deal};
-pub use reporting::report;
+pub use reporting::{Gathered, report};
 
 #[cfg(test)]
 mod tests;

@@ -1,5 +1,5 @@
 //! The report of the parts of a replay.
-ghost use Rattle.std.specs.Prelude.{ℕ, ◌≡◌, List, IfOk, length, string_bytes};
+ghost use Rattle.std.specs.Prelude.{ℕ, ◌≡◌, List, IfOk, length, string_bytes, sum_by};
 ghost use Rattle.bfd_session.specs.Kinds.{Running};
 ghost use Rattle.bfd_script.specs.Report.{done_line};
 ghost use Rattle.bfd_script.specs.Report as script;
@@ -16,17 +16,28 @@ fn done_text(alloc: Global, events: u64, txs: u64, drops: u64) -> Result<String,
     format!(in alloc; "done {events} {txs} {drops}\n")
 }
 
+/// A report, and how many packets it tells were sent and were dropped.
+#[derive(Drop)]
+pub struct Gathered {
+    pub text: Vec<u8>,
+    pub txs: u64,
+    pub drops: u64,
+}
+
 /// The report of a replay of so many events, of the parts of its shards and, last, of what was told of events of no session:
 /// it is what the whole table would tell, whatever the number of shards. The one refusal is want of memory.
-
-pub fn report(alloc: Global, parts: Vec<Part>, events: u64) -> Result<Vec<u8>, AllocError>
-    ensures { (shards last : ℕ) (happenings : List Happening) (sessions : List Running) → length happenings ≡ events
-        → AreParts shards 1 last happenings sessions parts.items → IfOk result (λ text. text.items ≡ script.report (outcomes last happenings sessions)) }
+pub fn report(alloc: Global, parts: Vec<Part>, events: u64) -> Result<Gathered, AllocError>
+    ensures text { (shards last : ℕ) (happenings : List Happening) (sessions : List Running) → length happenings ≡ events
+        → AreParts shards 1 last happenings sessions parts.items → IfOk result (λ report. report.text.items ≡ script.report (outcomes last happenings sessions)) }
+    ensures txs { (shards last : ℕ) (happenings : List Happening) (sessions : List Running)
+        → AreParts shards 1 last happenings sessions parts.items → IfOk result (λ report. report.txs ≡ sum_by script.sent (outcomes last happenings sessions)) }
+    ensures drops { (shards last : ℕ) (happenings : List Happening) (sessions : List Running)
+        → AreParts shards 1 last happenings sessions parts.items → IfOk result (λ report. report.drops ≡ sum_by script.dropped (outcomes last happenings sessions)) }
 {
     let mut parts = parts;
     let mut text = Vec::new(alloc);
     let (txs, drops) = gather(&mut parts, &mut text)?;
     let done = done_text(alloc, events, txs, drops)?;
     text.extend_from_slice(done.as_bytes())?;
-    Ok(text)
+    Ok(Gathered { text, txs, drops })
 }

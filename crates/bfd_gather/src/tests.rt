@@ -120,7 +120,8 @@ fn on_shards(alloc: Global, rows: &[Row], shards: usize) -> Result<Vec<u8>, Allo
         }
         parts.push(part)?;
     }
-    report(alloc, parts, rows.len() as u64)
+    let report = report(alloc, parts, rows.len() as u64)?;
+    Ok(report.text)
 }
 
 /// An event in which these sessions change, and these send.

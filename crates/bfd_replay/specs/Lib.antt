@@ -1,2 +1,7 @@
 pub mod World
-pub mod Stage
+pub mod Planned
+pub mod Working
+pub mod Jobs
+pub mod Ends
+pub mod Counts
+pub mod Replayed

@@ -78,7 +78,8 @@ fn calls(alloc: Global, call: Option<u64>) -> Result<Vec<u64>, AllocError> {
 }
 
 /// The status of a run, and what the sink then has.
-fn ended(alloc: Global, case: &Case<'_>) -> Result<(Status, Vec<u8>), AllocError> {
+fn ended(rt: &HostRuntime, case: &Case<'_>) -> Result<(Status, Vec<u8>), AllocError> {
+    let alloc = rt.alloc();
     let mut words = Vec::new(alloc);
     for word in case.words.split(' ') {
         words.push(String::from_str(alloc, word)?)?;
@@ -94,7 +95,7 @@ fn ended(alloc: Global, case: &Case<'_>) -> Result<(Status, Vec<u8>), AllocError
         case.sink_chunk.max(1),
         calls(alloc, case.sink_fails)?,
     );
-    let status = run(alloc, &words, &mut source, &mut sink);
+    let status = run(rt, alloc, &words, &mut source, &mut sink);
     let written = sink.as_slice().to_vec(alloc)?;
     Ok((status, written))
 }
@@ -142,7 +143,7 @@ fn runs(rt: HostRuntime) -> Result<(), Fail> {
         ),
     ];
     for case in &cases {
-        let (status, written) = ended(rt.alloc(), case)?;
+        let (status, written) = ended(&rt, case)?;
         let name = case.name;
         assert_eq!(rt; status, case.status, "{name}");
         assert_eq!(rt; written.as_slice(), case.written.as_bytes(), "{name}");
@@ -164,7 +165,7 @@ fn other_words(rt: HostRuntime) -> Result<(), Fail> {
             words,
             ..reading("", 16, None, Status::Usage, "")
         };
-        let (status, written) = ended(rt.alloc(), &case)?;
+        let (status, written) = ended(&rt, &case)?;
         assert_eq!(rt; status, case.status, "{words}");
         assert_eq!(rt; written.len(), 0, "{words}");
     }

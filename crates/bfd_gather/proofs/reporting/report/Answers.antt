@@ -2,11 +2,11 @@
 use Rattle.std.proofs.Common.{◌∙◌, ◌++◌, ap}
 use Rattle.bfd_gather.specs.Spread.{text_of}
 use Rattle.bfd_gather.proofs.Telling.{deal_all}
-use Rattle.bfd_gather.proofs.Whole.{parts_spread, whole_report}
+use Rattle.bfd_gather.proofs.Whole.{all_drops, all_txs, parts_spread, whole_report}
 use Rattle.bfd_gather.proofs.reporting.report.Goals as goal
 
-pub returns : goal.returns
-returns c = λ shards last hs ss count parts.
+pub returns-clause-text : goal.returns-clause-text
+returns-clause-text c = λ shards last hs ss count parts.
     let spread = parts_spread shards 1 last hs ss c.args.parts.items parts in
     whole_report shards last hs ss c.gather.new.text.items c.extend_from_slice.new.self.items c.as_bytes.result.now c.args.events c.in_ok-txs.txs c.in_ok-txs.drops count
     (c.in_ok-txs.ensures.told (deal_all shards 1 last hs ss) spread ∙ ap (λ t. t ++ text_of (deal_all shards 1 last hs ss)) c.new-text.ensures.items)
@@ -14,3 +14,11 @@ returns c = λ shards last hs ss count parts.
     (c.in_ok-txs.ensures.drops (deal_all shards 1 last hs ss) spread)
     (c.as_bytes.ensures.value ∙ c.in_ok-done.ensures)
     c.in_ok-extend_from_slice.ensures.items
+
+pub returns-clause-txs : goal.returns-clause-txs
+returns-clause-txs c = λ shards last hs ss parts.
+    c.in_ok-txs.ensures.txs (deal_all shards 1 last hs ss) (parts_spread shards 1 last hs ss c.args.parts.items parts) ∙ all_txs shards 1 last hs ss
+
+pub returns-clause-drops : goal.returns-clause-drops
+returns-clause-drops c = λ shards last hs ss parts.
+    c.in_ok-txs.ensures.drops (deal_all shards 1 last hs ss) (parts_spread shards 1 last hs ss c.args.parts.items parts) ∙ all_drops shards 1 last hs ss
