@@ -1,18 +1,15 @@
 -- A worker on its way, through a queue and from shard to shard.
-use Rattle.std.proofs.Common.{◌≡◌, ◌≢◌, ◌⊎◌, inl, inr, ◌<◌, ◌≤◌, ◌+◌, ◌*◌, ◌++◌, ◌∙◌, ◌∷◌, ℕ, zero, suc, [], List, length, map, get_or, sym, ap, subst, refl, append_assoc, append-nil, arith, length-append}
+use Rattle.std.proofs.Common.{◌≡◌, ◌≢◌, ◌⊎◌, inl, inr, ◌<◌, ◌≤◌, ◌+◌, ◌++◌, ◌∙◌, ◌∷◌, ℕ, zero, suc, [], List, length, map, get_or, sym, ap, subst, refl, append_assoc, append-nil, arith, length-append}
 use Rattle.std.specs.Prelude.{slice_index_or}
-use Rattle.std.specs.List.{AllByRecursion}
 use Rattle.std.proofs.lemmas.List.{length-map}
 use mathlib.Core.Logic.{dite}
 use native.Mathlib.Decide.{ℕ_discrete}
-use Rattle.bfd_shard.specs.Shard.{CanHappen}
 use Rattle.bfd_engine.specs.declared.fault.EngineFault.{EngineFault}
-use Rattle.bfd_engine.specs.declared.fault.EngineFault.TheVariants.{Memory}
-use Rattle.bfd_engine.specs.Engines.{Shards, Knows, IsOf, AllThere, configs_at}
-use Rattle.bfd_engine.specs.Calls.{seen_at, word_at, taken_at}
+use Rattle.bfd_engine.specs.Engines.{Shards, Knows, IsOf, AllThere}
+use Rattle.bfd_engine.specs.Calls.{seen_at, taken_at}
 use Rattle.bfd_gather.specs.declared.queue.Numbered.{Numbered}
 use Rattle.bfd_gather.specs.Pieces.{Piece}
-use Rattle.bfd_replay.specs.Working.{AreMet, HasDone, HasDoneAt, HasFinished, HasLeft, HasStopped, HasTold, HasUsed, IsElsewhere, IsIdle, IsReady, IsRefused, IsStopAt}
+use Rattle.bfd_replay.specs.Working.{HasDone, HasDoneAt, HasFinished, HasLeft, HasStopped, HasTold, HasUsed, IsElsewhere, IsIdle, IsReady, IsRefused, IsStopAt}
 use Rattle.bfd_replay.proofs.Soles.{done_none, done_more, stopped_at}
 
 -- the events of the queue up to here were done on the shard, and these are left
@@ -36,7 +33,9 @@ no_events (x ∷ done) rest queue e all none = let f = all ∙ none in absurd (c
 pub queue_start : (engine : Shards) (shard : ℕ) (queue left : List Numbered) (k : Knows) (part : List Piece) → IsIdle k shard → part ≡ [] → left ≡ queue
     → InQueue engine shard queue left k k part
 queue_start engine shard queue left k part idle empty same = record {
-  elsewhere = elsewhere_none k shard; done = []; all = same;
+  elsewhere = elsewhere_none k shard;
+  done = [];
+  all = same;
   did = done_none engine shard k.0 (taken_at k shard) (seen_at k shard) part idle.seen idle.taken empty;
   idle = λ none. idle;
 }
@@ -90,7 +89,9 @@ pub record OverShards (engine : Shards) (queues : List (List Numbered)) (k l : K
 
 pub over_none : (engine : Shards) (queues : List (List Numbered)) (k : Knows) (parts : List (List Piece)) → IsReady engine queues k → parts ≡ [] → OverShards engine queues k k parts
 over_none engine queues k parts ready empty = record {
-  of = ready.of; there = ready.there; number = refl;
+  of = ready.of;
+  there = ready.there;
+  number = refl;
   done = λ r h. absurd (let e = ap length empty in omega (arith, h, e));
   used = λ r h. absurd (let e = ap length empty in omega (arith, h, e));
   idle = λ r h inside. ready.idle r inside;
@@ -128,14 +129,16 @@ pub over_more : (engine : Shards) (queues : List (List Numbered)) (queue : List 
 over_more engine queues queue shard k l m parts parts2 part at is pushed o of there moved used done =
     let long : length parts2 ≡ length parts + 1 = (let a = ap length pushed in let b = length-append parts (part ∷ []) in omega (arith, a, b)) in
     record {
-      of = of; there = there; number = moved.number ∙ o.number;
+      of = of;
+      there = there;
+      number = moved.number ∙ o.number;
       done = λ r h. dite (ℕ_discrete r shard)
           (λ same. subst (λ i. HasDoneAt engine i (slice_index_or queues i []) m (slice_index_or parts2 i [])) (sym same)
-              (subst (λ q. HasDoneAt engine shard q m (slice_index_or parts2 shard [])) (sym is)
-              (subst (λ p. HasDoneAt engine shard queue m p) (sym (ap (λ ps. slice_index_or ps shard []) pushed ∙ (ap (λ i. slice_index_or (parts ++ part ∷ []) i []) at ∙ at_last parts part []))) done)))
+          (subst (λ q. HasDoneAt engine shard q m (slice_index_or parts2 shard [])) (sym is)
+          (subst (λ p. HasDoneAt engine shard queue m p) (sym (ap (λ ps. slice_index_or ps shard []) pushed ∙ (ap (λ i. slice_index_or (parts ++ part ∷ []) i []) at ∙ at_last parts part []))) done)))
           (λ other. (let front : r < length parts = last_or_front r (length parts) (omega (arith, h, long)) (λ e. other (e ∙ sym at)) in
-              subst (λ p. HasDoneAt engine r (slice_index_or queues r []) m p) (sym (ap (λ ps. slice_index_or ps r []) pushed ∙ at_front parts part part r [] front))
-              (done_as engine r (slice_index_or queues r []) l m (slice_index_or parts r []) moved.number (moved.seen r other) (moved.taken r other) (o.done r front))));
+          subst (λ p. HasDoneAt engine r (slice_index_or queues r []) m p) (sym (ap (λ ps. slice_index_or ps r []) pushed ∙ at_front parts part part r [] front))
+          (done_as engine r (slice_index_or queues r []) l m (slice_index_or parts r []) moved.number (moved.seen r other) (moved.taken r other) (o.done r front))));
       used = λ r h. dite (ℕ_discrete r shard)
           (λ same. subst (λ i. HasUsed m i (slice_index_or queues i [])) (sym same) (subst (λ q. HasUsed m shard q) (sym is) used))
           (λ other. used_as r (slice_index_or queues r []) l m (moved.seen r other) (moved.taken r other) (o.used r (last_or_front r (length parts) (omega (arith, h, long)) (λ e. other (e ∙ sym at)))));
@@ -160,7 +163,9 @@ used_there engine queues k l parts o r inside = elim (below_or r (length parts))
 pub over_left : (engine : Shards) (queues : List (List Numbered)) (queue : List Numbered) (shard : ℕ) (k l m : Knows) (parts : List (List Piece)) → shard ≡ length parts
     → slice_index_or queues shard [] ≡ queue → OverShards engine queues k l parts → IsOf engine m.1 → AllThere m.1 → IsElsewhere l m shard → HasUsed m shard queue → HasLeft engine queues k m
 over_left engine queues queue shard k l m parts at is o of there moved used = record {
-  of = of; there = there; number = moved.number ∙ o.number;
+  of = of;
+  there = there;
+  number = moved.number ∙ o.number;
   used = λ r inside. dite (ℕ_discrete r shard)
       (λ same. subst (λ i. HasUsed m i (slice_index_or queues i [])) (sym same) (subst (λ q. HasUsed m shard q) (sym is) used))
       (λ other. used_as r (slice_index_or queues r []) l m (moved.seen r other) (moved.taken r other) (used_there engine queues k l parts o r inside));
@@ -184,9 +189,9 @@ next_here f (x ∷ xs) ys zs q e = ap (λ l. slice_index_or (map f l) (suc (leng
 -- the next of the queues that are left
 pub next_queue : {V : Type 0} (f : V → List Numbered) (xs ys zs : List V) (q : V) (n : ℕ) → xs ++ q ∷ ys ≡ zs → n ≡ length xs → (n < length zs) × (slice_index_or (map f zs) n [] ≡ f q)
 next_queue f xs ys zs q n e at = (
-    (let a = ap length e in let b = length-append xs (q ∷ ys) in omega (arith, a, b, at)),
-    ap (λ i. slice_index_or (map f zs) i []) at ∙ next_here f xs ys zs q e,
-  )
+  (let a = ap length e in let b = length-append xs (q ∷ ys) in omega (arith, a, b, at)),
+  ap (λ i. slice_index_or (map f zs) i []) at ∙ next_here f xs ys zs q e,
+)
 
 pub long_map : {V : Type 0} (f : V → List Numbered) (xs : List V) → length (map f xs) ≡ length xs
 long_map f xs = length-map xs f

@@ -1,30 +1,29 @@
 -- Once the engine is closed: each shard's journal has its own worker's entries alone, so each worker told what its queues give.
-use Rattle.std.proofs.Common.{◌≡◌, ◌≢◌, ◌⊎◌, inl, inr, ◌<◌, ◌≤◌, ◌+◌, ◌*◌, ◌^◌, ◌%◌, ◌==◌, ◌||◌, ◌++◌, ◌∙◌, ◌∷◌, Bool, true, false, ℕ, zero, suc, [], List, length, map, get_or, sym, ap, subst, refl, append_assoc, append-nil, arith, length-append, Some, None, Result, Ok, Err}
+use Rattle.std.proofs.Common.{◌≡◌, ◌≢◌, ◌<◌, ◌≤◌, ◌+◌, ◌%◌, ◌==◌, ◌||◌, ◌++◌, ◌∙◌, ◌∷◌, Bool, true, false, ℕ, zero, suc, [], List, length, map, get_or, sym, ap, subst, refl, arith, Some, Result, Ok, Err}
 use Rattle.std.specs.Prelude.{slice_get, slice_index_or, if◌then◌else◌}
 use Rattle.std.proofs.lemmas.Bool.Decides.{nat_tests}
-use Rattle.std.proofs.lemmas.List.{map-append, length-map, get_or-map}
+use Rattle.std.proofs.lemmas.List.{length-map, get_or-map}
 use Rattle.std.proofs.lemmas.Option.{slice_get-get_or, slice_get_within, get_or_from_slice_get}
 use Rattle.std.proofs.Math.Nat.{mod-lt}
 use mathlib.Core.Logic.{dite}
 use native.Mathlib.Decide.{ℕ_discrete}
-use Rattle.bfd_session.specs.Kinds.{configs_of}
 use Rattle.bfd_session.specs.Step.{started}
 use Rattle.bfd_shard.specs.Shard.{Shard}
 use Rattle.bfd_shard.specs.declared.entry.Entry.{Entry}
-use Rattle.bfd_turn.specs.Lists.{Begins, calls, has, numbers_of}
+use Rattle.bfd_turn.specs.Lists.{calls, has, numbers_of}
 use Rattle.bfd_turn.specs.Plays.{AllKept}
 use Rattle.bfd_turn.specs.Passes.{last_word}
 use Rattle.bfd_engine.specs.declared.fault.EngineFault.{EngineFault}
 use Rattle.bfd_engine.specs.declared.fault.EngineFault.TheVariants.{Memory, Full, Spent}
 use Rattle.bfd_engine.specs.Turned.{by}
-use Rattle.bfd_engine.specs.Engines.{Shards, Knows, IsOf, AllThere, configs_at}
-use Rattle.bfd_engine.specs.Calls.{seen_at, word_at, taken_at, made_at, kept_at, mine}
+use Rattle.bfd_engine.specs.Engines.{Shards, Knows, configs_at}
+use Rattle.bfd_engine.specs.Calls.{seen_at, word_at, made_at, kept_at, mine}
 use Rattle.bfd_engine.specs.Passes.{EachJoined, IsClosed, AreClosed}
 use Rattle.bfd_gather.specs.declared.queue.Numbered.{Numbered}
 use Rattle.bfd_gather.specs.Pieces.{Piece}
 use Rattle.bfd_gather.specs.Happenings.{told}
-use Rattle.bfd_replay.specs.Working.{AreMet, entries, events_in, IsReady, HasDoneAt, HasFinished, HasLeft, HasStopped, HasUsed, IsIdle, IsSole, IsStop, IsStopAt}
-use Rattle.bfd_replay.specs.Jobs.{AllJoined, AreJobs, AreJoined, AreOwn, HasEnded, HasWorked, IsFresh, IsJoining, IsNewJob, Work, number_of, own_queue}
+use Rattle.bfd_replay.specs.Working.{AreMet, entries, events_in, IsReady, HasFinished, HasStopped, HasUsed, IsSole, IsStopAt}
+use Rattle.bfd_replay.specs.Jobs.{AllJoined, AreJobs, AreOwn, HasEnded, HasWorked, IsFresh, IsJoining, IsNewJob, Work, number_of, own_queue}
 use Rattle.bfd_replay.specs.Ends.{AreStates, AreTold, IsDoneJob, IsFine, IsState, IsTold}
 use Rattle.bfd_replay.proofs.Soles.{all_calls, front_sole, sole_of}
 
@@ -48,9 +47,13 @@ short false queue = omega arith
 pub done_job : (engine : Shards) (queues : List (List Numbered)) (workers i : ℕ) (w v : Work) → length queues ≡ length engine.locks → IsNewJob engine queues workers i w → HasWorked engine w v
     → IsDoneJob engine queues workers i v
 done_job engine queues workers i w v long new worked = record {
-  of = worked.left.of; there = worked.left.there; number = worked.left.number ∙ new.number;
+  of = worked.left.of;
+  there = worked.left.there;
+  number = worked.left.number ∙ new.number;
   used = λ s h. subst (HasUsed v.pass s) (new.own.each s (omega (arith, h, long))) (worked.left.used s h);
-  mine = w.queues; own = new.own; ended = worked.ended;
+  mine = w.queues;
+  own = new.own;
+  ended = worked.ended;
 }
 
 pub done_jobs : (engine : Shards) (queues : List (List Numbered)) (workers : ℕ) (l : Knows) (works after : List Work) → length queues ≡ length engine.locks → AreJobs engine queues workers workers l works
@@ -63,7 +66,9 @@ done_jobs engine queues workers l works after long jobs same worked i v e =
 
 pub joining : (engine : Shards) (queues : List (List Numbered)) (workers i : ℕ) (v : Work) → ((s : ℕ) → length (slice_index_or queues s []) ≤ 200000) → IsDoneJob engine queues workers i v → IsJoining engine 200000 v
 joining engine queues workers i v few d = record {
-  of = d.of; there = d.there; number = (let n = d.number in λ z. absurd (omega (arith, n, z)));
+  of = d.of;
+  there = d.there;
+  number = (let n = d.number in λ z. absurd (omega (arith, n, z)));
   few = λ s h. (let a = (d.used s h).few in let b = short (s % workers == i) (slice_index_or queues s []) in let c = few s in omega (arith, a, b, c));
 }
 
@@ -94,7 +99,10 @@ pub at_end : (engine : Shards) (queues : List (List Numbered)) (workers : ℕ) (
     → AreJobs engine queues workers workers k works → length after ≡ length works
     → ((i : ℕ) (d : Work) → i < length works → HasWorked engine (get_or works i d) (get_or after i d)) → AllJoined engine 200000 k l after → AtEnd engine queues workers k l after
 at_end engine queues workers k l works after some few long jobs same worked joined = record {
-  some = some; few = few; long = same ∙ jobs.long; first = jobs.number;
+  some = some;
+  few = few;
+  long = same ∙ jobs.long;
+  first = jobs.number;
   fresh = λ s h. subst (IsFresh k s) (sym (same_numbers works after (sym same) (λ i d inside. (worked i d inside).left.number))) (jobs.fresh s h);
   joined = joined;
   each = done_jobs engine queues workers k works after long jobs same worked;
@@ -204,11 +212,13 @@ told_at : (engine : Shards) (queues : List (List Numbered)) (workers : ℕ) (k l
 told_at engine queues workers k l works shards i v c e (Err fault) is = tt
 told_at engine queues workers k l works shards i v c e (Ok parts) is =
     let d = c.atend.each i v e in
-    let f : HasFinished engine d.mine v.pass parts = subst (HasEnded engine d.mine v.pass) is d.ended in
-    (f.long, λ s h same.
-        (let x = closed_at engine l shards s c.closed h in
-        let sole_here = sole_seen engine queues workers k l works s i v x.0 c.atend h x.1 e (sym same) in
-        (f.done s h).told_is sole_here ∙ ap (λ q. told 0 q (map started (configs_at engine s))) (own_at workers i s queues d.mine d.own (let a = c.queues_long in omega (arith, h, a)) same)))
+    let f : HasFinished engine d.mine v.pass parts = subst (HasEnded engine d.mine v.pass) is d.ended in (
+      f.long,
+      λ s h same.
+          (let x = closed_at engine l shards s c.closed h in
+          let sole_here = sole_seen engine queues workers k l works s i v x.0 c.atend h x.1 e (sym same) in
+          (f.done s h).told_is sole_here ∙ ap (λ q. told 0 q (map started (configs_at engine s))) (own_at workers i s queues d.mine d.own (let a = c.queues_long in omega (arith, h, a)) same)),
+    )
 
 -- no worker stopped but for want of memory
 
@@ -218,13 +228,13 @@ never_full : (engine : Shards) (queues : List (List Numbered)) (workers : ℕ) (
     → (IsSole v.pass.0 (seen_at v.pass s) → length (seen_at v.pass s) < length (own_queue workers i s (slice_index_or queues s []))) → ⊥
 never_full engine queues workers k l works shards i s v c e h full less = dite (ℕ_discrete (s % workers) i)
     (λ same. (let x = closed_at engine l shards s c.closed h in
-        let a = less (sole_seen engine queues workers k l works s i v x.0 c.atend h x.1 e (sym same)) in
-        let b = short (s % workers == i) (slice_index_or queues s []) in
-        let d = c.short_queues s in absurd (omega (arith, a, b, d, full))))
+    let a = less (sole_seen engine queues workers k l works s i v x.0 c.atend h x.1 e (sym same)) in
+    let b = short (s % workers == i) (slice_index_or queues s []) in
+    let d = c.short_queues s in absurd (omega (arith, a, b, d, full))))
     (λ other. (let none : own_queue workers i s (slice_index_or queues s []) ≡ [] = own_away workers i s (slice_index_or queues s []) other in
-        let idle = ((c.atend.each i v e).used s h).none none in
-        let a = less (subst (IsSole v.pass.0) (sym idle.seen) tt) in
-        let b = ap length none in absurd (omega (arith, a, b))))
+    let idle = ((c.atend.each i v e).used s h).none none in
+    let a = less (subst (IsSole v.pass.0) (sym idle.seen) tt) in
+    let b = ap length none in absurd (omega (arith, a, b))))
 
 -- nor the last word
 never_spent : (engine : Shards) (queues : List (List Numbered)) (workers : ℕ) (k l : Knows) (works : List Work) (shards : List Shard) (i s : ℕ) (v : Work) → AllClosed engine queues workers k l works shards
@@ -326,7 +336,11 @@ pub all_ready : (engine : Shards) (queues : List (List Numbered)) (workers at : 
 all_ready engine queues workers at l works some few long met jobs i d h =
     let w = jobs.each i (get_or works i d) (slice_get-get_or works i d h) in
     record {
-      of = w.of; there = w.there; some = some; few = few; long = w.own.long ∙ long;
+      of = w.of;
+      there = w.there;
+      some = some;
+      few = few;
+      long = w.own.long ∙ long;
       met = λ s inside. ready_own engine queues workers i s (get_or works i d).queues w.own (omega (arith, inside, long)) (met s inside);
       idle = w.idle;
     }
@@ -339,10 +353,10 @@ pub told_all : (engine : Shards) (queues : List (List Numbered)) (workers : ℕ)
     → map (λ w. w.told) works ≡ map Ok all → AreTold engine queues workers all
 told_all engine queues workers k l works shards all c all_ok =
     let many : length all ≡ workers = (let a = ap length all_ok in let b = length-map works (λ (w : Work). w.told) in
-        let d = length-map all (λ (x : List (List Piece)). (let r : Result (List (List Piece)) EngineFault = Ok x in r)) in let e = c.atend.long in omega (arith, a, b, d, e)) in
+    let d = length-map all (λ (x : List (List Piece)). (let r : Result (List (List Piece)) EngineFault = Ok x in r)) in let e = c.atend.long in omega (arith, a, b, d, e)) in
     let worker : (i : ℕ) → i < workers → IsTold engine queues workers i (Ok (get_or all i [])) = λ i h.
-        (let v = work_there i works (let e = c.atend.long in omega (arith, h, e)) in
-        told_at engine queues workers k l works shards i v.0 c v.1 (Ok (get_or all i [])) (all_told i v.0 works all all_ok v.1)) in
+    (let v = work_there i works (let e = c.atend.long in omega (arith, h, e)) in
+    told_at engine queues workers k l works shards i v.0 c v.1 (Ok (get_or all i [])) (all_told i v.0 works all all_ok v.1)) in
     record {
       long = many;
       wide = λ i h. (worker i h).0;

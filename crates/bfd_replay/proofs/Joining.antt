@@ -1,5 +1,5 @@
 -- Passes that are made for the workers, and taken in again.
-use Rattle.std.proofs.Common.{◌≡◌, ◌≢◌, ◌⊎◌, inl, inr, ◌<◌, ◌≤◌, ◌+◌, ◌*◌, ◌%◌, ◌==◌, false, ◌++◌, ◌∙◌, ◌∷◌, ℕ, zero, suc, [], List, length, map, sym, ap, subst, refl, take, take_all, drop, append_assoc, append-nil, arith, length-append, Some, None}
+use Rattle.std.proofs.Common.{◌≡◌, ◌≢◌, ◌<◌, ◌≤◌, ◌+◌, ◌*◌, ◌%◌, ◌==◌, false, ◌++◌, ◌∙◌, ◌∷◌, ℕ, zero, suc, [], List, length, map, sym, ap, subst, refl, take, take_all, drop, append_assoc, append-nil, arith, length-append, Some}
 use Rattle.std.specs.Prelude.{slice_get, slice_index_or}
 use Rattle.std.proofs.lemmas.Bool.Decides.{nat_tests}
 use Rattle.std.proofs.lemmas.List.{drop_all, map-append}
@@ -7,14 +7,12 @@ use mathlib.Core.Logic.{dite}
 use native.Mathlib.Decide.{ℕ_discrete}
 use Rattle.bfd_turn.specs.Lists.{Begins}
 use Rattle.bfd_turn.proofs.Beginnings.{begins_through}
-use Rattle.bfd_shard.specs.declared.entry.Entry.{Entry}
 use Rattle.bfd_engine.specs.Engines.{Shards, Knows, IsOf, AllThere}
-use Rattle.bfd_engine.specs.Calls.{seen_at, word_at, taken_at, made_at, kept_at, mine}
+use Rattle.bfd_engine.specs.Calls.{seen_at, word_at, taken_at, kept_at, mine}
 use Rattle.bfd_engine.specs.Opening.{IsNewPass}
 use Rattle.bfd_engine.specs.Passes.{Parted, Joined}
 use Rattle.bfd_gather.specs.declared.queue.Numbered.{Numbered}
-use Rattle.bfd_replay.specs.Working.{IsIdle}
-use Rattle.bfd_replay.specs.Jobs.{Work, AllJoined, AreJobs, AreJoined, AreOwn, IsFresh, IsJoining, IsNewJob, number_of, own_queue}
+use Rattle.bfd_replay.specs.Jobs.{Work, AllJoined, AreJobs, AreJoined, AreOwn, IsJoining, IsNewJob, number_of, own_queue}
 
 module _ {A : Type 0} where
   within : (xs : List A) (i : ℕ) (x : A) → slice_get xs i ≡ Some x → i < length xs
@@ -42,9 +40,9 @@ module _ {A : Type 0} where
       let here : slice_get (xs ++ y ∷ []) i ≡ Some x = ap (λ zs. slice_get zs i) (sym is) ∙ e in
       dite (ℕ_discrete i (length xs))
       (λ same. (let got : y ≡ x = some_is y x (sym (last_here xs y) ∙ (ap (slice_get (xs ++ y ∷ [])) (sym same) ∙ here)) in
-          subst (λ j. P j x) (sym same) (subst (λ z. P (length xs) z) got last)))
+      subst (λ j. P j x) (sym same) (subst (λ z. P (length xs) z) got last)))
       (λ other. (let front : i < length xs = (let a = within (xs ++ y ∷ []) i x here in let b = length-append xs (y ∷ []) in omega (arith, a, b, other)) in
-          each i x (sym (front_here xs y i front) ∙ here)))
+      each i x (sym (front_here xs y i front) ∙ here)))
 
   pub none_here : (i : ℕ) (x : A) → slice_get [] i ≡ Some x → ⊥
   none_here zero x e = cc
@@ -57,7 +55,11 @@ module _ {A : Type 0} where
 
 pub jobs_none : (engine : Shards) (queues : List (List Numbered)) (workers : ℕ) (l : Knows) (works : List Work) → IsNewPass engine l → works ≡ [] → AreJobs engine queues workers 0 l works
 jobs_none engine queues workers l works new none = record {
-  of = new.of; there = new.there; number = new.number; used = new.used; long = ap length none;
+  of = new.of;
+  there = new.there;
+  number = new.number;
+  used = new.used;
+  long = ap length none;
   fresh = λ s h. record { seen = new.seen s h; taken = new.taken s h; kept = new.kept s h; made = new.made s h ∙ ap (map number_of) (sym none) };
   each = λ i w e. absurd (none_here i w (ap (λ ws. slice_get ws i) (sym none) ∙ e));
 }
@@ -66,14 +68,20 @@ pub jobs_more : (engine : Shards) (queues : List (List Numbered)) (workers at : 
     → works2 ≡ works ++ w ∷ [] → IsOf engine m.1 → AllThere m.1 → m.0 ≡ 0 → m.2 ≡ l.2 + 1 → w.pass.0 ≡ l.2 + 1 → IsOf engine w.pass.1 → AllThere w.pass.1
     → ((s : ℕ) → s < length engine.locks → Parted l m w.pass s) → AreOwn workers at queues w.queues → AreJobs engine queues workers (at + 1) m works2
 jobs_more engine queues workers at l m works works2 w j is of there zero_is used number of_new there_new parted own = record {
-  of = of; there = there; number = zero_is; used = used ∙ ap (λ n. n + 1) j.used;
+  of = of;
+  there = there;
+  number = zero_is;
+  used = used ∙ ap (λ n. n + 1) j.used;
   long = ap length is ∙ (length-append works (w ∷ []) ∙ ap (λ n. n + 1) j.long);
   fresh = λ s h. (let p = parted s h in let f = j.fresh s h in record {
-    seen = p.seen ∙ f.seen; taken = p.taken ∙ f.taken; kept = p.kept ∙ f.kept;
+    seen = p.seen ∙ f.seen;
+    taken = p.taken ∙ f.taken;
+    kept = p.kept ∙ f.kept;
     made = p.made ∙ (ap (λ ns. ns ++ w.pass.0 ∷ []) f.made ∙ (sym (map-append number_of works (w ∷ [])) ∙ ap (map number_of) (sym is)));
   });
   each = each_more (IsNewJob engine queues workers) works works2 w is j.each (record {
-    of = of_new; there = there_new;
+    of = of_new;
+    there = there_new;
     number = number ∙ ap (λ n. n + 1) (j.used ∙ sym j.long);
     idle = λ s h. record { seen = (parted s h).seen_new ∙ (j.fresh s h).seen; taken = (parted s h).taken_new };
     own = subst (λ n. AreOwn workers n queues w.queues) (sym j.long) own;
@@ -84,10 +92,15 @@ jobs_more engine queues workers at l m works works2 w j is of there zero_is used
 
 pub joined_none : (engine : Shards) (most : ℕ) (k : Knows) → IsOf engine k.1 → AllThere k.1 → k.0 ≡ 0 → AllJoined engine most k k []
 joined_none engine most k of there zero_is = record {
-  of = of; there = there; number = zero_is;
+  of = of;
+  there = there;
+  number = zero_is;
   each = λ s h. record {
-    own = refl; kept = sym (append-nil (kept_at k s)); made = refl;
-    begins = λ i w e. absurd (none_here i w e); words = λ i w e. absurd (none_here i w e);
+    own = refl;
+    kept = sym (append-nil (kept_at k s));
+    made = refl;
+    begins = λ i w e. absurd (none_here i w e);
+    words = λ i w e. absurd (none_here i w e);
     few = (grind arith);
   };
 }
@@ -113,7 +126,9 @@ one_joined most k l m works w s j t few = record {
 pub joined_more : (engine : Shards) (most : ℕ) (k l m : Knows) (works : List Work) (w : Work) → AllJoined engine most k l works → IsJoining engine most w
     → IsOf engine m.1 → AllThere m.1 → m.0 ≡ 0 → ((s : ℕ) → s < length engine.locks → Joined l w.pass m s) → AllJoined engine most k m (works ++ w ∷ [])
 joined_more engine most k l m works w j is of there zero_is joined = record {
-  of = of; there = there; number = zero_is;
+  of = of;
+  there = there;
+  number = zero_is;
   each = λ s h. one_joined most k l m works w s (j.each s h) (joined s h) (is.few s h);
 }
 

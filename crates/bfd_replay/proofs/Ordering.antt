@@ -1,5 +1,5 @@
 -- Results, one more of which has parts; and parts in order.
-use Rattle.std.proofs.Common.{◌≡◌, ◌≢◌, ◌<◌, ◌≤◌, ◌+◌, ◌%◌, ◌++◌, ◌∙◌, ◌∷◌, ℕ, suc, [], List, length, map, get_or, set, get_or-set_same, get_or-set_other, refl, sym, ap, subst, arith, length-append, Some, Result, Ok, Err}
+use Rattle.std.proofs.Common.{◌≡◌, ◌≢◌, ◌<◌, ◌≤◌, ◌+◌, ◌%◌, ◌++◌, ◌∙◌, ◌∷◌, ℕ, suc, [], List, length, map, get_or, set, get_or-set_same, get_or-set_other, refl, sym, ap, subst, arith, length-append, Some, Result, Ok}
 use Rattle.std.specs.Prelude.{slice_get, slice_index_or}
 use Rattle.std.proofs.lemmas.List.{get_or-map, map-append, map-set, length-map, length-set}
 use mathlib.Core.Logic.{dite}
@@ -46,9 +46,9 @@ order_more shards workers shard all left after parts parts2 part o is many wide 
   wide = λ i. wide i ∙ o.wide i;
   each = λ s h. dite (ℕ_discrete s shard)
       (λ same. subst (λ i. slice_index_or parts2 i [] ≡ slice_index_or (slice_index_or all (i % workers) []) i []) (sym same)
-          (ap (λ xs. slice_index_or xs shard []) pushed ∙ (ap (λ i. slice_index_or (parts ++ part ∷ []) i []) (sym o.long) ∙ (at_last parts part [] ∙ (is ∙ o.later (shard % workers) shard (omega arith))))))
+      (ap (λ xs. slice_index_or xs shard []) pushed ∙ (ap (λ i. slice_index_or (parts ++ part ∷ []) i []) (sym o.long) ∙ (at_last parts part [] ∙ (is ∙ o.later (shard % workers) shard (omega arith))))))
       (λ other. (let front : s < length parts = (let a = o.long in omega (arith, a, h, other)) in
-          ap (λ xs. slice_index_or xs s []) pushed ∙ (at_front parts part part s [] front ∙ o.each s (omega (arith, h, other)))));
+      ap (λ xs. slice_index_or xs s []) pushed ∙ (at_front parts part part s [] front ∙ o.each s (omega (arith, h, other)))));
   later = λ i r h. others i r (λ e. absurd (omega (arith, h, e))) ∙ o.later i r (omega (arith, h));
 }
 
@@ -70,13 +70,13 @@ module _ {V A : Type 0} (f : V → List (List A)) where
       → (i : ℕ) → length (get_or (map f (set vs at new)) i []) ≡ length (get_or (map f vs) i [])
   take_wide vs at shard v new x h is put i = dite (ℕ_discrete i at)
       (λ same. subst (λ j. length (get_or (map f (set vs at new)) j []) ≡ length (get_or (map f vs) j [])) (sym same)
-          (ap length (changed_at vs at v new h) ∙ (ap length put ∙ (length-set (f v) shard x ∙ ap length (sym (get_or-map f vs at v [] h ∙ ap f (sym is)))))))
+      (ap length (changed_at vs at v new h) ∙ (ap length put ∙ (length-set (f v) shard x ∙ ap length (sym (get_or-map f vs at v [] h ∙ ap f (sym is)))))))
       (λ other. ap length (changed_else vs at i new other))
 
   pub take_others : (vs : List V) (at shard : ℕ) (v new : V) (x : List A) → at < length vs → v ≡ get_or vs at v → f new ≡ set (f v) shard x
       → (i r : ℕ) → r ≢ shard → get_or (get_or (map f (set vs at new)) i []) r [] ≡ get_or (get_or (map f vs) i []) r []
   take_others vs at shard v new x h is put i r away = dite (ℕ_discrete i at)
       (λ same. subst (λ j. get_or (get_or (map f (set vs at new)) j []) r [] ≡ get_or (get_or (map f vs) j []) r []) (sym same)
-          (ap (λ l. get_or l r []) (changed_at vs at v new h) ∙ (ap (λ l. get_or l r []) put ∙ (get_or-set_other (f v) shard r x [] away
-          ∙ ap (λ l. get_or l r []) (sym (get_or-map f vs at v [] h ∙ ap f (sym is)))))))
+      (ap (λ l. get_or l r []) (changed_at vs at v new h) ∙ (ap (λ l. get_or l r []) put ∙ (get_or-set_other (f v) shard r x [] away
+      ∙ ap (λ l. get_or l r []) (sym (get_or-map f vs at v [] h ∙ ap f (sym is)))))))
       (λ other. ap (λ l. get_or l r []) (changed_else vs at i new other))

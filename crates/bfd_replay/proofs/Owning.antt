@@ -1,5 +1,5 @@
 -- A worker's own queues, taken out one by one.
-use Rattle.std.proofs.Common.{◌≡◌, ◌≢◌, ◌<◌, ◌≤◌, ◌+◌, ◌%◌, ◌==◌, ◌++◌, ◌∙◌, ◌∷◌, Bool, true, false, ℕ, [], List, length, sym, ap, refl, subst, arith, length-append}
+use Rattle.std.proofs.Common.{◌≡◌, ◌≢◌, ◌<◌, ◌≤◌, ◌+◌, ◌%◌, ◌==◌, ◌++◌, ◌∙◌, ◌∷◌, Bool, false, ℕ, [], List, length, sym, ap, refl, subst, arith, length-append}
 use Rattle.std.specs.Prelude.{slice_index_or, if◌then◌else◌}
 use Rattle.std.proofs.lemmas.Bool.Decides.{nat_tests}
 use mathlib.Core.Logic.{dite}
@@ -30,11 +30,11 @@ own_more workers at shard mine all left after own own2 taken is took pushed long
   same = long ∙ o.same;
   each = λ s h. dite (ℕ_discrete s shard)
       (λ same. subst (λ i. slice_index_or own2 i [] ≡ own_queue workers at i (slice_index_or all i [])) (sym same)
-          (ap (λ xs. slice_index_or xs shard []) pushed ∙ (ap (λ i. slice_index_or (own ++ taken ∷ []) i []) (sym o.long) ∙ (at_last own taken [] ∙ (took
-          ∙ (ap (λ b. if b then slice_index_or left shard [] else []) is
-          ∙ ap (λ q. if (shard % workers == at) then q else []) (o.later shard (omega arith))))))))
+      (ap (λ xs. slice_index_or xs shard []) pushed ∙ (ap (λ i. slice_index_or (own ++ taken ∷ []) i []) (sym o.long) ∙ (at_last own taken [] ∙ (took
+      ∙ (ap (λ b. if b then slice_index_or left shard [] else []) is
+      ∙ ap (λ q. if (shard % workers == at) then q else []) (o.later shard (omega arith))))))))
       (λ other. (let front : s < length own = (let a = o.long in omega (arith, a, h, other)) in
-          ap (λ xs. slice_index_or xs s []) pushed ∙ (at_front own taken taken s [] front ∙ o.each s (omega (arith, h, other)))));
+      ap (λ xs. slice_index_or xs s []) pushed ∙ (at_front own taken taken s [] front ∙ o.each s (omega (arith, h, other)))));
   later = λ s h. others s (λ e. absurd (omega (arith, h, e))) ∙ o.later s (omega (arith, h));
   others = λ s away. dite (ℕ_discrete s shard)
       (λ same. ap (λ xs. slice_index_or xs s []) (kept (is ∙ not_same (shard % workers) at (λ e. away (ap (λ i. i % workers) same ∙ e)))) ∙ o.others s away)

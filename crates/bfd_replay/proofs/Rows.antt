@@ -1,5 +1,5 @@
 -- One job more is worked on in place.
-use Rattle.std.proofs.Common.{◌≡◌, ◌≢◌, ◌<◌, ◌≤◌, ◌+◌, ◌∙◌, ◌∷◌, [], ℕ, zero, suc, List, length, get_or, set, get_or-set_same, get_or-set_other, length-set, refl, sym, ap, subst, arith}
+use Rattle.std.proofs.Common.{◌≡◌, ◌<◌, ◌≤◌, ◌+◌, ◌∙◌, ◌∷◌, [], ℕ, zero, suc, List, length, get_or, set, get_or-set_same, get_or-set_other, length-set, refl, sym, ap, subst, arith}
 use mathlib.Core.Logic.{dite}
 use native.Mathlib.Decide.{ℕ_discrete}
 use Rattle.bfd_engine.specs.Engines.{Shards}
@@ -24,8 +24,8 @@ up_more engine k before now after w inside is worked u = record {
   long = ap length is ∙ (length-set now k w ∙ u.long);
   done = λ i d h. dite (ℕ_discrete i k)
       (λ same. subst (λ j. HasWorked engine (get_or before j d) (get_or after j d)) (sym same)
-          (subst (HasWorked engine (get_or before k d)) (sym (ap (λ xs. get_or xs k d) is ∙ get_or-set_same now k w d inside))
-          (subst (λ b. HasWorked engine b w) (u.later k d (omega arith)) (subst (λ b. HasWorked engine b w) (any now k w d inside) worked))))
+      (subst (HasWorked engine (get_or before k d)) (sym (ap (λ xs. get_or xs k d) is ∙ get_or-set_same now k w d inside))
+      (subst (λ b. HasWorked engine b w) (u.later k d (omega arith)) (subst (λ b. HasWorked engine b w) (any now k w d inside) worked))))
       (λ other. subst (HasWorked engine (get_or before i d)) (sym (ap (λ xs. get_or xs i d) is ∙ get_or-set_other now k i w d other)) (u.done i d (omega (arith, h, other))));
   later = λ i d h. ap (λ xs. get_or xs i d) is ∙ (get_or-set_other now k i w d (λ e. absurd (omega (arith, h, e))) ∙ u.later i d (omega (arith, h)));
 }

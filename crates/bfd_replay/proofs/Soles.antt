@@ -1,6 +1,5 @@
 -- What a caller has seen, where it is the only one.
-use Rattle.std.proofs.Common.{◌≡◌, ◌≢◌, ◌<◌, ◌≤◌, ◌+◌, ◌==◌, ◌++◌, ◌∙◌, ◌∷◌, true, false, ℕ, [], List, length, map, sym, ap, subst, refl, append_assoc, append-nil, arith, length-append}
-use Rattle.std.specs.List.{AllByRecursion}
+use Rattle.std.proofs.Common.{◌≡◌, ◌≢◌, ◌<◌, ◌≤◌, ◌+◌, ◌==◌, ◌++◌, ◌∙◌, ◌∷◌, true, false, ℕ, [], List, length, map, sym, ap, subst, refl, append-nil, arith, length-append}
 use Rattle.std.proofs.lemmas.Bool.Decides.{nat_tests}
 use Rattle.std.proofs.lemmas.List.{length-map, map-append}
 use mathlib.Core.Logic.{dite}
@@ -15,7 +14,7 @@ use Rattle.bfd_engine.specs.declared.fault.EngineFault.{EngineFault}
 use Rattle.bfd_engine.specs.declared.fault.EngineFault.TheVariants.{Memory, Full, Spent}
 use Rattle.bfd_engine.specs.Turned.{by, entry_of, given_after}
 use Rattle.bfd_engine.specs.Engines.{Shards, Knows, configs_at}
-use Rattle.bfd_engine.specs.Calls.{seen_at, word_at, taken_at}
+use Rattle.bfd_engine.specs.Calls.{seen_at, taken_at}
 use Rattle.bfd_gather.specs.declared.queue.Numbered.{Numbered}
 use Rattle.bfd_gather.specs.Pieces.{Piece, event_pieces}
 use Rattle.bfd_gather.specs.Happenings.{told}
@@ -96,7 +95,7 @@ done_more engine shard k l done e part part2 t number taken d =
       told_is = λ s. t.pieces
           ∙ (ap (λ ps. ps ++ event_pieces e.number e.event (given_after (configs_at engine shard) (seen_at k shard ++ t.between) e.event)) (d.told_is (sole_first s))
           ∙ (ap (λ o. told 0 done (map started (configs_at engine shard)) ++ event_pieces e.number e.event o)
-              (given_done k.0 (configs_at engine shard) (seen_at k shard ++ t.between) (events_in done) e.event (before_is s))
+          (given_done k.0 (configs_at engine shard) (seen_at k shard ++ t.between) (events_in done) e.event (before_is s))
           ∙ sym (told_runs done e (configs_at engine shard))));
       few = omega (arith, d.few, taken, length-append done (e ∷ []));
     }
@@ -106,9 +105,12 @@ pub stopped_at : (fault : EngineFault) (engine : Shards) (shard most : ℕ) (k l
     → HasDone engine shard k.0 done (seen_at k shard) (taken_at k shard) part → length done < most → IsStopAt fault engine shard most l
 stopped_at Memory engine shard most k l done part r number d less = tt
 stopped_at (Spent at word) engine shard most k l done part r number d less = r
-stopped_at (Full at n) engine shard most k l done part r number d less = (r.0, λ s.
-    (let sole : IsSole k.0 (seen_at k shard ++ r.1.0) = subst (λ m. IsSole m (seen_at k shard ++ r.1.0)) number (subst (IsSole l.0) r.1.2 s) in
-    let none : r.1.0 ≡ [] = nobody k.0 r.1.0 (back_sole k.0 (seen_at k shard) r.1.0 sole) r.1.1 in
-    let is : seen_at l shard ≡ entries k.0 (events_in done) =
-    r.1.2 ∙ (ap (λ b. seen_at k shard ++ b) none ∙ (append-nil (seen_at k shard) ∙ d.seen_is (front_sole k.0 (seen_at k shard) r.1.0 sole))) in
-    omega (arith, ap length is, length-map (events_in done) (entry_of k.0), length-map done (λ (x : Numbered). x.event), less)))
+stopped_at (Full at n) engine shard most k l done part r number d less = (
+  r.0,
+  λ s.
+      (let sole : IsSole k.0 (seen_at k shard ++ r.1.0) = subst (λ m. IsSole m (seen_at k shard ++ r.1.0)) number (subst (IsSole l.0) r.1.2 s) in
+      let none : r.1.0 ≡ [] = nobody k.0 r.1.0 (back_sole k.0 (seen_at k shard) r.1.0 sole) r.1.1 in
+      let is : seen_at l shard ≡ entries k.0 (events_in done) =
+      r.1.2 ∙ (ap (λ b. seen_at k shard ++ b) none ∙ (append-nil (seen_at k shard) ∙ d.seen_is (front_sole k.0 (seen_at k shard) r.1.0 sole))) in
+      omega (arith, ap length is, length-map (events_in done) (entry_of k.0), length-map done (λ (x : Numbered). x.event), less)),
+)

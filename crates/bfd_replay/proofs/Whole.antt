@@ -1,17 +1,15 @@
 -- A script on shards is the script on the whole table.
-use Rattle.std.proofs.Common.{◌≡◌, ◌≢◌, ◌⊎◌, inl, inr, ◌<◌, ◌≤◌, ◌+◌, ◌-◌, ◌*◌, ◌/◌, ◌%◌, ◌==◌, ◌∙◌, ◌∷◌, Bool, true, false, ℕ, zero, suc, [], List, length, map, get_or, refl, sym, ap, subst, arith, Some, None, Option, add_comm}
-use Rattle.std.specs.Prelude.{slice_get, slice_index_or, sum_by, if◌then◌else◌}
-use Rattle.std.specs.List.{AllByRecursion, cons_option, filter, filter_map}
+use Rattle.std.proofs.Common.{◌≡◌, ◌⊎◌, inl, inr, ◌<◌, ◌≤◌, ◌+◌, ◌-◌, ◌*◌, ◌/◌, ◌%◌, ◌==◌, ◌∙◌, ◌∷◌, Bool, true, false, ℕ, zero, suc, [], List, length, map, get_or, refl, sym, ap, subst, arith, Some, None, Option, add_comm}
+use Rattle.std.specs.Prelude.{slice_index_or, sum_by, if◌then◌else◌}
+use Rattle.std.specs.List.{AllByRecursion, cons_option}
 use Rattle.std.proofs.lemmas.Bool.Decides.{nat_tests}
 use Rattle.std.proofs.lemmas.List.{length-map}
-use Rattle.std.proofs.lemmas.Option.{slice_get-get_or, slice_get_within, get_or_from_slice_get}
+use Rattle.std.proofs.lemmas.Option.{slice_get-get_or, slice_get_within}
 use Rattle.bfd_session.specs.declared.event.Event.{Event}
 use Rattle.bfd_session.specs.declared.event.SessionConfig.{SessionConfig}
-use Rattle.bfd_session.specs.Alone.{Outcome}
 use Rattle.bfd_session.specs.Kinds.{Running, configs_of}
 use Rattle.bfd_session.specs.Rows.{Ascends}
 use Rattle.bfd_session.specs.Step.{started}
-use Rattle.bfd_shard.specs.declared.entry.ShardEvent.{ShardEvent}
 use Rattle.bfd_shard.specs.declared.entry.ShardEvent.TheVariants.{Own, Tick}
 use Rattle.bfd_shard.specs.Dealing.{history_of, share}
 use Rattle.bfd_shard.specs.History.{events_of, later, moved, runs}
@@ -29,11 +27,11 @@ use Rattle.bfd_gather.specs.Happenings.{Happening, Apart, Among, AreParts, among
 use Rattle.bfd_gather.specs.Happenings as gather
 use Rattle.bfd_gather.proofs.Sharing.{share_map}
 use Rattle.bfd_gather.proofs.Histories.{queue_events, runs_share}
-use Rattle.bfd_replay.specs.World.{totals, world}
+use Rattle.bfd_replay.specs.World.{totals}
 use Rattle.bfd_replay.specs.Planned.{AreQueues, IsMet, IsTable, events_of_table, happening, happenings}
 use Rattle.bfd_replay.specs.Working.{AreMet, entries, events_in}
 use Rattle.bfd_replay.specs.Ends.{AreStates, AreTold}
-use Rattle.bfd_replay.specs.Replayed.{HasReplayed, HaveReplayed}
+use Rattle.bfd_replay.specs.Replayed.{HaveReplayed}
 use Rattle.bfd_replay.specs.Counts.{one_up, sum_to, ups}
 use Rattle.bfd_replay.proofs.Soles.{events_entries}
 use Rattle.bfd_replay.proofs.Summing.{sum_same, ups_are as counted, ups_shared}
@@ -112,7 +110,8 @@ pub are_parts : (engine : Shards) (shards workers : ℕ) (hs : List Happening) (
     → ((s : ℕ) → s < shards → slice_index_or parts s [] ≡ slice_index_or (slice_index_or all (s % length all) []) s []) → slice_index_or parts shards [] ≡ apart → apart ≡ told_apart 1 hs
     → AreParts shards 1 0 hs (map started configs) parts
 are_parts engine shards workers hs configs queues all parts apart some locks is ascends are told_are long each last apart_is = record {
-  some = some; long = long;
+  some = some;
+  long = long;
   each = λ s h. each s h
       ∙ (ap (λ n. slice_index_or (slice_index_or all (s % n) []) s []) told_are.long
       ∙ (told_are.each s (omega (arith, h, locks))
@@ -147,15 +146,15 @@ ups_are script zero workers up states d some have kept is = absurd (omega (arith
 ups_are script (suc n) workers up states d some have kept is =
     is ∙ (ap (sum_to (λ k. sum_by one_up (get_or states k d).sessions)) have.long
     ∙ (sum_same (λ k. sum_by one_up (get_or states k d).sessions) (λ k. ups (share (suc n) k (runs (events_of_table script) script.configs))) (suc n) (λ k h.
-        (let inside : k < length states = (let a = have.long in omega (arith, h, a)) in
-        let state = get_or states k d in
-        let one = have.each k state (slice_get-get_or states k d inside) in
-        let whole = (kept k d inside).whole in
-        counted state.sessions ∙ ap ups (whole
-        ∙ (ap (λ j. runs (events_of j) (configs_of state.sessions)) one.journal
-        ∙ (ap (λ es. runs es (configs_of state.sessions)) (events_entries (1 + k % workers) (history_of (suc n) k (events_of_table script)))
-        ∙ (ap (runs (history_of (suc n) k (events_of_table script))) one.configs
-        ∙ runs_share (suc n) k (events_of_table script) script.configs h))))))
+    (let inside : k < length states = (let a = have.long in omega (arith, h, a)) in
+    let state = get_or states k d in
+    let one = have.each k state (slice_get-get_or states k d inside) in
+    let whole = (kept k d inside).whole in
+    counted state.sessions ∙ ap ups (whole
+    ∙ (ap (λ j. runs (events_of j) (configs_of state.sessions)) one.journal
+    ∙ (ap (λ es. runs es (configs_of state.sessions)) (events_entries (1 + k % workers) (history_of (suc n) k (events_of_table script)))
+    ∙ (ap (runs (history_of (suc n) k (events_of_table script))) one.configs
+    ∙ runs_share (suc n) k (events_of_table script) script.configs h))))))
     ∙ (ups_shared n (runs (events_of_table script) script.configs) ∙ ap ups (sym (left_is script)))))
 
 -- each event of a script gives one outcome

@@ -1,5 +1,5 @@
 -- The world of a replay is one shard with every session.
-use Rattle.std.proofs.Common.{◌≡◌, ◌∙◌, ℕ, max, List, [], ◌∷◌, map, refl, sym, ap, subst, Option, None, Some, Result, Ok, Err}
+use Rattle.std.proofs.Common.{◌≡◌, ◌∙◌, ℕ, List, [], ◌∷◌, map, refl, sym, ap, Option, None, Some, Result, Ok, Err}
 use Rattle.std.specs.Prelude.{slice_get}
 use Rattle.std.specs.List.{cons_option, filter_map}
 use Rattle.bfd_packet.specs.declared.arrival.Datagram.{Datagram}
@@ -10,7 +10,6 @@ use Rattle.bfd_session.specs.declared.event.Event.{Event}
 use Rattle.bfd_session.specs.declared.event.SessionConfig.{SessionConfig}
 use Rattle.bfd_session.specs.Kinds.{Running, configs_of}
 use Rattle.bfd_session.specs.Step.{started}
-use Rattle.bfd_session.specs.Alone.{Outcome}
 use Rattle.bfd_shard.specs.declared.entry.ShardEvent.{ShardEvent}
 use Rattle.bfd_shard.specs.declared.entry.ShardEvent.TheVariants.{Own, Tick}
 use Rattle.bfd_shard.specs.History.{later, moved, own_moved, own_outcome, outcome_of, runs}

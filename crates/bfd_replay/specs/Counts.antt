@@ -1,5 +1,5 @@
 -- How many sessions are Up.
-use Rattle.std.specs.Prelude.{ℕ, zero, suc, ◌+◌, Bool, true, false, List, length, if◌then◌else◌, slice_index_or}
+use Rattle.std.specs.Prelude.{ℕ, zero, suc, ◌+◌, List, length, if◌then◌else◌}
 use Rattle.std.specs.List.{filter}
 use Rattle.bfd_rules.specs.Quantities.{is_up}
 use Rattle.bfd_session.specs.Kinds.{Running}

@@ -5,7 +5,7 @@ use Rattle.bfd_session.specs.Step.{started}
 use Rattle.bfd_shard.specs.Shard.{Shard}
 use Rattle.bfd_engine.specs.declared.fault.EngineFault.{EngineFault}
 use Rattle.bfd_engine.specs.declared.fault.EngineFault.TheVariants.{Memory, Full, Spent}
-use Rattle.bfd_engine.specs.Engines.{Shards, Knows, configs_at}
+use Rattle.bfd_engine.specs.Engines.{Shards, configs_at}
 use Rattle.bfd_gather.specs.declared.queue.Numbered.{Numbered}
 use Rattle.bfd_gather.specs.Pieces.{Piece}
 use Rattle.bfd_gather.specs.Happenings.{told}

@@ -6,7 +6,7 @@ use Rattle.bfd_engine.specs.Engines.{Shards, Knows, IsOf, AllThere}
 use Rattle.bfd_engine.specs.Calls.{seen_at, word_at, taken_at, made_at, kept_at, mine}
 use Rattle.bfd_gather.specs.declared.queue.Numbered.{Numbered}
 use Rattle.bfd_gather.specs.Pieces.{Piece}
-use Rattle.bfd_replay.specs.Working.{HasFinished, HasLeft, HasStopped, IsIdle, IsReady}
+use Rattle.bfd_replay.specs.Working.{HasFinished, HasLeft, HasStopped, IsIdle}
 
 -- a result, with what it is of seen so
 abbrev pub seen_as : {A B E : Type 0} → (A → B) → Result A E → Result B E

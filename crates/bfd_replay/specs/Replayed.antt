@@ -1,5 +1,5 @@
 -- What a replay on shards leaves of each.
-use Rattle.std.specs.Prelude.{ℕ, ◌≡◌, ◌<◌, ◌+◌, ◌%◌, List, length, slice_get, Some}
+use Rattle.std.specs.Prelude.{ℕ, ◌≡◌, ◌+◌, ◌%◌, List, length, slice_get, Some}
 use Rattle.bfd_session.specs.Kinds.{configs_of}
 use Rattle.bfd_shard.specs.Dealing.{history_of, share}
 use Rattle.bfd_shard.specs.Shard.{Shard}

@@ -1,5 +1,5 @@
 -- What a worker does on a shard, and what of it stands once nobody else's entry turns out to be there.
-use Rattle.std.specs.Prelude.{ℕ, Bool, true, false, ◌≡◌, ◌≢◌, ◌≤◌, ◌<◌, ◌+◌, ◌++◌, List, [], ◌∷◌, length, map, slice_index_or, Option, None, Some, Result, Ok, Err}
+use Rattle.std.specs.Prelude.{ℕ, Bool, true, false, ◌≡◌, ◌≢◌, ◌≤◌, ◌<◌, ◌++◌, List, [], ◌∷◌, length, map, slice_index_or, Result, Ok, Err}
 use Rattle.std.specs.List.{AllByRecursion}
 use Rattle.bfd_session.specs.Step.{started}
 use Rattle.bfd_shard.specs.declared.entry.Entry.{Entry}

@@ -1,8 +1,7 @@
-//! Workers, each on a thread.
+//! Workers' jobs.
 ghost use Rattle.std.specs.Prelude.{ℕ, ◌≡◌, ◌≤◌, ◌<◌, ◌+◌, ◌*◌, ◌%◌, [], Ok, IfOk, OnOk, false, if◌then◌else◌, length, map, slice_index_or};
 ghost use Rattle.std.specs.List.{All};
 ghost use Rattle.bfd_engine.specs.Engines.{configs_at};
-
 ghost use Rattle.bfd_replay.specs.Jobs.{Work, HasWorked, HasEnded, AreOwn, seen_as};
 ghost use Rattle.bfd_replay.specs.Working.{IsReady, HasLeft};
 
@@ -76,10 +75,19 @@ fn work<W: Timers, R: Wait, G: Gate>(
     ensures { HasWorked engine.now job.old job.new }
 {
     let queues = mem::replace(&mut job.queues, Vec::new(alloc));
-    job.told = run::<W, R, G, Brand>(rt, alloc, engine, &mut job.pass, queues, room, gate, Blank::new(1));
+    job.told = run::<W, R, G, Brand>(
+        rt,
+        alloc,
+        engine,
+        &mut job.pass,
+        queues,
+        room,
+        gate,
+        Blank::new(1),
+    );
 }
 
-/// Works on all jobs.
+/// Works on all jobs, one after another.
 pub(crate) fn work_all<W: Timers, R: Wait, G: Gate>(
     rt: &R,
     alloc: Global,
@@ -99,7 +107,12 @@ pub(crate) fn work_all<W: Timers, R: Wait, G: Gate>(
 }
 
 /// Takes a queue out where it is the worker's own, and gives an empty one where it isn't.
-fn take_own(alloc: Global, queues: &mut Vec<Vec<Numbered>>, shard: usize, own: bool) -> Vec<Numbered>
+fn take_own(
+    alloc: Global,
+    queues: &mut Vec<Vec<Numbered>>,
+    shard: usize,
+    own: bool,
+) -> Vec<Numbered>
     requires { shard < length queues.old.items }
     ensures taken { result.items ≡ (if own then slice_index_or (map (λ q. q.items) queues.old.items) shard [] else []) }
     ensures long { length queues.new.items ≡ length queues.old.items }

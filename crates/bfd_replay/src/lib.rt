@@ -26,3 +26,6 @@ mod running;
 mod working;
 
 pub use replaying::{Outcome, replay};
+
+#[cfg(test)]
+mod tests;

@@ -18,7 +18,11 @@ use std::alloc::{AllocError, Global};
 
 /// The table of the sessions and the pool, which have no fault.
 #[tactic(auto, using(crate::proofs::Tables::no_fault))]
-pub(crate) fn table(alloc: Global, configs: &[SessionConfig], pool: &[Reflector]) -> Result<Demux, AllocError>
+pub(crate) fn table(
+    alloc: Global,
+    configs: &[SessionConfig],
+    pool: &[Reflector],
+) -> Result<Demux, AllocError>
     requires { IsTable configs.now pool.now }
     ensures { IfOk result (λ demux. demux ≡ table_in configs.now pool.now) }
 {
@@ -88,7 +92,12 @@ pub(crate) fn plan(
     let mut apart = Part::new(alloc);
     let mut number = 1u64;
     for line in events {
-        take_in(&mut queues, &mut apart, number, route_of(demux, configs, pool, line))?;
+        take_in(
+            &mut queues,
+            &mut apart,
+            number,
+            route_of(demux, configs, pool, line),
+        )?;
         number += 1;
     }
     Ok((queues, apart))

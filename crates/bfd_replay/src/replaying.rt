@@ -78,7 +78,7 @@ fn replay_parts<W: Timers + Send, R: Threads + Wait + Sync, G: Gate + Sync>(
     })
 }
 
-/// Replays the script on 1 to 64 shards, with 1 to 64 workers, each on a thread of its own where one can be made.
+/// Replays the script on 1 to 64 shards, with 1 to 64 workers, each with a pass of its own. The workers work one after another.
 ///
 /// Session k of the table stands at place k / shards of shard k % shards. Worker w of n takes the shards whose number, divided by
 /// n, leaves w - 1, and does each shard's events in the order of the script; each turn of worker w for event N stands between
@@ -108,7 +108,5 @@ pub fn replay<W: Timers + Send, R: Threads + Wait + Sync, G: Gate + Sync>(
         pool,
         events,
     } = script;
-    replay_parts(
-        rt, alloc, configs, pool, events, shards, workers, gate,
-    )
+    replay_parts(rt, alloc, configs, pool, events, shards, workers, gate)
 }

@@ -52,7 +52,13 @@ fn reflected(pool: &[Reflector], place: usize, arrival: &Arrival) -> Route
 }
 
 /// What a selected arrival is.
-fn directed(pool: &[Reflector], configs: &[Config], moment: Moment, target: Target, arrival: Arrival) -> Route
+fn directed(
+    pool: &[Reflector],
+    configs: &[Config],
+    moment: Moment,
+    target: Target,
+    arrival: Arrival,
+) -> Route
     requires climbs { PoolAscends pool.now }
     requires arrives { Arrives configs.now pool.now arrival target }
     ensures route { route_is result ≡ happening_by pool.now (arriving moment arrival (coming_to (Some target) arrival)) }
@@ -87,7 +93,13 @@ fn screened<L: Ledger>(demux: &Demux, arrival: &Arrival, blank: Blank) -> Result
 
 /// What an arrival is.
 #[tactic(auto, using(bfd_engine::proofs::Reaching::arrives))]
-fn arrived(demux: &Demux, configs: &[Config], pool: &[Reflector], moment: Moment, arrival: Arrival) -> Route
+fn arrived(
+    demux: &Demux,
+    configs: &[Config],
+    pool: &[Reflector],
+    moment: Moment,
+    arrival: Arrival,
+) -> Route
     requires table { demux.now ≡ table_of configs.now pool.now }
     requires ascends { Ascends configs.now }
     requires climbs { PoolAscends pool.now }

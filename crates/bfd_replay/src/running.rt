@@ -75,9 +75,11 @@ pub(crate) fn run_all<W: Timers + Send, R: Threads + Wait + Sync, G: Gate + Sync
             let all = all_told(alloc, tolds)?;
             Ok((states, all))
         }
-        Err(Unclosed {
-            engine: _engine,
-            pass: _pass,
-        }) => Err(AllocError),
+        Err(
+            Unclosed {
+                engine: _engine,
+                pass: _pass,
+            },
+        ) => Err(AllocError),
     }
 }

@@ -34,7 +34,13 @@ fn is_for_all(event: &ShardEvent) -> bool
 }
 
 /// Tells what an event gave, by its kind.
-fn tell(part: &mut Part, number: u64, every: bool, outs: &[Out], answer: &Answer) -> Result<(), AllocError>
+fn tell(
+    part: &mut Part,
+    number: u64,
+    every: bool,
+    outs: &[Out],
+    answer: &Answer,
+) -> Result<(), AllocError>
     ensures { (event : EventIn) → every ≡ is_tick event → OnOk result (part.new ≡ part.old ++ event_pieces number event (record { items = outs.now; answer = answer.now })) }
 {
     if every {

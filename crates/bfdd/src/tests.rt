@@ -3,7 +3,9 @@ use crate::{Status, run};
 use bfd_edge::{MemSink, MemSource};
 use bfd_script::LineFault;
 use std::alloc::{AllocError, Global};
+use std::sync::Wait;
 use std::test::Fail;
+use std::thread::Threads;
 
 /// One run: the words of the command line with one space between two, the text of the source, how source and sink give,
 /// take and fail, and what must come of it.
@@ -78,8 +80,11 @@ fn calls(alloc: Global, call: Option<u64>) -> Result<Vec<u64>, AllocError> {
 }
 
 /// The status of a run, and what the sink then has.
-fn ended(rt: &HostRuntime, case: &Case<'_>) -> Result<(Status, Vec<u8>), AllocError> {
-    let alloc = rt.alloc();
+fn ended<R: Threads + Wait + Sync>(
+    rt: &R,
+    alloc: Global,
+    case: &Case<'_>,
+) -> Result<(Status, Vec<u8>), AllocError> {
     let mut words = Vec::new(alloc);
     for word in case.words.split(' ') {
         words.push(String::from_str(alloc, word)?)?;
@@ -143,7 +148,7 @@ fn runs(rt: HostRuntime) -> Result<(), Fail> {
         ),
     ];
     for case in &cases {
-        let (status, written) = ended(&rt, case)?;
+        let (status, written) = ended(&rt, rt.alloc(), case)?;
         let name = case.name;
         assert_eq!(rt; status, case.status, "{name}");
         assert_eq!(rt; written.as_slice(), case.written.as_bytes(), "{name}");
@@ -165,7 +170,7 @@ fn other_words(rt: HostRuntime) -> Result<(), Fail> {
             words,
             ..reading("", 16, None, Status::Usage, "")
         };
-        let (status, written) = ended(&rt, &case)?;
+        let (status, written) = ended(&rt, rt.alloc(), &case)?;
         assert_eq!(rt; status, case.status, "{words}");
         assert_eq!(rt; written.len(), 0, "{words}");
     }

@@ -1,5 +1,5 @@
 -- One shard more is counted.
-use Rattle.std.proofs.Common.{rules, ◌≡◌, ◌<◌, ◌≤◌, ◌+◌, ◌∙◌, ap, arith, length}
+use Rattle.std.proofs.Common.{rules, ◌≡◌, ◌<◌, ◌∙◌, ap, arith, length}
 use Rattle.std.specs.Prelude.{slice_index_or, sum_by}
 use Rattle.bfd_shard.specs.Shard.{Shard}
 use Rattle.bfd_replay.specs.Counts.{one_up, sum_to}

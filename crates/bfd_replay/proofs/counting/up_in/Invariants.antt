@@ -1,5 +1,5 @@
 -- The sessions so far are counted.
-use Rattle.std.proofs.Common.{◌≡◌, ◌≤◌, take, length}
+use Rattle.std.proofs.Common.{◌≡◌, ◌≤◌, take}
 use Rattle.std.specs.Prelude.{sum_by}
 use Rattle.bfd_replay.specs.Counts.{one_up}
 use Rattle.bfd_replay.proofs.counting.up_in.Given as goal

@@ -1,5 +1,5 @@
 -- One worker more ended with parts.
-use Rattle.std.proofs.Common.{rules, ◌≡◌, ◌++◌, ◌∷◌, ◌∙◌, [], length, map, ap, sym, append_assoc, append-nil, Ok}
+use Rattle.std.proofs.Common.{◌≡◌, ◌++◌, ◌∷◌, ◌∙◌, [], length, map, ap, sym, append_assoc, append-nil, Ok}
 use Rattle.std.proofs.lemmas.List.{nil_from_length}
 use Rattle.bfd_replay.specs.Jobs.{seen_as}
 use Rattle.bfd_replay.proofs.Ordering.{mapped_here, ok_more}
@@ -7,7 +7,9 @@ use Rattle.bfd_replay.proofs.finish.all_told.Goals as goal
 
 pub loop-told-init : goal.loop-told-init
 loop-told-init c = record {
-  can = tt; ends = tt; all = c.into_iter-told-iterator.ensures.into_iter_gives.0;
+  can = tt;
+  ends = tt;
+  all = c.into_iter-told-iterator.ensures.into_iter_gives.0;
   so_far = ap (λ l. map Ok (map (λ parts. parts.items) l)) (sym c.new-all.ensures.items);
 }
 
@@ -18,7 +20,8 @@ parts_of-requires c = c.requires (length c.loop-told.yielded) (seen_as (λ parts
 
 pub loop-told-preserved : goal.loop-told-preserved
 loop-told-preserved c = record {
-  can = tt; ends = tt;
+  can = tt;
+  ends = tt;
   all = append_assoc c.loop-told.yielded (c.in-Some.told ∷ []) c.next.new.self.rest.items ∙ (ap (λ l. c.loop-told.yielded ++ l) (sym c.in-Some.ensures.steps.0) ∙ c.loop-told.invariant.all);
   so_far = ok_more (seen_as (λ parts. parts.items)) (λ parts. parts.items) c.loop-told.yielded c.in-Some.told c.loop-told.all.items c.push.new.self.items c.in_ok-parts.parts c.loop-told.invariant.so_far
       c.in_ok-parts.ensures c.in_ok-push.ensures.items;

@@ -1,6 +1,5 @@
 -- One part more.
-use Rattle.std.proofs.Common.{rules, ◌≡◌, ◌≤◌, ◌<◌, ◌%◌, ◌∙◌, length, map, ap, sym, arith}
-use Rattle.std.proofs.lemmas.List.{length-map}
+use Rattle.std.proofs.Common.{length, map}
 use Rattle.bfd_replay.proofs.Ordering.{order_none}
 use Rattle.bfd_replay.proofs.finish.in_order.Goals as goal
 

@@ -1,7 +1,7 @@
 -- One queue more.
-use Rattle.std.proofs.Common.{rules, ◌≡◌, ◌<◌, ◌+◌, ◌++◌, ◌∷◌, ◌∙◌, [], length, map, ap, sym, arith}
+use Rattle.std.proofs.Common.{rules, ◌∷◌, ◌∙◌, [], map, ap, sym}
 use Rattle.std.proofs.lemmas.List.{map-append, length-map}
-use Rattle.bfd_replay.proofs.Owning.{own_none, own_more, own_end}
+use Rattle.bfd_replay.proofs.Owning.{own_none, own_more}
 use Rattle.bfd_replay.proofs.jobs.own_queues.Goals as goal
 
 pub loop-shard-init : goal.loop-shard-init

@@ -1,5 +1,5 @@
 -- One job more is done.
-use Rattle.std.proofs.Common.{rules, ◌≡◌, ◌<◌, ◌≤◌, ◌∙◌, length, sym, subst, arith, refl}
+use Rattle.std.proofs.Common.{rules, ◌<◌, ◌∙◌, length, sym, subst, arith, refl}
 use Rattle.bfd_replay.specs.Jobs.{HasWorked, Work}
 use Rattle.bfd_replay.specs.Working.{IsReady}
 use Rattle.bfd_replay.proofs.Rows.{any, up_none, up_more}
@@ -18,5 +18,7 @@ pub loop-k-preserved : goal.loop-k-preserved
 loop-k-preserved g c =
     let u = c.loop-k.invariant.up in
     let inside : c.loop-k.k < length c.loop-k.jobs.items = search rules in
-    record { up = up_more c.args.engine.now c.loop-k.k c.args.jobs.now.items c.loop-k.jobs.items _ c.work.new.job inside refl
-        (subst (λ (x : Work). HasWorked c.args.engine.now x c.work.new.job) (c.index_mut.ensures.value ∙ any c.loop-k.jobs.items c.loop-k.k c.index_mut.result.now c.work.new.job inside) c.work.ensures) u }
+    record {
+      up = up_more c.args.engine.now c.loop-k.k c.args.jobs.now.items c.loop-k.jobs.items _ c.work.new.job inside refl
+          (subst (λ (x : Work). HasWorked c.args.engine.now x c.work.new.job) (c.index_mut.ensures.value ∙ any c.loop-k.jobs.items c.loop-k.k c.index_mut.result.now c.work.new.job inside) c.work.ensures) u;
+    }

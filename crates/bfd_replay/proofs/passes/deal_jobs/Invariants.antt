@@ -1,5 +1,5 @@
 -- The jobs so far, and the queues that are left for the others.
-use Rattle.std.proofs.Common.{◌≡◌, ◌<◌, ◌≤◌, ◌%◌, ℕ, [], length, map}
+use Rattle.std.proofs.Common.{◌≡◌, ◌≤◌, ◌%◌, ℕ, [], length, map}
 use Rattle.std.specs.Prelude.{slice_index_or}
 use Rattle.bfd_replay.specs.Jobs.{AreJobs}
 use Rattle.bfd_replay.proofs.passes.deal_jobs.Given as goal

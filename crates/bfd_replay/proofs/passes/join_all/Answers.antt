@@ -1,17 +1,18 @@
 -- One pass more is taken in.
-use Rattle.std.proofs.Common.{rules, ◌≡◌, ◌≢◌, ◌<◌, ◌++◌, ◌∷◌, [], ℕ, List, length, map, sym, ap, ◌∙◌, subst, append_assoc, append-nil, Some}
-use Rattle.std.specs.Prelude.{slice_get}
-use Rattle.std.proofs.lemmas.List.{nil_from_length, map-append}
+use Rattle.std.proofs.Common.{◌≡◌, ◌≢◌, ◌++◌, ◌∷◌, [], length, map, sym, ap, ◌∙◌, subst, append_assoc, append-nil}
+use Rattle.std.proofs.lemmas.List.{nil_from_length}
 use Rattle.bfd_engine.specs.Engines.{Knows, IsOf, AllThere}
 use Rattle.bfd_engine.specs.Passes.{Joined}
 use Rattle.bfd_replay.proofs.Ordering.{told_more}
-use Rattle.bfd_replay.specs.Jobs.{AllJoined, IsJoining, Work, seen_as}
+use Rattle.bfd_replay.specs.Jobs.{AllJoined, Work, seen_as}
 use Rattle.bfd_replay.proofs.Joining.{joined_none, joined_more, next_here}
 use Rattle.bfd_replay.proofs.passes.join_all.Goals as goal
 
 pub loop-job-init : goal.loop-job-init
 loop-job-init g c = record {
-  can = tt; ends = tt; all = c.into_iter-job-iterator.ensures.into_iter_gives.0;
+  can = tt;
+  ends = tt;
+  all = c.into_iter-job-iterator.ensures.into_iter_gives.0;
   joined = joined_none c.args.engine.now 200000 c.args.first.now c.requires.of c.requires.there c.requires.first;
   told = ap (map (seen_as (λ parts. parts.items))) c.new-tolds.ensures.items;
 }
@@ -19,25 +20,25 @@ loop-job-init g c = record {
 pub join-requires-clause-of : goal.join-requires-clause-of
 join-requires-clause-of g c = let i = c.loop-job.invariant in
     let w = c.requires.others (length c.loop-job.yielded) c.in-Some.job (next_here c.loop-job.yielded c.next.new.self.rest.items c.args.jobs.items c.in-Some.job
-        (ap (λ l. c.loop-job.yielded ++ l) (sym c.in-Some.ensures.steps.0) ∙ i.all)) in
+    (ap (λ l. c.loop-job.yielded ++ l) (sym c.in-Some.ensures.steps.0) ∙ i.all)) in
     (i.joined.of, subst (λ (k : Knows). IsOf c.args.engine.now k.1) (sym (ap (λ (x : Work). x.pass) c.job.view_is)) w.of)
 
 pub join-requires-clause-there : goal.join-requires-clause-there
 join-requires-clause-there g c = let i = c.loop-job.invariant in
     let w = c.requires.others (length c.loop-job.yielded) c.in-Some.job (next_here c.loop-job.yielded c.next.new.self.rest.items c.args.jobs.items c.in-Some.job
-        (ap (λ l. c.loop-job.yielded ++ l) (sym c.in-Some.ensures.steps.0) ∙ i.all)) in
+    (ap (λ l. c.loop-job.yielded ++ l) (sym c.in-Some.ensures.steps.0) ∙ i.all)) in
     (i.joined.there, subst (λ (k : Knows). AllThere k.1) (sym (ap (λ (x : Work). x.pass) c.job.view_is)) w.there)
 
 pub join-requires-clause-numbers : goal.join-requires-clause-numbers
 join-requires-clause-numbers g c = let i = c.loop-job.invariant in
     let w = c.requires.others (length c.loop-job.yielded) c.in-Some.job (next_here c.loop-job.yielded c.next.new.self.rest.items c.args.jobs.items c.in-Some.job
-        (ap (λ l. c.loop-job.yielded ++ l) (sym c.in-Some.ensures.steps.0) ∙ i.all)) in
+    (ap (λ l. c.loop-job.yielded ++ l) (sym c.in-Some.ensures.steps.0) ∙ i.all)) in
     (i.joined.number, subst (λ (k : Knows). k.0 ≢ 0) (sym (ap (λ (x : Work). x.pass) c.job.view_is)) w.number)
 
 pub loop-job-preserved : goal.loop-job-preserved
 loop-job-preserved g c = let i = c.loop-job.invariant in
     let w = c.requires.others (length c.loop-job.yielded) c.in-Some.job (next_here c.loop-job.yielded c.next.new.self.rest.items c.args.jobs.items c.in-Some.job
-        (ap (λ l. c.loop-job.yielded ++ l) (sym c.in-Some.ensures.steps.0) ∙ i.all)) in
+    (ap (λ l. c.loop-job.yielded ++ l) (sym c.in-Some.ensures.steps.0) ∙ i.all)) in
     record {
       can = tt;
       ends = tt;

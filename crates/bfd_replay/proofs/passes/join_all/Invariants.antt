@@ -1,5 +1,5 @@
 -- The passes so far are taken in.
-use Rattle.std.proofs.Common.{◌≡◌, ◌++◌, length, map}
+use Rattle.std.proofs.Common.{◌≡◌, ◌++◌, map}
 use Rattle.bfd_replay.specs.Jobs.{AllJoined, seen_as}
 use Rattle.bfd_replay.proofs.passes.join_all.Given as goal
 

@@ -1,10 +1,7 @@
 -- One shard more.
-use Rattle.std.proofs.Common.{rules, ◌≡◌, ◌<◌, ◌+◌, ◌++◌, ◌∙◌, ◌∷◌, [], ap, sym, subst, length, map, append_assoc, append-nil, length-append, arith, List}
-use Rattle.std.specs.Prelude.{slice_index_or}
-use Rattle.std.proofs.lemmas.List.{nil_from_length}
-use Rattle.bfd_gather.specs.declared.queue.Numbered.{Numbered}
+use Rattle.std.proofs.Common.{rules, ◌≡◌, ◌<◌, ◌++◌, ◌∙◌, ◌∷◌, [], ap, sym, subst, length, map, append_assoc, length-append, arith}
 use Rattle.bfd_replay.specs.Working.{AreMet}
-use Rattle.bfd_replay.proofs.Courses.{over_more, over_left, over_end, over_finished, stopped_here, next_queue, long_map}
+use Rattle.bfd_replay.proofs.Courses.{over_more, over_left, stopped_here, next_queue, long_map}
 use Rattle.bfd_replay.proofs.working.all_shards.Goals as goal
 
 pub one_shard-requires-clause-met : goal.one_shard-requires-clause-met
@@ -12,9 +9,9 @@ one_shard-requires-clause-met g c =
     let i = c.loop-queue.invariant in
     let n : c.len-shard.result ≡ length c.loop-queue.parts.items = search rules in
     let here = next_queue (λ q. q.items) c.loop-queue.yielded c.next.new.self.rest.items c.args.queues.items c.in-Some.queue (length c.loop-queue.parts.items)
-        (ap (λ l. c.loop-queue.yielded ++ l) (sym c.in-Some.ensures.steps.0) ∙ i.all) i.long in
+    (ap (λ l. c.loop-queue.yielded ++ l) (sym c.in-Some.ensures.steps.0) ∙ i.all) i.long in
     let inside : length c.loop-queue.parts.items < length c.args.engine.now.locks =
-        (let a = here.0 in let b = c.requires.ready.long in let d = long_map (λ q. q.items) c.args.queues.items in omega (arith, a, b, d)) in
+    (let a = here.0 in let b = c.requires.ready.long in let d = long_map (λ q. q.items) c.args.queues.items in omega (arith, a, b, d)) in
     subst (λ s. AreMet c.args.engine.now s c.in-Some.queue.items) (sym n) (subst (AreMet c.args.engine.now (length c.loop-queue.parts.items)) here.1 (c.requires.ready.met (length c.loop-queue.parts.items) inside))
 
 pub returns-in-Err-clause-left : goal.returns-in-Err-clause-left
@@ -22,18 +19,18 @@ returns-in-Err-clause-left g c =
     let i = c.loop-queue.invariant in
     let n : c.len-shard.result ≡ length c.loop-queue.parts.items = search rules in
     let here = next_queue (λ q. q.items) c.loop-queue.yielded c.next.new.self.rest.items c.args.queues.items c.in-Some.queue c.len-shard.result
-        (ap (λ l. c.loop-queue.yielded ++ l) (sym c.in-Some.ensures.steps.0) ∙ i.all) (n ∙ i.long) in
+    (ap (λ l. c.loop-queue.yielded ++ l) (sym c.in-Some.ensures.steps.0) ∙ i.all) (n ∙ i.long) in
     over_left c.args.engine.now (map (λ q. q.items) c.args.queues.items) c.in-Some.queue.items c.len-shard.result c.args.pass.now c.loop-queue.pass c.one_shard.new.pass c.loop-queue.parts.items
-        n here.1 i.over c.one_shard.ensures.of c.one_shard.ensures.there c.one_shard.ensures.elsewhere c.one_shard.ensures.used
+    n here.1 i.over c.one_shard.ensures.of c.one_shard.ensures.there c.one_shard.ensures.elsewhere c.one_shard.ensures.used
 
 pub returns-in-Err-clause-stopped : goal.returns-in-Err-clause-stopped
 returns-in-Err-clause-stopped g c =
     let i = c.loop-queue.invariant in
     let n : c.len-shard.result ≡ length c.loop-queue.parts.items = search rules in
     let here = next_queue (λ q. q.items) c.loop-queue.yielded c.next.new.self.rest.items c.args.queues.items c.in-Some.queue c.len-shard.result
-        (ap (λ l. c.loop-queue.yielded ++ l) (sym c.in-Some.ensures.steps.0) ∙ i.all) (n ∙ i.long) in
+    (ap (λ l. c.loop-queue.yielded ++ l) (sym c.in-Some.ensures.steps.0) ∙ i.all) (n ∙ i.long) in
     let inside : c.len-shard.result < length c.args.engine.now.locks =
-        (let a = here.0 in let b = c.requires.ready.long in let d = long_map (λ q. q.items) c.args.queues.items in omega (arith, a, b, d)) in
+    (let a = here.0 in let b = c.requires.ready.long in let d = long_map (λ q. q.items) c.args.queues.items in omega (arith, a, b, d)) in
     stopped_here c.in-Err.fault c.args.engine.now (map (λ q. q.items) c.args.queues.items) c.in-Some.queue.items c.len-shard.result c.one_shard.new.pass inside here.1 c.in-Err.ensures.stopped
 
 pub returns-in_default-clause-left : goal.returns-in_default-clause-left
@@ -41,16 +38,16 @@ returns-in_default-clause-left g c =
     let i = c.loop-queue.invariant in
     let n : c.len-shard.result ≡ length c.loop-queue.parts.items = search rules in
     let here = next_queue (λ q. q.items) c.loop-queue.yielded c.next.new.self.rest.items c.args.queues.items c.in-Some.queue c.len-shard.result
-        (ap (λ l. c.loop-queue.yielded ++ l) (sym c.in-Some.ensures.steps.0) ∙ i.all) (n ∙ i.long) in
+    (ap (λ l. c.loop-queue.yielded ++ l) (sym c.in-Some.ensures.steps.0) ∙ i.all) (n ∙ i.long) in
     over_left c.args.engine.now (map (λ q. q.items) c.args.queues.items) c.in-Some.queue.items c.len-shard.result c.args.pass.now c.loop-queue.pass c.one_shard.new.pass c.loop-queue.parts.items
-        n here.1 i.over c.one_shard.ensures.of c.one_shard.ensures.there c.one_shard.ensures.elsewhere c.one_shard.ensures.used
+    n here.1 i.over c.one_shard.ensures.of c.one_shard.ensures.there c.one_shard.ensures.elsewhere c.one_shard.ensures.used
 
 pub loop-queue-preserved : goal.loop-queue-preserved
 loop-queue-preserved g c =
     let i = c.loop-queue.invariant in
     let n : c.len-shard.result ≡ length c.loop-queue.parts.items = search rules in
     let here = next_queue (λ q. q.items) c.loop-queue.yielded c.next.new.self.rest.items c.args.queues.items c.in-Some.queue c.len-shard.result
-        (ap (λ l. c.loop-queue.yielded ++ l) (sym c.in-Some.ensures.steps.0) ∙ i.all) (n ∙ i.long) in
+    (ap (λ l. c.loop-queue.yielded ++ l) (sym c.in-Some.ensures.steps.0) ∙ i.all) (n ∙ i.long) in
     let more = c.in-Ok-push.ensures.items in
     record {
       can = tt;

@@ -1,6 +1,5 @@
 -- The shards up to here are done.
-use Rattle.std.proofs.Common.{◌≡◌, ◌≤◌, ◌+◌, ◌*◌, ◌++◌, ℕ, length, map}
-use Rattle.bfd_engine.specs.Engines.{configs_at}
+use Rattle.std.proofs.Common.{◌≡◌, ◌++◌, length, map}
 use Rattle.bfd_replay.proofs.Courses.{OverShards}
 use Rattle.bfd_replay.proofs.working.all_shards.Given as goal
 

@@ -1,7 +1,7 @@
 -- One event more of the queue.
 use Rattle.std.proofs.Common.{rules, ◌≡◌, ◌∙◌, ◌∷◌, subst}
 use Rattle.bfd_replay.specs.Working.{AreMet}
-use Rattle.bfd_replay.proofs.Courses.{queue_more, stopped_amid, used_amid}
+use Rattle.bfd_replay.proofs.Courses.{queue_more, stopped_amid}
 use Rattle.bfd_replay.proofs.working.one_shard.Goals as goal
 
 pub loop-event-preserved : goal.loop-event-preserved
@@ -22,4 +22,4 @@ returns-in-Err-clause-stopped g c =
     let i = c.loop-event.invariant in
     let split : c.loop-event.event-iterator.rest.items ≡ c.in-Some.event ∷ c.next.new.self.rest.items = search rules in
     stopped_amid c.in-Err.fault c.args.engine.now c.args.shard c.args.queue.items c.loop-event.event-iterator.rest.items c.next.new.self.rest.items c.in-Some.event c.args.pass.now c.loop-event.pass
-        c.one_event.new.pass c.loop-event.part split i.did c.one_event.ensures.elsewhere c.in-Err.ensures.refused
+    c.one_event.new.pass c.loop-event.part split i.did c.one_event.ensures.elsewhere c.in-Err.ensures.refused

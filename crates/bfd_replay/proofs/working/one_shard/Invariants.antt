@@ -1,7 +1,7 @@
 -- The events up to here were done.
-use Rattle.std.proofs.Common.{◌≡◌, ◌<◌, ◌≤◌, ◌+◌, ◌*◌, [], length}
-use Rattle.bfd_engine.specs.Engines.{IsOf, AllThere, configs_at}
-use Rattle.bfd_replay.specs.Working.{AreMet, IsIdle}
+use Rattle.std.proofs.Common.{◌≡◌}
+use Rattle.bfd_engine.specs.Engines.{IsOf, AllThere}
+use Rattle.bfd_replay.specs.Working.{AreMet}
 use Rattle.bfd_replay.proofs.Courses.{InQueue}
 use Rattle.bfd_replay.proofs.working.one_shard.Given as goal
 
