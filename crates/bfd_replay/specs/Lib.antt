@@ -1,7 +1,2 @@
 pub mod World
-pub mod Planned
-pub mod Working
-pub mod Jobs
-pub mod Ends
-pub mod Counts
-pub mod Replayed
+pub mod Stage

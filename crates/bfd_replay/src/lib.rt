@@ -1,31 +1,14 @@
-//! A script, replayed on shards.
+//! A script, replayed.
 //!
-//! Each line of a script is first found to be an event of no session, with its answer, or an event of the table's sessions: a
-//! packet is screened and selected here, once. The sessions stand in an engine of 1 to 64 shards, and the events are dealt out to
-//! the shards' queues. Each of 1 to 64 workers has a pass of the engine and takes the shards of its own; what each shard's events
-//! give is told in a part, and the parts are gathered into one report. [`replay`] hands out the report, the counts and the shards.
+//! Each packet of a script is screened and selected, and is then an own event of the session that it names; a tick is an
+//! event of every session, by ascending discriminator. The sessions stand in a plain list, and a tick calls those that are
+//! due: for the others the session's own law says that nothing changes.
 //!
-//! Modules: `routing` says what a line is, `plan` deals the lines out, `working` is one worker's turns, `jobs` all workers,
-//! `passes` their passes, `running` the engine from opening to closing, `finish` puts the parts in order, `counting` counts.
-//!
-//! It stands on `bfd_engine` for the turns, on `bfd_gather` for the report and on `bfd_script`. It promises that the text is that
-//! of `specs/World.antt`, which knows of no shard, no worker and no lock, for every number of shards and workers; that the counts
-//! are `totals`; and that each shard was made of the sessions that are dealt to it and has, in the order of the script, their own
-//! events and every tick in its journal, all brought by its one worker. A worker can't know that nobody else takes a turn of its
-//! shard: the closed engine shows it, and so that no journal was full and no lock spent.
+//! It stands on `bfd_session`, `bfd_demux` and `bfd_script`. It promises that the report's text is that of `specs/World.antt`,
+//! which knows of no table, no index and no due tick.
 #![tactic(auto)]
 
-mod counting;
-mod finish;
-mod jobs;
-mod passes;
-mod plan;
 mod replaying;
-mod routing;
-mod running;
-mod working;
+mod world;
 
-pub use replaying::{Outcome, replay};
-
-#[cfg(test)]
-mod tests;
+pub use replaying::replay;

@@ -1,112 +1,210 @@
-//! A replay on shards, by several workers.
-ghost use Rattle.std.specs.Prelude.{ℕ, ◌≡◌, ◌≤◌, ◌<◌, IfOk, length};
+//! A world of sessions, and the replay of a script.
+ghost use Rattle.std.specs.Prelude.{◌≡◌, ◌<◌, ◌≤◌, ◌+◌, ◌*◌, ◌++◌, ℕ, true, IfOk, [], length, map, string_bytes, sum_by};
+ghost use Rattle.std.specs.List.{AllByRecursion};
+ghost use Rattle.bfd_session.specs.Rows.{AreFit, table_of as table_in};
+ghost use Rattle.bfd_session.specs.Step.{started as started_of};
+ghost use Rattle.bfd_script.specs.Report.{sent_by, dropped_by, done_line, report};
 ghost use Rattle.bfd_script.specs.Sound.{IsScript};
-ghost use Rattle.bfd_replay.specs.Planned.{IsTable};
-ghost use Rattle.bfd_replay.specs.Replayed.{HaveReplayed};
-ghost use Rattle.bfd_replay.specs.World.{replayed, totals};
-ghost use Rattle.bfd_replay.specs.Planned.{script_of};
+ghost use Rattle.bfd_replay.specs.Stage.{IsStage, IsTable};
+ghost use Rattle.bfd_replay.specs.World.{gives, turned};
+ghost use Rattle.bfd_replay.specs.World as world;
 
-use crate::counting::up_all;
-use crate::finish::in_order;
-use crate::plan::planned;
-use crate::running::{opened, run_all};
-use bfd_edge::Gate;
-use bfd_gather::report;
+use crate::world::happen;
+use bfd_demux::{BuildFault, Demux};
+use bfd_rules::{Out, Outs};
 use bfd_sbfd::Reflector;
-use bfd_script::{Line, Script};
-use bfd_session::SessionConfig;
-use bfd_shard::ShardState;
-use bfd_wheel::Timers;
+use bfd_script::{Line, Script, lines};
+use bfd_session::{Answer, Session, SessionConfig, table_of};
 use std::alloc::{AllocError, Global};
-use std::sync::Wait;
-use std::thread::Threads;
+use std::marker::Model;
 
-/// What a replay gives.
+/// A replay on its way: the sessions and the pool of reflectors, each by ascending discriminator, their table, the last tick, and the outputs of the
+/// last event.
 #[derive(Drop)]
-pub struct Outcome<W: Timers> {
-    /// The report, as text.
-    pub text: Vec<u8>,
-    /// How many events there were.
-    pub events: u64,
-    /// How many packets were sent in them.
-    pub txs: u64,
-    /// How many packets were dropped in them.
-    pub drops: u64,
-    /// How many sessions are Up at the end.
-    pub up: u32,
-    /// The shards, by number.
-    pub states: Vec<ShardState<W>>,
-}
-
-/// The same, of a script in its parts.
-fn replay_parts<W: Timers + Send, R: Threads + Wait + Sync, G: Gate + Sync>(
-    rt: &R,
-    alloc: Global,
-    configs: Vec<SessionConfig>,
+struct Progress {
+    sessions: Vec<Session>,
     pool: Vec<Reflector>,
-    events: Vec<Line>,
-    shards: u32,
-    workers: u32,
-    gate: &G,
-) -> Result<Outcome<W>, AllocError>
-    requires table { IsTable configs.items pool.items }
-    requires few { length events.items ≤ 200000 }
-    requires shards { (0 < shards) × (shards ≤ 64) }
-    requires workers { (0 < workers) × (workers ≤ 64) }
-    ensures text { IfOk result (λ outcome. outcome.text.items ≡ replayed (script_of configs.items pool.items events.items)) }
-    ensures events { IfOk result (λ outcome. outcome.events ≡ (totals (script_of configs.items pool.items events.items)).events) }
-    ensures txs { IfOk result (λ outcome. outcome.txs ≡ (totals (script_of configs.items pool.items events.items)).txs) }
-    ensures drops { IfOk result (λ outcome. outcome.drops ≡ (totals (script_of configs.items pool.items events.items)).drops) }
-    ensures up { IfOk result (λ outcome. outcome.up ≡ (totals (script_of configs.items pool.items events.items)).ups) }
-    ensures states { IfOk result (λ outcome. HaveReplayed (script_of configs.items pool.items events.items) shards workers outcome.states.items) }
-{
-    let count = events.len();
-    let room = 5 * configs.len() + 5;
-    let (queues, apart) = planned(alloc, &configs, &pool, events, shards)?;
-    let (engine, first) = opened(alloc, configs, pool, shards, count)?;
-    let (states, all) = run_all(rt, alloc, engine, first, queues, workers, room, gate)?;
-    let parts = in_order(alloc, all, shards, apart)?;
-    let gathered = report(alloc, parts, count as u64)?;
-    let up = up_all(&states);
-    Ok(Outcome {
-        text: gathered.text,
-        events: count as u64,
-        txs: gathered.txs,
-        drops: gathered.drops,
-        up,
-        states,
-    })
+    demux: Demux,
+    last: u64,
+    outs: Outs,
 }
 
-/// Replays the script on 1 to 64 shards, with 1 to 64 workers, each with a pass of its own. The workers work one after another.
-///
-/// Session k of the table stands at place k / shards of shard k % shards. Worker w of n takes the shards whose number, divided by
-/// n, leaves w - 1, and does each shard's events in the order of the script; each turn of worker w for event N stands between
-/// `gate.before(w, N)` and `gate.after(w, N)`. The report is that of one thread, byte for byte. The one refusal is want of
+impl Model for Progress {
+    ghost use Rattle.std.specs.Prelude.{[]};
+    ghost use Rattle.bfd_replay.specs.Stage.{Stage, IsStage};
+
+    ghost Value = { Stage };
+
+    ghost view = { λ r. record { world = record { sessions = r.sessions.items; pool = r.pool.items; last = r.last }; items = r.outs.items } };
+
+    ghost invariant = { λ r. IsStage r.sessions.items r.pool.items r.demux r.last r.outs };
+}
+
+/// The sessions at the start.
+fn started(alloc: Global, configs: Vec<SessionConfig>) -> Result<Vec<Session>, AllocError>
+    requires { AreFit configs.items }
+    ensures { IfOk result (λ sessions. sessions.items ≡ map started_of configs.items) }
+{
+    let mut sessions = Vec::new(alloc);
+    for config in configs {
+        sessions.push(Session::make(config))?;
+    }
+    Ok(sessions)
+}
+
+/// The table of the sessions and the pool, which have no fault.
+#[tactic(auto, using(crate::proofs::Stages::no_fault))]
+fn table(alloc: Global, configs: &[SessionConfig], pool: &[Reflector]) -> Result<Demux, AllocError>
+    requires { IsTable configs.now pool.now }
+    ensures { IfOk result (λ demux. demux ≡ table_in configs.now pool.now) }
+{
+    let rows = table_of(alloc, configs, pool)?;
+    match Demux::build(alloc, &rows) {
+        Ok(demux) => Ok(demux),
+        Err(BuildFault::Memory) => Err(AllocError),
+        Err(_) => unreachable!(),
+    }
+}
+
+/// Does one event of a stage in its parts, which `Progress` lends one by one.
+#[tactic(auto, using(crate::proofs::Stages::stage_kept))]
+fn turn(
+    sessions: &mut Vec<Session>,
+    pool: &[Reflector],
+    demux: &Demux,
+    last: u64,
+    line: Line,
+    outs: &mut Outs,
+) -> (u64, Answer)
+    requires stage { IsStage sessions.old.items pool.now demux.now last outs.old }
+    ensures turn { turned sessions.new.items pool.now result.0 outs.new.items result.1
+        ≡ world.happens line (world.world_of sessions.old.items pool.now last) }
+    ensures stage { IsStage sessions.new.items pool.now demux.now result.0 outs.new }
+{
+    outs.clear();
+    happen(sessions, pool, demux, last, line, outs)
+}
+
+impl Progress {
+    /// The world at the start of a script.
+    fn open(
+        alloc: Global,
+        configs: Vec<SessionConfig>,
+        pool: Vec<Reflector>,
+    ) -> Result<Progress, AllocError>
+        requires { IsTable configs.items pool.items }
+        ensures { IfOk result (λ replay. replay.world ≡ world.opened configs.items pool.items) }
+    {
+        let demux = table(alloc, &configs, &pool)?;
+        let outs = Outs::make(alloc, 5 * configs.as_slice().len() + 5)?;
+        let sessions = started(alloc, configs)?;
+        Ok(Progress {
+            sessions,
+            pool,
+            demux,
+            last: 0,
+            outs,
+        })
+    }
+
+    /// One event: what it gave is in the outputs and the answer.
+    fn happen(&mut self, line: Line) -> Answer
+        ensures { gives self.new.world self.new.items result ≡ world.happens line self.old.world }
+    {
+        let (last, answer) = turn(
+            &mut self.sessions,
+            self.pool.as_slice(),
+            &self.demux,
+            self.last,
+            line,
+            &mut self.outs,
+        );
+        self.last = last;
+        answer
+    }
+
+    /// The outputs of the last event.
+    fn items(&self) -> &[Out]
+        ensures { result.now ≡ self.now.items }
+    {
+        self.outs.items()
+    }
+}
+
+/// How many packets an output tells of.
+fn packets(out: &Out) -> u64
+    ensures value { result ≡ sent_by out.now }
+    ensures few { result ≤ 1 }
+{
+    match out {
+        Out::Sent { .. } => 1,
+        Out::Changed { .. } => 0,
+    }
+}
+
+/// How many packets the outputs tell of.
+fn sent(outs: &[Out]) -> u64
+    ensures value { result ≡ sum_by sent_by outs.now }
+    ensures few { result ≤ length outs.now }
+{
+    let mut count = 0u64;
+    for out in outs {
+        count += packets(out);
+    }
+    count
+}
+
+/// How many packets the answer says were dropped.
+fn dropped(answer: &Answer) -> u64
+    ensures value { result ≡ dropped_by answer.now }
+    ensures few { result ≤ 1 }
+{
+    match answer {
+        Answer::Dropped(_) => 1,
+        Answer::Handled | Answer::Ticked | Answer::Refused(_) | Answer::Shown(_) => 0,
+    }
+}
+
+/// The last line of a report.
+fn done_text(alloc: Global, events: u64, txs: u64, drops: u64) -> Result<String, AllocError>
+    ensures { IfOk result (λ text. string_bytes text ≡ done_line events txs drops) }
+{
+    format!(in alloc; "done {events} {txs} {drops}\n")
+}
+
+/// The report of the events that are left.
+fn tell(alloc: Global, replay: Progress, events: Vec<Line>) -> Result<Vec<u8>, AllocError>
+    requires few { length events.items ≤ 200000 }
+    ensures { IfOk result (λ text. text.items ≡ report (world.outcomes events.items replay.world)) }
+{
+    let mut replay = replay;
+    let mut text = Vec::new(alloc);
+    let mut number = 1u64;
+    let mut txs = 0u64;
+    let mut drops = 0u64;
+    for line in events {
+        let answer = replay.happen(line);
+        lines(number, replay.items(), &answer, &mut text)?;
+        txs += sent(replay.items());
+        drops += dropped(&answer);
+        number += 1;
+    }
+    let done = done_text(alloc, number - 1, txs, drops)?;
+    text.extend_from_slice(done.as_bytes())?;
+    Ok(text)
+}
+
+/// The report of a replay of the script, as text: what its events give, one after another. The one refusal is want of
 /// memory.
-#[tactic(auto, using(crate::proofs::Whole::is_table))]
-pub fn replay<W: Timers + Send, R: Threads + Wait + Sync, G: Gate + Sync>(
-    rt: &R,
-    alloc: Global,
-    script: Script,
-    shards: u32,
-    workers: u32,
-    gate: &G,
-) -> Result<Outcome<W>, AllocError>
-    requires script { IsScript script }
-    requires shards { (0 < shards) × (shards ≤ 64) }
-    requires workers { (0 < workers) × (workers ≤ 64) }
-    ensures text { IfOk result (λ outcome. outcome.text.items ≡ replayed script) }
-    ensures events { IfOk result (λ outcome. outcome.events ≡ (totals script).events) }
-    ensures txs { IfOk result (λ outcome. outcome.txs ≡ (totals script).txs) }
-    ensures drops { IfOk result (λ outcome. outcome.drops ≡ (totals script).drops) }
-    ensures up { IfOk result (λ outcome. outcome.up ≡ (totals script).ups) }
-    ensures states { IfOk result (λ outcome. HaveReplayed script shards workers outcome.states.items) }
+pub fn replay(alloc: Global, script: Script) -> Result<Vec<u8>, AllocError>
+    requires { IsScript script }
+    ensures { IfOk result (λ text. text.items ≡ world.replayed script) }
 {
     let Script {
         configs,
         pool,
         events,
     } = script;
-    replay_parts(rt, alloc, configs, pool, events, shards, workers, gate)
+    let replay = Progress::open(alloc, configs, pool)?;
+    tell(alloc, replay, events)
 }

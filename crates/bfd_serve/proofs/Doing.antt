@@ -25,15 +25,43 @@ use Rattle.bfd_serve.proofs.Gains.{begins_self, begins_trans, calls_append, mine
 module _ (engine : Shards) where
   pub did_none : (k : Knows) (t : LinkTold) (lost : ℕ) → Did engine k k t t [] [] [] [] lost lost
   did_none k t lost = record {
-    number = refl; used = refl; gains = λ s. sym (append-nil (mine k s)); grows = λ s. begins_self (seen_at k s); words = λ s. le_refl (word_at k s); taken = λ s. omega arith; made = λ s. refl; keeps = λ s. refl;
-    tried = []; kept = []; missing = 0; sends_are = refl; lacks = (refl, refl); traffic = sym (traffic_same t.traffic); send_faults = risen_same t.counts.send_faults; lost_is = risen_same lost;
+    number = refl;
+    used = refl;
+    gains = λ s. sym (append-nil (mine k s));
+    grows = λ s. begins_self (seen_at k s);
+    words = λ s. le_refl (word_at k s);
+    taken = λ s. omega arith;
+    made = λ s. refl;
+    keeps = λ s. refl;
+    tried = [];
+    kept = [];
+    missing = 0;
+    sends_are = refl;
+    lacks = (refl, refl);
+    traffic = sym (traffic_same t.traffic);
+    send_faults = risen_same t.counts.send_faults;
+    lost_is = risen_same lost;
   }
 
   -- something was heard, and not handled yet
   pub did_hear : (k : Knows) (t u : LinkTold) (hs : List (ℕ × Arrival)) (lost : ℕ) → u.traffic ≡ more_traffic hs [] t.traffic → u.counts.send_faults ≡ t.counts.send_faults → Did engine k k t u hs [] [] [] lost lost
   did_hear k t u hs lost traffic faults = record {
-    number = refl; used = refl; gains = λ s. sym (append-nil (mine k s)); grows = λ s. begins_self (seen_at k s); words = λ s. le_refl (word_at k s); taken = λ s. omega arith; made = λ s. refl; keeps = λ s. refl;
-    tried = []; kept = []; missing = 0; sends_are = refl; lacks = (refl, refl); traffic = traffic; send_faults = faults ∙ risen_same t.counts.send_faults; lost_is = risen_same lost;
+    number = refl;
+    used = refl;
+    gains = λ s. sym (append-nil (mine k s));
+    grows = λ s. begins_self (seen_at k s);
+    words = λ s. le_refl (word_at k s);
+    taken = λ s. omega arith;
+    made = λ s. refl;
+    keeps = λ s. refl;
+    tried = [];
+    kept = [];
+    missing = 0;
+    sends_are = refl;
+    lacks = (refl, refl);
+    traffic = traffic;
+    send_faults = faults ∙ risen_same t.counts.send_faults;
+    lost_is = risen_same lost;
   }
 
   -- how many calls a caller has on a shard afterwards
@@ -53,8 +81,8 @@ module _ (engine : Shards) where
       let had : ℕ → ℕ = λ i. length (mine k i) in
       let old : sends engine k.0 (seen_at m) had [] xs ≡ d.tried = sends_later k l t u hs xs [] [] a b (seen_at m) f.grows d ∙ append-nil d.tried in
       let new : sends engine k.0 (seen_at m) had (calls_of xs) ys ≡ f.tried ++ untried =
-          sym (sends_base engine k.0 (seen_at m) had (λ i. length (mine l i)) (calls_of xs) [] ys (λ i. let e = count_of k l t u hs xs [] [] a b d i in omega arith))
-          ∙ (ap (λ n. sends engine n (seen_at m) (λ i. length (mine l i)) [] ys) (sym d.number) ∙ f.sends_are) in
+      sym (sends_base engine k.0 (seen_at m) had (λ i. length (mine l i)) (calls_of xs) [] ys (λ i. let e = count_of k l t u hs xs [] [] a b d i in omega arith))
+      ∙ (ap (λ n. sends engine n (seen_at m) (λ i. length (mine l i)) [] ys) (sym d.number) ∙ f.sends_are) in
       record {
         number = f.number ∙ d.number;
         used = f.used ∙ d.used;
@@ -67,7 +95,9 @@ module _ (engine : Shards) where
             let e = weight_append k.0 i xs [] in let e2 = weight_append k.0 i (xs ++ ys) cut in let e3 = weight_append k.0 i xs ys in let e4 = weight_append k.0 i ys cut in omega arith);
         made = λ i. f.made i ∙ d.made i;
         keeps = λ i. f.keeps i ∙ d.keeps i;
-        tried = d.tried ++ f.tried; kept = d.kept ++ f.kept; missing = d.missing + f.missing;
+        tried = d.tried ++ f.tried;
+        kept = d.kept ++ f.kept;
+        missing = d.missing + f.missing;
         sends_are = sends_append engine k.0 (seen_at m) had [] xs ys ∙ (ap₂ ◌++◌ old new ∙ sym (append_assoc d.tried f.tried untried));
         lacks = lacks_append d.tried d.kept f.tried f.kept d.missing f.missing d.lacks f.lacks;
         traffic = f.traffic ∙ (ap (more_traffic hs2 f.kept) d.traffic ∙ traffic_join hs d.kept hs2 f.kept t.traffic);
@@ -78,9 +108,22 @@ module _ (engine : Shards) where
   -- more is left out
   pub did_less : (k l : Knows) (t u : LinkTold) (hs : List (ℕ × Arrival)) (xs cut more : List Act) (untried : List Datagram) (a b : ℕ) → Did engine k l t u hs xs cut untried a b → Did engine k l t u hs xs (cut ++ more) untried a b
   did_less k l t u hs xs cut more untried a b d = record {
-    number = d.number; used = d.used; gains = d.gains; grows = d.grows; words = d.words; made = d.made; keeps = d.keeps;
+    number = d.number;
+    used = d.used;
+    gains = d.gains;
+    grows = d.grows;
+    words = d.words;
+    made = d.made;
+    keeps = d.keeps;
     taken = λ i. (let p = d.taken i in let e = weight_append k.0 i xs cut in let e2 = weight_append k.0 i xs (cut ++ more) in let e3 = weight_append k.0 i cut more in omega arith);
-    tried = d.tried; kept = d.kept; missing = d.missing; sends_are = d.sends_are; lacks = d.lacks; traffic = d.traffic; send_faults = d.send_faults; lost_is = d.lost_is;
+    tried = d.tried;
+    kept = d.kept;
+    missing = d.missing;
+    sends_are = d.sends_are;
+    lacks = d.lacks;
+    traffic = d.traffic;
+    send_faults = d.send_faults;
+    lost_is = d.lost_is;
   }
 
   did_call : (l m : Knows) (u v : LinkTold) (shard : ℕ) (event : ShardEvent) (outs : List Out) (answer : Answer) (untried : List Datagram) (a b : ℕ)
@@ -88,24 +131,48 @@ module _ (engine : Shards) where
   did_call l m u v shard event outs answer untried a b c s =
       let older : calls by l.0 (seen_at l shard ++ c.between) ≡ mine l shard = calls_append l.0 (seen_at l shard) c.between ∙ (ap (λ w. mine l shard ++ w) c.turned.others ∙ append-nil (mine l shard)) in
       let before : until l.0 (length (mine l shard) + 0) (seen_at m shard) ≡ seen_at l shard ++ c.between =
-          ap (until l.0 (length (mine l shard) + 0)) c.turned.here
-          ∙ until_last l.0 (length (mine l shard) + 0) (seen_at l shard ++ c.between) (entry_of l.0 event) (let e = ap length older in omega arith) refl in
+      ap (until l.0 (length (mine l shard) + 0)) c.turned.here
+      ∙ until_last l.0 (length (mine l shard) + 0) (seen_at l shard ++ c.between) (entry_of l.0 event) (let e = ap length older in omega arith) refl in
       let new : List Entry = entry_of l.0 event ∷ [] in
       record {
-        number = c.turned.number; used = c.turned.used; gains = λ i. mine_call l m shard c.between event c.turned i; grows = λ i. grows l m shard c.between new c.turned i; words = λ i. words l m shard c.between new c.turned i;
-        taken = λ i. taken_call l m shard c.between event new c.turned i; made = c.turned.made; keeps = c.turned.kept;
-        tried = s.tried; kept = s.kept; missing = s.missing;
+        number = c.turned.number;
+        used = c.turned.used;
+        gains = λ i. mine_call l m shard c.between event c.turned i;
+        grows = λ i. grows l m shard c.between new c.turned i;
+        words = λ i. words l m shard c.between new c.turned i;
+        taken = λ i. taken_call l m shard c.between event new c.turned i;
+        made = c.turned.made;
+        keeps = c.turned.kept;
+        tried = s.tried;
+        kept = s.kept;
+        missing = s.missing;
         sends_are = append-nil (datagrams (given_by engine l.0 (seen_at m) (λ i. length (mine l i)) [] (Turns shard event)))
             ∙ (ap (λ w. datagrams (given_after (configs_at engine shard) w event).items) before ∙ (ap datagrams (sym c.told) ∙ s.parts));
-        lacks = s.lacks; traffic = ap (λ (x : LinkTold). x.traffic) s.told; send_faults = ap (λ (x : LinkTold). x.counts.send_faults) s.told; lost_is = s.lost_is;
+        lacks = s.lacks;
+        traffic = ap (λ (x : LinkTold). x.traffic) s.told;
+        send_faults = ap (λ (x : LinkTold). x.counts.send_faults) s.told;
+        lost_is = s.lost_is;
       }
 
   -- an act with no turn
   did_still : (l : Knows) (u v : LinkTold) (told outs : List Out) (answer : Answer) (untried : List Datagram) (a b : ℕ) → outs ≡ told → HasSent (datagrams outs) untried u v a b → Did engine l l u v [] (Rests told answer ∷ []) [] untried a b
   did_still l u v told outs answer untried a b is s = record {
-    number = refl; used = refl; gains = λ i. sym (append-nil (mine l i)); grows = λ i. begins_self (seen_at l i); words = λ i. le_refl (word_at l i); taken = λ i. omega arith; made = λ i. refl; keeps = λ i. refl;
-    tried = s.tried; kept = s.kept; missing = s.missing; sends_are = append-nil (datagrams told) ∙ (ap datagrams (sym is) ∙ s.parts);
-    lacks = s.lacks; traffic = ap (λ (x : LinkTold). x.traffic) s.told; send_faults = ap (λ (x : LinkTold). x.counts.send_faults) s.told; lost_is = s.lost_is;
+    number = refl;
+    used = refl;
+    gains = λ i. sym (append-nil (mine l i));
+    grows = λ i. begins_self (seen_at l i);
+    words = λ i. le_refl (word_at l i);
+    taken = λ i. omega arith;
+    made = λ i. refl;
+    keeps = λ i. refl;
+    tried = s.tried;
+    kept = s.kept;
+    missing = s.missing;
+    sends_are = append-nil (datagrams told) ∙ (ap datagrams (sym is) ∙ s.parts);
+    lacks = s.lacks;
+    traffic = ap (λ (x : LinkTold). x.traffic) s.told;
+    send_faults = ap (λ (x : LinkTold). x.counts.send_faults) s.told;
+    lost_is = s.lost_is;
   }
 
   did_step : (l m : Knows) (u v : LinkTold) (x : Act) (outs : List Out) (answer : Answer) (untried : List Datagram) (a b : ℕ)
@@ -115,9 +182,22 @@ module _ (engine : Shards) where
 
   did_refused : (l m : Knows) (u : LinkTold) (shard : ℕ) (event : ShardEvent) (outs : List Out) (f : EngineFault) (a : ℕ) → IsFailed engine shard l m [] outs f → Did engine l m u u [] [] (Turns shard event ∷ []) [] a a
   did_refused l m u shard event outs f a c = record {
-    number = c.turned.number; used = c.turned.used; gains = λ s. mine_fault l m shard c.between c.turned s ∙ sym (append-nil (mine l s)); grows = λ i. grows l m shard c.between [] c.turned i; words = λ i. words l m shard c.between [] c.turned i;
-    taken = λ i. taken_call l m shard c.between event [] c.turned i; made = c.turned.made; keeps = c.turned.kept;
-    tried = []; kept = []; missing = 0; sends_are = refl; lacks = (refl, refl); traffic = sym (traffic_same u.traffic); send_faults = risen_same u.counts.send_faults; lost_is = risen_same a;
+    number = c.turned.number;
+    used = c.turned.used;
+    gains = λ s. mine_fault l m shard c.between c.turned s ∙ sym (append-nil (mine l s));
+    grows = λ i. grows l m shard c.between [] c.turned i;
+    words = λ i. words l m shard c.between [] c.turned i;
+    taken = λ i. taken_call l m shard c.between event [] c.turned i;
+    made = c.turned.made;
+    keeps = c.turned.kept;
+    tried = [];
+    kept = [];
+    missing = 0;
+    sends_are = refl;
+    lacks = (refl, refl);
+    traffic = sym (traffic_same u.traffic);
+    send_faults = risen_same u.counts.send_faults;
+    lost_is = risen_same a;
   }
 
   stops_of : (m : Knows) (shard : ℕ) (event : ShardEvent) (f : EngineFault) → IsCause f engine shard m → Stops engine (seen_at m) (word_at m) (Turns shard event ∷ []) [] (end_of f)
@@ -146,7 +226,12 @@ module _ (engine : Shards) where
       (subst (λ (y : LinkTold × ℕ). IsStopped engine (x ∷ []) l m u y.0 a y.1 (end_of f)) (λ i. (sym s.1 i, sym s.2 i)) (refused_one x l m u a outs f d))
   done_one x l m u v a b outs (Ok answer) (Ok z) d s = record { did = did_step l m u v x outs answer [] a b d s; aside = aside_sent (datagrams outs) [] u v a b s }
   done_one x l m u v a b outs (Ok answer) (Err end) d s = record {
-    done = x ∷ []; cut = []; untried = s.0; all = refl; did = did_step l m u v x outs answer s.0 a b d s.1; aside = aside_sent (datagrams outs) s.0 u v a b s.1;
+    done = x ∷ [];
+    cut = [];
+    untried = s.0;
+    all = refl;
+    did = did_step l m u v x outs answer s.0 a b d s.1;
+    aside = aside_sent (datagrams outs) s.0 u v a b s.1;
     stops = subst (λ z. Stops engine (seen_at m) (word_at m) [] s.0 z) (sym s.2) tt;
   }
 
@@ -158,8 +243,13 @@ module _ (engine : Shards) where
 
   pub stopped_then : (xs ys : List Act) (k l m : Knows) (t u v : LinkTold) (a b c : ℕ) (end : End) → IsWhole engine xs k l t u a b → IsStopped engine ys l m u v b c end → IsStopped engine (xs ++ ys) k m t v a c end
   stopped_then xs ys k l m t u v a b c end p q = record {
-    done = xs ++ q.done; cut = q.cut; untried = q.untried; all = append_assoc xs q.done q.cut ∙ ap (λ w. xs ++ w) q.all;
-    did = did_then k l m t u v [] [] xs q.done q.cut q.untried a b c p.did q.did; aside = aside_then t u v p.aside q.aside; stops = q.stops;
+    done = xs ++ q.done;
+    cut = q.cut;
+    untried = q.untried;
+    all = append_assoc xs q.done q.cut ∙ ap (λ w. xs ++ w) q.all;
+    did = did_then k l m t u v [] [] xs q.done q.cut q.untried a b c p.did q.did;
+    aside = aside_then t u v p.aside q.aside;
+    stops = q.stops;
   }
 
   stops_less : (h : ℕ → List Entry) (w : ℕ → ℕ) (cut more : List Act) (untried : List Datagram) (end : End) → Stops engine h w cut untried end → Stops engine h w (cut ++ more) untried end
@@ -174,8 +264,13 @@ module _ (engine : Shards) where
   -- the acts that follow are left out too
   pub stopped_less : (xs more : List Act) (k l : Knows) (t u : LinkTold) (a b : ℕ) (end : End) → IsStopped engine xs k l t u a b end → IsStopped engine (xs ++ more) k l t u a b end
   stopped_less xs more k l t u a b end q = record {
-    done = q.done; cut = q.cut ++ more; untried = q.untried; all = sym (append_assoc q.done q.cut more) ∙ ap (λ w. w ++ more) q.all;
-    did = did_less k l t u [] q.done q.cut more q.untried a b q.did; aside = q.aside; stops = stops_less (seen_at l) (word_at l) q.cut more q.untried end q.stops;
+    done = q.done;
+    cut = q.cut ++ more;
+    untried = q.untried;
+    all = sym (append_assoc q.done q.cut more) ∙ ap (λ w. w ++ more) q.all;
+    did = did_less k l t u [] q.done q.cut more q.untried a b q.did;
+    aside = q.aside;
+    stops = stops_less (seen_at l) (word_at l) q.cut more q.untried end q.stops;
   }
 
   -- histories and words that grow make no end untrue

@@ -44,12 +44,12 @@ module _ (k l : Knows) (shard : ℕ) (between : List Entry) where
   pub mine_call : (event : ShardEvent) → Turned k l shard between (entry_of k.0 event ∷ []) → (r : ℕ) → mine l r ≡ mine k r ++ entries k.0 r ((shard, event) ∷ [])
   mine_call event t r = let c : Call = (shard, event) in dite (ℕ_discrete r shard)
       (λ is.
-          let one : calls by k.0 (entry_of k.0 event ∷ []) ≡ entry_of k.0 event ∷ [] = (let b : (k.0 == k.0) ≡ true = grind (arith, nat_tests) in rw b refl) in
-          let two : entries k.0 shard (c ∷ []) ≡ entry_of k.0 event ∷ [] = (let b : (shard == shard) ≡ true = grind (arith, nat_tests) in rw b refl) in
-          subst (λ i. mine l i ≡ mine k i ++ entries k.0 i (c ∷ [])) (sym is) (mine_here (entry_of k.0 event ∷ []) t ∙ ap (λ w. mine k shard ++ w) (one ∙ sym two)))
+      let one : calls by k.0 (entry_of k.0 event ∷ []) ≡ entry_of k.0 event ∷ [] = (let b : (k.0 == k.0) ≡ true = grind (arith, nat_tests) in rw b refl) in
+      let two : entries k.0 shard (c ∷ []) ≡ entry_of k.0 event ∷ [] = (let b : (shard == shard) ≡ true = grind (arith, nat_tests) in rw b refl) in
+      subst (λ i. mine l i ≡ mine k i ++ entries k.0 i (c ∷ [])) (sym is) (mine_here (entry_of k.0 event ∷ []) t ∙ ap (λ w. mine k shard ++ w) (one ∙ sym two)))
       (λ other.
-          let none : entries k.0 r (c ∷ []) ≡ [] = (let b : (shard == r) ≡ false = grind (arith, nat_tests, other) in rw b refl) in
-          mine_else r (entry_of k.0 event ∷ []) t other ∙ (sym (append-nil (mine k r)) ∙ ap (λ w. mine k r ++ w) (sym none)))
+      let none : entries k.0 r (c ∷ []) ≡ [] = (let b : (shard == r) ≡ false = grind (arith, nat_tests, other) in rw b refl) in
+      mine_else r (entry_of k.0 event ∷ []) t other ∙ (sym (append-nil (mine k r)) ∙ ap (λ w. mine k r ++ w) (sym none)))
 
   pub mine_fault : Turned k l shard between [] → (r : ℕ) → mine l r ≡ mine k r
   mine_fault t r = dite (ℕ_discrete r shard)
@@ -60,5 +60,5 @@ module _ (k l : Knows) (shard : ℕ) (between : List Entry) where
   pub taken_call : (event : ShardEvent) (new : List Entry) → Turned k l shard between new → (r : ℕ) → taken_at l r ≤ taken_at k r + length (entries k.0 r ((shard, event) ∷ []))
   taken_call event new t r = let c : Call = (shard, event) in dite (ℕ_discrete r shard)
       (λ is. let one : length (entries k.0 shard (c ∷ [])) ≡ 1 = (let b : (shard == shard) ≡ true = grind (arith, nat_tests) in rw b refl) in
-          subst (λ j. taken_at l j ≤ taken_at k j + length (entries k.0 j (c ∷ []))) (sym is) (let h = t.taken in omega arith))
+      subst (λ j. taken_at l j ≤ taken_at k j + length (entries k.0 j (c ∷ []))) (sym is) (let h = t.taken in omega arith))
       (λ other. let e = t.taken_elsewhere r other in omega arith)

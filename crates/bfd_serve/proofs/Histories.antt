@@ -52,7 +52,7 @@ module _ (engine : Shards) (n : ℕ) where
   sends_append h had before [] ys = ap (λ b. sends engine n h had b ys) (sym (append-nil before))
   sends_append h had before (x ∷ xs) ys =
       ap (λ w. datagrams (given_by engine n h had before x) ++ w) (sends_append h had (before ++ calls_of (x ∷ [])) xs ys
-          ∙ ap (λ b. sends engine n h had (before ++ calls_of (x ∷ [])) xs ++ sends engine n h had b ys) (append_assoc before (calls_of (x ∷ [])) (calls_of xs) ∙ ap (λ w. before ++ w) (sym (calls_of_append (x ∷ []) xs))))
+      ∙ ap (λ b. sends engine n h had (before ++ calls_of (x ∷ [])) xs ++ sends engine n h had b ys) (append_assoc before (calls_of (x ∷ [])) (calls_of xs) ∙ ap (λ w. before ++ w) (sym (calls_of_append (x ∷ []) xs))))
       ∙ sym (append_assoc (datagrams (given_by engine n h had before x)) (sends engine n h had (before ++ calls_of (x ∷ [])) xs) (sends engine n h had (before ++ calls_of (x ∷ xs)) ys))
 
   given_base : (h : ℕ → List Entry) (had had2 : ℕ → ℕ) (before before2 : List Call) (a : Act)
@@ -67,9 +67,9 @@ module _ (engine : Shards) (n : ℕ) where
   sends_base h had had2 before before2 [] same = refl
   sends_base h had had2 before before2 (x ∷ xs) same = ap₂ ◌++◌ (ap datagrams (given_base h had had2 before before2 x same))
       (sends_base h had had2 (before ++ calls_of (x ∷ [])) (before2 ++ calls_of (x ∷ [])) xs (λ s.
-          let a = same s in
-          let b = ap length (entries_append n s before (calls_of (x ∷ []))) ∙ length-append (entries n s before) (entries n s (calls_of (x ∷ []))) in
-          let c = ap length (entries_append n s before2 (calls_of (x ∷ []))) ∙ length-append (entries n s before2) (entries n s (calls_of (x ∷ []))) in omega arith))
+      let a = same s in
+      let b = ap length (entries_append n s before (calls_of (x ∷ []))) ∙ length-append (entries n s before) (entries n s (calls_of (x ∷ []))) in
+      let c = ap length (entries_append n s before2 (calls_of (x ∷ []))) ∙ length-append (entries n s before2) (entries n s (calls_of (x ∷ []))) in omega arith))
 
   -- as many calls are there on each shard
   abbrev pub AreThere : (ℕ → List Entry) → (ℕ → ℕ) → List Call → Type 0
@@ -86,7 +86,7 @@ module _ (engine : Shards) (n : ℕ) where
       let d = ap length (entries_append n shard (c ∷ []) more) ∙ length-append (entries n shard (c ∷ [])) (entries n shard more) in
       let less : had shard + length (entries n shard before) < length (calls by n (h shard)) = omega arith in
       ap (λ w. (given_after (configs_at engine shard) w event).items)
-        (ap (until n (had shard + length (entries n shard before))) (grows shard).1 ∙ until_more n (had shard + length (entries n shard before)) (h shard) (grows shard).0 less)
+      (ap (until n (had shard + length (entries n shard before))) (grows shard).1 ∙ until_more n (had shard + length (entries n shard before)) (h shard) (grows shard).0 less)
 
   -- where each history only grows, the calls that are there send what they did
   pub sends_grow : (h h2 : ℕ → List Entry) (had : ℕ → ℕ) (before : List Call) (xs : List Act) → ((s : ℕ) → Begins (h s) (h2 s))

@@ -33,15 +33,27 @@ lacks_append (x ∷ xs) ys xs2 ys2 m m2 (inr (j, e, l)) l2 = inr (j + m2, omega 
 
 -- nothing to send
 pub sent_none : (t : LinkTold) (lost : ℕ) → HasSent [] [] t t lost lost
-sent_none t lost = record { tried = []; kept = []; missing = 0; parts = refl; lacks = (refl, refl);
-    told = (ap₂ (λ a b. record { traffic = a; counts = record t.counts { send_faults = b } }) (sym (traffic_same t.traffic)) (risen_same t.counts.send_faults)); lost_is = risen_same lost }
+sent_none t lost = record {
+  tried = [];
+  kept = [];
+  missing = 0;
+  parts = refl;
+  lacks = (refl, refl);
+  told = (ap₂ (λ a b. record { traffic = a; counts = record t.counts { send_faults = b } }) (sym (traffic_same t.traffic)) (risen_same t.counts.send_faults));
+  lost_is = risen_same lost;
+}
 
 -- one packet was sent
 pub sent_ok : (d : Datagram) (t u : LinkTold) (lost : ℕ) → u ≡ after_send d (Ok tt) t → HasSent (d ∷ []) [] t u lost lost
 sent_ok d t u lost is = record {
-    tried = d ∷ []; kept = d ∷ []; missing = 0; parts = refl; lacks = inl ([], refl, (refl, refl)); lost_is = risen_same lost;
-    told = is ∙ ap (λ b. record { traffic = more_traffic [] (d ∷ []) t.traffic; counts = record t.counts { send_faults = b } }) (risen_same t.counts.send_faults);
-  }
+  tried = d ∷ [];
+  kept = d ∷ [];
+  missing = 0;
+  parts = refl;
+  lacks = inl ([], refl, (refl, refl));
+  lost_is = risen_same lost;
+  told = is ∙ ap (λ b. record { traffic = more_traffic [] (d ∷ []) t.traffic; counts = record t.counts { send_faults = b } }) (risen_same t.counts.send_faults);
+}
 
 -- one packet failed
 pub sent_failed : (d : Datagram) (t u : LinkTold) (lost after : ℕ) → u ≡ after_send d (Err fault.Failed) t → after ≡ risen lost 1 → HasSent (d ∷ []) [] t u lost after
@@ -54,13 +66,15 @@ unsent d t u is = is ∙ ap (λ a. record { traffic = a; counts = t.counts }) (t
 -- packets that were sent after others
 pub sent_then : (xs ys : List Datagram) (t u v : LinkTold) (a b c : ℕ) → HasSent xs [] t u a b → HasSent ys [] u v b c → HasSent (xs ++ ys) [] t v a c
 sent_then xs ys t u v a b c p q = record {
-    tried = p.tried ++ q.tried; kept = p.kept ++ q.kept; missing = p.missing + q.missing;
-    parts = ap₂ ◌++◌ (p.parts ∙ append-nil p.tried) (q.parts ∙ append-nil q.tried) ∙ sym (append-nil (p.tried ++ q.tried));
-    lacks = lacks_append p.tried p.kept q.tried q.kept p.missing q.missing p.lacks q.lacks;
-    told = q.told ∙ (ap (λ (x : LinkTold). record { traffic = more_traffic [] q.kept x.traffic; counts = record x.counts { send_faults = risen x.counts.send_faults q.missing } }) p.told
-        ∙ ap₂ (λ a b. record { traffic = a; counts = record t.counts { send_faults = b } }) (traffic_join [] p.kept [] q.kept t.traffic) (risen_join t.counts.send_faults p.missing q.missing));
-    lost_is = q.lost_is ∙ (ap (λ n. risen n q.missing) p.lost_is ∙ risen_join a p.missing q.missing);
-  }
+  tried = p.tried ++ q.tried;
+  kept = p.kept ++ q.kept;
+  missing = p.missing + q.missing;
+  parts = ap₂ ◌++◌ (p.parts ∙ append-nil p.tried) (q.parts ∙ append-nil q.tried) ∙ sym (append-nil (p.tried ++ q.tried));
+  lacks = lacks_append p.tried p.kept q.tried q.kept p.missing q.missing p.lacks q.lacks;
+  told = q.told ∙ (ap (λ (x : LinkTold). record { traffic = more_traffic [] q.kept x.traffic; counts = record x.counts { send_faults = risen x.counts.send_faults q.missing } }) p.told
+      ∙ ap₂ (λ a b. record { traffic = a; counts = record t.counts { send_faults = b } }) (traffic_join [] p.kept [] q.kept t.traffic) (risen_join t.counts.send_faults p.missing q.missing));
+  lost_is = q.lost_is ∙ (ap (λ n. risen n q.missing) p.lost_is ∙ risen_join a p.missing q.missing);
+}
 
 -- some packets more weren't tried
 pub sent_stopped : (xs rest : List Datagram) (t u : LinkTold) (lost after : ℕ) → HasSent xs [] t u lost after → HasSent (xs ++ rest) rest t u lost after

@@ -30,8 +30,22 @@ module _ (engine : Shards) where
   -- the link told more, of receiving alone
   did_told : (k l : Knows) (t u v : LinkTold) (hs : List (ℕ × Arrival)) (xs cut : List Act) (untried : List Datagram) (a b : ℕ) → v.traffic ≡ u.traffic → v.counts.send_faults ≡ u.counts.send_faults → Did engine k l t u hs xs cut untried a b → Did engine k l t v hs xs cut untried a b
   did_told k l t u v hs xs cut untried a b traffic faults d = record {
-    number = d.number; used = d.used; gains = d.gains; grows = d.grows; words = d.words; taken = d.taken; made = d.made; keeps = d.keeps;
-    tried = d.tried; kept = d.kept; missing = d.missing; sends_are = d.sends_are; lacks = d.lacks; traffic = traffic ∙ d.traffic; send_faults = faults ∙ d.send_faults; lost_is = d.lost_is;
+    number = d.number;
+    used = d.used;
+    gains = d.gains;
+    grows = d.grows;
+    words = d.words;
+    taken = d.taken;
+    made = d.made;
+    keeps = d.keeps;
+    tried = d.tried;
+    kept = d.kept;
+    missing = d.missing;
+    sends_are = d.sends_are;
+    lacks = d.lacks;
+    traffic = traffic ∙ d.traffic;
+    send_faults = faults ∙ d.send_faults;
+    lost_is = d.lost_is;
   }
 
   -- of one act, either nothing was left out or all of it
@@ -44,12 +58,18 @@ module _ (engine : Shards) where
   worked_cut : (k m : Knows) (t w : LinkTold) (done : List (ℕ × Arrival)) (a : ℕ × Arrival) (xs ys : List Act) (untried : List Datagram) (lost turns : ℕ) (end : End) → ((xs ≡ []) × (ys ≡ act_at engine a ∷ [])) ⊎ ((xs ≡ act_at engine a ∷ []) × (ys ≡ []))
       → Did engine k m t w (done ++ a ∷ []) (worker_acts engine done ++ xs) ys untried 0 lost → IsWorkerEnd engine (seen_at m) (word_at m) t w turns ys untried end → length (done ++ a ∷ []) ≤ turns → HasWorked engine k m t w turns end lost
   worked_cut k m t w done a xs ys untried lost turns end (inl (p, q)) d i few = record {
-    done = done; cut = a ∷ []; untried = untried; few = few;
+    done = done;
+    cut = a ∷ [];
+    untried = untried;
+    few = few;
     did = subst (λ (y : List Act × List Act). Did engine k m t w (done ++ a ∷ []) y.0 y.1 untried 0 lost) (λ j. ((ap (λ z. worker_acts engine done ++ z) p ∙ append-nil (worker_acts engine done)) j, q j)) d;
     ends = subst (λ y. IsWorkerEnd engine (seen_at m) (word_at m) t w turns y untried end) q i;
   }
   worked_cut k m t w done a xs ys untried lost turns end (inr (p, q)) d i few = record {
-    done = done ++ a ∷ []; cut = []; untried = untried; few = (let b = ap length (append-nil (done ++ a ∷ [])) in omega arith);
+    done = done ++ a ∷ [];
+    cut = [];
+    untried = untried;
+    few = (let b = ap length (append-nil (done ++ a ∷ [])) in omega arith);
     did = subst (λ (y : List (ℕ × Arrival) × List Act × List Act). Did engine k m t w y.0 y.1 y.2 untried 0 lost)
         (λ j. (sym (append-nil (done ++ a ∷ [])) j, (ap (λ z. worker_acts engine done ++ z) p ∙ sym (acts_append done (a ∷ []))) j, q j)) d;
     ends = subst (λ y. IsWorkerEnd engine (seen_at m) (word_at m) t w turns y untried end) q i;
@@ -66,7 +86,9 @@ module _ (engine : Shards) where
 
   pub working_quiet : (k l : Knows) (t u v : LinkTold) (n lost : ℕ) → IsWorking engine k l t u n lost → v ≡ after_receive received.Quiet u → IsWorking engine k l t v (n + 1) lost
   working_quiet k l t u v n lost g is = record {
-    done = g.done; over = ap (λ (x : LinkTold). x.counts.over) is ∙ g.over; no_fault = ap (λ (x : LinkTold). x.counts.receive_faults) is ∙ g.no_fault;
+    done = g.done;
+    over = ap (λ (x : LinkTold). x.counts.over) is ∙ g.over;
+    no_fault = ap (λ (x : LinkTold). x.counts.receive_faults) is ∙ g.no_fault;
     did = did_told k l t u v g.done (worker_acts engine g.done) [] [] 0 lost (ap (λ (x : LinkTold). x.traffic) is ∙ traffic_same u.traffic) (ap (λ (x : LinkTold). x.counts.send_faults) is) g.did;
     gave = ap (λ (x : LinkTold). x.counts.gave) is ∙ (ap (λ x. risen x 1) g.gave ∙ risen_join t.counts.gave n 1);
     few = (let f = g.few in omega arith);
@@ -94,7 +116,7 @@ module _ (engine : Shards) where
       let heard = did_then engine k l l t u v g.done (a ∷ []) (worker_acts engine g.done) [] [] [] 0 lost lost g.did (did_hear engine l u v (a ∷ []) lost (ap (λ (x : LinkTold). x.traffic) is) (ap (λ (x : LinkTold). x.counts.send_faults) is)) in
       let both = did_then engine k l m t v w (g.done ++ a ∷ []) [] (worker_acts engine g.done ++ []) made.done made.cut made.untried 0 lost after heard made.did in
       let did = did_as k m t w ((g.done ++ a ∷ []) ++ []) (g.done ++ a ∷ []) ((worker_acts engine g.done ++ []) ++ made.done) (worker_acts engine g.done ++ made.done) made.cut made.untried 0 after (append-nil (g.done ++ a ∷ []))
-          (ap (λ z. z ++ made.done) (append-nil (worker_acts engine g.done))) both in (
+      (ap (λ z. z ++ made.done) (append-nil (worker_acts engine g.done))) both in (
         λ y same. absurd (cc same),
         λ turns end2 less same. let ends : end ≡ end2 = cc same in subst (λ x. HasWorked engine k m t w turns x after) ends
             (worked_cut k m t w g.done a made.done made.cut made.untried after turns end (one_cut made.done made.cut (act_at engine a) made.all) did
@@ -109,7 +131,11 @@ module _ (engine : Shards) where
   working_end : (k l : Knows) (t u v : LinkTold) (n lost turns : ℕ) (end : End) → IsWorking engine k l t u n lost → n ≤ turns → v.traffic ≡ u.traffic → v.counts.send_faults ≡ u.counts.send_faults
       → IsWorkerEnd engine (seen_at l) (word_at l) t v turns [] [] end → HasWorked engine k l t v turns end lost
   working_end k l t u v n lost turns end g few traffic faults i = record {
-    done = g.done; cut = []; untried = []; ends = i; few = (let f = g.few in let b = ap length (append-nil g.done) in omega arith);
+    done = g.done;
+    cut = [];
+    untried = [];
+    ends = i;
+    few = (let f = g.few in let b = ap length (append-nil g.done) in omega arith);
     did = did_as k l t v g.done (g.done ++ []) (worker_acts engine g.done) (worker_acts engine g.done) [] [] 0 lost (sym (append-nil g.done)) refl (did_told k l t u v g.done (worker_acts engine g.done) [] [] 0 lost traffic faults g.did);
   }
 

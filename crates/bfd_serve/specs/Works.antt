@@ -149,4 +149,3 @@ pub record IsWorking (engine : Shards) (k l : Knows) (t u : LinkTold) (count : �
   pub no_fault : u.counts.receive_faults ≡ t.counts.receive_faults
   pub gave : u.counts.gave ≡ risen t.counts.gave count
   pub few : length done ≤ count
-

@@ -66,4 +66,3 @@ pub(crate) fn handle<W: Timers, L: Link, R: Wait>(
     let outcome = receive::<W, R, Brand>(rt, engine, pass, moment, arrival, outs, Blank::new(1));
     settle(outcome, link, outs.items(), lost)
 }
-

@@ -48,7 +48,9 @@ pub fn worker<W: Timers, L: Link, G: Gate, R: Wait>(
             Received::Quiet => {}
             Received::Got { moment, arrival } => {
                 gate.before(caller, turn);
-                let handled = handle(rt, engine, pass, link, moment, arrival, &mut outs, &mut lost);
+                let handled = handle(
+                    rt, engine, pass, link, moment, arrival, &mut outs, &mut lost,
+                );
                 gate.after(caller, turn);
                 if let Err(end) = handled {
                     return (end, lost);

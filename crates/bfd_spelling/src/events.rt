@@ -12,7 +12,11 @@ use std::alloc::{AllocError, Global};
 use std::fmt::Write;
 
 /// The line of a packet.
-pub(crate) fn packet_text(alloc: Global, moment: u64, arrival: &Arrival) -> Result<String, AllocError>
+pub(crate) fn packet_text(
+    alloc: Global,
+    moment: u64,
+    arrival: &Arrival,
+) -> Result<String, AllocError>
     ensures { IfOk result (λ text. string_bytes text ≡ line (event_fields (Line.Rx moment arrival.now))) }
 {
     let port = port_text(arrival.port);
@@ -50,7 +54,12 @@ fn number_text(
 }
 
 /// The line of a command.
-pub(crate) fn command_text(alloc: Global, moment: u64, discr: u32, cmd: Cmd) -> Result<String, AllocError>
+pub(crate) fn command_text(
+    alloc: Global,
+    moment: u64,
+    discr: u32,
+    cmd: Cmd,
+) -> Result<String, AllocError>
     ensures { IfOk result (λ text. string_bytes text ≡ line (event_fields (Line.Cmd moment discr cmd))) }
 {
     match cmd {

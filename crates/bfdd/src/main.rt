@@ -48,7 +48,7 @@ fn main(rt: HostRuntime) -> ExitCode {
     };
     let mut source = StdSource::make(rt.stdin());
     let mut sink = StdSink::make(rt.stdout());
-    ExitCode::from(run(&rt, rt.alloc(), &words, &mut source, &mut sink).code())
+    ExitCode::from(run(rt.alloc(), &words, &mut source, &mut sink).code())
 }
 
 #[cfg(test)]

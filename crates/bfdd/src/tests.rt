@@ -3,9 +3,7 @@ use crate::{Status, run};
 use bfd_edge::{MemSink, MemSource};
 use bfd_script::LineFault;
 use std::alloc::{AllocError, Global};
-use std::sync::Wait;
 use std::test::Fail;
-use std::thread::Threads;
 
 /// One run: the words of the command line with one space between two, the text of the source, how source and sink give,
 /// take and fail, and what must come of it.
@@ -80,11 +78,7 @@ fn calls(alloc: Global, call: Option<u64>) -> Result<Vec<u64>, AllocError> {
 }
 
 /// The status of a run, and what the sink then has.
-fn ended<R: Threads + Wait + Sync>(
-    rt: &R,
-    alloc: Global,
-    case: &Case<'_>,
-) -> Result<(Status, Vec<u8>), AllocError> {
+fn ended(alloc: Global, case: &Case<'_>) -> Result<(Status, Vec<u8>), AllocError> {
     let mut words = Vec::new(alloc);
     for word in case.words.split(' ') {
         words.push(String::from_str(alloc, word)?)?;
@@ -100,7 +94,7 @@ fn ended<R: Threads + Wait + Sync>(
         case.sink_chunk.max(1),
         calls(alloc, case.sink_fails)?,
     );
-    let status = run(rt, alloc, &words, &mut source, &mut sink);
+    let status = run(alloc, &words, &mut source, &mut sink);
     let written = sink.as_slice().to_vec(alloc)?;
     Ok((status, written))
 }
@@ -148,7 +142,7 @@ fn runs(rt: HostRuntime) -> Result<(), Fail> {
         ),
     ];
     for case in &cases {
-        let (status, written) = ended(&rt, rt.alloc(), case)?;
+        let (status, written) = ended(rt.alloc(), case)?;
         let name = case.name;
         assert_eq!(rt; status, case.status, "{name}");
         assert_eq!(rt; written.as_slice(), case.written.as_bytes(), "{name}");
@@ -170,7 +164,7 @@ fn other_words(rt: HostRuntime) -> Result<(), Fail> {
             words,
             ..reading("", 16, None, Status::Usage, "")
         };
-        let (status, written) = ended(&rt, rt.alloc(), &case)?;
+        let (status, written) = ended(rt.alloc(), &case)?;
         assert_eq!(rt; status, case.status, "{words}");
         assert_eq!(rt; written.len(), 0, "{words}");
     }

@@ -15,22 +15,14 @@ use crate::input::{InputFault, read_all};
 use crate::output::write_all;
 use crate::status::Status;
 use crate::words::asks_replay;
-use bfd_edge::{Fault, OpenGate, Sink, Source};
+use bfd_edge::{Fault, Sink, Source};
 use bfd_replay::replay;
 use bfd_script::{BadLine, Script, ScriptFault, read};
-use bfd_wheel::HashedWheel;
 use std::alloc::{AllocError, Global};
-use std::sync::Wait;
-use std::thread::Threads;
 
 /// Writes the report of a replay of the script.
 #[tactic(auto, using(crate::proofs::Taking::took_nothing))]
-fn tell<R: Threads + Wait + Sync, K: Sink>(
-    rt: &R,
-    alloc: Global,
-    script: Script,
-    sink: &mut K,
-) -> Result<(), Fault>
+fn tell<K: Sink>(alloc: Global, script: Script, sink: &mut K) -> Result<(), Fault>
     requires { IsScript script }
     ensures whole { OnOk result (Appends (K.taken sink.old) (K.taken sink.new) (replayed script)) }
     ensures failed { IsErrOf result Fault.Failed → Rose (K.faults sink.old) (K.faults sink.new) }
@@ -39,8 +31,8 @@ fn tell<R: Threads + Wait + Sync, K: Sink>(
     ensures calm { OnOk result (K.faults sink.new ≡ K.faults sink.old) }
     ensures calm_memory { IsErrOf result Fault.Memory → K.faults sink.new ≡ K.faults sink.old }
 {
-    match replay::<HashedWheel, R, OpenGate>(rt, alloc, script, 1, 1, &OpenGate) {
-        Ok(outcome) => write_all(sink, &outcome.text),
+    match replay(alloc, script) {
+        Ok(text) => write_all(sink, &text),
         Err(_) => Err(Fault::Memory),
     }
 }
@@ -73,8 +65,7 @@ fn complaint(alloc: Global, bad: BadLine) -> Result<String, AllocError>
 ///
 /// `replay` reads a packet file to its end and writes the report of its events. Everything else is `Usage`.
 #[tactic(auto, using(crate::proofs::Taking::took_nothing, crate::proofs::Taking::read_nothing))]
-pub fn run<R: Threads + Wait + Sync, S: Source, K: Sink>(
-    rt: &R,
+pub fn run<S: Source, K: Sink>(
     alloc: Global,
     words: &[String],
     source: &mut S,
@@ -136,7 +127,7 @@ pub fn run<R: Threads + Wait + Sync, S: Source, K: Sink>(
         Err(InputFault::Memory) => return Status::Memory,
     };
     match read(alloc, &bytes, false) {
-        Ok(script) => match tell(rt, alloc, script, sink) {
+        Ok(script) => match tell(alloc, script, sink) {
             Ok(()) => Status::Done,
             Err(Fault::Failed) => Status::WriteFault,
             Err(Fault::Memory) => Status::Memory,

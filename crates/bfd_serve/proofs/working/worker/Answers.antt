@@ -16,13 +16,20 @@ loop-turn-init g c = record { of = c.requires.of; there = c.requires.there; room
 
 pub loop-turn-preserved : goal.loop-turn-preserved
 loop-turn-preserved g c = let t = g.L.Link.told in let i = c.loop-turn.invariant in elim c.match-receive.branch [
-    in-Got+in_default-handled w ↦ rw (w.pass-is, w.link-is, w.lost-is, w.outs-is) (record {
-      of = w.handle-handled.ensures.of; there = w.handle-handled.ensures.there; room = subst (λ n. 5 ≤ n) (sym w.handle-handled.ensures.room) i.room;
-      working = (working_got c.args.engine.now c.args.pass.now c.loop-turn.pass w.handle-handled.new.pass (t c.args.link.now) (t c.loop-turn.link) (t c.receive.new.self) (t w.handle-handled.new.link)
-          c.loop-turn.turn w.in-Got.moment w.in-Got.arrival c.loop-turn.lost w.handle-handled.new.lost w.handle-handled.result i.working w.in-Got.ensures w.handle-handled.ensures.done).0 w.in_default-handled.field-0 w.in_default-handled.is;
-    }) |
-    in-Quiet w ↦ rw (w.pass-is, w.link-is, w.lost-is, w.outs-is) (record { of = i.of; there = i.there; room = i.room;
-      working = working_quiet c.args.engine.now c.args.pass.now c.loop-turn.pass (t c.args.link.now) (t c.loop-turn.link) (t c.receive.new.self) c.loop-turn.turn c.loop-turn.lost i.working w.in-Quiet.ensures }) ]
+  | in-Got+in_default-handled w ↦ rw (w.pass-is, w.link-is, w.lost-is, w.outs-is) (record {
+    of = w.handle-handled.ensures.of;
+    there = w.handle-handled.ensures.there;
+    room = subst (λ n. 5 ≤ n) (sym w.handle-handled.ensures.room) i.room;
+    working = (working_got c.args.engine.now c.args.pass.now c.loop-turn.pass w.handle-handled.new.pass (t c.args.link.now) (t c.loop-turn.link) (t c.receive.new.self) (t w.handle-handled.new.link)
+        c.loop-turn.turn w.in-Got.moment w.in-Got.arrival c.loop-turn.lost w.handle-handled.new.lost w.handle-handled.result i.working w.in-Got.ensures w.handle-handled.ensures.done).0 w.in_default-handled.field-0 w.in_default-handled.is;
+  })
+  | in-Quiet w ↦ rw (w.pass-is, w.link-is, w.lost-is, w.outs-is) (record {
+    of = i.of;
+    there = i.there;
+    room = i.room;
+    working = working_quiet c.args.engine.now c.args.pass.now c.loop-turn.pass (t c.args.link.now) (t c.loop-turn.link) (t c.receive.new.self) c.loop-turn.turn c.loop-turn.lost i.working w.in-Quiet.ensures;
+  })
+]
 
 pub returns-in-Ended-clause-worked : goal.returns-in-Ended-clause-worked
 returns-in-Ended-clause-worked g c = let t = g.L.Link.told in working_over c.args.engine.now c.args.pass.now c.loop-turn.pass (t c.args.link.now) (t c.loop-turn.link) (t c.receive.new.self) c.loop-turn.turn c.loop-turn.lost c.args.turns

@@ -1,0 +1,11 @@
+-- The session at the place takes the event.
+use Rattle.std.proofs.Common.{sym, ap, subst}
+use Rattle.bfd_session.specs.declared.event.SessionConfig.{SessionConfig}
+use Rattle.bfd_session.specs.Kinds.{Running}
+use Rattle.bfd_session.specs.Step.{CanTake}
+use Rattle.bfd_replay.proofs.world.own.Goals as goal
+
+pub step-requires-clause-takes : goal.step-requires-clause-takes
+step-requires-clause-takes c =
+    subst (λ (k : SessionConfig). CanTake k c.args.event.now) (ap (λ (s : Running). s.config) (sym c.index_mut-session.ensures.value))
+    (c.requires.takes c.index_mut-session.result.now)

@@ -1,0 +1,16 @@
+pub mod Standing
+pub mod Searches
+pub mod Kept
+pub mod Tables
+pub mod Planning
+pub mod Soles
+pub mod Courses
+pub mod Owning
+pub mod Sorting
+pub mod Worlds
+pub mod Joining
+pub mod Endings
+pub mod Summing
+pub mod Ordering
+pub mod Whole
+pub mod Rows

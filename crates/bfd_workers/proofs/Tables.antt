@@ -1,0 +1,40 @@
+-- The table of a script has no fault.
+use Rattle.std.proofs.Common.{◌==◌, ◌||◌, ◌<◌, Bool, true, false, None, ◌≡◌, List, [], ◌∷◌, refl}
+use Rattle.std.specs.List.{AllByRecursion}
+use Rattle.bfd_sbfd.specs.declared.reflecting.Reflector.{Reflector}
+use Rattle.bfd_session.specs.declared.event.SessionConfig.{SessionConfig}
+use Rattle.bfd_session.specs.Kinds.{discr_of}
+use Rattle.bfd_session.specs.Rows.{table_of}
+use Rattle.bfd_session.proofs.Tables.{IsElsewhere, no_fault_with}
+use Rattle.bfd_demux.specs.Rows.{build_fault}
+use Rattle.bfd_script.specs.Rows.{has_discr}
+use Rattle.bfd_script.specs.Sound.{AreApart, IsReflector}
+use Rattle.bfd_workers.specs.Planned.{IsTable}
+
+-- no reflector has a session's discriminator, told for the sessions
+
+other : (a b : Bool) → (a || b) ≡ false → (a ≡ false) × (b ≡ false)
+other true b h = cc
+other false b h = (refl, h)
+
+first_apart : (c : SessionConfig) (cs : List SessionConfig) (pool : List Reflector) → AreApart (c ∷ cs) pool → IsElsewhere pool c
+first_apart c cs [] apart = tt
+first_apart c cs (r ∷ pool) apart = ((other (r.discr == discr_of c) (has_discr r.discr cs) apart.0).0, first_apart c cs pool apart.1)
+
+rest_apart : (c : SessionConfig) (cs : List SessionConfig) (pool : List Reflector) → AreApart (c ∷ cs) pool → AreApart cs pool
+rest_apart c cs [] apart = tt
+rest_apart c cs (r ∷ pool) apart = ((other (r.discr == discr_of c) (has_discr r.discr cs) apart.0).1, rest_apart c cs pool apart.1)
+
+elsewhere : (cs : List SessionConfig) (pool : List Reflector) → AreApart cs pool → AllByRecursion (IsElsewhere pool) cs
+elsewhere [] pool apart = tt
+elsewhere (c ∷ cs) pool apart = (first_apart c cs pool apart, elsewhere cs pool (rest_apart c cs pool apart))
+
+some_discrs : (pool : List Reflector) → AllByRecursion IsReflector pool → AllByRecursion (λ r. 0 < r.discr) pool
+some_discrs [] rows = tt
+some_discrs (r ∷ pool) rows = (rows.0.discr, some_discrs pool rows.1)
+
+-- the table of a script has no fault
+pub no_fault : (configs : List SessionConfig) (pool : List Reflector) → IsTable configs pool → build_fault (table_of configs pool) ≡ None
+no_fault configs pool are =
+    no_fault_with configs pool are.configs.ascends are.configs.differs are.configs.fit are.pool.ascends
+    (some_discrs pool are.pool.rows) (elsewhere configs pool are.apart) are.few

@@ -1,0 +1,176 @@
+-- A script on shards is the script on the whole table.
+use Rattle.std.proofs.Common.{◌≡◌, ◌⊎◌, inl, inr, ◌<◌, ◌≤◌, ◌+◌, ◌-◌, ◌*◌, ◌/◌, ◌%◌, ◌==◌, ◌∙◌, ◌∷◌, Bool, true, false, ℕ, zero, suc, [], List, length, map, get_or, refl, sym, ap, subst, arith, Some, None, Option, add_comm}
+use Rattle.std.specs.Prelude.{slice_index_or, sum_by, if◌then◌else◌}
+use Rattle.std.specs.List.{AllByRecursion, cons_option}
+use Rattle.std.proofs.lemmas.Bool.Decides.{nat_tests}
+use Rattle.std.proofs.lemmas.List.{length-map}
+use Rattle.std.proofs.lemmas.Option.{slice_get-get_or, slice_get_within}
+use Rattle.bfd_session.specs.declared.event.Event.{Event}
+use Rattle.bfd_session.specs.declared.event.SessionConfig.{SessionConfig}
+use Rattle.bfd_session.specs.Kinds.{Running, configs_of}
+use Rattle.bfd_session.specs.Rows.{Ascends}
+use Rattle.bfd_session.specs.Step.{started}
+use Rattle.bfd_shard.specs.declared.entry.ShardEvent.TheVariants.{Own, Tick}
+use Rattle.bfd_shard.specs.Dealing.{history_of, share}
+use Rattle.bfd_shard.specs.History.{events_of, later, moved, runs}
+use Rattle.bfd_shard.specs.Shard.{Shard, CanHappen, IsShard}
+use Rattle.bfd_sbfd.specs.declared.reflecting.Reflector.{Reflector}
+use Rattle.bfd_script.specs.declared.entries.Line.{Line}
+use Rattle.bfd_script.specs.Reading.{Lists}
+use Rattle.bfd_script.specs.Sound.{IsScript}
+use Rattle.bfd_engine.specs.Engines.{Shards, configs_at}
+use Rattle.bfd_engine.specs.Engines as engines
+use Rattle.bfd_engine.proofs.Reaching.{dealt_event}
+use Rattle.bfd_gather.specs.declared.queue.Numbered.{Numbered}
+use Rattle.bfd_gather.specs.Pieces.{Piece}
+use Rattle.bfd_gather.specs.Happenings.{Happening, Apart, Among, AreParts, among, in_shard, numbered, queue, told, told_apart}
+use Rattle.bfd_gather.specs.Happenings as gather
+use Rattle.bfd_gather.proofs.Sharing.{share_map}
+use Rattle.bfd_gather.proofs.Histories.{queue_events, runs_share}
+use Rattle.bfd_replay.specs.World.{totals}
+use Rattle.bfd_workers.specs.Planned.{AreQueues, IsMet, IsTable, events_of_table, happening, happenings}
+use Rattle.bfd_workers.specs.Working.{AreMet, entries, events_in}
+use Rattle.bfd_workers.specs.Ends.{AreStates, AreTold}
+use Rattle.bfd_workers.specs.Replayed.{HaveReplayed}
+use Rattle.bfd_workers.specs.Counts.{one_up, sum_to, ups}
+use Rattle.bfd_workers.proofs.Soles.{events_entries}
+use Rattle.bfd_workers.proofs.Summing.{sum_same, ups_are as counted, ups_shared}
+use Rattle.bfd_workers.proofs.Worlds.{left_is, world_is}
+
+pub is_table : (script : Lists) → IsScript script → IsTable script.configs script.pool
+is_table script s = record { configs = s.configs; pool = s.pool; apart = s.apart; few = s.few }
+
+-- the one definition of what a shard is dealt is the other
+pub same_share : {A : Type 0} (n c : ℕ) (xs : List A) → engines.share n c xs ≡ share n c xs
+unfolding engines.share share
+same_share n c [] = refl
+same_share n zero (x ∷ xs) = ap (λ ys. x ∷ ys) (same_share n (n - 1) xs)
+same_share n (suc c) (x ∷ xs) = same_share n c xs
+
+short_share : {A : Type 0} (n c : ℕ) (xs : List A) → length (engines.share n c xs) ≤ length xs
+unfolding engines.share
+short_share n c [] = omega arith
+short_share n zero (x ∷ xs) = let a = short_share n (n - 1) xs in omega (arith, a)
+short_share n (suc c) (x ∷ xs) = let a = short_share n c xs in omega (arith, a)
+
+pub room_enough : (engine : Shards) (s room : ℕ) (configs : List SessionConfig) → engine.configs ≡ configs → room ≡ 5 * length configs + 5 → 5 * length (configs_at engine s) + 5 ≤ room
+room_enough engine s room configs is enough = let a = short_share (length engine.locks) s engine.configs in let b = ap length is in omega (arith, a, b, enough)
+
+is_own : (a b : ℕ) → (a == b) ≡ true → a ≡ b
+is_own a b h = grind (arith, nat_tests, h)
+
+-- the events of a queue may happen to its shard
+own_met : (b : Bool) (engine : Shards) (n s number k m : ℕ) (event : Event) (rest : List Numbered) → (k % n == s) ≡ b → n ≡ length engine.locks → 0 < n → CanHappen engine.configs (Own k m event)
+    → AreMet engine s rest → AreMet engine s (cons_option (numbered number (if b then Some (Own (k / n) m event) else None)) rest)
+own_met true engine n s number k m event rest is locks some can met =
+    (subst (λ i. CanHappen (configs_at engine i) (Own (k / n) m event)) (is_own (k % n) s is) (dealt_event engine k n event locks some can), met)
+own_met false engine n s number k m event rest is locks some can met = met
+
+pub met_in : (engine : Shards) (n s number : ℕ) (hs : List Happening) → n ≡ length engine.locks → 0 < n → AllByRecursion (IsMet engine.configs) hs → AreMet engine s (queue n s number hs)
+met_in engine n s number [] locks some met = tt
+met_in engine n s number (Apart o ∷ hs) locks some met = met_in engine n s (number + 1) hs locks some met.1
+met_in engine n s number (Among (Own k m event) ∷ hs) locks some met =
+    own_met (k % n == s) engine n s number k m event (queue n s (number + 1) hs) refl locks some met.0 (met_in engine n s (number + 1) hs locks some met.1)
+met_in engine n s number (Among (Tick t) ∷ hs) locks some met = (tt, met_in engine n s (number + 1) hs locks some met.1)
+
+short_one : (o : Option Numbered) (xs : List Numbered) (n : ℕ) → length xs ≤ n → length (cons_option o xs) ≤ suc n
+short_one None xs n h = omega (arith, h)
+short_one (Some x) xs n h = omega (arith, h)
+
+short_queue : (n s number : ℕ) (hs : List Happening) → length (queue n s number hs) ≤ length hs
+short_queue n s number [] = omega arith
+short_queue n s number (h ∷ hs) = short_one (numbered number (in_shard n s h)) (queue n s (number + 1) hs) (length hs) (short_queue n s (number + 1) hs)
+
+past : {A : Type 0} (xs : List (List A)) (s : ℕ) → length xs ≤ s → slice_index_or xs s [] ≡ []
+past [] s h = refl
+past (x ∷ xs) zero h = absurd (omega (arith, h))
+past (x ∷ xs) (suc s) h = past xs s (omega (arith, h))
+
+below_or : (s n : ℕ) → (s < n) ⊎ (n ≤ s)
+below_or s n = grind arith
+
+pub short_queues : (shards : ℕ) (hs : List Happening) (queues : List (List Numbered)) (s : ℕ) → AreQueues shards hs queues → length (slice_index_or queues s []) ≤ length hs
+short_queues shards hs queues s are = elim (below_or s shards) [
+  | inl inside ↦ (let a = ap length (are.each s inside) in let b = short_queue shards s 1 hs in omega (arith, a, b))
+  | inr beyond ↦ (let a = ap length (past queues s (let b = are.long in omega (arith, b, beyond))) in omega (arith, a))
+]
+
+pub met_queues : (engine : Shards) (shards : ℕ) (hs : List Happening) (queues : List (List Numbered)) → shards ≡ length engine.locks → 0 < shards → AreQueues shards hs queues → AllByRecursion (IsMet engine.configs) hs
+    → (s : ℕ) → s < length engine.locks → AreMet engine s (slice_index_or queues s [])
+met_queues engine shards hs queues locks some are met s inside =
+    subst (AreMet engine s) (sym (are.each s (omega (arith, inside, locks)))) (met_in engine shards s 1 hs locks some met)
+
+started_configs : (cs : List SessionConfig) → configs_of (map started cs) ≡ cs
+started_configs [] = refl
+started_configs (c ∷ cs) = ap (λ xs. c ∷ xs) (started_configs cs)
+
+-- the parts are those of the script's events
+pub are_parts : (engine : Shards) (shards workers : ℕ) (hs : List Happening) (configs : List SessionConfig) (queues : List (List Numbered)) (all : List (List (List Piece))) (parts : List (List Piece)) (apart : List Piece)
+    → 0 < shards → shards ≡ length engine.locks → engine.configs ≡ configs → Ascends configs → AreQueues shards hs queues → AreTold engine queues workers all → length parts ≡ shards + 1
+    → ((s : ℕ) → s < shards → slice_index_or parts s [] ≡ slice_index_or (slice_index_or all (s % length all) []) s []) → slice_index_or parts shards [] ≡ apart → apart ≡ told_apart 1 hs
+    → AreParts shards 1 0 hs (map started configs) parts
+are_parts engine shards workers hs configs queues all parts apart some locks is ascends are told_are long each last apart_is = record {
+  some = some;
+  long = long;
+  each = λ s h. each s h
+      ∙ (ap (λ n. slice_index_or (slice_index_or all (s % n) []) s []) told_are.long
+      ∙ (told_are.each s (omega (arith, h, locks))
+      ∙ (ap (λ q. told 0 q (map started (configs_at engine s))) (are.each s h)
+      ∙ (ap (λ n. told 0 (queue shards s 1 hs) (map started (engines.share n s engine.configs))) (sym locks)
+      ∙ (ap (λ cs. told 0 (queue shards s 1 hs) (map started (engines.share shards s cs))) is
+      ∙ (ap (λ cs. told 0 (queue shards s 1 hs) (map started cs)) (same_share shards s configs)
+      ∙ ap (told 0 (queue shards s 1 hs)) (sym (share_map started shards s configs))))))));
+  others = last ∙ apart_is;
+  ascends = subst Ascends (sym (started_configs configs)) ascends;
+}
+
+-- the states are those of the script
+pub have_replayed : (engine : Shards) (script : Lists) (shards workers : ℕ) (queues : List (List Numbered)) (states : List Shard) → shards ≡ length engine.locks → engine.configs ≡ script.configs
+    → AreQueues shards (happenings script.configs script.pool script.events) queues → AreStates engine queues workers states → HaveReplayed script shards workers states
+have_replayed engine script shards workers queues states locks is are all = record {
+  long = all.long ∙ sym locks;
+  each = λ s state e. (let one = all.each s state e in
+      let inside : s < shards = (let a = slice_get_within states s state e in let b = all.long in omega (arith, a, b, locks)) in record {
+        configs = one.configs ∙ (ap (λ n. engines.share n s engine.configs) (sym locks) ∙ (ap (engines.share shards s) is ∙ same_share shards s script.configs));
+        journal = one.journal
+            ∙ (ap (λ q. entries (s % workers + 1) (events_in q)) (are.each s inside)
+            ∙ (ap (entries (s % workers + 1)) (queue_events shards s 1 (happenings script.configs script.pool script.events))
+            ∙ ap (λ n. entries n (history_of shards s (events_of_table script))) (add_comm (s % workers) 1)));
+      });
+}
+
+-- how many sessions are Up
+pub ups_are : (script : Lists) (shards workers up : ℕ) (states : List Shard) (d : Shard) → 0 < shards → HaveReplayed script shards workers states
+    → ((k : ℕ) (e : Shard) → k < length states → IsShard (get_or states k e)) → up ≡ sum_to (λ k. sum_by one_up (get_or states k d).sessions) (length states) → up ≡ (totals script).ups
+ups_are script zero workers up states d some have kept is = absurd (omega (arith, some))
+ups_are script (suc n) workers up states d some have kept is =
+    is ∙ (ap (sum_to (λ k. sum_by one_up (get_or states k d).sessions)) have.long
+    ∙ (sum_same (λ k. sum_by one_up (get_or states k d).sessions) (λ k. ups (share (suc n) k (runs (events_of_table script) script.configs))) (suc n) (λ k h.
+    (let inside : k < length states = (let a = have.long in omega (arith, h, a)) in
+    let state = get_or states k d in
+    let one = have.each k state (slice_get-get_or states k d inside) in
+    let whole = (kept k d inside).whole in
+    counted state.sessions ∙ ap ups (whole
+    ∙ (ap (λ j. runs (events_of j) (configs_of state.sessions)) one.journal
+    ∙ (ap (λ es. runs es (configs_of state.sessions)) (events_entries (1 + k % workers) (history_of (suc n) k (events_of_table script)))
+    ∙ (ap (runs (history_of (suc n) k (events_of_table script))) one.configs
+    ∙ runs_share (suc n) k (events_of_table script) script.configs h))))))
+    ∙ (ups_shared n (runs (events_of_table script) script.configs) ∙ ap ups (sym (left_is script)))))
+
+-- each event of a script gives one outcome
+outcomes_long : (last : ℕ) (hs : List Happening) (ss : List Running) → length (gather.outcomes last hs ss) ≡ length hs
+outcomes_long last [] ss = refl
+outcomes_long last (Apart o ∷ hs) ss = ap suc (outcomes_long last hs ss)
+outcomes_long last (Among e ∷ hs) ss = ap suc (outcomes_long (later last e) hs (moved last e ss))
+
+pub events_are : (script : Lists) → length script.events ≡ (totals script).events
+events_are script =
+    sym (length-map script.events (happening script.configs script.pool))
+    ∙ (sym (outcomes_long 0 (happenings script.configs script.pool script.events) (map started script.configs)) ∙ ap length (world_is script))
+
+pub happenings_long : (configs : List SessionConfig) (pool : List Reflector) (lines : List Line) → length (happenings configs pool lines) ≡ length lines
+happenings_long configs pool lines = length-map lines (happening configs pool)
+
+-- a shard of no session, as what stands where none is
+pub none : Shard
+none = record { sessions = []; last = 0; journal = []; limit = 0; room = 0 }

@@ -1,0 +1,62 @@
+-- One shard more.
+use Rattle.std.proofs.Common.{rules, ◌≡◌, ◌<◌, ◌++◌, ◌∙◌, ◌∷◌, [], ap, sym, subst, length, map, append_assoc, length-append, arith}
+use Rattle.bfd_workers.specs.Working.{AreMet}
+use Rattle.bfd_workers.proofs.Courses.{over_more, over_left, stopped_here, next_queue, long_map}
+use Rattle.bfd_workers.proofs.working.all_shards.Goals as goal
+
+pub one_shard-requires-clause-met : goal.one_shard-requires-clause-met
+one_shard-requires-clause-met g c =
+    let i = c.loop-queue.invariant in
+    let n : c.len-shard.result ≡ length c.loop-queue.parts.items = search rules in
+    let here = next_queue (λ q. q.items) c.loop-queue.yielded c.next.new.self.rest.items c.args.queues.items c.in-Some.queue (length c.loop-queue.parts.items)
+    (ap (λ l. c.loop-queue.yielded ++ l) (sym c.in-Some.ensures.steps.0) ∙ i.all) i.long in
+    let inside : length c.loop-queue.parts.items < length c.args.engine.now.locks =
+    (let a = here.0 in let b = c.requires.ready.long in let d = long_map (λ q. q.items) c.args.queues.items in omega (arith, a, b, d)) in
+    subst (λ s. AreMet c.args.engine.now s c.in-Some.queue.items) (sym n) (subst (AreMet c.args.engine.now (length c.loop-queue.parts.items)) here.1 (c.requires.ready.met (length c.loop-queue.parts.items) inside))
+
+pub returns-in-Err-clause-left : goal.returns-in-Err-clause-left
+returns-in-Err-clause-left g c =
+    let i = c.loop-queue.invariant in
+    let n : c.len-shard.result ≡ length c.loop-queue.parts.items = search rules in
+    let here = next_queue (λ q. q.items) c.loop-queue.yielded c.next.new.self.rest.items c.args.queues.items c.in-Some.queue c.len-shard.result
+    (ap (λ l. c.loop-queue.yielded ++ l) (sym c.in-Some.ensures.steps.0) ∙ i.all) (n ∙ i.long) in
+    over_left c.args.engine.now (map (λ q. q.items) c.args.queues.items) c.in-Some.queue.items c.len-shard.result c.args.pass.now c.loop-queue.pass c.one_shard.new.pass c.loop-queue.parts.items
+    n here.1 i.over c.one_shard.ensures.of c.one_shard.ensures.there c.one_shard.ensures.elsewhere c.one_shard.ensures.used
+
+pub returns-in-Err-clause-stopped : goal.returns-in-Err-clause-stopped
+returns-in-Err-clause-stopped g c =
+    let i = c.loop-queue.invariant in
+    let n : c.len-shard.result ≡ length c.loop-queue.parts.items = search rules in
+    let here = next_queue (λ q. q.items) c.loop-queue.yielded c.next.new.self.rest.items c.args.queues.items c.in-Some.queue c.len-shard.result
+    (ap (λ l. c.loop-queue.yielded ++ l) (sym c.in-Some.ensures.steps.0) ∙ i.all) (n ∙ i.long) in
+    let inside : c.len-shard.result < length c.args.engine.now.locks =
+    (let a = here.0 in let b = c.requires.ready.long in let d = long_map (λ q. q.items) c.args.queues.items in omega (arith, a, b, d)) in
+    stopped_here c.in-Err.fault c.args.engine.now (map (λ q. q.items) c.args.queues.items) c.in-Some.queue.items c.len-shard.result c.one_shard.new.pass inside here.1 c.in-Err.ensures.stopped
+
+pub returns-in_default-clause-left : goal.returns-in_default-clause-left
+returns-in_default-clause-left g c =
+    let i = c.loop-queue.invariant in
+    let n : c.len-shard.result ≡ length c.loop-queue.parts.items = search rules in
+    let here = next_queue (λ q. q.items) c.loop-queue.yielded c.next.new.self.rest.items c.args.queues.items c.in-Some.queue c.len-shard.result
+    (ap (λ l. c.loop-queue.yielded ++ l) (sym c.in-Some.ensures.steps.0) ∙ i.all) (n ∙ i.long) in
+    over_left c.args.engine.now (map (λ q. q.items) c.args.queues.items) c.in-Some.queue.items c.len-shard.result c.args.pass.now c.loop-queue.pass c.one_shard.new.pass c.loop-queue.parts.items
+    n here.1 i.over c.one_shard.ensures.of c.one_shard.ensures.there c.one_shard.ensures.elsewhere c.one_shard.ensures.used
+
+pub loop-queue-preserved : goal.loop-queue-preserved
+loop-queue-preserved g c =
+    let i = c.loop-queue.invariant in
+    let n : c.len-shard.result ≡ length c.loop-queue.parts.items = search rules in
+    let here = next_queue (λ q. q.items) c.loop-queue.yielded c.next.new.self.rest.items c.args.queues.items c.in-Some.queue c.len-shard.result
+    (ap (λ l. c.loop-queue.yielded ++ l) (sym c.in-Some.ensures.steps.0) ∙ i.all) (n ∙ i.long) in
+    let more = c.in-Ok-push.ensures.items in
+    record {
+      can = tt;
+      ends = tt;
+      all = append_assoc c.loop-queue.yielded (c.in-Some.queue ∷ []) c.next.new.self.rest.items ∙ (ap (λ l. c.loop-queue.yielded ++ l) (sym c.in-Some.ensures.steps.0) ∙ i.all);
+      long = (let a = ap length more in let b = length-append c.loop-queue.parts.items (c.one_shard.new.part ∷ []) in let d = length-append c.loop-queue.yielded (c.in-Some.queue ∷ []) in let e = i.long in
+          omega (arith, a, b, d, e));
+      room = c.one_shard.ensures.room ∙ i.room;
+      over = over_more c.args.engine.now (map (λ q. q.items) c.args.queues.items) c.in-Some.queue.items c.len-shard.result c.args.pass.now c.loop-queue.pass c.one_shard.new.pass
+          c.loop-queue.parts.items c.push.new.self.items c.one_shard.new.part n here.1 more i.over c.one_shard.ensures.of c.one_shard.ensures.there c.one_shard.ensures.elsewhere
+          c.one_shard.ensures.used c.in-Ok.ensures.done;
+    }

@@ -1,0 +1,6 @@
+pub mod Planned
+pub mod Working
+pub mod Jobs
+pub mod Ends
+pub mod Counts
+pub mod Replayed

@@ -1,0 +1,56 @@
+//! How many sessions are Up.
+ghost use Rattle.std.specs.Prelude.{ℕ, ◌≡◌, ◌≤◌, ◌<◌, ◌*◌, length, slice_index_or, sum_by};
+ghost use Rattle.bfd_rules.specs.Quantities as quantities;
+ghost use Rattle.bfd_shard.specs.Shard.{Shard, IsShard};
+ghost use Rattle.bfd_workers.specs.Counts.{one_up, sum_to};
+
+use bfd_packet::State;
+use bfd_session::Session;
+use bfd_shard::ShardState;
+use bfd_wheel::Timers;
+
+/// Counts a session that is Up.
+fn counted(session: &Session) -> u32
+    ensures value { result ≡ one_up session.now }
+    ensures few { result ≤ 1 }
+{
+    match session.vars().state {
+        State::Up => 1,
+        State::AdminDown | State::Down | State::Init => 0,
+    }
+}
+
+/// How many of the sessions are Up.
+fn up_in(sessions: &[Session]) -> u32
+    requires few { length sessions.now ≤ 65536 }
+    ensures value { result ≡ sum_by one_up sessions.now }
+    ensures few { result ≤ 65536 }
+{
+    let mut count = 0u32;
+    for session in sessions {
+        count += counted(session);
+    }
+    count
+}
+
+/// How many of a shard's sessions are Up.
+fn up_of<W: Timers>(state: &ShardState<W>) -> u32
+    ensures value { result ≡ sum_by one_up state.now.sessions }
+    ensures kept { IsShard state.now }
+    ensures few { result ≤ 65536 }
+{
+    up_in(state.sessions())
+}
+
+/// How many sessions of all shards are Up.
+pub(crate) fn up_all<W: Timers>(states: &Vec<ShardState<W>>) -> u32
+    requires few { length states.now.items ≤ 64 }
+    ensures value { (d : Shard) → result ≡ sum_to (λ k. sum_by one_up (slice_index_or states.now.items k d).sessions) (length states.now.items) }
+    ensures kept { (k : ℕ) (d : Shard) → k < length states.now.items → IsShard (slice_index_or states.now.items k d) }
+{
+    let mut count = 0u32;
+    for k in 0..states.len() {
+        count += up_of(&states[k]);
+    }
+    count
+}

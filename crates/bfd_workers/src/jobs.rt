@@ -1,0 +1,148 @@
+//! Workers' jobs.
+ghost use Rattle.std.specs.Prelude.{ℕ, ◌≡◌, ◌≤◌, ◌<◌, ◌+◌, ◌*◌, ◌%◌, [], Ok, IfOk, OnOk, false, if◌then◌else◌, length, map, slice_index_or};
+ghost use Rattle.std.specs.List.{All};
+ghost use Rattle.bfd_engine.specs.Engines.{configs_at};
+ghost use Rattle.bfd_workers.specs.Jobs.{Work, HasWorked, HasEnded, AreOwn, seen_as};
+ghost use Rattle.bfd_workers.specs.Working.{IsReady, HasLeft};
+
+use crate::working::all_shards;
+use bfd_edge::Gate;
+use bfd_engine::{Engine, EngineFault, EnginePass};
+use bfd_gather::{Numbered, Part};
+use bfd_num::Steps;
+use bfd_rules::Outs;
+use bfd_wheel::Timers;
+use std::alloc::{AllocError, Global};
+use std::marker::{Brand, Model};
+use std::mem;
+use std::sync::Wait;
+use std::sync::ledger::{Blank, Ledger};
+
+/// A worker's pass, its queues by shard, and what it told of each shard, or why it stopped.
+#[derive(Drop)]
+pub(crate) struct Job {
+    pub(crate) pass: EnginePass,
+    pub(crate) queues: Vec<Vec<Numbered>>,
+    pub(crate) told: Result<Vec<Part>, EngineFault>,
+}
+
+impl Model for Job {
+    ghost use Rattle.std.specs.Prelude.{map};
+    ghost use Rattle.bfd_workers.specs.Jobs.{Work, seen_as};
+
+    ghost Value = { Work };
+
+    ghost view = { λ j. record { pass = j.pass; queues = map (λ q. q.items) j.queues.items; told = seen_as (λ parts. parts.items) j.told } };
+}
+
+/// Does a worker's queues, with room for the outputs of any event.
+fn run<W: Timers, R: Wait, G: Gate, L: Ledger>(
+    rt: &R,
+    alloc: Global,
+    engine: &Engine<W>,
+    pass: &mut EnginePass,
+    queues: Vec<Vec<Numbered>>,
+    room: usize,
+    gate: &G,
+    blank: Blank,
+) -> Result<Vec<Part>, EngineFault>
+    requires ready { IsReady engine.now (map (λ q. q.items) queues.items) pass.old }
+    requires room { (shard : ℕ) → 5 * length (configs_at engine.now shard) + 5 ≤ room }
+    requires name { blank.name ≡ L.name }
+    requires parts { blank.parts ≡ L.parts }
+    requires some { 0 < blank.parts }
+    ensures left { HasLeft engine.now (map (λ q. q.items) queues.items) pass.old pass.new }
+    ensures ended { HasEnded engine.now (map (λ q. q.items) queues.items) pass.new (seen_as (λ parts. parts.items) result) }
+{
+    let Ok(mut outs) = Outs::make(alloc, room) else {
+        return Err(EngineFault::Memory);
+    };
+    let mut steps = Steps::<L>::new(blank);
+    all_shards(rt, alloc, engine, pass, queues, &mut outs, &mut steps, gate)
+}
+
+/// Works on one job.
+fn work<W: Timers, R: Wait, G: Gate>(
+    rt: &R,
+    alloc: Global,
+    engine: &Engine<W>,
+    job: &mut Job,
+    room: usize,
+    gate: &G,
+)
+    requires ready { IsReady engine.now job.old.queues job.old.pass }
+    requires room { (shard : ℕ) → 5 * length (configs_at engine.now shard) + 5 ≤ room }
+    ensures { HasWorked engine.now job.old job.new }
+{
+    let queues = mem::replace(&mut job.queues, Vec::new(alloc));
+    job.told = run::<W, R, G, Brand>(
+        rt,
+        alloc,
+        engine,
+        &mut job.pass,
+        queues,
+        room,
+        gate,
+        Blank::new(1),
+    );
+}
+
+/// Works on all jobs, one after another.
+pub(crate) fn work_all<W: Timers, R: Wait, G: Gate>(
+    rt: &R,
+    alloc: Global,
+    engine: &Engine<W>,
+    jobs: &mut Vec<Job>,
+    room: usize,
+    gate: &G,
+)
+    requires ready { All (λ (j : Work). IsReady engine.now j.queues j.pass) jobs.old.items }
+    requires room { (shard : ℕ) → 5 * length (configs_at engine.now shard) + 5 ≤ room }
+    ensures worked { (i : ℕ) (d : Work) → i < length jobs.old.items → HasWorked engine.now (slice_index_or jobs.old.items i d) (slice_index_or jobs.new.items i d) }
+    ensures long { length jobs.new.items ≡ length jobs.old.items }
+{
+    for k in 0..jobs.len() {
+        work(rt, alloc, engine, &mut jobs[k], room, gate);
+    }
+}
+
+/// Takes a queue out where it is the worker's own, and gives an empty one where it isn't.
+fn take_own(
+    alloc: Global,
+    queues: &mut Vec<Vec<Numbered>>,
+    shard: usize,
+    own: bool,
+) -> Vec<Numbered>
+    requires { shard < length queues.old.items }
+    ensures taken { result.items ≡ (if own then slice_index_or (map (λ q. q.items) queues.old.items) shard [] else []) }
+    ensures long { length queues.new.items ≡ length queues.old.items }
+    ensures others { (r : ℕ) → (r ≡ shard → ⊥) → slice_index_or (map (λ q. q.items) queues.new.items) r [] ≡ slice_index_or (map (λ q. q.items) queues.old.items) r [] }
+    ensures left { own ≡ false → queues.new.items ≡ queues.old.items }
+{
+    if own {
+        mem::replace(&mut queues[shard], Vec::new(alloc))
+    } else {
+        Vec::new(alloc)
+    }
+}
+
+/// The queues of the worker at this place of so many, taken out of these.
+pub(crate) fn own_queues(
+    alloc: Global,
+    queues: &mut Vec<Vec<Numbered>>,
+    workers: u32,
+    at: u32,
+) -> Result<Vec<Vec<Numbered>>, AllocError>
+    requires some { 0 < workers }
+    requires few { length queues.old.items ≤ 64 }
+    ensures own { IfOk result (λ own. AreOwn workers at (map (λ q. q.items) queues.old.items) (map (λ q. q.items) own.items)) }
+    ensures long { OnOk result (length queues.new.items ≡ length queues.old.items) }
+    ensures others { OnOk result ((shard : ℕ) → (shard % workers ≡ at → ⊥) → slice_index_or (map (λ q. q.items) queues.new.items) shard [] ≡ slice_index_or (map (λ q. q.items) queues.old.items) shard []) }
+{
+    let mut own = Vec::new(alloc);
+    for shard in 0..queues.len() {
+        let mine = shard as u32 % workers == at;
+        own.push(take_own(alloc, queues, shard, mine))?;
+    }
+    Ok(own)
+}

@@ -1,0 +1,123 @@
+//! A script's events, dealt out to shards.
+ghost use Rattle.std.specs.Prelude.{ℕ, ◌≡◌, ◌<◌, ◌≤◌, [], IfOk, OnOk, length, map, slice_index_or};
+ghost use Rattle.std.specs.List.{AllByRecursion};
+ghost use Rattle.bfd_demux.specs.Rows.{build_fault};
+ghost use Rattle.bfd_sbfd.specs.Reflect.{Ascends as PoolAscends};
+ghost use Rattle.bfd_session.specs.Rows.{Ascends, table_of as table_in};
+ghost use Rattle.bfd_gather.specs.Happenings.{told_apart};
+ghost use Rattle.bfd_workers.specs.Planned.{IsTable, IsMet, AreQueues, IsPlanned, happenings, route_is};
+
+use crate::routing::{Route, route_of};
+use bfd_demux::{BuildFault, Demux};
+use bfd_gather::{Numbered, Part, deal};
+use bfd_rules::Out;
+use bfd_sbfd::Reflector;
+use bfd_script::Line;
+use bfd_session::{Answer, SessionConfig, table_of};
+use std::alloc::{AllocError, Global};
+
+/// The table of the sessions and the pool, which have no fault.
+#[tactic(auto, using(crate::proofs::Tables::no_fault))]
+pub(crate) fn table(
+    alloc: Global,
+    configs: &[SessionConfig],
+    pool: &[Reflector],
+) -> Result<Demux, AllocError>
+    requires { IsTable configs.now pool.now }
+    ensures { IfOk result (λ demux. demux ≡ table_in configs.now pool.now) }
+{
+    let rows = table_of(alloc, configs, pool)?;
+    match Demux::build(alloc, &rows) {
+        Ok(demux) => Ok(demux),
+        Err(BuildFault::Memory) => Err(AllocError),
+        Err(_) => unreachable!(),
+    }
+}
+
+/// As many empty queues.
+fn empty_queues(alloc: Global, count: usize) -> Result<Vec<Vec<Numbered>>, AllocError>
+    ensures long { IfOk result (λ queues. length queues.items ≡ count) }
+    ensures each { IfOk result (λ queues. (k : ℕ) → slice_index_or (map (λ q. q.items) queues.items) k [] ≡ []) }
+{
+    let mut queues = Vec::with_capacity(alloc, count)?;
+    for _ in 0..count {
+        queues.push(Vec::new(alloc))?;
+    }
+    Ok(queues)
+}
+
+/// Takes in what the event of this number is.
+fn take_in(
+    queues: &mut Vec<Vec<Numbered>>,
+    apart: &mut Part,
+    number: u64,
+    route: Route,
+) -> Result<(), AllocError>
+    requires some { 0 < length queues.old.items }
+    requires few { length queues.old.items ≤ 64 }
+    ensures long { length queues.new.items ≡ length queues.old.items }
+    ensures planned { OnOk result (IsPlanned number (route_is route) (map (λ q. q.items) queues.old.items) (map (λ q. q.items) queues.new.items) apart.old apart.new) }
+{
+    match route {
+        Route::Rests(answer) => apart.tell_event(number, &[], &answer),
+        Route::Answers { discr, datagram } => {
+            let out = [Out::Sent { discr, datagram }];
+            apart.tell_event(number, &out, &Answer::Handled)
+        }
+        Route::Happens(event) => deal(queues, number, event),
+    }
+}
+
+/// The lines of a script: the queue of each shard, and what is told of the events of no session. The one refusal is want of
+/// memory.
+pub(crate) fn plan(
+    alloc: Global,
+    demux: &Demux,
+    configs: &[SessionConfig],
+    pool: &[Reflector],
+    events: Vec<Line>,
+    shards: u32,
+) -> Result<(Vec<Vec<Numbered>>, Part), AllocError>
+    requires table { demux.now ≡ table_in configs.now pool.now }
+    requires ascends { Ascends configs.now }
+    requires few { length configs.now ≤ 65536 }
+    requires climbs { PoolAscends pool.now }
+    requires shards { (0 < shards) × (shards ≤ 64) }
+    requires events { length events.items ≤ 200000 }
+    ensures queues { IfOk result (λ r. AreQueues shards (happenings configs.now pool.now events.items) (map (λ q. q.items) r.0.items)) }
+    ensures apart { IfOk result (λ r. r.1 ≡ told_apart 1 (happenings configs.now pool.now events.items)) }
+    ensures met { IfOk result (λ r. AllByRecursion (IsMet configs.now) (happenings configs.now pool.now events.items)) }
+{
+    let mut queues = empty_queues(alloc, shards as usize)?;
+    let mut apart = Part::new(alloc);
+    let mut number = 1u64;
+    for line in events {
+        take_in(
+            &mut queues,
+            &mut apart,
+            number,
+            route_of(demux, configs, pool, line),
+        )?;
+        number += 1;
+    }
+    Ok((queues, apart))
+}
+
+/// The same, of sessions and reflectors that make a table.
+pub(crate) fn planned(
+    alloc: Global,
+    configs: &Vec<SessionConfig>,
+    pool: &Vec<Reflector>,
+    events: Vec<Line>,
+    shards: u32,
+) -> Result<(Vec<Vec<Numbered>>, Part), AllocError>
+    requires table { IsTable configs.now.items pool.now.items }
+    requires shards { (0 < shards) × (shards ≤ 64) }
+    requires events { length events.items ≤ 200000 }
+    ensures queues { IfOk result (λ r. AreQueues shards (happenings configs.now.items pool.now.items events.items) (map (λ q. q.items) r.0.items)) }
+    ensures apart { IfOk result (λ r. r.1 ≡ told_apart 1 (happenings configs.now.items pool.now.items events.items)) }
+    ensures met { IfOk result (λ r. AllByRecursion (IsMet configs.now.items) (happenings configs.now.items pool.now.items events.items)) }
+{
+    let demux = table(alloc, configs, pool)?;
+    plan(alloc, &demux, configs, pool, events, shards)
+}

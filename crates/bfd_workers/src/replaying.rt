@@ -1,0 +1,112 @@
+//! A replay on shards, by several workers.
+ghost use Rattle.std.specs.Prelude.{ℕ, ◌≡◌, ◌≤◌, ◌<◌, IfOk, length};
+ghost use Rattle.bfd_script.specs.Sound.{IsScript};
+ghost use Rattle.bfd_workers.specs.Planned.{IsTable};
+ghost use Rattle.bfd_workers.specs.Replayed.{HaveReplayed};
+ghost use Rattle.bfd_replay.specs.World.{replayed, totals};
+ghost use Rattle.bfd_workers.specs.Planned.{script_of};
+
+use crate::counting::up_all;
+use crate::finish::in_order;
+use crate::plan::planned;
+use crate::running::{opened, run_all};
+use bfd_edge::Gate;
+use bfd_gather::report;
+use bfd_sbfd::Reflector;
+use bfd_script::{Line, Script};
+use bfd_session::SessionConfig;
+use bfd_shard::ShardState;
+use bfd_wheel::Timers;
+use std::alloc::{AllocError, Global};
+use std::sync::Wait;
+use std::thread::Threads;
+
+/// What a replay gives.
+#[derive(Drop)]
+pub struct Outcome<W: Timers> {
+    /// The report, as text.
+    pub text: Vec<u8>,
+    /// How many events there were.
+    pub events: u64,
+    /// How many packets were sent in them.
+    pub txs: u64,
+    /// How many packets were dropped in them.
+    pub drops: u64,
+    /// How many sessions are Up at the end.
+    pub up: u32,
+    /// The shards, by number.
+    pub states: Vec<ShardState<W>>,
+}
+
+/// The same, of a script in its parts.
+fn replay_parts<W: Timers + Send, R: Threads + Wait + Sync, G: Gate + Sync>(
+    rt: &R,
+    alloc: Global,
+    configs: Vec<SessionConfig>,
+    pool: Vec<Reflector>,
+    events: Vec<Line>,
+    shards: u32,
+    workers: u32,
+    gate: &G,
+) -> Result<Outcome<W>, AllocError>
+    requires table { IsTable configs.items pool.items }
+    requires few { length events.items ≤ 200000 }
+    requires shards { (0 < shards) × (shards ≤ 64) }
+    requires workers { (0 < workers) × (workers ≤ 64) }
+    ensures text { IfOk result (λ outcome. outcome.text.items ≡ replayed (script_of configs.items pool.items events.items)) }
+    ensures events { IfOk result (λ outcome. outcome.events ≡ (totals (script_of configs.items pool.items events.items)).events) }
+    ensures txs { IfOk result (λ outcome. outcome.txs ≡ (totals (script_of configs.items pool.items events.items)).txs) }
+    ensures drops { IfOk result (λ outcome. outcome.drops ≡ (totals (script_of configs.items pool.items events.items)).drops) }
+    ensures up { IfOk result (λ outcome. outcome.up ≡ (totals (script_of configs.items pool.items events.items)).ups) }
+    ensures states { IfOk result (λ outcome. HaveReplayed (script_of configs.items pool.items events.items) shards workers outcome.states.items) }
+{
+    let count = events.len();
+    let room = 5 * configs.len() + 5;
+    let (queues, apart) = planned(alloc, &configs, &pool, events, shards)?;
+    let (engine, first) = opened(alloc, configs, pool, shards, count)?;
+    let (states, all) = run_all(rt, alloc, engine, first, queues, workers, room, gate)?;
+    let parts = in_order(alloc, all, shards, apart)?;
+    let gathered = report(alloc, parts, count as u64)?;
+    let up = up_all(&states);
+    Ok(Outcome {
+        text: gathered.text,
+        events: count as u64,
+        txs: gathered.txs,
+        drops: gathered.drops,
+        up,
+        states,
+    })
+}
+
+/// Replays the script on 1 to 64 shards, with 1 to 64 workers, each with a pass of its own. The workers work one after another.
+///
+/// Session k of the table stands at place k / shards of shard k % shards. Worker w of n takes the shards whose number, divided by
+/// n, leaves w - 1, and does each shard's events in the order of the script; each turn of worker w for event N stands between
+/// `gate.before(w, N)` and `gate.after(w, N)`. The report is that of one thread, byte for byte. The one refusal is want of
+/// memory.
+#[tactic(auto, using(crate::proofs::Whole::is_table))]
+pub fn replay<W: Timers + Send, R: Threads + Wait + Sync, G: Gate + Sync>(
+    rt: &R,
+    alloc: Global,
+    script: Script,
+    shards: u32,
+    workers: u32,
+    gate: &G,
+) -> Result<Outcome<W>, AllocError>
+    requires script { IsScript script }
+    requires shards { (0 < shards) × (shards ≤ 64) }
+    requires workers { (0 < workers) × (workers ≤ 64) }
+    ensures text { IfOk result (λ outcome. outcome.text.items ≡ replayed script) }
+    ensures events { IfOk result (λ outcome. outcome.events ≡ (totals script).events) }
+    ensures txs { IfOk result (λ outcome. outcome.txs ≡ (totals script).txs) }
+    ensures drops { IfOk result (λ outcome. outcome.drops ≡ (totals script).drops) }
+    ensures up { IfOk result (λ outcome. outcome.up ≡ (totals script).ups) }
+    ensures states { IfOk result (λ outcome. HaveReplayed script shards workers outcome.states.items) }
+{
+    let Script {
+        configs,
+        pool,
+        events,
+    } = script;
+    replay_parts(rt, alloc, configs, pool, events, shards, workers, gate)
+}
