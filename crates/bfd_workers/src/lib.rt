@@ -2,7 +2,7 @@
 //!
 //! Each line of a script is first found to be an event of no session, with its answer, or an event of the table's sessions: a
 //! packet is screened and selected here, once. The sessions stand in an engine of 1 to 64 shards, and the events are dealt out to
-//! the shards' queues. Each of 1 to 64 workers has a pass of the engine and takes the shards of its own; what each shard's events
+//! the shards' queues. Each of 1 to 64 workers has a pass of the engine and takes the shards of its own, one worker after another; what each shard's events
 //! give is told in a part, and the parts are gathered into one report. [`replay`] hands out the report, the counts and the shards.
 //!
 //! Modules: `routing` says what a line is, `plan` deals the lines out, `working` is one worker's turns, `jobs` all workers,
