@@ -8,6 +8,7 @@ use Rattle.std.specs.List.{AllByRecursion, filter, flat_map, range_with_len}
 use Rattle.bfd_session.specs.declared.event.SessionConfig.{SessionConfig}
 use Rattle.bfd_session.specs.Kinds.{discr_of}
 use Rattle.bfd_session.specs.Rows.{Ascends, Differs, same_selector}
+use Rattle.bfd_sbfd.specs.declared.reflecting.Reflector.{Reflector}
 use Rattle.bfd_session.specs.Step.{IsFit}
 use Rattle.bfd_script.specs.declared.entries.Line.{Line}
 use Rattle.bfd_script.specs.declared.entries.Line.TheVariants.{Tick}
@@ -139,13 +140,15 @@ is_script n k seed sessions ticks = record {
   named = each_event (λ e. is_named e (script n k seed).configs ≡ true) n k (λ t i tick session. refl) (λ t tick. refl);
 }
 
-abbrev pub script_of : List SessionConfig → List Line → Lists
-script_of configs lines = record { configs = configs; pool = []; events = lines }
+abbrev pub script_of : List SessionConfig → List Reflector → List Line → Lists
+script_of configs pool lines = record { configs = configs; pool = pool; events = lines }
 
-pub made : (n k seed : ℕ) (configs : List SessionConfig) (lines : List Line) → n ≤ 5000 → k ≤ 6000
-    → configs ≡ map (config seed) (range_with_len 1 n) → lines ≡ events n k
-    → IsScript (script_of configs lines)
-made n k seed configs lines sessions ticks sessions_are lines_are =
-    let same : script_of configs lines ≡ script n k seed =
-    ap (λ cs. script_of cs lines) sessions_are ∙ ap (script_of (map (config seed) (range_with_len 1 n))) lines_are in
+pub made : (n k seed : ℕ) (configs : List SessionConfig) (pool : List Reflector) (lines : List Line) → n ≤ 5000 → k ≤ 6000
+    → configs ≡ map (config seed) (range_with_len 1 n) → pool ≡ [] → lines ≡ events n k
+    → IsScript (script_of configs pool lines)
+made n k seed configs pool lines sessions ticks sessions_are none lines_are =
+    let same : script_of configs pool lines ≡ script n k seed =
+    ap (λ cs. script_of cs pool lines) sessions_are
+    ∙ (ap (λ rs. script_of (map (config seed) (range_with_len 1 n)) rs lines) none
+    ∙ ap (λ ls. script_of (map (config seed) (range_with_len 1 n)) [] ls) lines_are) in
     subst IsScript (sym same) (is_script n k seed sessions ticks)
