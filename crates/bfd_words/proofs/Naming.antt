@@ -1,0 +1,25 @@
+-- Options, where fewer than two words are left.
+use Rattle.std.proofs.Common.{◌≡◌, ℕ, ◌<◌, ◌==◌, ◌||◌, ◌++◌, Bool, List, [], ◌∷◌, length, map, option_to_list, Option, None, Some, refl, sym, ap, ◌∙◌, arith}
+use Rattle.std.specs.List.{list_any}
+use Rattle.bfd_words.specs.Options.{are_options, values_of, at_most_one, value_of}
+
+pub list_any-map : {X Y : Type 0} (p : Y → Bool) (f : X → Y) (xs : List X) → list_any p (map f xs) ≡ list_any (λ x. p (f x)) xs
+list_any-map p f [] = refl
+list_any-map p f (x ∷ xs) = ap (λ b. p (f x) || b) (list_any-map p f xs)
+
+module _ {S : Type 0} (f : S → List ℕ) where
+  pub are_options-end : (names : List (List ℕ)) (rest : List S) → length rest < 2 → are_options names (map f rest) ≡ (length rest == 0)
+  are_options-end names [] short = refl
+  are_options-end names (word ∷ []) short = refl
+  are_options-end names (word ∷ value ∷ rest) short = absurd (omega arith)
+
+  values_of-end : (name : List ℕ) (rest : List S) → length rest < 2 → values_of name (map f rest) ≡ []
+  values_of-end name [] short = refl
+  values_of-end name (word ∷ []) short = refl
+  values_of-end name (word ∷ value ∷ rest) short = absurd (omega arith)
+
+  -- what was found before is all
+  pub value_of-end : (name : List ℕ) (options : List (List ℕ)) (found : Option (List ℕ)) (rest : List S) → length rest < 2
+      → values_of name options ≡ option_to_list found ++ values_of name (map f rest) → Some found ≡ value_of name options
+  value_of-end name options None rest short all = sym (ap at_most_one (all ∙ values_of-end name rest short))
+  value_of-end name options (Some value) rest short all = sym (ap at_most_one (all ∙ ap (λ values. value ∷ values) (values_of-end name rest short)))

@@ -1,0 +1,4 @@
+pub mod Numbers
+pub mod Options
+pub mod Grammar
+pub mod Ranges
