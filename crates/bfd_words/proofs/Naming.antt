@@ -1,11 +1,6 @@
 -- Options, where fewer than two words are left.
-use Rattle.std.proofs.Common.{◌≡◌, ℕ, ◌<◌, ◌==◌, ◌||◌, ◌++◌, Bool, List, [], ◌∷◌, length, map, option_to_list, Option, None, Some, refl, sym, ap, ◌∙◌, arith}
-use Rattle.std.specs.List.{list_any}
+use Rattle.std.proofs.Common.{◌≡◌, ℕ, ◌<◌, ◌==◌, ◌++◌, List, [], ◌∷◌, length, map, option_to_list, Option, None, Some, refl, sym, ap, ◌∙◌, arith}
 use Rattle.bfd_words.specs.Options.{are_options, values_of, at_most_one, value_of}
-
-pub list_any-map : {X Y : Type 0} (p : Y → Bool) (f : X → Y) (xs : List X) → list_any p (map f xs) ≡ list_any (λ x. p (f x)) xs
-list_any-map p f [] = refl
-list_any-map p f (x ∷ xs) = ap (λ b. p (f x) || b) (list_any-map p f xs)
 
 module _ {S : Type 0} (f : S → List ℕ) where
   pub are_options-end : (names : List (List ℕ)) (rest : List S) → length rest < 2 → are_options names (map f rest) ≡ (length rest == 0)

@@ -1,19 +1,53 @@
 -- The words that a job begins with.
-use Rattle.std.proofs.Common.{◌≡◌, ℕ, ◌<◌, ◌≤◌, List, [], ◌∷◌, length, map, drop, get_or, Option, None, Some, refl, sym, ap, ◌∙◌, arith}
-use Rattle.bfd_words.specs.Grammar.{load_by, load_of}
+use Rattle.std.proofs.Common.{◌≡◌, ℕ, ◌+◌, ◌<◌, ◌++◌, List, [], ◌∷◌, length, map, drop, get_or, Option, None, Some, refl, sym, ap, ◌∙◌, arith, append_assoc, append-nil, drop-cons, suc}
+use Rattle.std.proofs.lemmas.List.Sums.{take_while-cons}
+use Rattle.std.specs.Prelude.{is_some, take_while}
+use Rattle.std.specs.List.{cons_option, filter_map}
+use Rattle.bfd_words.specs.Grammar.{load_of, member_of, leading}
+
+-- what the words begin with, by any reading of a word
+module _ {X : Type 0} (read : X → Option ℕ) where
+  abbrev lead : List X → List ℕ
+  lead words = filter_map read (take_while (λ word. is_some (read word)) words)
+
+  lead-some : (word : X) (words : List X) (member : ℕ) → read word ≡ Some member → lead (word ∷ words) ≡ member ∷ lead words
+  lead-some word words member is = ap (filter_map read) (take_while-cons (λ word. is_some (read word)) word words)
+      ∙ (rw is (ap (λ first. cons_option first (lead words)) is))
+
+  lead-none : (word : X) (words : List X) → read word ≡ None → lead (word ∷ words) ≡ []
+  lead-none word words is = rw is refl
 
 module _ {S : Type 0} (f : S → List ℕ) where
+  abbrev left : List S → ℕ → S → List (List ℕ)
+  left words i word = f word ∷ map f (drop (i + 1) words)
+
+  -- the word that is read now, and the ones after it
+  left-is : (words : List S) (i : ℕ) (word : S) → i < length words → word ≡ get_or words i word → map f (drop i words) ≡ left words i word
+  left-is words i word below is =
+      let next : suc i ≡ i + 1 = omega arith in
+      ap (map f) (drop-cons words i word below)
+      ∙ ap (λ j. f (get_or words i word) ∷ map f (drop j words)) next
+      ∙ ap (left words i) (sym is)
+
+  -- one more member
+  pub leading-more : (words : List S) (i : ℕ) (word : S) (member : ℕ) (found : List ℕ) → i < length words → word ≡ get_or words i word
+      → Some member ≡ member_of (f word) → leading (map f words) ≡ found ++ leading (map f (drop i words))
+      → leading (map f words) ≡ (found ++ member ∷ []) ++ leading (map f (drop (i + 1) words))
+  leading-more words i word member found below is reads all = all
+      ∙ ap (λ rest. found ++ leading rest) (left-is words i word below is)
+      ∙ ap (λ members. found ++ members) (lead-some member_of (f word) (map f (drop (i + 1) words)) member (sym reads))
+      ∙ sym (append_assoc found (member ∷ []) (leading (map f (drop (i + 1) words))))
+
+  -- no more members
+  pub leading-done : (words : List S) (i : ℕ) (word : S) (found : List ℕ) → i < length words → word ≡ get_or words i word
+      → None ≡ member_of (f word) → leading (map f words) ≡ found ++ leading (map f (drop i words)) → found ≡ leading (map f words)
+  leading-done words i word found below is reads all = sym (all
+      ∙ ap (λ rest. found ++ leading rest) (left-is words i word below is)
+      ∙ ap (λ members. found ++ members) (lead-none member_of (f word) (map f (drop (i + 1) words)) (sym reads))
+      ∙ append-nil found)
+
   pub load_of-short : (words : List S) → length words < 3 → None ≡ load_of (map f words)
   load_of-short [] short = refl
   load_of-short (first ∷ []) short = refl
   load_of-short (first ∷ second ∷ []) short = refl
   load_of-short (first ∷ second ∷ third ∷ words) short = absurd (omega arith)
-
-  pub load_of-long : (words : List S) (first second third : S) → first ≡ get_or words 0 first → second ≡ get_or words 1 second
-      → third ≡ get_or words 2 third → 3 ≤ length words
-      → load_of (map f words) ≡ load_by (f first) (f second) (f third) (map f (drop 3 words))
-  load_of-long [] first second third a b c long = absurd (omega arith)
-  load_of-long (one ∷ []) first second third a b c long = absurd (omega arith)
-  load_of-long (one ∷ two ∷ []) first second third a b c long = absurd (omega arith)
-  load_of-long (one ∷ two ∷ three ∷ words) first second third a b c long =
-      ?

@@ -9,9 +9,14 @@ use crate::number::number;
 
 /// Whether the name is one of these.
 fn is_among(names: &[&str], name: &str) -> bool
-    ensures { result ≡ list_any (λ known. bytes_eq known.now name.now) names.now }
+    ensures { result ≡ list_any (λ known. bytes_eq known name.now) (map (λ known. known.now) names.now) }
 {
-    names.iter().any(|known| *known == name)
+    for known in names {
+        if *known == name {
+            return true;
+        }
+    }
+    false
 }
 
 /// Whether the words are options of these names.
