@@ -1,9 +1,11 @@
 -- The words that a job begins with.
-use Rattle.std.proofs.Common.{◌≡◌, ℕ, ◌+◌, ◌<◌, ◌++◌, List, [], ◌∷◌, length, map, drop, get_or, Option, None, Some, refl, sym, ap, ◌∙◌, arith, append_assoc, append-nil, drop-cons, suc}
+use Rattle.std.proofs.Common.{◌≡◌, ℕ, ◌+◌, ◌-◌, ◌<◌, ◌≤◌, ◌++◌, List, [], ◌∷◌, length, map, take, drop, get_or, Option, None, Some, refl, sym, ap, ◌∙◌, arith, append_assoc, append-nil, drop-cons, suc}
+use Rattle.std.proofs.lemmas.List.{drop-map, take_rest}
 use Rattle.std.proofs.lemmas.List.Sums.{take_while-cons}
 use Rattle.std.specs.Prelude.{is_some, take_while}
 use Rattle.std.specs.List.{cons_option, filter_map}
-use Rattle.bfd_words.specs.Grammar.{load_of, member_of, leading}
+use Rattle.bfd_words.specs.declared.job.Job.{Job}
+use Rattle.bfd_words.specs.Grammar.{load_of, member_of, leading, watch_by, watch_of}
 
 -- what the words begin with, by any reading of a word
 module _ {X : Type 0} (read : X → Option ℕ) where
@@ -51,3 +53,26 @@ module _ {S : Type 0} (f : S → List ℕ) where
   load_of-short (first ∷ []) short = refl
   load_of-short (first ∷ second ∷ []) short = refl
   load_of-short (first ∷ second ∷ third ∷ words) short = absurd (omega arith)
+
+  -- the words from a place on
+  abbrev after : List S → ℕ → List S
+  after words n = take (length words - n) (drop n words)
+
+  watch_of-cons : (words : List S) (need : S) (members : List ℕ) → 1 ≤ length words → need ≡ get_or words 0 need
+      → members ≡ leading (map f (drop 1 words)) → watch_by (f need) members (map f (drop (length members) (drop 1 words))) ≡ watch_of (map f words)
+  watch_of-cons [] need members some first found = absurd (omega arith)
+  watch_of-cons (word ∷ words) need members some first found =
+      ap (watch_by (f need) members) (sym (drop-map f (length members) words))
+      ∙ ap (λ list. watch_by (f need) list (drop (length list) (map f words))) found
+      ∙ ap (λ word. watch_by (f word) (leading (map f words)) (drop (length (leading (map f words))) (map f words))) first
+
+  -- a number, the members, and what is left
+  pub watch_of-parts : (words : List S) (need : S) (read : List ℕ) (members : List ℕ) (n : ℕ) (job : Option Job) → 1 ≤ length words
+      → need ≡ get_or words 0 need → read ≡ f need → n ≡ length members → members ≡ leading (map f (after words 1))
+      → job ≡ watch_by read members (map f (after (after words 1) n)) → job ≡ watch_of (map f words)
+  watch_of-parts words need read members n job some first spelt counted found is =
+      let rest = take_rest words 1 in
+      is ∙ ap (λ word. watch_by word members (map f (after (after words 1) n))) spelt
+      ∙ ap (λ list. watch_by (f need) members (map f list))
+      (take_rest (after words 1) n ∙ ap (drop n) rest ∙ ap (λ k. drop k (drop 1 words)) counted)
+      ∙ watch_of-cons words need members some first (found ∙ ap (λ list. leading (map f list)) rest)

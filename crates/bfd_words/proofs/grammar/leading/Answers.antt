@@ -8,7 +8,7 @@ pub loop-word-preserved : goal.loop-word-preserved
 loop-word-preserved c = record {
   members = rw c.in_ok-push-in-Some.ensures.items
       (leading-more (λ word. string_bytes word) _ _ c.word-item.result c.in-Some.member _ c.loop-word-test.true c.word-item.is
-        (c.in-Some.ensures.value ∙ ap member_of c.deref.ensures) c.loop-word.invariant.members);
+      (c.in-Some.ensures.value ∙ ap member_of c.deref.ensures) c.loop-word.invariant.members);
   count = grind (arith, common_steps);
   positive = grind (arith, common_steps);
 }
