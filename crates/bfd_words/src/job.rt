@@ -64,6 +64,7 @@ pub enum Job {
 
     /// `serve`: a script from standard input, with packets and ticks from outside.
     Serve {
+        /// On what it runs.
         hands: Hands,
 
         /// How many turns a worker makes at most, 1 to 1,000,000,000.
@@ -86,6 +87,8 @@ pub enum Job {
 
         /// 0 to 4,294,967,295.
         seed: u32,
+
+        /// On what it runs.
         hands: Hands,
     },
 
@@ -102,6 +105,8 @@ pub enum Job {
     Watch {
         /// How many members must be Up, from 1 to their number.
         need: u32,
+
+        /// The members of the link group.
         members: Members,
 
         /// How many shards, 1 to 64.
