@@ -18,10 +18,10 @@ use bfd_session::{Answer, Session, SessionConfig, table_of};
 use std::alloc::{AllocError, Global};
 use std::marker::Model;
 
-/// A replay on its way: the sessions and the pool of reflectors, each by ascending discriminator, their table, the last tick, and the outputs of the
-/// last event.
+/// A replay on its way: the sessions and the pool of reflectors, each by ascending discriminator, their table, the last tick, and
+/// the outputs of the last event.
 #[derive(Drop)]
-struct Progress {
+pub struct Progress {
     sessions: Vec<Session>,
     pool: Vec<Reflector>,
     demux: Demux,
@@ -86,8 +86,8 @@ fn turn(
 }
 
 impl Progress {
-    /// The world at the start of a script.
-    fn open(
+    /// The world at the start of a script with this table. The one refusal is want of memory.
+    pub fn open(
         alloc: Global,
         configs: Vec<SessionConfig>,
         pool: Vec<Reflector>,
@@ -108,7 +108,7 @@ impl Progress {
     }
 
     /// One event: what it gave is in the outputs and the answer.
-    fn happen(&mut self, line: Line) -> Answer
+    pub fn happen(&mut self, line: Line) -> Answer
         ensures { gives self.new.world self.new.items result ≡ world.happens line self.old.world }
     {
         let (last, answer) = turn(
@@ -123,11 +123,18 @@ impl Progress {
         answer
     }
 
-    /// The outputs of the last event.
-    fn items(&self) -> &[Out]
+    /// The outputs of the last event, by ascending discriminator, each session's in their order.
+    pub fn items(&self) -> &[Out]
         ensures { result.now ≡ self.now.items }
     {
         self.outs.items()
+    }
+
+    /// The sessions, by ascending discriminator.
+    pub fn sessions(&self) -> &[Session]
+        ensures { result.now ≡ self.now.world.sessions }
+    {
+        self.sessions.as_slice()
     }
 }
 

@@ -10,7 +10,7 @@ use Rattle.bfd_watch.specs.Watched.{event_lines, lines_from}
 use Rattle.bfd_watch.proofs.Telling.{from_more}
 
 -- no change leaves a group as it is
-none_heard : (g : Group) → group_after [] g ≡ g
+pub none_heard : (g : Group) → group_after [] g ≡ g
 none_heard g = ap (group g.need) (map-id g.members)
 
 -- changes in two parts
@@ -25,7 +25,7 @@ members_twice cs ds (m ∷ ms) =
     ap (λ x. x ∷ map (member_after (cs ++ ds)) ms) (member_twice cs ds m)
     ∙ ap (λ xs. member_after ds (member_after cs m) ∷ xs) (members_twice cs ds ms)
 
-group_twice : (cs ds : List Change) (g : Group) → group_after (cs ++ ds) g ≡ group_after ds (group_after cs g)
+pub group_twice : (cs ds : List Change) (g : Group) → group_after (cs ++ ds) g ≡ group_after ds (group_after cs g)
 group_twice cs ds g = ap (group g.need) (members_twice cs ds g.members)
 
 -- one event more

@@ -19,7 +19,7 @@ mod watch;
 pub use change::{Change, WatchFault};
 pub use group::{LinkGroup, Member};
 pub use law::{changes_laws, watched_laws};
-pub use watch::Watch;
+pub use watch::{Watch, changes_of};
 
 #[cfg(test)]
 mod tests;

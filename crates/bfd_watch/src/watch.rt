@@ -83,6 +83,15 @@ fn append_changes(number: u64, items: &[Out], out: &mut Vec<Change>)
     }
 }
 
+/// The changes that the outputs of the event of this number tell, in their order. The one refusal is want of memory.
+pub fn changes_of(alloc: Global, number: u64, items: &[Out]) -> Result<Vec<Change>, AllocError>
+    ensures { IfOk result (λ changes. changes.items ≡ changes_in number items.now) }
+{
+    let mut changes = Vec::with_capacity(alloc, items.len())?;
+    append_changes(number, items, &mut changes);
+    Ok(changes)
+}
+
 /// The entry as an event of the shard, which is below its limit, with a counter of steps of its own. What it puts out is in
 /// `outs`.
 fn follow<W: Timers, L: Ledger>(
