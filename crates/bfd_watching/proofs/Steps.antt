@@ -1,0 +1,92 @@
+-- One event more is told.
+use Rattle.std.proofs.Common.{◌≡◌, ◌≤◌, ◌+◌, ◌++◌, ℕ, List, [], ◌∷◌, length, sym, ap, ◌∙◌, append_assoc, append-nil, arith, length-append}
+use Rattle.std.specs.List.{flat_map}
+use Rattle.std.specs.Fmt.{decimal}
+use Rattle.bfd_session.specs.Alone.{Outcome}
+use Rattle.bfd_watch.specs.declared.change.Change.{Change}
+use Rattle.bfd_watch.specs.Changes.{changes_in, changes_from}
+use Rattle.bfd_watch.specs.Groups.{Group, group_after, is_group_up}
+use Rattle.bfd_watch.specs.Watched.{change_line, event_lines, group_line, if_moved, lines_from, watched_line, watched}
+use Rattle.bfd_watch.proofs.Lines.{group_twice, none_heard}
+
+-- its lines
+pub lines_step : (text more : List ℕ) (n : ℕ) (o : Outcome) (all os : List Outcome) (cs : List Change) (g after : Group) (goal : List ℕ)
+    → all ≡ o ∷ os → cs ≡ changes_in n o.items → after ≡ group_after cs g
+    → more ≡ text ++ event_lines n cs g → text ++ lines_from n all g ≡ goal → more ++ lines_from (n + 1) os after ≡ goal
+unfolding lines_from
+lines_step text more n o all os cs g after goal split are moved told so_far =
+    let here : List Change = changes_in n o.items in
+    ap (λ h. more ++ lines_from (n + 1) os h) (moved ∙ ap (λ ds. group_after ds g) are)
+    ∙ (ap (λ ts. ts ++ lines_from (n + 1) os (group_after here g)) (told ∙ ap (λ ds. text ++ event_lines n ds g) are)
+    ∙ (append_assoc text (event_lines n here g) (lines_from (n + 1) os (group_after here g))
+    ∙ (ap (λ xs. text ++ lines_from n xs g) (sym split) ∙ so_far)))
+
+-- the group
+pub group_step : (n : ℕ) (o : Outcome) (all os : List Outcome) (cs : List Change) (g after goal : Group)
+    → all ≡ o ∷ os → cs ≡ changes_in n o.items → after ≡ group_after cs g
+    → group_after (changes_from n all) g ≡ goal → group_after (changes_from (n + 1) os) after ≡ goal
+unfolding changes_from
+group_step n o all os cs g after goal split are moved so_far =
+    let here : List Change = changes_in n o.items in
+    ap (λ h. group_after (changes_from (n + 1) os) h) (moved ∙ ap (λ ds. group_after ds g) are)
+    ∙ (sym (group_twice here (changes_from (n + 1) os) g)
+    ∙ (ap (λ xs. group_after (changes_from n xs) g) (sym split) ∙ so_far))
+
+-- and the number of changes
+pub count_step : (n told more goal : ℕ) (o : Outcome) (all os : List Outcome) (cs : List Change) → all ≡ o ∷ os
+    → cs ≡ changes_in n o.items → more ≡ told + length cs
+    → told + length (changes_from n all) ≡ goal → more + length (changes_from (n + 1) os) ≡ goal
+unfolding changes_from
+count_step n told more goal o all os cs split are added so_far =
+    let here : List Change = changes_in n o.items in
+    omega (
+      arith,
+      added,
+      ap (λ (ds : List Change). length ds) are,
+      so_far,
+      ap (λ (xs : List Outcome). length (changes_from n xs)) split,
+      length-append here (changes_from (n + 1) os),
+    )
+
+-- each change has a line
+
+some_after : (a b : List ℕ) (x : ℕ) → 1 ≤ length (a ++ (x ∷ b))
+some_after a b x = simp length-append (omega arith)
+
+line_some : (n : ℕ) (c : Change) → 1 ≤ length (change_line n c)
+line_some n c = some_after (decimal n) _ 32
+
+lines_some : (n : ℕ) (cs : List Change) → length cs ≤ length (flat_map (change_line n) cs)
+lines_some n [] = omega arith
+lines_some n (c ∷ cs) =
+    omega (arith, line_some n c, lines_some n cs, length-append (change_line n c) (flat_map (change_line n) cs))
+
+pub few_step : (text more : List ℕ) (n told : ℕ) (cs : List Change) (g : Group) → more ≡ text ++ event_lines n cs g → told ≤ length text
+    → told + length cs ≤ length more
+few_step text more n told cs g is few =
+    let moved : List ℕ = if_moved (is_group_up g) (is_group_up (group_after cs g)) (group_line n (group_after cs g)) in
+    omega (
+      arith,
+      ap length is,
+      length-append text (event_lines n cs g),
+      length-append (flat_map (change_line n) cs) moved,
+      lines_some n cs,
+      few,
+    )
+
+-- the end: nothing is left
+pub end_told : (text more : List ℕ) (n told : ℕ) (all goal : List Outcome) (g before : Group) → all ≡ []
+    → text ++ lines_from n all g ≡ lines_from 1 goal before
+    → group_after (changes_from n all) g ≡ group_after (changes_from 1 goal) before
+    → told + length (changes_from n all) ≡ length (changes_from 1 goal)
+    → more ≡ text ++ watched_line told g → more ≡ watched goal before
+unfolding lines_from changes_from
+end_told text more n told all goal g before none whole after counted added =
+    let text_is : text ≡ lines_from 1 goal before = sym (append-nil text) ∙ (ap (λ xs. text ++ lines_from n xs g) (sym none) ∙ whole) in
+    let told_is : told ≡ length (changes_from 1 goal) = omega (arith, ap (λ (xs : List Outcome). length (changes_from n xs)) none, counted) in
+    let group_is : g ≡ group_after (changes_from 1 goal) before =
+    sym (none_heard g) ∙ (ap (λ xs. group_after (changes_from n xs) g) (sym none) ∙ after) in
+    added
+    ∙ (ap (λ ts. ts ++ watched_line told g) text_is
+    ∙ (ap (λ k. lines_from 1 goal before ++ watched_line k g) told_is
+    ∙ ap (λ h. lines_from 1 goal before ++ watched_line (length (changes_from 1 goal)) h) group_is))
