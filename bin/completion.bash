@@ -3,12 +3,15 @@ _bfdd() {
     local word="${COMP_WORDS[COMP_CWORD]}" before="${COMP_WORDS[COMP_CWORD - 1]}" words
     COMPREPLY=()
     case "${COMP_WORDS[0]##*/}" in
-    bfdd) [ "$COMP_CWORD" = 1 ] && mapfile -t COMPREPLY < <(compgen -W "replay help --help --version" -- "$word") && return ;;
+    bfdd)
+        [ "$COMP_CWORD" = 1 ] && mapfile -t COMPREPLY < <(compgen -W "replay watch load pair help --help --version" -- "$word") && return
+        words="--shards --workers --timers" ;;
     bfdd-capture) words="--help --local --keys --tick --from --to --mode" ;;
     bfdd-packets) words="--help --report --program --sent --output" ;;
     bfdd-timeline) words="--help --report --program --output --from --to --lanes --title" ;;
     esac
     case "$before" in
+    --timers) mapfile -t COMPREPLY < <(compgen -W "hashed levels" -- "$word") && return ;;
     --mode) mapfile -t COMPREPLY < <(compgen -W "active passive" -- "$word") && return ;;
     esac
     case "$word" in

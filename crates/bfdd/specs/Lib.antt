@@ -1,3 +1,4 @@
+pub mod Answers
 pub mod Outside
 pub mod Status
 pub mod Text

@@ -1,30 +1,79 @@
 -- What a run does with the text of its source.
-use Rattle.std.specs.Prelude.{false, ℕ, List, [], ◌∷◌, ◌++◌, length, nat_lt, Result, Ok, Err, if◌then◌else◌}
-use Rattle.bfd_replay.specs.World.{replayed}
+use Rattle.std.specs.Prelude.{false, ℕ, List, [], ◌∷◌, ◌++◌, length, nat_lt, codes, option_map, Option, Some, None, Result, Ok, Err, if◌then◌else◌}
+use Rattle.std.specs.Fmt.{decimal}
 use Rattle.bfd_script.specs.declared.fault.BadLine.{BadLine as FaultyLine}
 use Rattle.bfd_script.specs.Complaints.{complaint}
 use Rattle.bfd_script.specs.Reading.{Lists, script_of}
+use Rattle.bfd_script.specs.Spelling.{line}
+use Rattle.bfd_replay.specs.World.{Totals, replayed, totals}
+use Rattle.bfd_load.specs.Load.{script}
+use Rattle.bfd_schedule.specs.Schedule.{schedule}
+use Rattle.bfd_schedule.specs.Line.{pair_line}
+use Rattle.bfd_watching.specs.Members.{first_unknown, watched_of}
+use Rattle.bfd_words.specs.declared.job.Job.{Job}
+use Rattle.bfd_words.specs.declared.job.Job.TheVariants.{Replay, Serve, Load, Pair, Watch}
 use Rattle.bfdd.specs.declared.status.Status.{Status}
-use Rattle.bfdd.specs.declared.status.Status.TheVariants.{Done, BadLine, TooLarge}
+use Rattle.bfdd.specs.declared.status.Status.TheVariants.{Done, Usage, BadLine, TooLarge, NoMember}
+use Rattle.bfdd.specs.Words.{reads}
 
 -- the most bytes that a text may have
 abbrev pub most_bytes : ℕ
 most_bytes = 67108864
 
+-- what is wanted of a run: its status, and what is written
+pub record Wanted : Type 0 where
+  pub status : Status
+  pub text : List ℕ
+
+abbrev pub ends : Status → List ℕ → Wanted
+ends status text = record { status = status; text = text }
+
+-- a text, and no fault
+abbrev pub told : List ℕ → Wanted
+told text = ends Done text
+
+-- nothing is written
+abbrev pub bare : Status → Wanted
+bare status = ends status []
+
 -- `bad LINE FAULT`, and LF
 abbrev pub complaint_line : FaultyLine → List ℕ
 complaint_line bad = complaint bad ++ 10 ∷ []
 
--- what is written for what was read
-abbrev pub answer_to : Result Lists FaultyLine → List ℕ
-answer_to (Ok script) = replayed script
-answer_to (Err bad) = complaint_line bad
+-- of what is no script its first faulty line is told
+abbrev pub over : (Lists → Wanted) → Result Lists FaultyLine → Wanted
+over f (Ok script) = f script
+over f (Err bad) = ends (BadLine bad.line bad.fault) (complaint_line bad)
 
--- the status for what was read
-abbrev pub status_to : Result Lists FaultyLine → Status
-status_to (Ok script) = Done
-status_to (Err bad) = BadLine bad.line bad.fault
+-- a watch, by the first member that names no session
+abbrev pub watched_unless : Option ℕ → List ℕ → Wanted
+watched_unless (Some discr) text = bare (NoMember discr)
+watched_unless None text = told text
 
--- the status that a text has where the outside doesn't fail and memory is there
-abbrev pub status_of : List ℕ → Status
-status_of bytes = if nat_lt most_bytes (length bytes) then TooLarge else status_to (script_of false bytes)
+abbrev pub watched : ℕ → List ℕ → Lists → Wanted
+watched need members script = watched_unless (first_unknown members script.configs) (watched_of need members script)
+
+-- `load SESSIONS EVENTS TXS DROPS UP`
+abbrev pub load_line : ℕ → Totals → List ℕ
+load_line sessions t =
+    line (codes "load" ∷ decimal sessions ∷ decimal t.events ∷ decimal t.txs ∷ decimal t.drops ∷ decimal t.ups ∷ [])
+
+-- what is wanted of a job, where the source has these bytes; a job that doesn't read them has no use for them
+abbrev pub answer_to : Job → List ℕ → Wanted
+answer_to (Replay hands) bytes = over (λ script. told (replayed script)) (script_of false bytes)
+answer_to (Watch need members shards) bytes = over (watched need members) (script_of false bytes)
+answer_to (Load sessions ticks seed hands) bytes = told (load_line sessions (totals (script sessions ticks seed)))
+answer_to (Pair events seed) bytes = told (pair_line seed (schedule seed events))
+answer_to (Serve hands turns ticks journal) bytes = bare Usage
+
+-- the same, but that a text may be too large
+abbrev pub answer_within : Job → List ℕ → Wanted
+answer_within job bytes = if nat_lt most_bytes (length bytes) then bare TooLarge else answer_to job bytes
+
+-- what is wanted of a job, where the source tells its bytes or they aren't read
+abbrev pub wanted_of : Job → Option (List ℕ) → Option Wanted
+wanted_of job left = if reads job then option_map (answer_within job) left else Some (answer_to job [])
+
+abbrev pub wanted : Option Job → Option (List ℕ) → Option Wanted
+wanted (Some job) left = wanted_of job left
+wanted None left = None

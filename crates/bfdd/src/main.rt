@@ -14,13 +14,16 @@
 
 ghost use Rattle.std.specs.Prelude.{◌≡◌, ◌⊎◌, IfErr};
 
+mod answer;
+mod asking;
 mod input;
+mod jobs;
 mod output;
+mod replaying;
 mod status;
 mod top;
-mod words;
 
-use bfd_edge::{StdSink, StdSource};
+use bfd_edge::{OpenGate, StdSink, StdSource};
 pub use status::Status;
 use std::env;
 use std::io::ErrorKind;
@@ -48,7 +51,8 @@ fn main(rt: HostRuntime) -> ExitCode {
     };
     let mut source = StdSource::make(rt.stdin());
     let mut sink = StdSink::make(rt.stdout());
-    ExitCode::from(run(rt.alloc(), &words, &mut source, &mut sink).code())
+    let status = run(&rt, rt.alloc(), &words, &mut source, &mut sink, &OpenGate);
+    ExitCode::from(status.code())
 }
 
 #[cfg(test)]

@@ -1,9 +1,14 @@
 // A whole text to a sink.
-ghost use Rattle.std.specs.Prelude.{◌≡◌, ◌≤◌, OnOk, OnErr, IsErrOf};
+ghost use Rattle.std.specs.Prelude.{◌≡◌, ◌≢◌, ◌≤◌, ◌⊎◌, OnOk, OnErr, IsErrOf};
 ghost use Rattle.std.specs.Io.KnownBytes.{Appends};
 ghost use Rattle.bfd_edge.specs.Faults.{Rose};
+ghost use Rattle.bfdd.specs.Answers.{IsAnswer, broken_off};
 ghost use Rattle.bfdd.specs.Outside.{TookFront};
+ghost use Rattle.bfdd.specs.Status.{IsDecided, OnBadLine, UnlessWriting, WhereUnwritten};
+ghost use Rattle.bfdd.specs.Text.{complaint_line};
 
+use crate::answer::Answer;
+use crate::status::Status;
 use bfd_edge::{Fault, Sink};
 
 /// Writes the whole text.
@@ -24,4 +29,39 @@ pub(crate) fn write_all<K: Sink>(sink: &mut K, text: &[u8]) -> Result<(), Fault>
         }
     }
     Ok(())
+}
+
+/// The status where the sink failed: a faulty line that wasn't told whole is still one.
+fn broken_off(status: Status) -> Status
+    ensures { result ≡ broken_off status }
+{
+    match status {
+        Status::Done => Status::WriteFault,
+        _ => status,
+    }
+}
+
+/// Writes what a run has to write, and answers how it ends.
+#[tactic(auto, using(crate::proofs::Taking::took_nothing))]
+pub(crate) fn write_answer<K: Sink>(answer: Answer, sink: &mut K) -> Status
+    requires { IsAnswer answer }
+    ensures decided { IsDecided result answer.status }
+    ensures done { result ≡ Status.Done → Appends (K.taken sink.old) (K.taken sink.new) answer.text }
+    ensures front { TookFront (K.taken sink.old) (K.taken sink.new) answer.text }
+    ensures bad_text { OnBadLine result (λ bad. Appends (K.taken sink.old) (K.taken sink.new) (complaint_line bad)
+        ⊎ (Rose (K.faults sink.old) (K.faults sink.new) × TookFront (K.taken sink.old) (K.taken sink.new) (complaint_line bad))) }
+    ensures unwritten { WhereUnwritten result (K.taken sink.new ≡ K.taken sink.old) }
+    ensures write_fault { result ≡ Status.WriteFault → Rose (K.faults sink.old) (K.faults sink.new) }
+    ensures calm { UnlessWriting result (K.faults sink.new ≡ K.faults sink.old) }
+    ensures no_usage { result ≢ Status.Usage }
+    ensures no_read_fault { result ≢ Status.ReadFault }
+{
+    if answer.text.is_empty() {
+        return answer.status;
+    }
+    match write_all(sink, answer.text.as_slice()) {
+        Ok(()) => answer.status,
+        Err(Fault::Failed) => broken_off(answer.status),
+        Err(Fault::Memory) => Status::Memory,
+    }
 }

@@ -4,8 +4,8 @@ ghost use Rattle.bfdd.specs.Status.{code_of};
 
 use bfd_script::LineFault;
 
-/// How a run ended. Where several are true, the first in the order `Usage`, `ReadFault`, `TooLarge`, `BadLine`, `WriteFault`
-/// comes; `Memory` may come at any place.
+/// How a run ended. Where several are true, the first in the order `Usage`, `ReadFault`, `TooLarge`, `BadLine`, `NoMember`,
+/// `WriteFault` comes; `Memory` may come at any place.
 #[derive(Clone, Copy, Debug, PartialEq, Eq)]
 pub enum Status {
     /// All was read and written.
@@ -28,6 +28,9 @@ pub enum Status {
 
     /// There was no memory.
     Memory,
+
+    /// The first of the discriminators to watch that no session of the script has. Nothing was written.
+    NoMember(u32),
 }
 
 impl Status {
@@ -43,6 +46,7 @@ impl Status {
             Status::WriteFault => 4,
             Status::TooLarge => 7,
             Status::Memory => 11,
+            Status::NoMember(_) => 12,
         }
     }
 }

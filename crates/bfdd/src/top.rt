@@ -1,104 +1,98 @@
 // The top call.
-ghost use Rattle.std.specs.Prelude.{◌≡◌, ◌≢◌, ◌<◌, ◌≤◌, ◌+◌, ◌⊎◌, ◌↔◌, IfOk, IfSome, IsErrOf, OnOk, true, false, length, map, string_bytes, Ok, Err};
+ghost use Rattle.std.specs.Prelude.{◌≡◌, ◌≢◌, ◌≤◌, ◌+◌, ◌⊎◌, IfOk, IfSome, IsErrOf, None, Some, true, false, map, string_bytes};
 ghost use Rattle.std.specs.Io.KnownBytes.{Appends, IsAtEnd};
 ghost use Rattle.bfd_edge.specs.Faults.{Rose};
-ghost use Rattle.bfd_replay.specs.World.{replayed, world};
-ghost use Rattle.bfd_script.specs.Reading.{Lists, script_of};
-ghost use Rattle.bfd_script.specs.Report.{report};
-ghost use Rattle.bfd_script.specs.Sound.{IsScript};
+ghost use Rattle.bfd_words.specs.Ranges.{IsJob};
+ghost use Rattle.bfdd.specs.Answers.{IsAnswer};
 ghost use Rattle.bfdd.specs.Outside.{ConsumesAtMost, TookFront};
-ghost use Rattle.bfdd.specs.Status.{IsDecided, OnBadLine, UnlessWriting};
-ghost use Rattle.bfdd.specs.Text.{most_bytes, answer_to, complaint_line, status_of};
-ghost use Rattle.bfdd.specs.Words.{is_replay};
+ghost use Rattle.bfdd.specs.Status.{IsDecided, OnBadLine, UnlessWriting, WhereUnwritten};
+ghost use Rattle.bfdd.specs.Text.{most_bytes, complaint_line, wanted, wanted_of};
+ghost use Rattle.bfdd.specs.Words.{asked, is_built, is_reading, reads};
 
-use crate::input::{InputFault, read_all};
-use crate::output::write_all;
+use crate::answer::Answer;
+use crate::asking::is_built;
+use crate::input::{InputFault, bytes_for};
+use crate::jobs::answer_to;
+use crate::output::write_answer;
 use crate::status::Status;
-use crate::words::asks_replay;
-use bfd_edge::{Fault, Sink, Source};
-use bfd_replay::replay;
-use bfd_script::{BadLine, Script, ScriptFault, read};
-use std::alloc::{AllocError, Global};
+use bfd_edge::{Fault, Gate, Sink, Source};
+use bfd_words::{Job, job_of};
+use std::alloc::Global;
+use std::sync::Wait;
+use std::thread::Threads;
 
-/// Writes the report of a replay of the script.
-#[tactic(auto, using(crate::proofs::Taking::took_nothing))]
-fn tell<K: Sink>(alloc: Global, script: Script, sink: &mut K) -> Result<(), Fault>
-    requires { IsScript script }
-    ensures whole { OnOk result (Appends (K.taken sink.old) (K.taken sink.new) (replayed script)) }
-    ensures failed { IsErrOf result Fault.Failed → Rose (K.faults sink.old) (K.faults sink.new) }
-    ensures front { TookFront (K.taken sink.old) (K.taken sink.new) (replayed script) }
-    ensures later { K.faults sink.old ≤ K.faults sink.new }
-    ensures calm { OnOk result (K.faults sink.new ≡ K.faults sink.old) }
-    ensures calm_memory { IsErrOf result Fault.Memory → K.faults sink.new ≡ K.faults sink.old }
+/// What the job has to write, after it has read what it reads.
+fn answer<R: Threads + Wait + Sync, G: Gate + Sync, S: Source>(
+    rt: &R,
+    alloc: Global,
+    job: &Job,
+    source: &mut S,
+    gate: &G,
+) -> Result<Answer, Fault>
+    requires ranges { IsJob job.now }
+    requires built { is_built job.now ≡ true }
+    ensures answer { IfOk result (λ answer. IfSome (wanted_of job.now (S.left source.old)) (λ w. answer ≡ w)) }
+    ensures sound { IfOk result IsAnswer }
+    ensures end { IfOk result (λ answer. answer.status ≡ Status.Done → reads job.now ≡ true → IsAtEnd (S.left source.new)) }
+    ensures untouched { reads job.now ≡ false → source.new ≡ source.old }
+    ensures failed { IsErrOf result Fault.Failed → (reads job.now ≡ true) × Rose (S.faults source.old) (S.faults source.new) }
+    ensures at_most { ConsumesAtMost (most_bytes + 1) (S.left source.old) (S.left source.new) }
+    ensures calm { IfOk result (λ answer. S.faults source.new ≡ S.faults source.old) }
+    ensures calm_memory { IsErrOf result Fault.Memory → S.faults source.new ≡ S.faults source.old }
 {
-    match replay(alloc, script) {
-        Ok(text) => write_all(sink, &text),
+    let bytes = match bytes_for(alloc, job, source) {
+        Ok(bytes) => bytes,
+        Err(InputFault::TooLarge) => return Ok(Answer::bare(alloc, Status::TooLarge)),
+        Err(InputFault::Failed) => return Err(Fault::Failed),
+        Err(InputFault::Memory) => return Err(Fault::Memory),
+    };
+    match answer_to(rt, alloc, job, bytes.as_slice(), gate) {
+        Ok(answer) => Ok(answer),
         Err(_) => Err(Fault::Memory),
     }
-}
-
-/// Writes `bad LINE FAULT`.
-#[tactic(auto, using(crate::proofs::Taking::took_nothing))]
-fn complain<K: Sink>(alloc: Global, bad: BadLine, sink: &mut K) -> Result<(), Fault>
-    ensures whole { OnOk result (Appends (K.taken sink.old) (K.taken sink.new) (complaint_line bad)) }
-    ensures failed { IsErrOf result Fault.Failed → Rose (K.faults sink.old) (K.faults sink.new) }
-    ensures front { TookFront (K.taken sink.old) (K.taken sink.new) (complaint_line bad) }
-    ensures later { K.faults sink.old ≤ K.faults sink.new }
-    ensures calm { OnOk result (K.faults sink.new ≡ K.faults sink.old) }
-    ensures calm_memory { IsErrOf result Fault.Memory → K.faults sink.new ≡ K.faults sink.old }
-{
-    match complaint(alloc, bad) {
-        Ok(text) => write_all(sink, text.as_bytes()),
-        Err(_) => Err(Fault::Memory),
-    }
-}
-
-/// `bad LINE FAULT`, and LF.
-fn complaint(alloc: Global, bad: BadLine) -> Result<String, AllocError>
-    ensures { IfOk result (λ text. string_bytes text ≡ complaint_line bad) }
-{
-    format!(in alloc; "{bad}\n")
 }
 
 /// Runs the program: `words` are those after its name, what it reads comes from `source`, and what it writes goes to
-/// `sink`.
+/// `sink`. Where the words ask for workers, each turn of one stands between two calls of `gate`.
 ///
-/// `replay` reads a packet file to its end and writes the report of its events. Everything else is `Usage`.
-#[tactic(auto, using(crate::proofs::Taking::took_nothing, crate::proofs::Taking::read_nothing))]
-pub fn run<S: Source, K: Sink>(
+/// `replay` reads a packet file to its end and writes the report of its events. `watch` reads one too, and writes what happens to
+/// a link group. `load` and `pair` read nothing: they write a line on a script, and on two peers, that numbers make. Everything
+/// else is `Usage`.
+pub fn run<R: Threads + Wait + Sync, G: Gate + Sync, S: Source, K: Sink>(
+    rt: &R,
     alloc: Global,
     words: &[String],
     source: &mut S,
     sink: &mut K,
+    gate: &G,
 ) -> Status
-    // What was read is a script, and its report was written and nothing else.
-    ensures done { result ≡ Status.Done → IfSome (S.left source.old) (λ bytes. (length bytes ≤ most_bytes)
-        × ((script : Lists) × (script_of false bytes ≡ Ok script)
-        × Appends (K.taken sink.old) (K.taken sink.new) (report (world script)))) }
-    ensures end { result ≡ Status.Done → IsAtEnd (S.left source.new) }
+    // The words and the text decide: the status is the one that is wanted, or memory, the source or the sink failed.
+    ensures decided { IfSome (wanted (asked (map (λ word. string_bytes word) words.now)) (S.left source.old))
+        (λ w. IsDecided result w.status) }
 
-    ensures usage { (result ≡ Status.Usage) ↔ (is_replay (map (λ word. string_bytes word) words.now) ≡ false) }
-    ensures untouched { result ≡ Status.Usage → source.new ≡ source.old }
+    // With Done the wanted text was written and nothing else; and however the run ends, what was written is a front of it.
+    ensures done { result ≡ Status.Done → IfSome (wanted (asked (map (λ word. string_bytes word) words.now)) (S.left source.old))
+        (λ w. Appends (K.taken sink.old) (K.taken sink.new) w.text) }
+    ensures front { IfSome (wanted (asked (map (λ word. string_bytes word) words.now)) (S.left source.old))
+        (λ w. TookFront (K.taken sink.old) (K.taken sink.new) w.text) }
 
-    ensures read_fault { result ≡ Status.ReadFault → Rose (S.faults source.old) (S.faults source.new) }
-    ensures too_large { result ≡ Status.TooLarge → IfSome (S.left source.old) (λ bytes. most_bytes < length bytes) }
+    // What is read is read to its end, and only by a job that reads.
+    ensures end { result ≡ Status.Done → is_reading (asked (map (λ word. string_bytes word) words.now)) ≡ true
+        → IsAtEnd (S.left source.new) }
+    ensures untouched { is_reading (asked (map (λ word. string_bytes word) words.now)) ≡ false → source.new ≡ source.old }
+    ensures at_most { ConsumesAtMost (most_bytes + 1) (S.left source.old) (S.left source.new) }
 
-    // The faulty line and its fault are those of the grammar, and they were written, or a front of that where the sink failed.
-    ensures bad { OnBadLine result (λ bad. IfSome (S.left source.old) (λ bytes. (length bytes ≤ most_bytes)
-        × (script_of false bytes ≡ Err bad))) }
+    ensures usage { asked (map (λ word. string_bytes word) words.now) ≡ None → (result ≡ Status.Usage) ⊎ (result ≡ Status.Memory) }
+    ensures usage_alone { result ≡ Status.Usage → asked (map (λ word. string_bytes word) words.now) ≡ None }
+
+    // A faulty line is told, or a front of that where the sink failed.
     ensures bad_text { OnBadLine result (λ bad. Appends (K.taken sink.old) (K.taken sink.new) (complaint_line bad)
         ⊎ (Rose (K.faults sink.old) (K.faults sink.new) × TookFront (K.taken sink.old) (K.taken sink.new) (complaint_line bad))) }
+    ensures unwritten { WhereUnwritten result (K.taken sink.new ≡ K.taken sink.old) }
 
+    ensures read_fault { result ≡ Status.ReadFault → (is_reading (asked (map (λ word. string_bytes word) words.now)) ≡ true)
+        × Rose (S.faults source.old) (S.faults source.new) }
     ensures write_fault { result ≡ Status.WriteFault → Rose (K.faults sink.old) (K.faults sink.new) }
-    ensures front { result ≡ Status.WriteFault → IfSome (S.left source.old) (λ bytes. (length bytes ≤ most_bytes)
-        × ((script : Lists) × (script_of false bytes ≡ Ok script)
-        × TookFront (K.taken sink.old) (K.taken sink.new) (report (world script)))) }
-
-    ensures unwritten { (result ≡ Status.Usage) ⊎ (result ≡ Status.ReadFault) ⊎ (result ≡ Status.TooLarge)
-        → K.taken sink.new ≡ K.taken sink.old }
-    ensures memory { result ≡ Status.Memory → IfSome (S.left source.old) (λ bytes.
-        TookFront (K.taken sink.old) (K.taken sink.new) (answer_to (script_of false bytes))) }
-    ensures at_most { ConsumesAtMost (most_bytes + 1) (S.left source.old) (S.left source.new) }
 
     // No fault is passed over: where the count of the source rose, the status is ReadFault.
     ensures calm_source { result ≢ Status.ReadFault → S.faults source.new ≡ S.faults source.old }
@@ -106,39 +100,23 @@ pub fn run<S: Source, K: Sink>(
     // And where that of the sink rose, it is WriteFault, or BadLine where the faulty line was being told.
     ensures calm_sink { UnlessWriting result (K.faults sink.new ≡ K.faults sink.old) }
 
-    // Where the source doesn't fail, the text alone decides; a sink that fails can only turn Done into WriteFault.
-    ensures decided { is_replay (map (λ word. string_bytes word) words.now) ≡ true
-        → ¬ Rose (S.faults source.old) (S.faults source.new)
-        → IfSome (S.left source.old) (λ bytes. IsDecided result (status_of bytes)) }
-
-    // With an outside that doesn't fail, a script of the grammar is replayed.
-    ensures complete { is_replay (map (λ word. string_bytes word) words.now) ≡ true
-        → ¬ Rose (S.faults source.old) (S.faults source.new) → ¬ Rose (K.faults sink.old) (K.faults sink.new)
-        → IfSome (S.left source.old) (λ bytes. (script : Lists) → length bytes ≤ most_bytes → script_of false bytes ≡ Ok script
-        → (result ≡ Status.Done) ⊎ (result ≡ Status.Memory)) }
+    // With an outside that doesn't fail, what is wanted comes, or memory ran out.
+    ensures complete { (is_reading (asked (map (λ word. string_bytes word) words.now)) ≡ true
+        → ¬ Rose (S.faults source.old) (S.faults source.new)) → ¬ Rose (K.faults sink.old) (K.faults sink.new)
+        → IfSome (wanted (asked (map (λ word. string_bytes word) words.now)) (S.left source.old))
+        (λ w. (result ≡ w.status) ⊎ (result ≡ Status.Memory)) }
 {
-    if !asks_replay(words) {
+    let job = match job_of(alloc, words) {
+        Ok(Some(job)) => job,
+        Ok(None) => return Status::Usage,
+        Err(_) => return Status::Memory,
+    };
+    if !is_built(&job) {
         return Status::Usage;
     }
-    let bytes = match read_all(alloc, source) {
-        Ok(bytes) => bytes,
-        Err(InputFault::Failed) => return Status::ReadFault,
-        Err(InputFault::TooLarge) => return Status::TooLarge,
-        Err(InputFault::Memory) => return Status::Memory,
-    };
-    match read(alloc, &bytes, false) {
-        Ok(script) => match tell(alloc, script, sink) {
-            Ok(()) => Status::Done,
-            Err(Fault::Failed) => Status::WriteFault,
-            Err(Fault::Memory) => Status::Memory,
-        },
-        Err(ScriptFault::Bad(bad)) => match complain(alloc, bad, sink) {
-            Err(Fault::Memory) => Status::Memory,
-            _ => Status::BadLine {
-                line: bad.line,
-                fault: bad.fault,
-            },
-        },
-        Err(ScriptFault::Memory) => Status::Memory,
+    match answer(rt, alloc, &job, source, gate) {
+        Ok(answer) => write_answer(answer, sink),
+        Err(Fault::Failed) => Status::ReadFault,
+        Err(Fault::Memory) => Status::Memory,
     }
 }

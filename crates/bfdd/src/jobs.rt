@@ -1,0 +1,167 @@
+// What each job has to write.
+ghost use Rattle.std.specs.Prelude.{◌≡◌, ◌≤◌, false, true, IfOk, string_bytes};
+ghost use Rattle.bfd_load.specs.Load as load;
+ghost use Rattle.bfd_replay.specs.World.{replayed, totals};
+ghost use Rattle.bfd_schedule.specs.Line.{pair_line};
+ghost use Rattle.bfd_schedule.specs.Schedule.{schedule};
+ghost use Rattle.bfd_script.specs.Reading.{script_of};
+ghost use Rattle.bfd_script.specs.Sound.{IsScript};
+ghost use Rattle.bfd_words.specs.Ranges.{AreHands, IsFrom, IsJob};
+ghost use Rattle.bfdd.specs.Answers.{IsAnswer};
+ghost use Rattle.bfdd.specs.Text.{answer_to, complaint_line, ends, load_line, over, told, watched};
+ghost use Rattle.bfdd.specs.Words.{is_built};
+
+use crate::answer::Answer;
+use crate::replaying::{Replayed, replay_by};
+use crate::status::Status;
+use bfd_edge::Gate;
+use bfd_load::generate;
+use bfd_schedule::pair_line;
+use bfd_script::{BadLine, Script, ScriptFault, read};
+use bfd_watching::{first_unknown, watched};
+use bfd_words::{Hands, Job};
+use std::alloc::{AllocError, Global};
+use std::sync::Wait;
+use std::thread::Threads;
+
+/// `bad LINE FAULT`, and LF.
+fn complaint(alloc: Global, bad: BadLine) -> Result<String, AllocError>
+    ensures { IfOk result (λ text. string_bytes text ≡ complaint_line bad) }
+{
+    format!(in alloc; "{bad}\n")
+}
+
+/// A text that is no script: its first faulty line is told.
+fn complain(alloc: Global, bad: BadLine) -> Result<Answer, AllocError>
+    ensures { IfOk result (λ answer. answer ≡ ends (Status.BadLine bad.line bad.fault) (complaint_line bad)) }
+{
+    let text = complaint(alloc, bad)?.into_bytes();
+    let BadLine { line, fault } = bad;
+    Ok(Answer {
+        status: Status::BadLine { line, fault },
+        text,
+    })
+}
+
+/// `replay` of these bytes.
+fn replay_answer<R: Threads + Wait + Sync, G: Gate + Sync>(
+    rt: &R,
+    alloc: Global,
+    hands: Hands,
+    bytes: &[u8],
+    gate: &G,
+) -> Result<Answer, AllocError>
+    requires { AreHands hands }
+    ensures { IfOk result (λ answer. answer ≡ over (λ script. told (replayed script)) (script_of false bytes.now)) }
+{
+    match read(alloc, bytes, false) {
+        Ok(script) => Ok(Answer::told(replay_by(rt, alloc, script, hands, gate)?.text)),
+        Err(ScriptFault::Bad(bad)) => complain(alloc, bad),
+        Err(ScriptFault::Memory) => Err(AllocError),
+    }
+}
+
+/// `watch` of a script.
+fn watch_script(
+    alloc: Global,
+    need: u32,
+    members: &[u32],
+    script: Script,
+) -> Result<Answer, AllocError>
+    requires { IsScript script }
+    ensures { IfOk result (λ answer. answer ≡ watched need members.now script) }
+{
+    match first_unknown(script.configs.as_slice(), members) {
+        Some(discr) => Ok(Answer::bare(alloc, Status::NoMember(discr))),
+        None => Ok(Answer::told(watched(alloc, script, need as usize, members)?)),
+    }
+}
+
+/// `watch` of these bytes.
+fn watch_answer(
+    alloc: Global,
+    need: u32,
+    members: &[u32],
+    bytes: &[u8],
+) -> Result<Answer, AllocError>
+    ensures { IfOk result (λ answer. answer ≡ over (watched need members.now) (script_of false bytes.now)) }
+{
+    match read(alloc, bytes, false) {
+        Ok(script) => watch_script(alloc, need, members, script),
+        Err(ScriptFault::Bad(bad)) => complain(alloc, bad),
+        Err(ScriptFault::Memory) => Err(AllocError),
+    }
+}
+
+/// The summary line of a load.
+fn load_text(alloc: Global, sessions: u32, replayed: &Replayed) -> Result<String, AllocError>
+    ensures { IfOk result (λ text. string_bytes text ≡ load_line sessions
+        (record { events = replayed.now.events; txs = replayed.now.txs; drops = replayed.now.drops; ups = replayed.now.up })) }
+{
+    let Replayed {
+        events,
+        txs,
+        drops,
+        up,
+        ..
+    } = replayed;
+    format!(in alloc; "load {sessions} {events} {txs} {drops} {up}\n")
+}
+
+/// `load` of these numbers.
+fn load_answer<R: Threads + Wait + Sync, G: Gate + Sync>(
+    rt: &R,
+    alloc: Global,
+    sessions: u32,
+    ticks: u32,
+    seed: u32,
+    hands: Hands,
+    gate: &G,
+) -> Result<Answer, AllocError>
+    requires hands { AreHands hands }
+    requires sessions { IsFrom 1 5000 sessions }
+    requires ticks { IsFrom 1 6000 ticks }
+    ensures { IfOk result (λ answer. answer ≡ told (load_line sessions (totals (load.script sessions ticks seed)))) }
+{
+    let script = generate(alloc, sessions, ticks, seed)?;
+    let replayed = replay_by(rt, alloc, script, hands, gate)?;
+    let line = load_text(alloc, sessions, &replayed)?;
+    Ok(Answer::told(line.into_bytes()))
+}
+
+/// `pair` of these numbers.
+fn pair_answer(alloc: Global, events: u32, seed: u32) -> Result<Answer, AllocError>
+    requires { IsFrom 1 100000 events }
+    ensures { IfOk result (λ answer. answer ≡ told (pair_line seed (schedule seed events))) }
+{
+    let line = pair_line(alloc, u64::from(events), seed)?;
+    Ok(Answer::told(line.into_bytes()))
+}
+
+/// What the job has to write, where the source had these bytes. The one refusal is want of memory.
+#[tactic(auto, using(crate::proofs::Answering::is_answer))]
+pub(crate) fn answer_to<R: Threads + Wait + Sync, G: Gate + Sync>(
+    rt: &R,
+    alloc: Global,
+    job: &Job,
+    bytes: &[u8],
+    gate: &G,
+) -> Result<Answer, AllocError>
+    requires ranges { IsJob job.now }
+    requires built { is_built job.now ≡ true }
+    ensures answer { IfOk result (λ answer. answer ≡ answer_to job.now bytes.now) }
+    ensures sound { IfOk result IsAnswer }
+{
+    match job {
+        Job::Replay(hands) => replay_answer(rt, alloc, *hands, bytes, gate),
+        Job::Watch { need, members, .. } => watch_answer(alloc, *need, members.as_slice(), bytes),
+        Job::Load {
+            sessions,
+            ticks,
+            seed,
+            hands,
+        } => load_answer(rt, alloc, *sessions, *ticks, *seed, *hands, gate),
+        Job::Pair { events, seed } => pair_answer(alloc, *events, *seed),
+        Job::Serve { .. } => unreachable!(),
+    }
+}
