@@ -13,4 +13,4 @@ pub mod Endings
 pub mod Summing
 pub mod Ordering
 pub mod Whole
-pub mod Rows
+pub mod Crossing

@@ -14,9 +14,10 @@ use bfd_rules::Outs;
 use bfd_wheel::Timers;
 use std::alloc::{AllocError, Global};
 use std::marker::{Brand, Model};
-use std::mem;
 use std::sync::Wait;
 use std::sync::ledger::{Blank, Ledger};
+use std::thread::Threads;
+use std::{mem, thread};
 
 /// A worker's pass, its queues by shard, and what it told of each shard, or why it stopped.
 #[derive(Drop)]
@@ -87,8 +88,34 @@ fn work<W: Timers, R: Wait, G: Gate>(
     );
 }
 
-/// Works on all jobs, one after another.
-pub(crate) fn work_all<W: Timers, R: Wait, G: Gate>(
+/// Works on all jobs at once, each in a thread of its own where one can be had.
+fn work_each<W: Timers + Send, R: Threads + Wait + Sync, G: Gate + Sync>(
+    rt: &R,
+    alloc: Global,
+    engine: &Engine<W>,
+    jobs: &mut [Job],
+    room: usize,
+    gate: &G,
+)
+    requires ready { All (λ (j : Work). IsReady engine.now j.queues j.pass) jobs.old }
+    requires room { (shard : ℕ) → 5 * length (configs_at engine.now shard) + 5 ≤ room }
+    ensures worked { (i : ℕ) (d : Work) → i < length jobs.old → HasWorked engine.now (slice_index_or jobs.old i d) (slice_index_or jobs.new i d) }
+    ensures long { length jobs.new ≡ length jobs.old }
+{
+    thread::for_each_mut(
+        rt,
+        jobs,
+        64,
+        &|_, job: &mut Job|
+            requires ready { IsReady engine.now job.now.queues job.now.pass }
+            requires room { (shard : ℕ) → 5 * length (configs_at engine.now shard) + 5 ≤ room }
+            ensures { HasWorked engine.entry.now job.entry.now job.exit.now }
+        { work(rt, alloc, engine, job, room, gate) },
+    );
+}
+
+/// The same, of a list of jobs.
+pub(crate) fn work_all<W: Timers + Send, R: Threads + Wait + Sync, G: Gate + Sync>(
     rt: &R,
     alloc: Global,
     engine: &Engine<W>,
@@ -101,9 +128,7 @@ pub(crate) fn work_all<W: Timers, R: Wait, G: Gate>(
     ensures worked { (i : ℕ) (d : Work) → i < length jobs.old.items → HasWorked engine.now (slice_index_or jobs.old.items i d) (slice_index_or jobs.new.items i d) }
     ensures long { length jobs.new.items ≡ length jobs.old.items }
 {
-    for k in 0..jobs.len() {
-        work(rt, alloc, engine, &mut jobs[k], room, gate);
-    }
+    work_each(rt, alloc, engine, jobs, room, gate);
 }
 
 /// Takes a queue out where it is the worker's own, and gives an empty one where it isn't.

@@ -2,8 +2,9 @@
 //!
 //! Each line of a script is first found to be an event of no session, with its answer, or an event of the table's sessions: a
 //! packet is screened and selected here, once. The sessions stand in an engine of 1 to 64 shards, and the events are dealt out to
-//! the shards' queues. Each of 1 to 64 workers has a pass of the engine and takes the shards of its own, one worker after another; what each shard's events
-//! give is told in a part, and the parts are gathered into one report. [`replay`] hands out the report, the counts and the shards.
+//! the shards' queues. Each of 1 to 64 workers has a pass of the engine and takes the shards of its own, in a thread of its own
+//! where one can be had; what each shard's events give is told in a part, and the parts are gathered into one report. [`replay`]
+//! hands out the report, the counts and the shards.
 //!
 //! Modules: `routing` says what a line is, `plan` deals the lines out, `working` is one worker's turns, `jobs` all workers,
 //! `passes` their passes, `running` the engine from opening to closing, `finish` puts the parts in order, `counting` counts.
@@ -23,6 +24,8 @@ mod plan;
 mod replaying;
 mod routing;
 mod running;
+#[cfg(test)]
+mod tests;
 mod working;
 
 pub use replaying::{Outcome, replay};

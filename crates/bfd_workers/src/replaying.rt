@@ -78,7 +78,7 @@ fn replay_parts<W: Timers + Send, R: Threads + Wait + Sync, G: Gate + Sync>(
     })
 }
 
-/// Replays the script on 1 to 64 shards, with 1 to 64 workers, each with a pass of its own. The workers work one after another.
+/// Replays the script on 1 to 64 shards, with 1 to 64 workers at once, each with a pass of its own.
 ///
 /// Session k of the table stands at place k / shards of shard k % shards. Worker w of n takes the shards whose number, divided by
 /// n, leaves w - 1, and does each shard's events in the order of the script; each turn of worker w for event N stands between

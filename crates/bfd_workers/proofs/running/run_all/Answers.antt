@@ -6,7 +6,7 @@ use Rattle.bfd_workers.proofs.Endings.{all_closed, all_ready, fine_ends, at_end,
 use Rattle.bfd_workers.proofs.running.run_all.Goals as goal
 
 pub work_all-requires-clause-ready : goal.work_all-requires-clause-ready
-work_all-requires-clause-ready g c = let before = c.in_ok-jobs.jobs.items in λ i d inside.
+work_all-requires-clause-ready g c κs within = let before = c.in_ok-jobs.jobs.items in λ i d inside.
     all_ready c.args.engine (map (λ q. q.items) c.args.queues.items) c.args.workers c.args.workers c.deal_jobs.new.first before c.requires.locks.0 c.requires.locks.1
     (length-map c.args.queues.items (λ q. q.items) ∙ c.requires.long) c.requires.met
     c.in_ok-jobs.ensures i d inside
