@@ -1,0 +1,10 @@
+use Rattle.std.proofs.Common.{ℕ, ◌≡◌, ◌≤◌, ◌+◌, ◌*◌, length}
+use Rattle.bfd_engine.specs.Engines.{IsOf, AllThere, configs_at}
+use Rattle.bfd_engine_use.proofs.threads.work.Given as goal
+
+abbrev pub invariant-loop-count : goal.invariant-loop-count
+invariant-loop-count g l = record {
+  of : IsOf l.engine l.job.pass.1;
+  there : AllThere l.job.pass.1;
+  room : l.job.outs.room ≡ l.initial.job.outs.room;
+}

@@ -1,0 +1,269 @@
+//! Two shards' turns at once, and a tick that goes back.
+ghost use Rattle.std.specs.Prelude.{◌≡◌, ◌<◌, ◌+◌, [], IfOk, IfSome, length};
+ghost use Rattle.bfd_session.specs.Step.{IsFit};
+ghost use Rattle.bfd_session.specs.Kinds.{discr_of};
+ghost use Rattle.bfd_session.specs.Rows.{AreFit};
+ghost use Rattle.bfd_engine.specs.Engines.{IsOf, AllThere};
+ghost use Rattle.bfd_engine.specs.Opening.{IsNewPass, IsSorted};
+
+use bfd_engine::{Engine, EnginePass, HoldFault};
+use bfd_num::{Moment, Steps, Tick};
+use bfd_packet::Addr;
+use bfd_rules::{Config, Outs, Role};
+use bfd_session::{Answer, SessionConfig};
+use bfd_shard::{Entry, ShardState};
+use bfd_wheel::PlainTimers;
+use std::alloc::{AllocError, Global};
+use std::marker::Brand;
+use std::sync::Wait;
+use std::sync::ledger::{Blank, Ledger};
+use std::test::Fail;
+
+type Plain = Engine<PlainTimers>;
+
+/// A session over a single hop, on an interface of its own.
+fn config(discr: u32) -> SessionConfig
+    requires discr { (0 < discr) × (discr < 65536) }
+    ensures fit { IsFit result }
+    ensures discr { discr_of result ≡ discr }
+{
+    SessionConfig::Pair(Config {
+        discr,
+        role: Role::Single,
+        iface: discr,
+        local: Addr::V4(0x0a00_0001),
+        remote: Addr::V4(0x0a00_0002),
+        active: true,
+        tx: 50_000,
+        rx: 50_000,
+        mult: 3,
+        echo: 0,
+        seed: discr,
+        keys: None,
+    })
+}
+
+/// The sessions 1 to 4.
+fn configs(alloc: Global) -> Result<Vec<SessionConfig>, AllocError>
+    ensures fit { IfOk result (λ list. AreFit list.items) }
+    ensures sorted { IfOk result (λ list. IsSorted list.items []) }
+    ensures long { IfOk result (λ list. length list.items ≡ 4) }
+{
+    let mut list = Vec::new(alloc);
+    list.push(config(1))?;
+    list.push(config(2))?;
+    list.push(config(3))?;
+    list.push(config(4))?;
+    Ok(list)
+}
+
+/// An engine of four sessions in three shards.
+fn opened(alloc: Global) -> Option<(Plain, EnginePass)>
+    ensures pass { IfSome result (λ r. IsNewPass r.0 r.1) }
+    ensures shards { IfSome result (λ r. length r.0.locks ≡ 3) }
+    ensures configs { IfSome result (λ r. length r.0.configs ≡ 4) }
+{
+    let list = configs(alloc).ok()?;
+    Engine::open(alloc, list, Vec::new(alloc), 3, 100_000).ok()
+}
+
+/// Whether this caller may have the shard's turn. One that it has is given back.
+fn tries(engine: &Plain, pass: &mut EnginePass, shard: u32) -> Result<(), HoldFault>
+    requires of { IsOf engine.now pass.old.1 }
+    requires there { AllThere pass.old.1 }
+    requires shard { shard < length engine.now.locks }
+{
+    match engine.try_hold(pass, shard) {
+        Ok(hold) => {
+            engine.let_go(pass, hold);
+            Ok(())
+        }
+        Err(fault) => Err(fault),
+    }
+}
+
+/// A further pass.
+fn part(engine: &Plain, alloc: Global, first: &mut EnginePass) -> Option<EnginePass>
+    requires of { IsOf engine.now first.old.1 }
+    requires there { AllThere first.old.1 }
+    requires first { first.old.0 ≡ 0 }
+    requires few { first.old.2 < 64 }
+    ensures of { IsOf engine.now first.new.1 }
+    ensures there { AllThere first.new.1 }
+    ensures number { first.new.0 ≡ 0 }
+    ensures used { first.new.2 ≡ first.old.2 + 1 }
+    ensures other { IfSome result (λ other. IsOf engine.now other.1 × AllThere other.1) }
+{
+    match engine.split(alloc, first) {
+        Ok(other) => Some(other),
+        Err(_) => None,
+    }
+}
+
+/// What others are told of shards 1 and 0 while a caller has the turn of shard 0, and of shard 0 after that.
+fn holds(alloc: Global) -> Option<[Result<(), HoldFault>; 3]> {
+    let (engine, mut first) = opened(alloc)?;
+    let mut other = part(&engine, alloc, &mut first)?;
+    let mut third = part(&engine, alloc, &mut first)?;
+    let mut fourth = part(&engine, alloc, &mut first)?;
+    let hold = engine.try_hold(&mut first, 0).ok()?;
+    let beside = tries(&engine, &mut other, 1);
+    let same = tries(&engine, &mut third, 0);
+    engine.let_go(&mut first, hold);
+    let after = tries(&engine, &mut fourth, 0);
+    Some([beside, same, after])
+}
+
+#[test]
+fn each_shard_has_a_turn_of_its_own(rt: HostRuntime) -> Result<(), Fail> {
+    let told = holds(rt.alloc()).ok_or("no memory")?;
+    assert_eq!(rt; told, [Ok(()), Err(HoldFault::Busy(1, 1)), Ok(())]);
+    Ok(())
+}
+
+/// A shard's journal, as a caller reads it.
+fn journal<R: Wait>(
+    rt: &R,
+    alloc: Global,
+    engine: &Plain,
+    pass: &mut EnginePass,
+    shard: u32,
+) -> Option<Vec<Entry>>
+    requires of { IsOf engine.now pass.old.1 }
+    requires there { AllThere pass.old.1 }
+    requires shard { shard < length engine.now.locks }
+    ensures of { IsOf engine.now pass.new.1 }
+    ensures there { AllThere pass.new.1 }
+{
+    let mut list = Vec::new(alloc);
+    match engine.journal_from(rt, alloc, pass, shard, 0, &mut list) {
+        Ok(()) => Some(list),
+        Err(_) => None,
+    }
+}
+
+/// The shard as it was opened.
+fn fresh(alloc: Global, shard: u32) -> Result<ShardState<PlainTimers>, AllocError> {
+    let mut list = Vec::new(alloc);
+    match shard {
+        0 => {
+            list.push(config(1))?;
+            list.push(config(4))?;
+        }
+        1 => list.push(config(2))?,
+        _ => list.push(config(3))?,
+    }
+    ShardState::make(alloc, list, 100_000)
+}
+
+/// One entry of a journal on one thread.
+fn play<L: Ledger>(
+    state: &mut ShardState<PlainTimers>,
+    entry: Entry,
+    outs: &mut Outs,
+    steps: &mut Steps<L>,
+) -> Option<Answer> {
+    outs.clear();
+    let Entry { caller, event } = entry;
+    if !state.takes(&event) || outs.spare() < 5 * state.sessions().len() + 5 {
+        return None;
+    }
+    match state.prepare() {
+        Ok(()) => state.apply(caller, event, outs, steps).ok(),
+        Err(_) => None,
+    }
+}
+
+/// A tick of shard 0.
+#[tactic(auto, using(crate::proofs::Rooms::room_enough))]
+fn tick<R: Wait, L: Ledger>(
+    rt: &R,
+    engine: &Plain,
+    pass: &mut EnginePass,
+    t: u64,
+    outs: &mut Outs,
+    steps: &mut Steps<L>,
+) -> Option<()>
+    requires of { IsOf engine.now pass.old.1 }
+    requires there { AllThere pass.old.1 }
+    requires shards { length engine.now.locks ≡ 3 }
+    requires configs { length engine.now.configs ≡ 4 }
+    requires room { outs.old.room ≡ 25 }
+    ensures of { IsOf engine.now pass.new.1 }
+    ensures there { AllThere pass.new.1 }
+    ensures room { outs.new.room ≡ 25 }
+{
+    outs.clear();
+    let tick = Tick::new(t)?;
+    match engine.advance(rt, pass, 0, tick, outs, steps) {
+        Ok(_) => Some(()),
+        Err(_) => None,
+    }
+}
+
+/// Tick 3,002 and then tick 3 of shard 0, and a question at moment 5 to session 1.
+fn goes_back<R: Wait, L: Ledger>(
+    rt: &R,
+    engine: &Plain,
+    pass: &mut EnginePass,
+    outs: &mut Outs,
+    steps: &mut Steps<L>,
+) -> Option<()>
+    requires of { IsOf engine.now pass.old.1 }
+    requires there { AllThere pass.old.1 }
+    requires shards { length engine.now.locks ≡ 3 }
+    requires configs { length engine.now.configs ≡ 4 }
+    requires room { outs.old.room ≡ 25 }
+    ensures of { IsOf engine.now pass.new.1 }
+    ensures there { AllThere pass.new.1 }
+{
+    tick(rt, engine, pass, 3002, outs, steps)?;
+    tick(rt, engine, pass, 3, outs, steps)?;
+    outs.clear();
+    let moment = Moment::new(5)?;
+    match engine.show(rt, pass, moment, 1, outs, steps) {
+        Ok(_) => Some(()),
+        Err(_) => None,
+    }
+}
+
+/// What a journal makes of a shard on one thread: the last tick, and the moment that counted for its first session.
+fn replayed<L: Ledger>(
+    alloc: Global,
+    shard: u32,
+    list: Vec<Entry>,
+    outs: &mut Outs,
+    steps: &mut Steps<L>,
+) -> Option<(u64, u64)> {
+    let mut state = fresh(alloc, shard).ok()?;
+    for entry in list {
+        play(&mut state, entry, outs, steps)?;
+    }
+    let session = state.sessions().first()?;
+    Some((state.last().get(), session.vars().at))
+}
+
+/// How many entries the journal has after `goes_back`, and what it makes of the shard.
+fn gone_back<R: Wait, L: Ledger>(rt: &R, alloc: Global, blank: Blank) -> Option<(usize, (u64, u64))>
+    requires name { blank.name ≡ L.name }
+    requires parts { blank.parts ≡ L.parts }
+    requires some { 0 < blank.parts }
+{
+    let mut steps = Steps::<L>::new(blank);
+    let Ok(mut outs) = Outs::make(alloc, 25) else {
+        return None;
+    };
+    let (engine, mut pass) = opened(alloc)?;
+    goes_back(rt, &engine, &mut pass, &mut outs, &mut steps)?;
+    let list = journal(rt, alloc, &engine, &mut pass, 0)?;
+    let count = list.len();
+    let seen = replayed(alloc, 0, list, &mut outs, &mut steps)?;
+    Some((count, seen))
+}
+
+#[test]
+fn a_tick_that_goes_back(rt: HostRuntime) -> Result<(), Fail> {
+    let told = gone_back::<HostRuntime, Brand>(&rt, rt.alloc(), Blank::new(1)).ok_or("no memory")?;
+    assert_eq!(rt; told, (3, (3002, 3_002_000)));
+    Ok(())
+}
