@@ -1,0 +1,4 @@
+pub mod Starting
+pub mod Sizes
+pub mod Entries
+pub mod Shards

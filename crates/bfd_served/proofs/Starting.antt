@@ -1,0 +1,29 @@
+-- A shard made anew.
+use Rattle.std.proofs.Common.{◌≡◌, ℕ, List, [], ◌∷◌, ◌++◌, map, refl, sym, ◌∙◌, ap, subst, append_assoc}
+use Rattle.bfd_session.specs.declared.event.SessionConfig.{SessionConfig}
+use Rattle.bfd_session.specs.Kinds.{configs_of}
+use Rattle.bfd_session.specs.Step.{started}
+use Rattle.bfd_shard.specs.declared.entry.Entry.{Entry}
+use Rattle.bfd_shard.specs.History.{events_of}
+use Rattle.bfd_shard.specs.Shard.{IsHistory}
+use Rattle.bfd_served.specs.Served.{entries_text, shard_line}
+
+-- its sessions have the configurations that were given
+pub started_configs : (cs : List SessionConfig) → configs_of (map started cs) ≡ cs
+started_configs [] = refl
+started_configs (c ∷ cs) = ap (λ xs. c ∷ xs) (started_configs cs)
+
+-- a history of shards with these configurations
+pub history_same : (cs own : List SessionConfig) (js ks : List Entry) → own ≡ cs → ks ≡ js → IsHistory cs (events_of js) → IsHistory own (events_of ks)
+history_same cs own js ks configs journal h =
+    subst (λ (xs : List Entry). IsHistory own (events_of xs)) (sym journal) (subst (λ (xs : List SessionConfig). IsHistory xs (events_of js)) (sym configs) h)
+
+-- the text of a shard is its number and its entries
+pub shard_told : (cs own : List SessionConfig) (js ks : List Entry) (number : ℕ) (now headed new : List ℕ) → own ≡ cs → ks ≡ js
+    → headed ≡ now ++ shard_line number → new ≡ headed ++ entries_text own [] ks → new ≡ now ++ (shard_line number ++ entries_text cs [] js)
+shard_told cs own js ks number now headed new configs journal head told =
+    told
+    ∙ (ap (λ t. t ++ entries_text own [] ks) head
+    ∙ (append_assoc now (shard_line number) (entries_text own [] ks)
+    ∙ (ap (λ xs. now ++ (shard_line number ++ entries_text xs [] ks)) configs
+    ∙ ap (λ xs. now ++ (shard_line number ++ entries_text cs [] xs)) journal)))

@@ -1,0 +1,43 @@
+-- One entry more, and at the end all.
+use Rattle.std.proofs.Common.{rules, ◌≡◌, ◌∙◌, [], take, drop, length-drop, arith}
+use Rattle.std.proofs.lemmas.List.{nil_from_length}
+use Rattle.bfd_session.specs.Kinds.{configs_of}
+use Rattle.bfd_served.proofs.Entries.{IsNext, can_next, taken_more, text_next, sent_next, text_over, sent_over}
+use Rattle.bfd_served.proofs.telling.tell_entries.Goals as goal
+
+pub tell_entry-requires-clause-can : goal.tell_entry-requires-clause-can
+tell_entry-requires-clause-can g c =
+    let i = c.loop-entry.invariant in
+    let one : IsNext (configs_of c.args.shard.now.sessions) c.args.journal.now c.loop-entry.entry-index (configs_of c.loop-entry.shard.sessions) c.loop-entry.shard.journal c.entry-item.result =
+    record { inside = search rules; configs = i.configs; journal = i.journal; is = c.entry-item.is } in
+    can_next _ _ _ _ _ _ one c.requires.can
+
+pub loop-entry-preserved : goal.loop-entry-preserved
+loop-entry-preserved g c =
+    let i = c.loop-entry.invariant in
+    let e = c.in_ok-sent.ensures in
+    let one : IsNext (configs_of c.args.shard.now.sessions) c.args.journal.now c.loop-entry.entry-index (configs_of c.loop-entry.shard.sessions) c.loop-entry.shard.journal c.entry-item.result =
+    record { inside = search rules; configs = i.configs; journal = i.journal; is = c.entry-item.is } in
+    record {
+      journal = taken_more _ _ _ _ _ _ one c.tell_entry.new.shard.journal e.journal;
+      limit = e.limit ∙ i.limit;
+      configs = e.configs ∙ i.configs;
+      room = e.room ∙ i.room;
+      text = text_next _ _ _ _ _ _ one c.loop-entry.text.items c.tell_entry.new.text.items _ i.text e.text;
+      sent = sent_next _ _ _ _ _ _ one c.loop-entry.count c.in_ok-sent.sent _ i.sent e.sent;
+      few = (let a = i.few in let b = e.few in omega (arith, a, b));
+    }
+
+pub returns-clause-text : goal.returns-clause-text
+returns-clause-text g c =
+    let none : drop c.loop-entry.entry-index c.args.journal.now ≡ [] =
+    nil_from_length (drop c.loop-entry.entry-index c.args.journal.now) (let over = c.loop-entry-test.false in omega (arith, over, length-drop c.loop-entry.entry-index c.args.journal.now)) in
+    text_over (configs_of c.args.shard.now.sessions) (take c.loop-entry.entry-index c.args.journal.now) (drop c.loop-entry.entry-index c.args.journal.now)
+    c.loop-entry.text.items _ none c.loop-entry.invariant.text
+
+pub returns-clause-sent : goal.returns-clause-sent
+returns-clause-sent g c =
+    let none : drop c.loop-entry.entry-index c.args.journal.now ≡ [] =
+    nil_from_length (drop c.loop-entry.entry-index c.args.journal.now) (let over = c.loop-entry-test.false in omega (arith, over, length-drop c.loop-entry.entry-index c.args.journal.now)) in
+    sent_over (configs_of c.args.shard.now.sessions) (take c.loop-entry.entry-index c.args.journal.now) (drop c.loop-entry.entry-index c.args.journal.now)
+    c.loop-entry.count _ none c.loop-entry.invariant.sent
