@@ -1,2 +1,4 @@
 pub mod Calls
 pub mod Works
+pub mod Orders
+pub mod Ticks
