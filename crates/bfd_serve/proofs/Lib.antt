@@ -6,3 +6,8 @@ pub mod Turning
 pub mod Ordering
 pub mod Ticking
 pub mod Weights
+pub mod Joins
+pub mod Splits
+pub mod Moves
+pub mod Summing
+pub mod Crossing
