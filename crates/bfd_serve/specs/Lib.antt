@@ -1,2 +1,7 @@
 pub mod Calls
 pub mod Works
+pub mod Orders
+pub mod Ticks
+pub mod Jobs
+pub mod Joins
+pub mod Serves

@@ -1,21 +1,29 @@
 //! Serving: where threads meet the outside.
 //!
-//! A worker gives the arrivals of its link to the engine and sends what they put out: one thread's loop, with a pass of its own. So
-//! far it stands alone: the timer, a run of all at once, and the text that is served are to come.
+//! A worker gives the arrivals of its link to the engine; the timer gives it ticks, and orders before them. Each sends what its calls
+//! put out, and is one thread's loop, with a pass of its own. [`serve`] runs a timer and workers at once.
 //!
 //! Modules: `sending` (packets, and those that are lost), `calling` (a call of the engine and its sends), `working` (the worker),
-//! `ending` (why it ends).
+//! `timing` (the timer), `ending` (why they end), `jobs` (what each worker works with), `passes` (their making and joining),
+//! `threads` (all at once), `serving` (a run).
 //!
-//! It stands on `bfd_engine`, on `bfd_edge` for links and gates, and on what those stand on. It promises, for every link and every
-//! interleaving with other callers: what the worker's pass gains on each shard are exactly the entries of its calls, without the
-//! last ones by Full, Spent or want of memory; what they put out was sent in order, but for the sends that failed, which are
-//! counted; and each end comes by its cause. It promises nothing of waiting.
+//! It stands on `bfd_engine`, on `bfd_edge` for links, gates and tickers, on `bfd_script` for orders, and on what those stand on. It
+//! promises, for every link and every interleaving with other callers: what a caller's pass gains on each shard are exactly the
+//! entries of its calls, without the last ones by Full, Spent or want of memory; what they put out was sent in order, but for the
+//! sends that failed, which are counted; and each end comes by its cause. It promises nothing of waiting.
 #![tactic(auto)]
 
 mod calling;
 mod ending;
+mod jobs;
+mod passes;
 mod sending;
+mod serving;
+mod threads;
+mod timing;
 mod working;
 
 pub use ending::End;
+pub use serving::{Limits, Served, serve};
+pub use timing::timer;
 pub use working::worker;

@@ -1,0 +1,40 @@
+-- Threads may share an engine, where its timers may go to another thread.
+use denote.RattleType.{RattleType}
+use denote.Param.Send.{sendable, IsSync, IsSend, view_sync}
+use denote.Param.SendFields.{declared_sync}
+use denote.Struct.Declared as S
+use mir.Syntax.{Dict}
+use Rattle.std.proofs.Crossing.{crosses, Vec-sync}
+use Rattle.bfd_demux.proofs.demux.Demux.TheSendSync as demux
+use Rattle.bfd_shard.specs.contracts.entry.Entry as Entry
+use Rattle.bfd_turn.specs.contracts.lock.TurnLock as TurnLock
+use Rattle.bfd_turn.proofs.lock.TurnLock.TheSendSync as turn
+use Rattle.bfd_wheel.specs.declared.form.Timers.{Ghosts}
+use Rattle.bfd_engine.specs.contracts.kept.Base as Base
+use Rattle.bfd_engine.specs.contracts.kept.Kept as Kept
+use Rattle.bfd_engine.specs.contracts.kept.KeptRecorded.TheImpl.{ghosts}
+use Rattle.bfd_engine.specs.contracts.engine.Engine.{the_row}
+use Rattle.bfd_engine.specs.contracts.engine.Engine.TheInside.{the_type}
+use Rattle.bfd_engine.proofs.kept.Kept.TheSendSync as kept
+
+module _ (W : RattleType) (g : Ghosts W.Denot) (d e : Dict) where
+  abbrev lock : RattleType
+  lock = TurnLock.the_row (Kept.the_row W g) Entry.the_row Base.the_row (ghosts W g d e)
+
+  lock_sync : IsSend W → IsSync lock
+  lock_sync w = turn.the_sync (Kept.the_row W g) Entry.the_row Base.the_row (ghosts W g d e) (kept.the_send W g w)
+
+  inside_sync : IsSend W → IsSync (S.row (the_type W g))
+  inside_sync w = declared_sync (the_type W g) (
+    Vec-sync lock (lock_sync w),
+    (
+      demux.the_sync,
+      (
+        search (sendable, crosses) depth 20,
+        (search (sendable, crosses) depth 20, (search (sendable, crosses) depth 20, (search (sendable, crosses) depth 20, (search (sendable, crosses) depth 20, tt)))),
+      ),
+    ),
+  )
+
+  pub engine_sync : IsSend W → IsSync (the_row W g)
+  engine_sync w = view_sync _ _ _ _ _ (inside_sync w)

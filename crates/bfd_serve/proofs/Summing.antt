@@ -1,0 +1,283 @@
+-- From what each caller did to what all did.
+use Rattle.std.proofs.Common.{◌≡◌, ℕ, zero, suc, ◌+◌, ◌*◌, ◌<◌, ◌≤◌, List, [], ◌∷◌, ◌++◌, length, map, Some, None, slice_get, get_or, slice_index_or, refl, ap, ap₂, sym, ◌∙◌, subst, length-append, arith}
+use Rattle.std.specs.List.{All, sum}
+use Rattle.std.proofs.lemmas.List.Elements.{All-get_or}
+use Rattle.std.proofs.lemmas.List.{length-map, get_or-map, get_or_default}
+use Rattle.std.proofs.lemmas.List.Sums.{sum_by-le}
+use mathlib.Core.Logic.{dite}
+use native.Mathlib.Decide.{dec_lt}
+use Rattle.bfd_packet.specs.declared.arrival.Arrival.{Arrival}
+use Rattle.bfd_packet.specs.declared.arrival.Datagram.{Datagram}
+use Rattle.bfd_shard.specs.declared.entry.Entry.{Entry}
+use Rattle.bfd_script.specs.declared.entries.Line.{Line}
+use Rattle.bfd_turn.specs.Lists.{Begins, calls, numbers_of}
+use Rattle.bfd_turn.proofs.Beginnings.{begins_length}
+use Rattle.bfd_edge.specs.Faults.{risen}
+use Rattle.bfd_edge.specs.Links.{LinkTold}
+use Rattle.bfd_edge.specs.Tickers.{TickerTold}
+use Rattle.bfd_engine.specs.Turned.{by}
+use Rattle.bfd_engine.specs.Engines.{Shards, Knows, IsOf}
+use Rattle.bfd_engine.specs.Calls.{Act, seen_of, word_of, seen_at, word_at, taken_at, kept_at, mine}
+use Rattle.bfd_serve.specs.declared.ending.End.{End}
+use Rattle.bfd_serve.specs.declared.ending.End.TheVariants.{Ended, LinkFault, ClockFault, Full, Turns as TurnsMade, Spent, Memory}
+use Rattle.bfd_serve.specs.declared.jobs.Job.{Job}
+use Rattle.bfd_serve.specs.Calls.{calls_of, entries, sends, worker_acts}
+use Rattle.bfd_serve.specs.Works.{Did, IsWorkerEnd, HasWorked}
+use Rattle.bfd_serve.specs.Ticks.{IsTimerEnd, HasTimed, is_clock_fault}
+use Rattle.bfd_serve.specs.Jobs.{pass_of, link_of, end_of_job, lost_of, IsOpen, IsReady, IsWorked}
+use Rattle.bfd_serve.specs.Joins.{number_of, numbers, IsOther, IsFresh, HasSplit, calls_kept, AreJoined}
+use Rattle.bfd_serve.specs.Serves.{HasDone, WorkerDid, TimerDid, IsTended, IsServedBy, HasServed}
+use Rattle.bfd_serve.proofs.Histories.{weight, sends_base}
+use Rattle.bfd_serve.proofs.Doing.{sends_later, stops_grow}
+use Rattle.bfd_serve.proofs.Weights.{timer_weight, arrivals_weight}
+use Rattle.bfd_serve.proofs.Turning.{acts_append}
+use Rattle.bfd_serve.proofs.Splits.{kept_numbers, kept_length}
+
+no_element : {X : Type 0} (xs : List X) (i : ℕ) → length xs ≤ i → slice_get xs i ≡ None
+no_element [] zero h = refl
+no_element [] (suc i) h = refl
+no_element (x ∷ xs) zero h = absurd (omega arith)
+no_element (x ∷ xs) (suc i) h = no_element xs i (omega arith)
+
+-- a number below another, or not
+by_shard : (P : ℕ → Type 0) (s n : ℕ) → (s < n → P s) → (n ≤ s → P s) → P s
+by_shard P s n inside beyond = dite (dec_lt s n) inside (λ far. beyond (omega (arith, far)))
+
+module _ (engine : Shards) where
+  -- beyond the last shard nothing is seen
+  seen_beyond : (k : Knows) (s : ℕ) → IsOf engine k.1 → length engine.locks ≤ s → seen_at k s ≡ []
+  seen_beyond k s of h = ap seen_of (no_element k.1 s (let a = of.long in omega arith))
+
+  word_beyond : (k : Knows) (s : ℕ) → IsOf engine k.1 → length engine.locks ≤ s → word_at k s ≡ 0
+  word_beyond k s of h = ap word_of (no_element k.1 s (let a = of.long in omega arith))
+
+  none_seen : (k : Knows) → IsOf engine k.1 → ((s : ℕ) → s < length engine.locks → seen_at k s ≡ []) → (s : ℕ) → seen_at k s ≡ []
+  none_seen k of each s = by_shard (λ i. seen_at k i ≡ []) s (length engine.locks) (each s) (seen_beyond k s of)
+
+  begins_everywhere : (k l : Knows) → IsOf engine k.1 → ((s : ℕ) → s < length engine.locks → Begins (seen_at k s) (seen_at l s)) → (s : ℕ) → Begins (seen_at k s) (seen_at l s)
+  begins_everywhere k l of each s = by_shard (λ i. Begins (seen_at k i) (seen_at l i)) s (length engine.locks) (each s)
+      (λ far. subst (λ w. Begins w (seen_at l s)) (sym (seen_beyond k s of far)) (seen_at l s, refl))
+
+  words_everywhere : (k l : Knows) → IsOf engine k.1 → ((s : ℕ) → s < length engine.locks → word_at k s ≤ word_at l s) → (s : ℕ) → word_at k s ≤ word_at l s
+  words_everywhere k l of each s = by_shard (λ i. word_at k i ≤ word_at l i) s (length engine.locks) (each s)
+      (λ far. let z = word_beyond k s of far in omega arith)
+
+  -- what a caller did that had seen nothing, by the histories in the end
+  done_of : (k o m : Knows) (n : ℕ) (t u : LinkTold) (heard : List (ℕ × Arrival)) (done cut : List Act) (untried : List Datagram) (lost : ℕ) → Did engine k o t u heard done cut untried 0 lost → k.0 ≡ n
+      → ((s : ℕ) → seen_at k s ≡ []) → ((s : ℕ) → Begins (seen_at o s) (seen_at m s)) → HasDone engine n (mine o) (seen_at m) t u heard done untried lost
+  done_of k o m n t u heard done cut untried lost d num none grows = record {
+    gains = λ s. d.gains s ∙ (ap (λ h. calls by k.0 h ++ entries k.0 s (calls_of done)) (none s) ∙ ap (λ i. entries i s (calls_of done)) num);
+    tried = d.tried;
+    kept = d.kept;
+    missing = d.missing;
+    sends_are = ap (λ i. sends engine i (seen_at m) (λ s. 0) [] done) (sym num)
+        ∙ (sends_base engine k.0 (seen_at m) (λ s. length (mine k s)) (λ s. 0) [] [] done (λ s. let a = ap (λ h. length (calls by k.0 h)) (none s) in omega arith)
+        ∙ sends_later engine k o t u heard done cut untried 0 lost (seen_at m) grows d);
+    lacks = d.lacks;
+    traffic = d.traffic;
+    send_faults = d.send_faults;
+    lost_is = d.lost_is;
+  }
+
+  worker_end_grows : (h h2 : ℕ → List Entry) (w w2 : ℕ → ℕ) (t u : LinkTold) (turns : ℕ) (cut : List Act) (untried : List Datagram) (end : End) → ((s : ℕ) → length (h s) ≤ length (h2 s)) → ((s : ℕ) → w s ≤ w2 s)
+      → IsWorkerEnd engine h w t u turns cut untried end → IsWorkerEnd engine h2 w2 t u turns cut untried end
+  worker_end_grows h h2 w w2 t u turns cut untried (Full shard n) longer more i = (i.0, i.1, stops_grow engine h h2 w w2 cut untried (Full shard n) longer more i.2)
+  worker_end_grows h h2 w w2 t u turns cut untried (Spent shard word) longer more i = (i.0, i.1, stops_grow engine h h2 w w2 cut untried (Spent shard word) longer more i.2)
+  worker_end_grows h h2 w w2 t u turns cut untried Memory longer more i = i
+  worker_end_grows h h2 w w2 t u turns cut untried Ended longer more i = i
+  worker_end_grows h h2 w w2 t u turns cut untried LinkFault longer more i = i
+  worker_end_grows h h2 w w2 t u turns cut untried ClockFault longer more i = i
+  worker_end_grows h h2 w w2 t u turns cut untried (TurnsMade n) longer more i = i
+
+  timer_end_grows : (h h2 : ℕ → List Entry) (w w2 : ℕ → ℕ) (c d : TickerTold) (got : List ℕ) (ticks : ℕ) (cut : List Act) (untried : List Datagram) (end : End) → ((s : ℕ) → length (h s) ≤ length (h2 s)) → ((s : ℕ) → w s ≤ w2 s)
+      → IsTimerEnd engine h w c d got ticks cut untried end → IsTimerEnd engine h2 w2 c d got ticks cut untried end
+  timer_end_grows h h2 w w2 c d got ticks cut untried (Full shard n) longer more i = (i.0, stops_grow engine h h2 w w2 cut untried (Full shard n) longer more i.1)
+  timer_end_grows h h2 w w2 c d got ticks cut untried (Spent shard word) longer more i = (i.0, stops_grow engine h h2 w w2 cut untried (Spent shard word) longer more i.1)
+  timer_end_grows h h2 w w2 c d got ticks cut untried Memory longer more i = i
+  timer_end_grows h h2 w w2 c d got ticks cut untried Ended longer more i = i
+  timer_end_grows h h2 w w2 c d got ticks cut untried LinkFault longer more i = i
+  timer_end_grows h h2 w w2 c d got ticks cut untried ClockFault longer more i = i
+  timer_end_grows h h2 w w2 c d got ticks cut untried (TurnsMade n) longer more i = i
+
+  worker_did : (k o m : Knows) (n : ℕ) (t u : LinkTold) (turns : ℕ) (end : End) (lost : ℕ) → HasWorked engine k o t u turns end lost → k.0 ≡ n → ((s : ℕ) → seen_at k s ≡ [])
+      → ((s : ℕ) → Begins (seen_at o s) (seen_at m s)) → ((s : ℕ) → word_at o s ≤ word_at m s) → WorkerDid engine n (mine o) (seen_at m) (word_at m) t u turns end lost
+  worker_did k o m n t u turns end lost w num none grows words = record {
+    done = w.done;
+    cut = w.cut;
+    untried = w.untried;
+    did = done_of k o m n t u (w.done ++ w.cut) (worker_acts engine w.done) (worker_acts engine w.cut) w.untried lost w.did num none grows;
+    ends = worker_end_grows (seen_at o) (seen_at m) (word_at o) (word_at m) t u turns (worker_acts engine w.cut) w.untried end (λ s. begins_length (seen_at o s) (seen_at m s) (grows s)) words w.ends;
+    few = w.few;
+  }
+
+  timer_did : (k o m : Knows) (t u : LinkTold) (c d : TickerTold) (orders : List Line) (ticks : ℕ) (end : End) (lost : ℕ) → HasTimed engine k o t u c d orders ticks end lost → k.0 ≡ 0 → ((s : ℕ) → seen_at k s ≡ [])
+      → ((s : ℕ) → Begins (seen_at o s) (seen_at m s)) → ((s : ℕ) → word_at o s ≤ word_at m s) → TimerDid engine (mine o) (seen_at m) (word_at m) t u c d orders ticks end lost
+  timer_did k o m t u c d orders ticks end lost w num none grows words = record {
+    got = w.got;
+    done = w.done;
+    cut = w.cut;
+    untried = w.untried;
+    all = w.all;
+    did = done_of k o m 0 t u [] w.done w.cut w.untried lost w.did num none grows;
+    aside = w.aside;
+    given = w.given;
+    gave = w.gave;
+    few = w.few;
+    ends = timer_end_grows (seen_at o) (seen_at m) (word_at o) (word_at m) c d w.got ticks w.cut w.untried end (λ s. begins_length (seen_at o s) (seen_at m s) (grows s)) words w.ends;
+  }
+
+numbers_long : (n : ℕ) → length (numbers n) ≡ n
+numbers_long zero = refl
+numbers_long (suc n) = length-append (numbers n) (suc n ∷ []) ∙ (let a = numbers_long n in omega arith)
+
+get_front : {X : Type 0} (xs ys : List X) (i : ℕ) (d : X) → i < length xs → get_or (xs ++ ys) i d ≡ get_or xs i d
+get_front [] ys i d h = absurd (omega arith)
+get_front (x ∷ xs) ys zero d h = refl
+get_front (x ∷ xs) ys (suc i) d h = get_front xs ys i d (omega arith)
+
+get_last : {X : Type 0} (xs : List X) (x d : X) → get_or (xs ++ x ∷ []) (length xs) d ≡ x
+get_last [] x d = refl
+get_last (z ∷ zs) x d = get_last zs x d
+
+numbers_get : (n i d : ℕ) → i < n → get_or (numbers n) i d ≡ i + 1
+numbers_get zero i d h = absurd (omega arith)
+numbers_get (suc n) i d h = dite (dec_lt i n)
+    (λ less. get_front (numbers n) (suc n ∷ []) i d (let a = numbers_long n in omega arith) ∙ numbers_get n i d less)
+    (λ last. let is : i ≡ length (numbers n) = (let a = numbers_long n in omega (arith, last)) in
+    ap (λ j. get_or (numbers n ++ suc n ∷ []) j d) is ∙ (get_last (numbers n) (suc n) d ∙ (let a = numbers_long n in omega arith)))
+
+calls_kept_get : (s : ℕ) (os : List Knows) (i : ℕ) (d : Knows) → i < length os → slice_get (calls_kept s os) i ≡ Some ((get_or os i d).0, mine (get_or os i d) s)
+calls_kept_get s [] i d h = absurd (omega arith)
+calls_kept_get s (o ∷ os) zero d h = refl
+calls_kept_get s (o ∷ os) (suc i) d h = calls_kept_get s os i d (omega arith)
+
+-- some element, for a default
+pick : {X : Type 0} (xs : List X) (i : ℕ) → i < length xs → X
+pick [] i h = absurd (omega arith)
+pick (x ∷ xs) i h = x
+
+-- lists that agree at each place
+same_list : {X : Type 0} (xs ys : List X) → length xs ≡ length ys → ((i : ℕ) (d : X) → i < length xs → get_or xs i d ≡ get_or ys i d) → xs ≡ ys
+same_list [] [] len each = refl
+same_list [] (y ∷ ys) len each = absurd (omega (arith, len))
+same_list (x ∷ xs) [] len each = absurd (omega (arith, len))
+same_list (x ∷ xs) (y ∷ ys) len each = ap₂ ◌∷◌ (each 0 x (omega arith)) (same_list xs ys (omega (arith, len)) (λ i d h. each (suc i) d (omega arith)))
+
+-- the jobs before the work
+pub all_ready : {L : Type 0} (told : L → LinkTold) (engine : Shards) (jobs : List (Job L)) → All (IsFresh engine) (map pass_of jobs) → All (IsOpen told) (map link_of jobs) → All (IsReady told engine) jobs
+all_ready told engine jobs news opens i j h =
+    let p = subst (IsFresh engine) (get_or-map pass_of jobs i j j.pass h) (All-get_or (IsFresh engine) (map pass_of jobs) i j.pass (let a = length-map jobs pass_of in omega arith) news) in
+    record {
+      of = p.other.of;
+      there = p.other.there;
+      open_is = subst (IsOpen told) (get_or-map link_of jobs i j j.link h) (All-get_or (IsOpen told) (map link_of jobs) i j.link (let a = length-map jobs link_of in omega arith) opens);
+    }
+
+module _ {L : Type 0} (told : L → LinkTold) (engine : Shards) (k : Knows) (turns : ℕ) (before after : List (Job L)) (n : ℕ)
+    (split : HasSplit engine k (map pass_of before) n)
+    (long : length after ≡ length before)
+    (each : (i : ℕ) (j : Job L) → i < length before → IsWorked told engine turns (slice_index_or before i j) (slice_index_or after i j)) where
+  count_is : length before ≡ n
+  count_is = sym (length-map before pass_of) ∙ split.long
+
+  fresh_at : (i : ℕ) (j : Job L) → i < length before → IsFresh engine (get_or before i j).pass
+  fresh_at i j h = subst (IsFresh engine) (get_or-map pass_of before i j j.pass h) (All-get_or (IsFresh engine) (map pass_of before) i j.pass (let a = length-map before pass_of in omega arith) split.each)
+
+  number_before : (i : ℕ) (j : Job L) → i < length before → (get_or before i j).pass.0 ≡ i + 1
+  number_before i j h =
+      let a = length-map before pass_of in
+      sym (get_or-map number_of (map pass_of before) i j.pass j.pass.0 (omega arith) ∙ ap number_of (get_or-map pass_of before i j j.pass h))
+      ∙ (ap (λ x. get_or x i j.pass.0) split.numbers_are ∙ numbers_get n i j.pass.0 (let b = count_is in omega arith))
+
+  number_after : (i : ℕ) (j : Job L) → i < length before → (get_or after i j).pass.0 ≡ i + 1
+  number_after i j h = (each i j h).worked.did.number ∙ number_before i j h
+
+  pass_after : (i : ℕ) (j : Job L) → i < length before → get_or (map pass_of after) i j.pass ≡ (get_or after i j).pass
+  pass_after i j h = get_or-map pass_of after i j j.pass (omega (arith, long))
+
+  numbers_after : map number_of (map pass_of after) ≡ numbers n
+  numbers_after = same_list (map number_of (map pass_of after)) (numbers n) (length-map (map pass_of after) number_of ∙ (length-map after pass_of ∙ (long ∙ (count_is ∙ sym (numbers_long n))))) (λ i x h.
+      let less : i < length before = (let a = length-map (map pass_of after) number_of in let b = length-map after pass_of in omega (arith, long)) in
+      let j : Job L = pick before i less in
+      get_or_default (map number_of (map pass_of after)) i x j.pass.0 h ∙ get_or-map number_of (map pass_of after) i j.pass j.pass.0 (let b = length-map after pass_of in omega (arith, long))
+      ∙ (ap number_of (pass_after i j less) ∙ (number_after i j less ∙ sym (numbers_get n i x (let b = count_is in omega arith)))))
+
+  pub others_after : All (IsOther engine) (map pass_of after)
+  others_after i o h =
+      let less : i < length before = (let b = length-map after pass_of in omega (arith, long)) in
+      let j : Job L = pick before i less in
+      let w = each i j less in
+      subst (IsOther engine) (sym (get_or_default (map pass_of after) i o j.pass h ∙ pass_after i j less)) (record { of = w.of; there = w.there; number = λ z. absurd (omega (arith, z, number_after i j less)) })
+
+  module _ (l m : Knows) (t u : LinkTold) (c d : TickerTold) (orders : List Line) (ticks : ℕ) (end : End) (lost : ℕ)
+      (tended : IsTended engine k l t u c d orders ticks end lost)
+      (joined : (s : ℕ) → s < length engine.locks → AreJoined l (map pass_of after) m s) where
+    grows_to : (i : ℕ) (j : Job L) → i < length before → (s : ℕ) → Begins (seen_at (get_or after i j).pass s) (seen_at m s)
+    grows_to i j h = begins_everywhere engine (get_or after i j).pass m (each i j h).of (λ s less. subst (λ (o : Knows). Begins (seen_at o s) (seen_at m s)) (pass_after i j h)
+        (All-get_or (λ (o : Knows). Begins (seen_at o s) (seen_at m s)) (map pass_of after) i j.pass (let a = length-map after pass_of in omega (arith, long)) (joined s less).each))
+
+    words_to : (i : ℕ) (j : Job L) → i < length before → (s : ℕ) → word_at (get_or after i j).pass s ≤ word_at m s
+    words_to i j h = words_everywhere engine (get_or after i j).pass m (each i j h).of (λ s less. subst (λ (o : Knows). word_at o s ≤ word_at m s) (pass_after i j h)
+        (All-get_or (λ (o : Knows). word_at o s ≤ word_at m s) (map pass_of after) i j.pass (let a = length-map after pass_of in omega (arith, long)) (joined s less).words))
+
+    kept_is : (s : ℕ) → s < length engine.locks → kept_at m s ≡ calls_kept s (map pass_of after)
+    kept_is s h = (joined s h).kept ∙ ap (λ w. w ++ calls_kept s (map pass_of after)) (tended.timed.did.keeps s ∙ split.kept s h)
+
+    worker_at : (i : ℕ) (j : Job L) → i < length before → IsServedBy told engine m turns i (get_or before i j).link (get_or after i j).link (get_or after i j).end (get_or after i j).lost
+    worker_at i j h = record {
+      own = mine (get_or after i j).pass;
+      kept = λ s less. ap (λ x. slice_get x i) (kept_is s less) ∙ (calls_kept_get s (map pass_of after) i j.pass (let a = length-map after pass_of in omega (arith, long))
+          ∙ (ap (λ (o : Knows). Some (o.0, mine o s)) (pass_after i j h) ∙ ap (λ x. Some (x, mine (get_or after i j).pass s)) (number_after i j h)));
+      worked = worker_did engine (get_or before i j).pass (get_or after i j).pass m (i + 1) (told (get_or before i j).link) (told (get_or after i j).link) turns (get_or after i j).end (get_or after i j).lost
+          (each i j h).worked (number_before i j h) (none_seen engine (get_or before i j).pass (fresh_at i j h).other.of (fresh_at i j h).seen) (grows_to i j h) (words_to i j h);
+    }
+
+    taken_by : (s : ℕ) → s < length engine.locks → (i : ℕ) (o : Knows) → i < length (map pass_of after) → taken_at (get_or (map pass_of after) i o) s ≤ turns
+    taken_by s h i o inside =
+        let less : i < length before = (let b = length-map after pass_of in omega (arith, long)) in
+        let j : Job L = pick before i less in
+        let w = (each i j less).worked in
+        let same : get_or (map pass_of after) i o ≡ (get_or after i j).pass = get_or_default (map pass_of after) i o j.pass inside ∙ pass_after i j less in
+        let a = w.did.taken s in let b = (fresh_at i j less).taken s h in let f = w.few in
+        let x = ap (weight (get_or before i j).pass.0 s) (acts_append engine w.done w.cut) in let y = arrivals_weight (get_or before i j).pass.0 s engine (w.done ++ w.cut) in
+        subst (λ (p : Knows). taken_at p s ≤ turns) (sym same) (omega arith)
+
+    taken_all : (s : ℕ) → s < length engine.locks → taken_at m s ≤ (ticks + length orders) + length before * turns
+    taken_all s h =
+        let f = tended.timed.did in
+        let a = (joined s h).taken in let b = f.taken s in let z = split.taken s h in
+        let x = ap (weight k.0 s) tended.timed.all in let y = timer_weight k.0 s engine orders tended.timed.got (is_clock_fault end) in let g = tended.timed.few in
+        let sum_is = sum_by-le (λ (o : Knows). taken_at o s) turns (map pass_of after) (taken_by s h) in
+        let len : length (map pass_of after) * turns ≡ length before * turns = ap (λ v. v * turns) (length-map after pass_of ∙ long) in omega arith
+
+    worker_of : (i : ℕ) (x : L) (y : End) (z : ℕ) → i < length before
+        → IsServedBy told engine m turns i (get_or (map link_of before) i x) (get_or (map link_of after) i x) (get_or (map end_of_job after) i y) (get_or (map lost_of after) i z)
+    worker_of i x y z h =
+        let j : Job L = record { pass = (0, [], 0); link = x; end = y; lost = z } in
+        let inside : i < length after = omega (arith, long) in
+        subst (λ (w : L × L × End × ℕ). IsServedBy told engine m turns i w.0 w.1 w.2 w.3)
+        (λ r. (sym (get_or-map link_of before i j x h) r, sym (get_or-map link_of after i j x inside) r, sym (get_or-map end_of_job after i j y inside) r, sym (get_or-map lost_of after i j z inside) r)) (worker_at i j h)
+
+    timer_lost_is : lost ≡ risen 0 lost
+    timer_lost_is = let a = tended.timed.did.lost_is in omega arith
+
+    pub served : HasServed told engine m t u c d orders (record { turns = turns; ticks = ticks }) (map link_of before) (map link_of after) (end ∷ map end_of_job after) (risen lost (sum (map lost_of after)))
+    served = record {
+      own = mine l;
+      own_is = λ s h. (joined s h).own;
+      timer_end = end;
+      timer_lost = lost;
+      timed = timer_did engine k l m t u c d orders ticks end lost tended.timed split.number (none_seen engine k split.of split.seen)
+          (begins_everywhere engine l m tended.of (λ s h. (joined s h).first)) (words_everywhere engine l m tended.of (λ s h. (joined s h).word));
+      worker_ends = map end_of_job after;
+      worker_losts = map lost_of after;
+      ends_are = refl;
+      lost_is = (let a = timer_lost_is in omega arith);
+      back_long = length-map after link_of ∙ (long ∙ sym (length-map before link_of));
+      ends_long = length-map after end_of_job ∙ (long ∙ sym (length-map before link_of));
+      losts_long = length-map after lost_of ∙ (long ∙ sym (length-map before link_of));
+      kept_long = λ s h. ap length (kept_is s h) ∙ (kept_length engine s (map pass_of after) ∙ (length-map after pass_of ∙ (long ∙ sym (length-map before link_of))));
+      made = λ s h. (joined s h).made ∙ (tended.timed.did.made s ∙ (split.made s h ∙ (sym numbers_after ∙ (sym (kept_numbers engine s (map pass_of after)) ∙ ap numbers_of (sym (kept_is s h))))));
+      workers = λ i x y z h. worker_of i x y z (let a = length-map before link_of in omega arith);
+      taken = λ s h. (let a = taken_all s h in let b = ap (λ v. v * turns) (length-map before link_of) in omega arith);
+    }

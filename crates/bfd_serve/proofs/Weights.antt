@@ -1,0 +1,62 @@
+-- How many turns on one shard some acts can take.
+use Rattle.std.proofs.Common.{◌≡◌, ◌≢◌, ℕ, zero, suc, ◌+◌, ◌≤◌, ◌==◌, Bool, true, false, List, [], ◌∷◌, length, take, drop, refl, ap, ◌∙◌, le_refl, length-append, arith}
+use Rattle.std.proofs.lemmas.List.{length-map, take-append-drop}
+use mathlib.Core.Logic.{dite}
+use native.Mathlib.Decide.{ℕ_discrete}
+use Rattle.std.proofs.lemmas.Bool.Decides.{nat_tests}
+use Rattle.bfd_packet.specs.declared.arrival.Arrival.{Arrival}
+use Rattle.bfd_shard.specs.declared.entry.ShardEvent.{ShardEvent}
+use Rattle.bfd_shard.specs.declared.entry.ShardEvent.TheVariants.{Tick as TickEvent}
+use Rattle.bfd_script.specs.declared.entries.Line.{Line}
+use Rattle.bfd_engine.specs.Engines.{Shards}
+use Rattle.bfd_engine.specs.Calls.{Act, Turns, Rests}
+use Rattle.bfd_serve.specs.Calls.{act_at, worker_acts}
+use Rattle.bfd_serve.specs.Orders.{due, order_act, orders_acts, advances, tick_acts, ticks_acts, orders_left, timer_acts}
+use Rattle.bfd_serve.proofs.Histories.{weight, weight_append}
+
+module _ (n s : ℕ) where
+  turn_weight : (shard : ℕ) (event : ShardEvent) (b : Bool) → (shard == s) ≡ b → weight n s (Turns shard event ∷ []) ≤ 1
+  turn_weight shard event true is = rw is (le_refl 1)
+  turn_weight shard event false is = rw is (omega arith)
+
+  turn_elsewhere : (shard : ℕ) (event : ShardEvent) → shard ≢ s → weight n s (Turns shard event ∷ []) ≡ 0
+  turn_elsewhere shard event other = let b : (shard == s) ≡ false = grind (arith, nat_tests, other) in rw b refl
+
+  act_weight : (x : Act) → weight n s (x ∷ []) ≤ 1
+  act_weight (Rests outs answer) = omega arith
+  act_weight (Turns shard event) = turn_weight shard event (shard == s) refl
+
+  acts_weight : (xs : List Act) → weight n s xs ≤ length xs
+  acts_weight [] = omega arith
+  acts_weight (x ∷ xs) = let a = act_weight x in let b = acts_weight xs in let d = weight_append n s (x ∷ []) xs in omega arith
+
+  advances_none : (m t : ℕ) → m ≤ s → weight n s (advances m t) ≡ 0
+  advances_none zero t h = refl
+  advances_none (suc m) t h = let a = advances_none m t (omega arith) in let b = turn_elsewhere m (TickEvent t) (λ e. absurd (omega arith)) in weight_append n s (advances m t) (Turns m (TickEvent t) ∷ []) ∙ (omega arith)
+
+  advances_weight : (m t : ℕ) → weight n s (advances m t) ≤ 1
+  advances_weight zero t = omega arith
+  advances_weight (suc m) t = let all = weight_append n s (advances m t) (Turns m (TickEvent t) ∷ []) in dite (ℕ_discrete m s)
+      (λ is. let a = advances_none m t (omega arith) in let b = turn_weight m (TickEvent t) (m == s) refl in omega arith)
+      (λ other. let a = advances_weight m t in let b = turn_elsewhere m (TickEvent t) other in omega arith)
+
+  module _ (engine : Shards) where
+    -- a worker takes at most one turn for each arrival
+    pub arrivals_weight : (heard : List (ℕ × Arrival)) → weight n s (worker_acts engine heard) ≤ length heard
+    arrivals_weight heard = let a = acts_weight (worker_acts engine heard) in let b = length-map heard (act_at engine) in omega arith
+
+    orders_weight : (orders : List Line) → weight n s (orders_acts engine orders) ≤ length orders
+    orders_weight orders = let a = acts_weight (orders_acts engine orders) in let b = length-map orders (order_act engine) in omega arith
+
+    ticks_weight : (orders : List Line) (ts : List ℕ) → weight n s (ticks_acts engine orders ts) + length (orders_left orders ts) ≤ length ts + length orders
+    ticks_weight orders [] = omega arith
+    ticks_weight orders (t ∷ ts) =
+        let first : List Line = take (due t orders) orders in let rest : List Line = drop (due t orders) orders in
+        let a = orders_weight first in let b = advances_weight (length engine.locks) t in let d = weight_append n s (orders_acts engine first) (advances (length engine.locks) t) in
+        let f = weight_append n s (tick_acts engine orders t) (ticks_acts engine rest ts) in let g = ticks_weight rest ts in
+        let h = ap length (take-append-drop (due t orders) orders) in let i = length-append first rest in omega arith
+
+    -- the timer takes at most one turn for each tick and each order
+    pub timer_weight : (orders : List Line) (ts : List ℕ) (failed : Bool) → weight n s (timer_acts engine orders ts failed) ≤ length ts + length orders
+    timer_weight orders ts true = let a = ticks_weight orders ts in let b = weight_append n s (ticks_acts engine orders ts) [] in omega arith
+    timer_weight orders ts false = let a = ticks_weight orders ts in let b = weight_append n s (ticks_acts engine orders ts) (orders_acts engine (orders_left orders ts)) in let d = orders_weight (orders_left orders ts) in omega arith

@@ -1,0 +1,13 @@
+use Rattle.std.proofs.Common.{◌≡◌}
+use Rattle.bfd_engine.specs.Engines.{IsOf, AllThere}
+use Rattle.bfd_serve.specs.Orders.{advances}
+use Rattle.bfd_serve.specs.Works.{IsWhole}
+use Rattle.bfd_serve.proofs.timing.advance_all.Given as goal
+
+abbrev pub invariant-loop-shard : goal.invariant-loop-shard
+invariant-loop-shard g l = record {
+  of : IsOf l.engine l.pass.1;
+  there : AllThere l.pass.1;
+  room : l.outs.room ≡ l.initial.outs.room;
+  whole : IsWhole l.engine (advances l.shard l.tick) l.initial.pass l.pass (g.L.Link.told l.initial.link) (g.L.Link.told l.link) l.initial.lost l.lost;
+}

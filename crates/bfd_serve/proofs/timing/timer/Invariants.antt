@@ -1,0 +1,12 @@
+use Rattle.bfd_engine.specs.Engines.{IsOf, AllThere}
+use Rattle.bfd_serve.specs.Works.{HasRoom}
+use Rattle.bfd_serve.specs.Ticks.{IsTicking}
+use Rattle.bfd_serve.proofs.timing.timer.Given as goal
+
+abbrev pub invariant-loop-count : goal.invariant-loop-count
+invariant-loop-count g l = record {
+  of : IsOf l.engine l.pass.1;
+  there : AllThere l.pass.1;
+  room : HasRoom l.engine l.outs.room;
+  ticking : IsTicking l.engine l.initial.pass l.pass (g.L.Link.told l.initial.link) (g.L.Link.told l.link) (g.T.Ticker.told l.initial.ticker) (g.T.Ticker.told l.ticker) l.orders l.left l.count l.lost;
+}
