@@ -4,6 +4,7 @@ ghost use Rattle.bfd_load.specs.Load as load;
 ghost use Rattle.bfd_replay.specs.World.{replayed, totals};
 ghost use Rattle.bfd_schedule.specs.Line.{pair_line};
 ghost use Rattle.bfd_schedule.specs.Schedule.{schedule};
+ghost use Rattle.bfd_script.specs.Gives.{GivesScript};
 ghost use Rattle.bfd_script.specs.Reading.{script_of};
 ghost use Rattle.bfd_script.specs.Sound.{IsScript};
 ghost use Rattle.bfd_words.specs.Ranges.{AreHands, IsFrom, IsJob};
@@ -43,18 +44,26 @@ fn complain(alloc: Global, bad: BadLine) -> Result<Answer, AllocError>
     })
 }
 
+/// The script that these bytes spell. They aren't kept.
+fn script_in(alloc: Global, bytes: Vec<u8>) -> Result<Script, ScriptFault>
+    ensures script { GivesScript result (script_of false bytes.items) }
+    ensures sound { IfOk result IsScript }
+{
+    read(alloc, bytes.as_slice(), false)
+}
+
 /// `replay` of these bytes.
 fn replay_answer<R: Threads + Wait + Sync, G: Gate + Sync>(
     rt: &R,
     alloc: Global,
     hands: Hands,
-    bytes: &[u8],
+    bytes: Vec<u8>,
     gate: &G,
 ) -> Result<Answer, AllocError>
     requires { AreHands hands }
-    ensures { IfOk result (λ answer. answer ≡ over (λ script. told (replayed script)) (script_of false bytes.now)) }
+    ensures { IfOk result (λ answer. answer ≡ over (λ script. told (replayed script)) (script_of false bytes.items)) }
 {
-    match read(alloc, bytes, false) {
+    match script_in(alloc, bytes) {
         Ok(script) => Ok(Answer::told(replay_by(rt, alloc, script, hands, gate)?.text)),
         Err(ScriptFault::Bad(bad)) => complain(alloc, bad),
         Err(ScriptFault::Memory) => Err(AllocError),
@@ -82,11 +91,11 @@ fn watch_answer(
     alloc: Global,
     need: u32,
     members: &[u32],
-    bytes: &[u8],
+    bytes: Vec<u8>,
 ) -> Result<Answer, AllocError>
-    ensures { IfOk result (λ answer. answer ≡ over (watched need members.now) (script_of false bytes.now)) }
+    ensures { IfOk result (λ answer. answer ≡ over (watched need members.now) (script_of false bytes.items)) }
 {
-    match read(alloc, bytes, false) {
+    match script_in(alloc, bytes) {
         Ok(script) => watch_script(alloc, need, members, script),
         Err(ScriptFault::Bad(bad)) => complain(alloc, bad),
         Err(ScriptFault::Memory) => Err(AllocError),
@@ -144,12 +153,12 @@ pub(crate) fn answer_to<R: Threads + Wait + Sync, G: Gate + Sync>(
     rt: &R,
     alloc: Global,
     job: &Job,
-    bytes: &[u8],
+    bytes: Vec<u8>,
     gate: &G,
 ) -> Result<Answer, AllocError>
     requires ranges { IsJob job.now }
     requires built { is_built job.now ≡ true }
-    ensures answer { IfOk result (λ answer. answer ≡ answer_to job.now bytes.now) }
+    ensures answer { IfOk result (λ answer. answer ≡ answer_to job.now bytes.items) }
     ensures sound { IfOk result IsAnswer }
 {
     match job {

@@ -46,7 +46,7 @@ fn answer<R: Threads + Wait + Sync, G: Gate + Sync, S: Source>(
         Err(InputFault::Failed) => return Err(Fault::Failed),
         Err(InputFault::Memory) => return Err(Fault::Memory),
     };
-    match answer_to(rt, alloc, job, bytes.as_slice(), gate) {
+    match answer_to(rt, alloc, job, bytes, gate) {
         Ok(answer) => Ok(answer),
         Err(_) => Err(Fault::Memory),
     }
