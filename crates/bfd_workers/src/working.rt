@@ -1,5 +1,5 @@
 //! A worker's turns on the shards that it takes.
-ghost use Rattle.std.specs.Prelude.{ℕ, ◌≡◌, ◌≤◌, ◌<◌, ◌+◌, ◌*◌, ◌++◌, true, [], List, IfOk, IfErr, OnOk, length, map, slice_index_or};
+ghost use Rattle.std.specs.Prelude.{ℕ, ◌≡◌, ◌≤◌, ◌<◌, ◌+◌, ◌*◌, ◌++◌, ◌∷◌, true, [], List, IfOk, IfErr, IfSome, None, OnOk, length, map, reverse, slice_index_or};
 ghost use Rattle.bfd_rules.specs.declared.outputs.Out.{Out as OutIn};
 ghost use Rattle.bfd_session.specs.Alone.{Outcome};
 ghost use Rattle.bfd_shard.specs.declared.entry.ShardEvent.{ShardEvent as EventIn};
@@ -89,6 +89,22 @@ fn one_event<W: Timers, R: Wait, G: Gate, L: Ledger>(
     }
 }
 
+/// After how many events a queue gives memory back.
+const GIVEN_BACK: usize = 4096;
+
+/// Takes the first event of a queue that is kept in reverse. The queue gives memory back on its way: the journal needs it.
+fn next_event(left: &mut Vec<Numbered>) -> Option<Numbered>
+    ensures first { IfSome result (λ event. reverse left.old.items ≡ event ∷ reverse left.new.items) }
+    ensures fewer { IfSome result (λ event. length left.new.items < length left.old.items) }
+    ensures none { result ≡ None → reverse left.old.items ≡ [] }
+{
+    let event = left.pop()?;
+    if left.len().is_multiple_of(GIVEN_BACK) {
+        left.shrink_to_fit();
+    }
+    Some(event)
+}
+
 /// The events of a shard's queue, in their order.
 fn one_shard<W: Timers, R: Wait, G: Gate, L: Ledger>(
     rt: &R,
@@ -116,7 +132,9 @@ fn one_shard<W: Timers, R: Wait, G: Gate, L: Ledger>(
     ensures stopped { IfErr result (λ fault. IsStopAt fault engine.now shard (length queue.items) pass.new) }
     ensures room { outs.new.room ≡ outs.old.room }
 {
-    for event in queue {
+    let mut left = queue;
+    left.reverse();
+    'events: while let Some(event) = next_event(&mut left) {
         match one_event(rt, engine, pass, shard, event, part, outs, steps, gate) {
             Ok(()) => {}
             Err(fault) => return Err(fault),

@@ -1,25 +1,24 @@
 -- One event more of the queue.
-use Rattle.std.proofs.Common.{rules, ◌≡◌, ◌∙◌, ◌∷◌, subst}
+use Rattle.std.proofs.Common.{◌∙◌, reverse, subst}
 use Rattle.bfd_workers.specs.Working.{AreMet}
 use Rattle.bfd_workers.proofs.Courses.{queue_more, stopped_amid}
 use Rattle.bfd_workers.proofs.working.one_shard.Goals as goal
 
-pub loop-event-preserved : goal.loop-event-preserved
-loop-event-preserved g c =
-    let i = c.loop-event.invariant in
-    let split : c.loop-event.event-iterator.rest.items ≡ c.in-Some.event ∷ c.next.new.self.rest.items = search rules in
+pub events-preserved : goal.events-preserved
+events-preserved g c =
+    let i = c.events.invariant in
+    let split = c.in-Some.ensures.first in
     record {
       of = c.one_event.ensures.of;
       there = c.one_event.ensures.there;
       met = (subst (AreMet c.args.engine.now c.args.shard) split i.met).1;
       room = c.one_event.ensures.room ∙ i.room;
-      did = queue_more c.args.engine.now c.args.shard c.args.queue.items c.loop-event.event-iterator.rest.items c.next.new.self.rest.items c.in-Some.event c.args.pass.now c.loop-event.pass
-          c.one_event.new.pass c.loop-event.part c.one_event.new.part split i.did c.one_event.ensures.elsewhere c.one_event.ensures.taken c.in-Ok.ensures.told;
+      did = queue_more c.args.engine.now c.args.shard c.args.queue.items (reverse c.events.left.items) (reverse c.next_event.new.left.items) c.in-Some.event c.args.pass.now c.events.pass
+          c.one_event.new.pass c.events.part c.one_event.new.part split i.did c.one_event.ensures.elsewhere c.one_event.ensures.taken c.in-Ok.ensures.told;
     }
 
 pub returns-in-Err-clause-stopped : goal.returns-in-Err-clause-stopped
 returns-in-Err-clause-stopped g c =
-    let i = c.loop-event.invariant in
-    let split : c.loop-event.event-iterator.rest.items ≡ c.in-Some.event ∷ c.next.new.self.rest.items = search rules in
-    stopped_amid c.in-Err.fault c.args.engine.now c.args.shard c.args.queue.items c.loop-event.event-iterator.rest.items c.next.new.self.rest.items c.in-Some.event c.args.pass.now c.loop-event.pass
-    c.one_event.new.pass c.loop-event.part split i.did c.one_event.ensures.elsewhere c.in-Err.ensures.refused
+    let i = c.events.invariant in
+    stopped_amid c.in-Err.fault c.args.engine.now c.args.shard c.args.queue.items (reverse c.events.left.items) (reverse c.next_event.new.left.items) c.in-Some.event c.args.pass.now c.events.pass
+    c.one_event.new.pass c.events.part c.in-Some.ensures.first i.did c.one_event.ensures.elsewhere c.in-Err.ensures.refused
