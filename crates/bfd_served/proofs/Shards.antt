@@ -32,16 +32,10 @@ some_left ss i part parts made =
     let long = ap length made in
     omega (arith, long, length-map (drop i ss) made_with, length-drop i ss)
 
-module _ (ss : List Shard) (i : ℕ) (part : List SessionConfig) (parts : List (List SessionConfig)) (made : part ∷ parts ≡ map made_with (drop i ss)) (d : Shard) where
-  first : map made_with (drop i ss) ≡ made_with (get_or ss i d) ∷ map made_with (drop (i + 1) ss)
-  first = ap (map made_with) (drop_more ss i d (some_left ss i part parts made))
-
-  -- the next are the next shard's, and the others those of the shards that follow
-  pub own_part : part ≡ made_with (get_or ss i d)
-  own_part = let e = first in cc
-
-  pub other_parts : parts ≡ map made_with (drop (i + 1) ss)
-  other_parts = let e = first in cc
+-- the others are those of the shards that follow
+pub other_parts : (ss : List Shard) (i : ℕ) (part : List SessionConfig) (parts : List (List SessionConfig)) → part ∷ parts ≡ map made_with (drop i ss) → (d : Shard)
+    → parts ≡ map made_with (drop (i + 1) ss)
+other_parts ss i part parts made d = let e = ap (map made_with) (drop_more ss i d (some_left ss i part parts made)) in cc
 
 module _ (ss : List Shard) (i : ℕ) (state : Shard) (inside : i < length ss) (is : state ≡ get_or ss i state) where
   left : drop i ss ≡ state ∷ drop (i + 1) ss
