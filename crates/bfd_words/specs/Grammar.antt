@@ -1,5 +1,5 @@
 -- The grammar of the command line. The numbers come first, then the options.
-use Rattle.std.specs.Prelude.{ℕ, ◌==◌, Bool, true, not, ◌&&◌, List, [], ◌∷◌, ◌++◌, length, drop, nat_le, is_some, take_while, Option, Some, None, codes, if◌then◌else◌}
+use Rattle.std.specs.Prelude.{ℕ, ◌==◌, Bool, true, false, not, ◌&&◌, List, [], ◌∷◌, ◌++◌, length, drop, nat_le, is_some, take_while, Option, Some, None, codes, if◌then◌else◌}
 use Rattle.std.specs.List.{filter_map, list_any}
 use Rattle.std.specs.Str.{bytes_eq}
 use Rattle.bfd_words.specs.declared.job.Hands.{Hands}
@@ -89,6 +89,11 @@ watch_by need members options =
 abbrev pub watch_of : List (List ℕ) → Option Job
 watch_of [] = None
 watch_of (need ∷ words) = watch_by need (leading words) (drop (length (leading words)) words)
+
+-- the words of `watch`, whatever follows
+abbrev pub is_watch : List (List ℕ) → Bool
+is_watch [] = false
+is_watch (word ∷ words) = bytes_eq word (codes "watch")
 
 -- the first word says which
 abbrev pub job_of : List (List ℕ) → Option Job

@@ -1,6 +1,6 @@
 //! The words of each job.
-ghost use Rattle.std.specs.Prelude.{◌≡◌, ◌<◌, ◌≤◌, All, IfOk, IfSome, length, map, string_bytes};
-ghost use Rattle.bfd_words.specs.Grammar.{are_distinct, hands_of, job_of, leading, load_by, load_of, pair_of, replay_of, serve_of, watch_by, watch_of};
+ghost use Rattle.std.specs.Prelude.{◌≡◌, ◌<◌, ◌≤◌, All, IfOk, IfSome, IsErr, length, map, string_bytes, true};
+ghost use Rattle.bfd_words.specs.Grammar.{are_distinct, hands_of, is_watch, job_of, leading, load_by, load_of, pair_of, replay_of, serve_of, watch_by, watch_of};
 ghost use Rattle.bfd_words.specs.Ranges.{AreHands, IsJob};
 
 use crate::job::{Hands, Job, Members};
@@ -169,6 +169,7 @@ fn watch(alloc: Global, words: &[String]) -> Result<Option<Job>, AllocError>
 pub fn job_of(alloc: Global, words: &[String]) -> Result<Option<Job>, AllocError>
     ensures value { IfOk result (λ job. job ≡ job_of (map (λ word. string_bytes word) words.now)) }
     ensures range { IfOk result (λ job. IfSome job IsJob) }
+    ensures memory { IsErr result → is_watch (map (λ word. string_bytes word) words.now) ≡ true }
 {
     let [word, words @ ..] = words else {
         return Ok(None);

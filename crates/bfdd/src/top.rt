@@ -2,6 +2,7 @@
 ghost use Rattle.std.specs.Prelude.{◌≡◌, ◌≢◌, ◌≤◌, ◌+◌, ◌⊎◌, IfOk, IfSome, IsErrOf, None, Some, true, false, map, string_bytes};
 ghost use Rattle.std.specs.Io.KnownBytes.{Appends, IsAtEnd};
 ghost use Rattle.bfd_edge.specs.Faults.{Rose};
+ghost use Rattle.bfd_words.specs.Grammar.{is_watch};
 ghost use Rattle.bfd_words.specs.Ranges.{IsJob};
 ghost use Rattle.bfdd.specs.Answers.{IsAnswer};
 ghost use Rattle.bfdd.specs.Outside.{ConsumesAtMost, TookFront};
@@ -82,7 +83,9 @@ pub fn run<R: Threads + Wait + Sync, G: Gate + Sync, S: Source, K: Sink>(
     ensures untouched { is_reading (asked (map (λ word. string_bytes word) words.now)) ≡ false → source.new ≡ source.old }
     ensures at_most { ConsumesAtMost (most_bytes + 1) (S.left source.old) (S.left source.new) }
 
-    ensures usage { asked (map (λ word. string_bytes word) words.now) ≡ None → (result ≡ Status.Usage) ⊎ (result ≡ Status.Memory) }
+    // Words that ask for nothing are Usage, but that memory may be wanting for the members of a watch.
+    ensures usage { asked (map (λ word. string_bytes word) words.now) ≡ None → (result ≡ Status.Usage)
+        ⊎ ((result ≡ Status.Memory) × (is_watch (map (λ word. string_bytes word) words.now) ≡ true)) }
     ensures usage_alone { result ≡ Status.Usage → asked (map (λ word. string_bytes word) words.now) ≡ None }
 
     // A faulty line is told, or a front of that where the sink failed.
