@@ -17,3 +17,4 @@ pub mod Lending
 pub mod Copies
 pub mod Growing
 pub mod Verdicts
+pub mod Crossing

@@ -31,6 +31,7 @@ mod passing;
 mod receive;
 mod turn;
 
+pub use dealing::deal;
 pub use engine::Engine;
 pub use fault::{EngineFault, OpenFault};
 pub use holding::{Hold, HoldFault};
@@ -38,6 +39,3 @@ pub use joining::Unclosed;
 pub use kept::{Base, Kept};
 pub use law::turn_laws;
 pub use pass::EnginePass;
-
-#[cfg(test)]
-mod tests;

@@ -1,4 +1,4 @@
-//! Two shards' turns at once, and a tick that goes back.
+//! Two shards' turns at once, a tick that goes back, a full journal, and a question to nobody.
 ghost use Rattle.std.specs.Prelude.{◌≡◌, ◌<◌, ◌+◌, [], IfOk, IfSome, length};
 ghost use Rattle.bfd_session.specs.Step.{IsFit};
 ghost use Rattle.bfd_session.specs.Kinds.{discr_of};
@@ -6,10 +6,10 @@ ghost use Rattle.bfd_session.specs.Rows.{AreFit};
 ghost use Rattle.bfd_engine.specs.Engines.{IsOf, AllThere};
 ghost use Rattle.bfd_engine.specs.Opening.{IsNewPass, IsSorted};
 
-use bfd_engine::{Engine, EnginePass, HoldFault};
+use bfd_engine::{Engine, EngineFault, EnginePass, HoldFault};
 use bfd_num::{Moment, Steps, Tick};
 use bfd_packet::Addr;
-use bfd_rules::{Config, Outs, Role};
+use bfd_rules::{Config, Outs, Refusal, Role};
 use bfd_session::{Answer, SessionConfig};
 use bfd_shard::{Entry, ShardState};
 use bfd_wheel::PlainTimers;
@@ -57,14 +57,14 @@ fn configs(alloc: Global) -> Result<Vec<SessionConfig>, AllocError>
     Ok(list)
 }
 
-/// An engine of four sessions in three shards.
-fn opened(alloc: Global) -> Option<(Plain, EnginePass)>
+/// An engine of four sessions in three shards, whose journals take so many entries.
+fn opened(alloc: Global, limit: usize) -> Option<(Plain, EnginePass)>
     ensures pass { IfSome result (λ r. IsNewPass r.0 r.1) }
     ensures shards { IfSome result (λ r. length r.0.locks ≡ 3) }
     ensures configs { IfSome result (λ r. length r.0.configs ≡ 4) }
 {
     let list = configs(alloc).ok()?;
-    Engine::open(alloc, list, Vec::new(alloc), 3, 100_000).ok()
+    Engine::open(alloc, list, Vec::new(alloc), 3, limit).ok()
 }
 
 /// Whether this caller may have the shard's turn. One that it has is given back.
@@ -102,7 +102,7 @@ fn part(engine: &Plain, alloc: Global, first: &mut EnginePass) -> Option<EngineP
 
 /// What others are told of shards 1 and 0 while a caller has the turn of shard 0, and of shard 0 after that.
 fn holds(alloc: Global) -> Option<[Result<(), HoldFault>; 3]> {
-    let (engine, mut first) = opened(alloc)?;
+    let (engine, mut first) = opened(alloc, 100_000)?;
     let mut other = part(&engine, alloc, &mut first)?;
     let mut third = part(&engine, alloc, &mut first)?;
     let mut fourth = part(&engine, alloc, &mut first)?;
@@ -253,7 +253,7 @@ fn gone_back<R: Wait, L: Ledger>(rt: &R, alloc: Global, blank: Blank) -> Option<
     let Ok(mut outs) = Outs::make(alloc, 25) else {
         return None;
     };
-    let (engine, mut pass) = opened(alloc)?;
+    let (engine, mut pass) = opened(alloc, 100_000)?;
     goes_back(rt, &engine, &mut pass, &mut outs, &mut steps)?;
     let list = journal(rt, alloc, &engine, &mut pass, 0)?;
     let count = list.len();
@@ -265,5 +265,38 @@ fn gone_back<R: Wait, L: Ledger>(rt: &R, alloc: Global, blank: Blank) -> Option<
 fn a_tick_that_goes_back(rt: HostRuntime) -> Result<(), Fail> {
     let told = gone_back::<HostRuntime, Brand>(&rt, rt.alloc(), Blank::new(1)).ok_or("no memory")?;
     assert_eq!(rt; told, (3, (3002, 3_002_000)));
+    Ok(())
+}
+
+/// A second question, where the journal takes one entry; and one to nobody.
+fn fills<R: Wait, L: Ledger>(
+    rt: &R,
+    alloc: Global,
+    blank: Blank,
+) -> Option<(Result<Answer, EngineFault>, Result<Answer, EngineFault>)>
+    requires name { blank.name ≡ L.name }
+    requires parts { blank.parts ≡ L.parts }
+    requires some { 0 < blank.parts }
+{
+    let mut steps = Steps::<L>::new(blank);
+    let (engine, mut pass) = opened(alloc, 1)?;
+    let mut outs = Outs::make(alloc, 15).ok()?;
+    let moment = Moment::new(7)?;
+    engine
+        .show(rt, &mut pass, moment, 1, &mut outs, &mut steps)
+        .ok()?;
+    let full = engine.show(rt, &mut pass, moment, 1, &mut outs, &mut steps);
+    let unknown = engine.show(rt, &mut pass, moment, 7, &mut outs, &mut steps);
+    Some((full, unknown))
+}
+
+#[test]
+fn a_full_journal(rt: HostRuntime) -> Result<(), Fail> {
+    let (full, unknown) = fills::<HostRuntime, Brand>(&rt, rt.alloc(), Blank::new(1)).ok_or(
+        "no memory",
+    )?;
+    assert_eq!(rt; full, Err(EngineFault::Full(0, 1)));
+    let refused = Answer::Refused(Refusal::UnknownSession);
+    assert_eq!(rt; unknown, Ok(refused));
     Ok(())
 }

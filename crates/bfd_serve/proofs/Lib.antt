@@ -10,4 +10,3 @@ pub mod Joins
 pub mod Splits
 pub mod Moves
 pub mod Summing
-pub mod Crossing

@@ -13,4 +13,3 @@ pub mod Endings
 pub mod Summing
 pub mod Ordering
 pub mod Whole
-pub mod Crossing

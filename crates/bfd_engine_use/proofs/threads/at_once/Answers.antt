@@ -1,6 +1,6 @@
 -- Threads may share the engine.
 use denote.Param.{param}
-use Rattle.bfd_engine_use.proofs.Crossing.{engine_sync}
+use Rattle.bfd_engine.proofs.Crossing.{engine_sync}
 use Rattle.bfd_engine_use.proofs.threads.at_once.Goals as goal
 
 pub for_each_mut-requires-sync-F : goal.for_each_mut-requires-sync-F

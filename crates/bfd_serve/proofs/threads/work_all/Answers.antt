@@ -6,7 +6,7 @@ use denote.Builtin.{u64}
 use denote.Param.{param}
 use denote.Param.Send.{sendable, IsSync}
 use Rattle.std.proofs.Crossing as heap
-use Rattle.bfd_serve.proofs.Crossing.{engine_sync}
+use Rattle.bfd_engine.proofs.Crossing.{engine_sync}
 use Rattle.bfd_serve.proofs.threads.work_all.Goals as goal
 
 -- the closure lends what it captures, in this order

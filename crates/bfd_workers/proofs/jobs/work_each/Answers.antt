@@ -7,7 +7,7 @@ use Rattle.std.proofs.Crossing.{sync}
 use Rattle.std.proofs.lemmas.List.Elements.{All-get_or}
 use Rattle.bfd_workers.specs.Jobs.{HasWorked, Work}
 use Rattle.bfd_workers.specs.Working.{IsReady}
-use Rattle.bfd_workers.proofs.Crossing.{engine_sync}
+use Rattle.bfd_engine.proofs.Crossing.{engine_sync}
 use Rattle.bfd_workers.proofs.jobs.work_each.Goals as goal
 
 pub for_each_mut-requires-clause-accepts : goal.for_each_mut-requires-clause-accepts
