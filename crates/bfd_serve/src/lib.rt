@@ -19,6 +19,8 @@ mod jobs;
 mod passes;
 mod sending;
 mod serving;
+#[cfg(test)]
+mod tests;
 mod threads;
 mod timing;
 mod working;
