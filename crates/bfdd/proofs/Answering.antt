@@ -1,5 +1,5 @@
 -- What a job has to write is a text that goes with its status.
-use Rattle.std.proofs.Common.{◌≡◌, ℕ, List, [], true, false, Option, Some, None, Result, Ok, Err, refl}
+use Rattle.std.proofs.Common.{◌≡◌, ℕ, List, true, false, Option, Some, None, Result, Ok, Err, refl}
 use Rattle.bfd_script.specs.declared.fault.BadLine.{BadLine as FaultyLine}
 use Rattle.bfd_script.specs.Reading.{Lists, script_of}
 use Rattle.bfd_replay.specs.World.{replayed}

@@ -1,5 +1,5 @@
 // What each job has to write.
-ghost use Rattle.std.specs.Prelude.{◌≡◌, ◌≤◌, false, true, IfOk, string_bytes};
+ghost use Rattle.std.specs.Prelude.{◌≡◌, false, true, IfOk, string_bytes};
 ghost use Rattle.bfd_load.specs.Load as load;
 ghost use Rattle.bfd_replay.specs.World.{replayed, totals};
 ghost use Rattle.bfd_schedule.specs.Line.{pair_line};

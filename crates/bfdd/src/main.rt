@@ -56,6 +56,8 @@ fn main(rt: HostRuntime) -> ExitCode {
 }
 
 #[cfg(test)]
+mod meeting_tests;
+#[cfg(test)]
 mod script_tests;
 #[cfg(test)]
 mod tests;
