@@ -1,4 +1,7 @@
-// What bfd_script does and the program doesn't ask for: live scripts, and the one spelling.
+// What the program doesn't ask for of the crates below it: live scripts, the one spelling, and a load's script as a file.
+use crate::{Status, run};
+use bfd_edge::{MemSink, MemSource, OpenGate};
+use bfd_load::generate;
 use bfd_script::{BadLine, LineFault, ScriptFault, read};
 use bfd_spelling::write;
 use std::test::Fail;
@@ -129,5 +132,20 @@ fn one_spelling(rt: HostRuntime) -> Result<(), Fail> {
             Err(_) => assert!(rt; false, "the text is a script"),
         }
     }
+    Ok(())
+}
+
+/// The script of `load 20 2000 5`, whose line is `load 20 2132 159 0 18`.
+#[test]
+fn a_load_as_a_file(rt: HostRuntime) -> Result<(), Fail> {
+    let alloc = rt.alloc();
+    let script = generate(alloc, 20, 2000, 5)?;
+    let mut source = MemSource::make(write(alloc, &script)?, 4096, Vec::new(alloc));
+    let mut sink = MemSink::make(alloc, 4096, Vec::new(alloc));
+    let mut words = Vec::new(alloc);
+    words.push(String::from_str(alloc, "replay")?)?;
+    let status = run(&rt, alloc, &words, &mut source, &mut sink, &OpenGate);
+    assert_eq!(rt; status, Status::Done);
+    assert!(rt; sink.as_slice().ends_with(b"\ndone 2132 159 0\n"), "the counts of the line");
     Ok(())
 }
