@@ -15,4 +15,6 @@ mod schedule;
 pub use playing::pair_line;
 
 #[cfg(test)]
+mod every;
+#[cfg(test)]
 mod tests;
