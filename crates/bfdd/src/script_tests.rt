@@ -146,6 +146,9 @@ fn a_load_as_a_file(rt: HostRuntime) -> Result<(), Fail> {
     words.push(String::from_str(alloc, "replay")?)?;
     let status = run(&rt, alloc, &words, &mut source, &mut sink, &OpenGate);
     assert_eq!(rt; status, Status::Done);
-    assert!(rt; sink.as_slice().ends_with(b"\ndone 2132 159 0\n"), "the counts of the line");
+    assert!(rt;
+        sink.as_slice().ends_with(b"\ndone 2132 159 0\n"),
+        "the counts of the line"
+    );
     Ok(())
 }
