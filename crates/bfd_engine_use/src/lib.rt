@@ -12,4 +12,6 @@ mod threads;
 pub use threads::{Call, Job, Saw, at_once};
 
 #[cfg(test)]
+mod eight;
+#[cfg(test)]
 mod tests;

@@ -19,7 +19,7 @@ use std::sync::Wait;
 use std::sync::ledger::{Blank, Ledger};
 use std::test::Fail;
 
-type Plain = Engine<PlainTimers>;
+pub(crate) type Plain = Engine<PlainTimers>;
 
 /// A session over a single hop, on an interface of its own.
 fn config(discr: u32) -> SessionConfig
@@ -58,7 +58,7 @@ fn configs(alloc: Global) -> Result<Vec<SessionConfig>, AllocError>
 }
 
 /// An engine of four sessions in three shards, whose journals take so many entries.
-fn opened(alloc: Global, limit: usize) -> Option<(Plain, EnginePass)>
+pub(crate) fn opened(alloc: Global, limit: usize) -> Option<(Plain, EnginePass)>
     ensures pass { IfSome result (λ r. IsNewPass r.0 r.1) }
     ensures shards { IfSome result (λ r. length r.0.locks ≡ 3) }
     ensures configs { IfSome result (λ r. length r.0.configs ≡ 4) }
@@ -83,7 +83,7 @@ fn tries(engine: &Plain, pass: &mut EnginePass, shard: u32) -> Result<(), HoldFa
 }
 
 /// A further pass.
-fn part(engine: &Plain, alloc: Global, first: &mut EnginePass) -> Option<EnginePass>
+pub(crate) fn part(engine: &Plain, alloc: Global, first: &mut EnginePass) -> Option<EnginePass>
     requires of { IsOf engine.now first.old.1 }
     requires there { AllThere first.old.1 }
     requires first { first.old.0 ≡ 0 }
@@ -122,7 +122,7 @@ fn each_shard_has_a_turn_of_its_own(rt: HostRuntime) -> Result<(), Fail> {
 }
 
 /// A shard's journal, as a caller reads it.
-fn journal<R: Wait>(
+pub(crate) fn journal<R: Wait>(
     rt: &R,
     alloc: Global,
     engine: &Plain,
@@ -143,7 +143,7 @@ fn journal<R: Wait>(
 }
 
 /// The shard as it was opened.
-fn fresh(alloc: Global, shard: u32) -> Result<ShardState<PlainTimers>, AllocError> {
+pub(crate) fn fresh(alloc: Global, shard: u32) -> Result<ShardState<PlainTimers>, AllocError> {
     let mut list = Vec::new(alloc);
     match shard {
         0 => {
@@ -157,7 +157,7 @@ fn fresh(alloc: Global, shard: u32) -> Result<ShardState<PlainTimers>, AllocErro
 }
 
 /// One entry of a journal on one thread.
-fn play<L: Ledger>(
+pub(crate) fn play<L: Ledger>(
     state: &mut ShardState<PlainTimers>,
     entry: Entry,
     outs: &mut Outs,

@@ -1,5 +1,5 @@
-use Rattle.std.proofs.Common.{ℕ, ◌≡◌, ◌≤◌, ◌+◌, ◌*◌, length}
-use Rattle.bfd_engine.specs.Engines.{IsOf, AllThere, configs_at}
+use Rattle.std.proofs.Common.{◌≡◌}
+use Rattle.bfd_engine.specs.Engines.{IsOf, AllThere}
 use Rattle.bfd_engine_use.proofs.threads.work.Given as goal
 
 abbrev pub invariant-loop-count : goal.invariant-loop-count
