@@ -1,0 +1,35 @@
+-- The links of a run, opened and shut.
+use Rattle.std.specs.Prelude.{◌≡◌, ◌≤◌, ◌<◌, ℕ, true, false, Some}
+use Rattle.bfd_edge.specs.Faults.{risen}
+use Rattle.bfd_edge.specs.Links.{LinkTold, IsNewLink}
+use Rattle.bfd_edge.specs.Ports.{PortsTold}
+use Rattle.bfd_serving.specs.declared.finish.Refused.{Refused}
+use Rattle.bfd_serving.specs.declared.finish.Refused.TheVariants.{PortFault, Memory}
+
+-- the link was never called
+abbrev pub IsNew : {L : Type 0} → (L → LinkTold) → L → Type 0
+IsNew told link = IsNewLink (told link)
+
+-- the links 0 to this number are open, no other was opened, and opening didn't fail
+pub record IsOpenTo (last : ℕ) (before after : PortsTold) : Type 0 where
+  pub open_is : (number : ℕ) → number ≤ last → after.opened number ≡ true
+  pub others : (number : ℕ) → last < number → after.opened number ≡ false
+  pub faults : after.faults ≡ before.faults
+
+-- every link that was opened was shut
+pub record AreShut (ports : PortsTold) : Type 0 where
+  pub shut : (number : ℕ) → ports.opened number ≡ true → (link : LinkTold) × (ports.shut number ≡ Some link)
+
+-- .. and none was called
+pub record AreUncalled (ports : PortsTold) : Type 0 where
+  pub shut : (number : ℕ) → ports.opened number ≡ true → (link : LinkTold) × (ports.shut number ≡ Some link) × IsNewLink link
+
+-- how opening failed, where it did
+abbrev pub IsFaultOf : Refused → PortsTold → PortsTold → Type 0
+IsFaultOf PortFault before after = after.faults ≡ risen before.faults 1
+IsFaultOf Memory before after = after.faults ≡ before.faults
+
+-- not all links could be opened
+pub record IsUnopened (refused : Refused) (before after : PortsTold) : Type 0 where
+  pub fault : IsFaultOf refused before after
+  pub uncalled : AreUncalled after

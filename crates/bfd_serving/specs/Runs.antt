@@ -1,0 +1,95 @@
+-- What a run did, by the histories of the closed shards.
+use Rattle.std.specs.Prelude.{◌≡◌, ℕ, ◌+◌, ◌<◌, ◌≤◌, List, [], ◌∷◌, length, map, slice_get, slice_index_or, Option, None, Some}
+use Rattle.std.specs.List.{All, sum}
+use Rattle.bfd_turn.specs.Lists.{calls}
+use Rattle.bfd_session.specs.Kinds.{configs_of}
+use Rattle.bfd_shard.specs.declared.entry.Entry.{Entry}
+use Rattle.bfd_shard.specs.Shard.{Shard}
+use Rattle.bfd_script.specs.declared.entries.Line.{Line}
+use Rattle.bfd_script.specs.Reading.{Lists}
+use Rattle.bfd_edge.specs.Faults.{risen}
+use Rattle.bfd_edge.specs.Links.{LinkTold, IsNewLink}
+use Rattle.bfd_edge.specs.Ports.{PortsTold}
+use Rattle.bfd_edge.specs.Tickers.{TickerTold}
+use Rattle.bfd_engine.specs.Turned.{by}
+use Rattle.bfd_engine.specs.Engines.{Shards, configs_at}
+use Rattle.bfd_serve.specs.declared.ending.End.{End}
+use Rattle.bfd_serve.specs.declared.ending.End.TheVariants.{Ended}
+use Rattle.bfd_serve.specs.declared.serving.Limits.{Limits}
+use Rattle.bfd_serve.specs.Serves.{TimerDid, WorkerDid}
+use Rattle.bfd_served.specs.Served.{history_of, served}
+use Rattle.bfd_serving.specs.declared.finish.Finish.{Finish}
+use Rattle.bfd_serving.specs.Finishes.{finish_from, IsPlain, IsUnspent}
+
+abbrev pub journal_in : Option Shard → List Entry
+journal_in (Some shard) = shard.journal
+journal_in None = []
+
+-- the history of the shard of this number, where there is one
+abbrev pub history_at : List Shard → ℕ → List Entry
+history_at shards number = journal_in (slice_get shards number)
+
+-- no lock has met its last word
+abbrev pub no_words : ℕ → ℕ
+no_words shard = 0
+
+-- what the timer did: of all that it had to do at the ticks that its ticker gave, the entries of caller 0 in the histories are,
+-- shard by shard, those of its calls, without those that Full left out
+pub record TimerRan (engine : Shards) (histories : ℕ → List Entry) (t u : LinkTold) (c d : TickerTold) (orders : List Line) (ticks : ℕ) (end : End) (missing : ℕ) : Type 0 where
+  pub own : ℕ → List Entry
+  pub own_is : (shard : ℕ) → shard < length engine.locks → calls by 0 (histories shard) ≡ own shard
+  pub did : TimerDid engine own histories no_words t u c d orders ticks end missing
+
+-- the same of the worker of this number, by the arrivals that its link gave
+pub record WorkerRan (engine : Shards) (histories : ℕ → List Entry) (number : ℕ) (t u : LinkTold) (turns : ℕ) (end : End) (missing : ℕ) : Type 0 where
+  pub own : ℕ → List Entry
+  pub own_is : (shard : ℕ) → shard < length engine.locks → calls by number (histories shard) ≡ own shard
+  pub did : WorkerDid engine number own histories no_words t u turns end missing
+
+-- what all did, where the links told `before` and then `after`, by number. No entry names anyone else
+pub record HaveRun (engine : Shards) (histories : ℕ → List Entry) (orders : List Line) (workers : ℕ) (limits : Limits) (before after : ℕ → LinkTold) (c d : TickerTold) (ends : List End) (lost : ℕ) : Type 0 where
+  pub timer_end : End
+  pub timer_missing : ℕ
+  pub timer : TimerRan engine histories (before 0) (after 0) c d orders limits.ticks timer_end timer_missing
+  pub worker_ends : List End
+  pub missing : List ℕ
+  pub ends_are : ends ≡ timer_end ∷ worker_ends
+  pub ends_long : length worker_ends ≡ workers
+  pub missing_long : length missing ≡ workers
+  pub each : (at : ℕ) → at < workers
+      → WorkerRan engine histories (at + 1) (before (at + 1)) (after (at + 1)) limits.turns (slice_index_or worker_ends at Ended) (slice_index_or missing at 0)
+  pub others : (number shard : ℕ) → shard < length engine.locks → workers < number → calls by number (histories shard) ≡ []
+  pub lost_is : lost ≡ risen 0 (timer_missing + sum missing)
+
+-- an engine that was opened with a script
+pub record IsOpened (engine : Shards) (script : Lists) (shards journal : ℕ) : Type 0 where
+  pub locks : length engine.locks ≡ shards
+  pub configs : engine.configs ≡ script.configs
+  pub pool : engine.pool ≡ script.pool
+  pub limit : engine.limit ≡ journal
+
+-- a closed shard of it
+pub record IsClosedShard (engine : Shards) (number : ℕ) (shard : Shard) : Type 0 where
+  pub configs : configs_of shard.sessions ≡ configs_at engine number
+  pub limit : shard.limit ≡ engine.limit
+  pub full : length shard.journal ≤ shard.limit
+
+-- .. all of them
+pub record AreClosedShards (engine : Shards) (shards : List Shard) : Type 0 where
+  pub long : length shards ≡ length engine.locks
+  pub each : (number : ℕ) (shard : Shard) → slice_get shards number ≡ Some shard → IsClosedShard engine number shard
+
+-- a run of a script: its engine, its links from their opening to their shutting, and what all did, to the text
+pub record HasRun (script : Lists) (shards workers journal : ℕ) (limits : Limits) (q : PortsTold) (c d : TickerTold) (states : List Shard) (text : List ℕ) (lost : ℕ) (finish : Finish) : Type 0 where
+  pub engine : Shards
+  pub opened : IsOpened engine script shards journal
+  pub closed : AreClosedShards engine states
+  pub text_is : text ≡ served (map history_of states) lost
+  pub before : ℕ → LinkTold
+  pub after : ℕ → LinkTold
+  pub new : (number : ℕ) → number ≤ workers → IsNewLink (before number)
+  pub shut : (number : ℕ) → number ≤ workers → q.shut number ≡ Some (after number)
+  pub ends : List End
+  pub run : HaveRun engine (history_at states) script.events workers limits before after c d ends lost
+  pub plain : All IsPlain ends
+  pub finish_is : finish ≡ finish_from 0 ends

@@ -1,0 +1,7 @@
+//! A serve run, from its script to the text.
+#![tactic(auto)]
+
+mod finish;
+mod linking;
+
+pub use finish::{Finish, Refused};
