@@ -11,7 +11,7 @@ use Rattle.bfd_turn.specs.Lists.{calls, has, numbers_of}
 use Rattle.bfd_turn.specs.Passes.{last_word}
 use Rattle.bfd_turn.specs.Plays.{AllKept}
 use Rattle.bfd_shard.specs.declared.entry.Entry.{Entry}
-use Rattle.bfd_shard.specs.Shard.{Shard}
+use Rattle.bfd_shard.specs.Shard.{Shard, IsShard}
 use Rattle.bfd_script.specs.declared.entries.Line.{Line}
 use Rattle.bfd_edge.specs.Links.{LinkTold}
 use Rattle.bfd_edge.specs.Tickers.{TickerTold}
@@ -28,10 +28,10 @@ use Rattle.bfd_serve.specs.Works.{IsWorkerEnd}
 use Rattle.bfd_serve.specs.Ticks.{IsTimerEnd}
 use Rattle.bfd_serve.specs.Calls.{worker_acts}
 use Rattle.bfd_serve.specs.Serves.{HasDone, TimerDid, WorkerDid, IsServedBy, HasServed}
-use Rattle.bfd_serving.specs.Runs.{journal_in, history_at, no_words, TimerRan, WorkerRan, HaveRun}
+use Rattle.bfd_serving.specs.Runs.{journal_in, history_at, no_words, told_by, TimerRan, WorkerRan, HaveRun, AreClosedShards}
 use Rattle.bfd_serving.specs.Finishes.{IsUnspent}
 
-there_is : {X : Type 0} (xs : List X) (i : ℕ) → i < length xs → (x : X) × (slice_get xs i ≡ Some x)
+pub there_is : {X : Type 0} (xs : List X) (i : ℕ) → i < length xs → (x : X) × (slice_get xs i ≡ Some x)
 there_is [] i h = absurd (omega arith)
 there_is (x ∷ xs) zero h = (x, refl)
 there_is (x ∷ xs) (suc i) h = there_is xs i (omega arith)
@@ -42,7 +42,7 @@ none_is [] (suc i) h = refl
 none_is (x ∷ xs) zero h = absurd (omega arith)
 none_is (x ∷ xs) (suc i) h = none_is xs i (omega arith)
 
-read : {X : Type 0} (xs : List X) (i : ℕ) (x d : X) → slice_get xs i ≡ Some x → get_or xs i d ≡ x
+pub read : {X : Type 0} (xs : List X) (i : ℕ) (x d : X) → slice_get xs i ≡ Some x → get_or xs i d ≡ x
 read [] zero x d e = absurd (cc e)
 read [] (suc i) x d e = absurd (cc e)
 read (y ∷ ys) zero x d e = same_some y x e
@@ -157,22 +157,15 @@ module _ {L : Type 0} (told : L → LinkTold) (engine : Shards) (l : Knows) (own
       ap (calls by n) (ap journal_in a.1) ∙ a.2.unmade n (λ z. absurd (omega (arith, z, far)))
           (ap (has n) (served.made s less) ∙ none_has n (kept_at l s) (kept_numbers s less n far))
 
-  -- what the link of a number told, before and after
-  abbrev pub told_before : ℕ → LinkTold
-  told_before n = told (slice_index_or (own ∷ links) n own)
-
-  abbrev pub told_after : ℕ → LinkTold
-  told_after n = told (slice_index_or (own2 ∷ back) n own2)
-
-  each_ran : (at : ℕ) → at < length links → WorkerRan engine (history_at states) (at + 1) (told_before (at + 1)) (told_after (at + 1)) limits.turns (slice_index_or served.worker_ends at Ended) (slice_index_or served.worker_losts at 0)
+  each_ran : (at : ℕ) → at < length links → WorkerRan engine (history_at states) (at + 1) ((told_by told own links) (at + 1)) ((told_by told own2 back) (at + 1)) limits.turns (slice_index_or served.worker_ends at Ended) (slice_index_or served.worker_losts at 0)
   each_ran at inner =
       let e : suc at ≡ at + 1 = omega arith in
       let x : LinkTold = told (slice_index_or links at own) in
-      let same : told (slice_index_or back at own) ≡ told_after (at + 1) = ap told (get_or_default back at own own2 (let b = served.back_long in omega (arith, b, inner))) ∙ ap told_after e in
-      subst (λ u. WorkerRan engine (history_at states) (at + 1) (told_before (at + 1)) u limits.turns (slice_index_or served.worker_ends at Ended) (slice_index_or served.worker_losts at 0)) same
-      (subst (λ t. WorkerRan engine (history_at states) (at + 1) t (told (slice_index_or back at own)) limits.turns (slice_index_or served.worker_ends at Ended) (slice_index_or served.worker_losts at 0)) (ap told_before e) (worker_ran at own Ended 0 inner).1)
+      let same : told (slice_index_or back at own) ≡ (told_by told own2 back) (at + 1) = ap told (get_or_default back at own own2 (let b = served.back_long in omega (arith, b, inner))) ∙ ap (told_by told own2 back) e in
+      subst (λ u. WorkerRan engine (history_at states) (at + 1) ((told_by told own links) (at + 1)) u limits.turns (slice_index_or served.worker_ends at Ended) (slice_index_or served.worker_losts at 0)) same
+      (subst (λ t. WorkerRan engine (history_at states) (at + 1) t (told (slice_index_or back at own)) limits.turns (slice_index_or served.worker_ends at Ended) (slice_index_or served.worker_losts at 0)) (ap (told_by told own links) e) (worker_ran at own Ended 0 inner).1)
 
-  pub have_run : HaveRun engine (history_at states) orders (length links) limits told_before told_after c d ends lost
+  pub have_run : HaveRun engine (history_at states) orders (length links) limits (told_by told own links) (told_by told own2 back) c d ends lost
   have_run = record {
     timer_end = served.timer_end; timer_missing = served.timer_lost; timer = timer_ran;
     worker_ends = served.worker_ends; missing = served.worker_losts; ends_are = served.ends_are;
@@ -183,3 +176,20 @@ module _ {L : Type 0} (told : L → LinkTold) (engine : Shards) (l : Knows) (own
   unspent = All-same IsUnspent ends (served.timer_end ∷ served.worker_ends) served.ends_are
       (All-cons IsUnspent served.timer_end served.worker_ends timer_end_is.0
       (λ i x inner. (worker_ran i own x 0 (let e = served.ends_long in omega (arith, e, inner))).0))
+
+-- one element more of a list
+pub one_more : {X : Type 0} (P : X → Type 0) (xs : List X) (at : ℕ) (x : X) → at < length xs → x ≡ get_or xs at x → P x
+    → ((k : ℕ) (d : X) → k < at → P (get_or xs k d)) → (k : ℕ) (d : X) → k < at + 1 → P (get_or xs k d)
+one_more P xs at x inside is here before k d h = dite (dec_lt k at)
+    (λ less. before k d less)
+    (λ last. let same : k ≡ at = omega (arith, last, h) in
+        subst P (is ∙ (get_or_default xs at x d inside ∙ ap (λ i. get_or xs i d) (sym same))) here)
+
+pub closed_shards : (engine : Shards) (l : Knows) (states seen : List Shard) → AreClosed engine l states → seen ≡ states → All IsShard seen → AreClosedShards engine states
+closed_shards engine l states seen closed same kept = record {
+  long = closed.long;
+  each = λ n x e. (let a = closed.each n x e in record {
+    configs = a.configs; limit = a.limit;
+    kept = subst IsShard (read states n x x e) (subst (All IsShard) same kept n x (within states n x e));
+  });
+}

@@ -1,2 +1,4 @@
 pub mod Shuts
 pub mod Closings
+pub mod Tables
+pub mod Dealing

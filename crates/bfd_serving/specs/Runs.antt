@@ -2,9 +2,11 @@
 use Rattle.std.specs.Prelude.{◌≡◌, ℕ, ◌+◌, ◌<◌, ◌≤◌, List, [], ◌∷◌, length, map, slice_get, slice_index_or, Option, None, Some}
 use Rattle.std.specs.List.{All, sum}
 use Rattle.bfd_turn.specs.Lists.{calls}
+use Rattle.bfd_sbfd.specs.declared.reflecting.Reflector.{Reflector}
+use Rattle.bfd_session.specs.declared.event.SessionConfig.{SessionConfig}
 use Rattle.bfd_session.specs.Kinds.{configs_of}
 use Rattle.bfd_shard.specs.declared.entry.Entry.{Entry}
-use Rattle.bfd_shard.specs.Shard.{Shard}
+use Rattle.bfd_shard.specs.Shard.{Shard, IsShard}
 use Rattle.bfd_script.specs.declared.entries.Line.{Line}
 use Rattle.bfd_script.specs.Reading.{Lists}
 use Rattle.bfd_edge.specs.Faults.{risen}
@@ -12,7 +14,7 @@ use Rattle.bfd_edge.specs.Links.{LinkTold, IsNewLink}
 use Rattle.bfd_edge.specs.Ports.{PortsTold}
 use Rattle.bfd_edge.specs.Tickers.{TickerTold}
 use Rattle.bfd_engine.specs.Turned.{by}
-use Rattle.bfd_engine.specs.Engines.{Shards, configs_at}
+use Rattle.bfd_engine.specs.Engines.{Shards, configs_at, share}
 use Rattle.bfd_serve.specs.declared.ending.End.{End}
 use Rattle.bfd_serve.specs.declared.ending.End.TheVariants.{Ended}
 use Rattle.bfd_serve.specs.declared.serving.Limits.{Limits}
@@ -32,6 +34,10 @@ history_at shards number = journal_in (slice_get shards number)
 -- no lock has met its last word
 abbrev pub no_words : ℕ → ℕ
 no_words shard = 0
+
+-- what the link of a number tells, of caller 0's and the workers'
+abbrev pub told_by : {L : Type 0} → (L → LinkTold) → L → List L → ℕ → LinkTold
+told_by told own links number = told (slice_index_or (own ∷ links) number own)
 
 -- what the timer did: of all that it had to do at the ticks that its ticker gave, the entries of caller 0 in the histories are,
 -- shard by shard, those of its calls, without those that Full left out
@@ -61,6 +67,9 @@ pub record HaveRun (engine : Shards) (histories : ℕ → List Entry) (orders : 
   pub others : (number shard : ℕ) → shard < length engine.locks → workers < number → calls by number (histories shard) ≡ []
   pub lost_is : lost ≡ risen 0 (timer_missing + sum missing)
 
+abbrev pub script_of : List SessionConfig → List Reflector → List Line → Lists
+script_of configs pool events = record { configs = configs; pool = pool; events = events }
+
 -- an engine that was opened with a script
 pub record IsOpened (engine : Shards) (script : Lists) (shards journal : ℕ) : Type 0 where
   pub locks : length engine.locks ≡ shards
@@ -68,11 +77,11 @@ pub record IsOpened (engine : Shards) (script : Lists) (shards journal : ℕ) : 
   pub pool : engine.pool ≡ script.pool
   pub limit : engine.limit ≡ journal
 
--- a closed shard of it
+-- a closed shard of it: it was made of the sessions that are dealt to it, and is what its journal makes of them
 pub record IsClosedShard (engine : Shards) (number : ℕ) (shard : Shard) : Type 0 where
   pub configs : configs_of shard.sessions ≡ configs_at engine number
   pub limit : shard.limit ≡ engine.limit
-  pub full : length shard.journal ≤ shard.limit
+  pub kept : IsShard shard
 
 -- .. all of them
 pub record AreClosedShards (engine : Shards) (shards : List Shard) : Type 0 where
@@ -93,3 +102,8 @@ pub record HasRun (script : Lists) (shards workers journal : ℕ) (limits : Limi
   pub run : HaveRun engine (history_at states) script.events workers limits before after c d ends lost
   pub plain : All IsPlain ends
   pub finish_is : finish ≡ finish_from 0 ends
+
+-- the first parts of configurations that are dealt out to so many shards
+pub record AreDealt (shards count : ℕ) (configs : List SessionConfig) (parts : List (List SessionConfig)) : Type 0 where
+  pub long : length parts ≡ count
+  pub each : (shard : ℕ) → shard < count → slice_index_or parts shard [] ≡ share shards shard configs
