@@ -29,10 +29,13 @@ module _ {A : Type 0} where
   unfolding share
   share_one n x xs = refl
 
+  drop_none : (k : ℕ) → drop {A = A} k [] ≡ []
+  drop_none zero = refl
+  drop_none (suc k) = refl
+
   drop_twice : (i j : ℕ) (xs : List A) → drop j (drop i xs) ≡ drop (i + j) xs
   drop_twice zero j xs = let e : j ≡ 0 + j = omega arith in ap (λ k. drop k xs) e
-  drop_twice (suc i) zero [] = let e : 0 ≡ suc i + 0 = omega arith in refl
-  drop_twice (suc i) (suc j) [] = refl
+  drop_twice (suc i) j [] = drop_none j ∙ sym (drop_none (suc i + j))
   drop_twice (suc i) j (x ∷ xs) = let e : suc (i + j) ≡ suc i + j = omega arith in drop_twice i j xs ∙ ap (λ k. drop k (x ∷ xs)) e
 
   -- one element more of a share

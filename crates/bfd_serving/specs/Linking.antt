@@ -3,6 +3,7 @@ use Rattle.std.specs.Prelude.{◌≡◌, ◌≤◌, ◌<◌, ℕ, true, false, S
 use Rattle.bfd_edge.specs.Faults.{risen}
 use Rattle.bfd_edge.specs.Links.{LinkTold, IsNewLink}
 use Rattle.bfd_edge.specs.Ports.{PortsTold}
+use Rattle.bfd_edge.specs.Tickers.{TickerTold}
 use Rattle.bfd_serving.specs.declared.finish.Refused.{Refused}
 use Rattle.bfd_serving.specs.declared.finish.Refused.TheVariants.{PortFault, Memory}
 
@@ -33,3 +34,8 @@ IsFaultOf Memory before after = after.faults ≡ before.faults
 pub record IsUnopened (refused : Refused) (before after : PortsTold) : Type 0 where
   pub fault : IsFaultOf refused before after
   pub uncalled : AreUncalled after
+
+-- a port couldn't be opened: the links that were are shut, and nothing ran; want of memory may come at any place
+abbrev pub IsRefused : Refused → PortsTold → PortsTold → TickerTold → TickerTold → Type 0
+IsRefused PortFault before after c d = IsUnopened PortFault before after × (d ≡ c)
+IsRefused Memory before after c d = after.faults ≡ before.faults

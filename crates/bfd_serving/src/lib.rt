@@ -6,5 +6,7 @@ mod finish;
 mod linking;
 mod opening;
 mod running;
+mod serving;
 
 pub use finish::{Finish, Refused};
+pub use serving::{Outcome, serve_script};
