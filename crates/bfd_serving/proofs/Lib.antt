@@ -2,3 +2,4 @@ pub mod Shuts
 pub mod Closings
 pub mod Tables
 pub mod Dealing
+pub mod Wholes
