@@ -2,4 +2,5 @@ pub mod Shuts
 pub mod Closings
 pub mod Tables
 pub mod Dealing
+pub mod Causes
 pub mod Wholes

@@ -88,21 +88,6 @@ pub record AreClosedShards (engine : Shards) (shards : List Shard) : Type 0 wher
   pub long : length shards ≡ length engine.locks
   pub each : (number : ℕ) (shard : Shard) → slice_get shards number ≡ Some shard → IsClosedShard engine number shard
 
--- a run of a script: its engine, its links from their opening to their shutting, and what all did, to the text
-pub record HasRun (script : Lists) (shards workers journal : ℕ) (limits : Limits) (q : PortsTold) (c d : TickerTold) (states : List Shard) (text : List ℕ) (lost : ℕ) (finish : Finish) : Type 0 where
-  pub engine : Shards
-  pub opened : IsOpened engine script shards journal
-  pub closed : AreClosedShards engine states
-  pub text_is : text ≡ served (map history_of states) lost
-  pub before : ℕ → LinkTold
-  pub after : ℕ → LinkTold
-  pub new : (number : ℕ) → number ≤ workers → IsNewLink (before number)
-  pub shut : (number : ℕ) → number ≤ workers → q.shut number ≡ Some (after number)
-  pub ends : List End
-  pub run : HaveRun engine (history_at states) script.events workers limits before after c d ends lost
-  pub plain : All IsPlain ends
-  pub finish_is : finish ≡ finish_from 0 ends
-
 -- the first parts of configurations that are dealt out to so many shards
 pub record AreDealt (shards count : ℕ) (configs : List SessionConfig) (parts : List (List SessionConfig)) : Type 0 where
   pub long : length parts ≡ count

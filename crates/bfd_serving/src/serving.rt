@@ -2,7 +2,7 @@
 ghost use Rattle.std.specs.Prelude.{◌≡◌, ◌<◌, ◌≤◌, ℕ, false, IfOk, IfErr};
 ghost use Rattle.bfd_script.specs.Sound.{IsScript};
 ghost use Rattle.bfd_serving.specs.Linking.{AreShut, IsRefused};
-ghost use Rattle.bfd_serving.specs.Runs.{HasRun};
+ghost use Rattle.bfd_serving.specs.Wholes.{HasRun};
 
 use crate::copying::dealt;
 use crate::finish::{Finish, Refused, finish_of};
@@ -59,6 +59,7 @@ where
     requires script { IsScript script }
     requires shards { (0 < shards) × (shards ≤ 64) }
     requires workers { workers ≤ 64 }
+    requires journal { 0 < journal }
     requires turns { limits.turns ≤ 1000000000 }
     requires ticks { limits.ticks ≤ 1000000000 }
     requires new { (number : ℕ) → (P.told ports.old).opened number ≡ false }

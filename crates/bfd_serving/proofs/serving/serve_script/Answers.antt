@@ -64,5 +64,5 @@ returns-clause-run g c =
         (c.in-Ok-served.ensures ∙ ap (λ xs. served (map history_of xs) c.in-Ok-ran.field-0.lost) c.deref-5.ensures.value)
         c.in_ok-own.ensures.own c.in_ok-own.ensures.links c.in_ok-own.ensures.long c.run_all-links.ensures.back c.shut_all.ensures.shut
         (subst (λ r. IfOk r (λ closed. HaveRun e (history_at closed.states.items) c.deref-3.result.now (length c.in_ok-own.links.items) c.args.limits (told_by told c.in_ok-own.own c.in_ok-own.links.items) (told_by told c.run_all-links.new.own c.run_all-links.result.0.items) (clock c.args.ticker.now) (clock c.run_all-links.new.ticker) closed.ends.items closed.lost)) ok c.run_all-links.ensures.run)
-        (subst (All IsPlain) c.deref-4.ensures.value c.in-Ok-finish_of.ensures.plain)
+        c.requires.turns c.requires.journal (subst (All IsPlain) c.deref-4.ensures.value c.in-Ok-finish_of.ensures.plain)
         (c.in-Ok-finish_of.ensures.value ∙ ap (finish_from 0) c.deref-4.ensures.value)
