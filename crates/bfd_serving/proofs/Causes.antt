@@ -1,9 +1,10 @@
 -- What the first fault shows.
-use Rattle.std.proofs.Common.{◌≡◌, ◌≢◌, ◌⊎◌, ℕ, zero, suc, ◌+◌, ◌<◌, ◌≤◌, true, false, List, [], ◌∷◌, length, get_or, slice_get, slice_index_or, Some, None, refl, ap, sym, ◌∙◌, subst, inl, inr, arith}
+use Rattle.std.proofs.Common.{◌≡◌, ◌≢◌, ◌⊎◌, ℕ, zero, suc, ◌+◌, ◌<◌, ◌≤◌, ◌==◌, true, false, List, [], ◌∷◌, ◌++◌, length, get_or, slice_get, slice_index_or, Some, None, refl, ap, sym, ◌∙◌, subst, inl, inr, arith}
 use Rattle.std.specs.List.{All}
 use Rattle.std.proofs.lemmas.List.Elements.{All-head, All-tail}
+use Rattle.std.proofs.lemmas.Bool.Decides.{nat_tests}
 use mathlib.Core.Logic.{dite}
-use native.Mathlib.Decide.{dec_lt}
+use native.Mathlib.Decide.{ℕ_discrete, dec_lt}
 use Rattle.bfd_packet.specs.declared.arrival.Datagram.{Datagram}
 use Rattle.bfd_shard.specs.declared.entry.Entry.{Entry}
 use Rattle.bfd_shard.specs.Shard.{Shard}
@@ -12,18 +13,24 @@ use Rattle.bfd_edge.specs.Faults.{risen}
 use Rattle.bfd_edge.specs.Links.{LinkTold, IsNewLink}
 use Rattle.bfd_edge.specs.Tickers.{TickerTold}
 use Rattle.bfd_engine.specs.Engines.{Shards}
-use Rattle.bfd_engine.specs.Calls.{Act}
+use Rattle.bfd_turn.specs.Lists.{calls}
+use Rattle.bfd_engine.specs.Turned.{by}
+use Rattle.bfd_engine.specs.Calls.{Act, Turns as TurnsOn}
 use Rattle.bfd_serve.specs.declared.ending.End.{End}
 use Rattle.bfd_serve.specs.declared.ending.End.TheVariants as end
 use Rattle.bfd_serve.specs.declared.serving.Limits.{Limits}
 use Rattle.bfd_serve.specs.Calls.{worker_acts}
 use Rattle.bfd_serve.specs.Works.{IsWorkerEnd, StartsOn, Stops}
-use Rattle.bfd_serve.specs.Ticks.{IsTimerEnd}
+use Rattle.bfd_serve.specs.Ticks.{IsTimerEnd, is_clock_fault}
+use Rattle.bfd_serve.specs.Orders.{timer_acts}
+use Rattle.bfd_serve.proofs.Histories.{weight_append}
+use Rattle.bfd_serve.proofs.Turning.{acts_append}
 use Rattle.bfd_serving.specs.declared.finish.Finish.{Finish}
 use Rattle.bfd_serving.specs.declared.finish.Finish.TheVariants.{Done, LinkFault, ClockFault, JournalFull, Turns}
 use Rattle.bfd_serving.specs.Finishes.{finish_by, finish_from, IsPlain}
-use Rattle.bfd_serving.specs.Runs.{journal_in, history_at, no_words, HaveRun, AreClosedShards}
-use Rattle.bfd_serving.specs.Causes.{IsDone, IsLinkFault, IsTurns, Lacks, IsFull, IsCause}
+use Rattle.bfd_serving.specs.Runs.{calls_on, all_on, journal_in, history_at, no_words, HaveRun, AreClosedShards}
+use Rattle.bfd_serving.specs.Causes.{IsDone, IsLinkFault, IsTurns, Lacks, IsAll, IsOver, IsFull, IsCause}
+use Rattle.bfd_serving.proofs.Counts.{total, all_counted, bonus, bonuses, bonus_some, gather}
 use Rattle.bfd_serving.proofs.Closings.{there_is, none_is}
 
 -- the first caller that has not ended well, if there is one
@@ -70,6 +77,17 @@ blame i (end.Spent s n ∷ xs) plain = absurd (All-head IsPlain (end.Spent s n) 
 blame i (end.Memory ∷ xs) plain = absurd (All-head IsPlain end.Memory xs plain)
 blame i (end.Ended ∷ xs) plain = blame_end i xs (blame (i + 1) xs (All-tail IsPlain end.Ended xs plain))
 
+begins_one : (n s : ℕ) (cut : List Act) → StartsOn s cut → 1 ≤ calls_on n s cut
+begins_one n s cut b =
+    let one : calls_on n s (TurnsOn s b.0 ∷ []) ≡ 1 = (let t : (s == s) ≡ true = grind (arith, nat_tests) in rw t refl) in
+    subst (λ w. 1 ≤ calls_on n s w) (sym b.2) (let a = weight_append n s (TurnsOn s b.0 ∷ []) b.1 in omega (arith, a, one))
+
+-- where this caller is to blame, what it left out has a call
+bonus_of : (at n m s : ℕ) (cut : List Act) → (n ≡ at → StartsOn s cut) → bonus at n ≤ calls_on m s cut
+bonus_of at n m s cut f = dite (ℕ_discrete n at)
+    (λ is. let e : (n == at) ≡ true = grind (arith, nat_tests, is) in rw e (begins_one m s cut (f is)))
+    (λ other. let e : (n == at) ≡ false = grind (arith, nat_tests, other) in rw e (omega arith))
+
 module _ (engine : Shards) (states : List Shard) (orders : List Line) (workers : ℕ) (limits : Limits) (before after : ℕ → LinkTold) (c d : TickerTold) (ends : List End) (lost : ℕ)
     (run : HaveRun engine (history_at states) orders workers limits before after c d ends lost)
     (new : (n : ℕ) → n ≤ workers → IsNewLink (before n)) (turns_few : limits.turns ≤ 1000000000)
@@ -100,6 +118,36 @@ module _ (engine : Shards) (states : List Shard) (orders : List Line) (workers :
           ((let b = closed.long in omega (arith, less, b)), omega (arith, long, is, f, l, e, limit_is), is ∙ limit_is))
       (λ far. let e = ap (λ o. length (journal_in o)) (none_is states s (omega (arith, far))) in absurd (omega (arith, e, long, is, limit_is, some)))
 
+  module _ (at s n : ℕ) (blamed : get_or ends at end.Ended ≡ end.Full s n) (within : at < workers + 1) (first : (j : ℕ) → j < at → get_or ends j end.Ended ≡ end.Ended) (here : s < length engine.locks) where
+    no_clock : (k : ℕ) → at ≡ k → is_clock_fault run.timer_end ≡ false
+    no_clock zero is = ap is_clock_fault (sym (ap (λ z. get_or z 0 end.Ended) run.ends_are) ∙ (sym (ap (λ j. get_or ends j end.Ended) is) ∙ blamed))
+    no_clock (suc k) is = ap is_clock_fault (sym (ap (λ z. get_or z 0 end.Ended) run.ends_are) ∙ first 0 (omega (arith, is)))
+
+    timer_counts : length (calls by 0 (history_at states s)) + bonus at 0 ≤ calls_on 0 s (timer_acts engine orders run.timer.did.got (is_clock_fault run.timer_end))
+    timer_counts =
+        let t = run.timer.did in
+        let a = ap length (run.timer.own_is s here ∙ t.did.gains s) in
+        let e = ap (calls_on 0 s) t.all in let f = weight_append 0 s t.done t.cut in
+        let g = bonus_of at 0 0 s t.cut (λ is. (timer_is (end.Full s n) (ap (λ i. get_or ends i end.Ended) is ∙ blamed)).1.2) in omega (arith, a, e, f, g)
+
+    worker_counts : (i : ℕ) → i < workers → (a : List Act) × (length (calls by (i + 1) (history_at states s)) + bonus at (suc i) ≤ calls_on (i + 1) s a)
+        × IsAll engine (history_at states) orders workers limits before after c d ends lost run i a
+    worker_counts i less =
+        let r = run.each i less in let w = r.did in
+        let a = ap length (r.own_is s here ∙ w.did.gains s) in
+        let e = ap (calls_on (i + 1) s) (acts_append engine w.done w.cut) in let f = weight_append (i + 1) s (worker_acts engine w.done) (worker_acts engine w.cut) in
+        let g = bonus_of at (suc i) (i + 1) s (worker_acts engine w.cut) (λ is. (worker_is i less (end.Full s n) (ap (λ j. get_or ends j end.Ended) is ∙ blamed)).2.2) in
+        (worker_acts engine (w.done ++ w.cut), omega (arith, a, e, f, g), (less, refl))
+
+    is_over : journal ≤ length (history_at states s) → IsOver engine (history_at states) orders workers limits before after c d ends lost run journal s
+    is_over full =
+        let g = gather s (history_at states s) at (IsAll engine (history_at states) orders workers limits before after c d ends lost run) workers worker_counts in
+        let all = all_counted workers (history_at states s) (λ m far. run.others m s here far) in
+        let b = bonus_some at workers (omega (arith, within)) in
+        let t = timer_counts in
+        let f = ap (λ z. calls_on 0 s (timer_acts engine orders run.timer.did.got z)) (no_clock at refl) in
+        record { acts = g.0; long = g.1; each = g.2; over = (let x = g.3 in omega (arith, x, all, b, t, f, full)) }
+
   by_blame : (at : ℕ) (x : End) → at < workers + 1 → get_or ends at end.Ended ≡ x → x ≢ end.Ended → ((j : ℕ) → j < at → get_or ends j end.Ended ≡ end.Ended) → IsPlain x
       → IsCause engine (history_at states) orders workers limits before after c d ends lost run journal (finish_by at x Done)
   by_blame at end.Ended inner is other first plain = absurd (other refl)
@@ -108,11 +156,13 @@ module _ (engine : Shards) (states : List Shard) (orders : List Line) (workers :
   by_blame zero (end.Full s n) inner is other first plain =
       let w = (timer_is (end.Full s n) is).1 in let f = full_at s n w.1 w.3 in record {
         inside = f.0; full = f.1; caller = 0; first = first; end = is ∙ ap (end.Full s) f.2; lacks = w.2;
+        over = is_over zero s n is inner first f.0 (let e = f.1 in omega (arith, e));
       }
   by_blame (suc i) (end.Full s n) inner is other first plain =
       let less : i < workers = omega (arith, inner) in
       let w = (worker_is i less (end.Full s n) is).2 in let f = full_at s n w.1 w.3 in record {
         inside = f.0; full = f.1; caller = suc i; first = first; end = is ∙ ap (end.Full s) f.2; lacks = (less, w.2);
+        over = is_over (suc i) s n is inner first f.0 (let e = f.1 in omega (arith, e));
       }
   by_blame zero end.LinkFault inner is other first plain = absurd (timer_is end.LinkFault is)
   by_blame (suc i) end.LinkFault inner is other first plain =

@@ -1,19 +1,21 @@
 -- What the finish of a run shows.
-use Rattle.std.specs.Prelude.{◌≡◌, ◌⊎◌, ℕ, zero, suc, ◌+◌, ◌<◌, ◌≤◌, true, false, List, [], length, slice_index_or}
+use Rattle.std.specs.Prelude.{◌≡◌, ◌⊎◌, ℕ, zero, suc, ◌+◌, ◌<◌, ◌≤◌, true, false, List, [], ◌∷◌, ◌++◌, length, slice_index_or}
 use Rattle.bfd_shard.specs.declared.entry.Entry.{Entry}
 use Rattle.bfd_script.specs.declared.entries.Line.{Line}
 use Rattle.bfd_edge.specs.Faults.{risen}
 use Rattle.bfd_edge.specs.Links.{LinkTold}
 use Rattle.bfd_edge.specs.Tickers.{TickerTold}
 use Rattle.bfd_engine.specs.Engines.{Shards}
+use Rattle.bfd_engine.specs.Calls.{Act}
 use Rattle.bfd_serve.specs.declared.ending.End.{End}
 use Rattle.bfd_serve.specs.declared.ending.End.TheVariants as kinds
 use Rattle.bfd_serve.specs.declared.serving.Limits.{Limits}
 use Rattle.bfd_serve.specs.Calls.{worker_acts}
+use Rattle.bfd_serve.specs.Orders.{timer_acts}
 use Rattle.bfd_serve.specs.Works.{StartsOn}
 use Rattle.bfd_serving.specs.declared.finish.Finish.{Finish}
 use Rattle.bfd_serving.specs.declared.finish.Finish.TheVariants.{Done, LinkFault, ClockFault, JournalFull, Turns}
-use Rattle.bfd_serving.specs.Runs.{HaveRun}
+use Rattle.bfd_serving.specs.Runs.{HaveRun, all_on}
 
 module _ (engine : Shards) (histories : ℕ → List Entry) (orders : List Line) (workers : ℕ) (limits : Limits) (before after : ℕ → LinkTold) (c d : TickerTold) (ends : List End) (lost : ℕ)
     (run : HaveRun engine histories orders workers limits before after c d ends lost) where
@@ -46,6 +48,17 @@ module _ (engine : Shards) (histories : ℕ → List Entry) (orders : List Line)
   Lacks zero shard = StartsOn shard run.timer.did.cut
   Lacks (suc at) shard = (less : at < workers) × StartsOn shard (worker_acts engine (run.each at less).did.cut)
 
+  -- the acts of the worker of the link at this place: what every arrival that the link gave comes to
+  abbrev pub IsAll : ℕ → List Act → Type 0
+  IsAll at acts = (less : at < workers) × (acts ≡ worker_acts engine ((run.each at less).did.done ++ (run.each at less).did.cut))
+
+  -- on the shard all callers have more calls than this: the timer at its ticks, and each worker by all that its link gave
+  pub record IsOver (journal shard : ℕ) : Type 0 where
+    pub acts : List (List Act)
+    pub long : length acts ≡ workers
+    pub each : (at : ℕ) (other : List Act) → at < workers → IsAll at (slice_index_or acts at other)
+    pub over : journal < all_on shard 0 (timer_acts engine orders run.timer.did.got false ∷ acts)
+
   -- the shard's journal is at its limit, and the first caller that didn't end well has a call more there
   pub record IsFull (journal shard : ℕ) : Type 0 where
     pub inside : shard < length engine.locks
@@ -54,6 +67,7 @@ module _ (engine : Shards) (histories : ℕ → List Entry) (orders : List Line)
     pub first : (number : ℕ) → number < caller → slice_index_or ends number kinds.Ended ≡ kinds.Ended
     pub end : slice_index_or ends caller kinds.Ended ≡ kinds.Full shard journal
     pub lacks : Lacks caller shard
+    pub over : IsOver journal shard
 
   abbrev pub IsCause : ℕ → Finish → Type 0
   IsCause journal Done = IsDone

@@ -15,9 +15,11 @@ use Rattle.bfd_edge.specs.Ports.{PortsTold}
 use Rattle.bfd_edge.specs.Tickers.{TickerTold}
 use Rattle.bfd_engine.specs.Turned.{by}
 use Rattle.bfd_engine.specs.Engines.{Shards, configs_at, share}
+use Rattle.bfd_engine.specs.Calls.{Act}
 use Rattle.bfd_serve.specs.declared.ending.End.{End}
 use Rattle.bfd_serve.specs.declared.ending.End.TheVariants.{Ended}
 use Rattle.bfd_serve.specs.declared.serving.Limits.{Limits}
+use Rattle.bfd_serve.specs.Calls.{calls_of, entries}
 use Rattle.bfd_serve.specs.Serves.{TimerDid, WorkerDid}
 use Rattle.bfd_served.specs.Served.{history_of, served}
 use Rattle.bfd_serving.specs.declared.finish.Finish.{Finish}
@@ -92,3 +94,12 @@ pub record AreClosedShards (engine : Shards) (shards : List Shard) : Type 0 wher
 pub record AreDealt (shards count : ℕ) (configs : List SessionConfig) (parts : List (List SessionConfig)) : Type 0 where
   pub long : length parts ≡ count
   pub each : (shard : ℕ) → shard < count → slice_index_or parts shard [] ≡ share shards shard configs
+
+-- how many of these acts of a caller are calls on the shard
+abbrev pub calls_on : ℕ → ℕ → List Act → ℕ
+calls_on caller shard acts = length (entries caller shard (calls_of acts))
+
+-- the same of all callers from this number on, each with its acts
+abbrev pub all_on : ℕ → ℕ → List (List Act) → ℕ
+all_on shard caller [] = 0
+all_on shard caller (acts ∷ more) = calls_on caller shard acts + all_on shard (caller + 1) more
