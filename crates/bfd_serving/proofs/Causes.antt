@@ -29,7 +29,7 @@ use Rattle.bfd_serving.specs.declared.finish.Finish.{Finish}
 use Rattle.bfd_serving.specs.declared.finish.Finish.TheVariants.{Done, LinkFault, ClockFault, JournalFull, Turns}
 use Rattle.bfd_serving.specs.Finishes.{finish_by, finish_from, IsPlain}
 use Rattle.bfd_serving.specs.Runs.{calls_on, all_on, journal_in, history_at, no_words, HaveRun, AreClosedShards}
-use Rattle.bfd_serving.specs.Causes.{IsDone, IsLinkFault, IsTurns, Lacks, IsAll, IsOver, IsFull, IsCause}
+use Rattle.bfd_serving.specs.Causes.{IsDone, IsLinkFault, IsTurns, Lacks, IsAll, IsOver, IsFull, IsCause, Completes}
 use Rattle.bfd_serving.proofs.Counts.{total, all_counted, bonus, bonuses, bonus_some, gather}
 use Rattle.bfd_serving.proofs.Closings.{there_is, none_is}
 
@@ -57,7 +57,9 @@ ended_more xs f (suc j) h = f j (omega arith)
 
 blame_later : (i : ℕ) (xs : List End) (finish : Finish) → Blamed (i + 1) xs finish → Blamed i (end.Ended ∷ xs) finish
 blame_later i xs finish b = record {
-  at = suc b.at; inside = (let a = b.inside in omega (arith, a)); other = b.other;
+  at = suc b.at;
+  inside = (let a = b.inside in omega (arith, a));
+  other = b.other;
   before = before_later xs b.at b.before;
   finish_is = b.finish_is ∙ (let e : i + 1 + b.at ≡ i + suc b.at = omega arith in ap (λ n. finish_by n (get_or xs b.at end.Ended) Done) e);
 }
@@ -92,7 +94,6 @@ module _ (engine : Shards) (states : List Shard) (orders : List Line) (workers :
     (run : HaveRun engine (history_at states) orders workers limits before after c d ends lost)
     (new : (n : ℕ) → n ≤ workers → IsNewLink (before n)) (turns_few : limits.turns ≤ 1000000000)
     (journal : ℕ) (limit_is : engine.limit ≡ journal) (some : 0 < journal) (closed : AreClosedShards engine states) where
-
   ends_count : length ends ≡ workers + 1
   ends_count = let a = ap length run.ends_are in let e = run.ends_long in omega (arith, a, e)
 
@@ -115,7 +116,7 @@ module _ (engine : Shards) (states : List Shard) (orders : List Line) (workers :
   full_at : (s n : ℕ) → n ≤ length (history_at states s) → n ≡ engine.limit → (s < length engine.locks) × (length (history_at states s) ≡ journal) × (n ≡ journal)
   full_at s n long is = dite (dec_lt s (length states))
       (λ less. let x = there_is states s less in let a = closed.each s x.0 x.1 in let f = a.kept.full in let l = a.limit in let e = ap (λ o. length (journal_in o)) x.1 in
-          ((let b = closed.long in omega (arith, less, b)), omega (arith, long, is, f, l, e, limit_is), is ∙ limit_is))
+      ((let b = closed.long in omega (arith, less, b)), omega (arith, long, is, f, l, e, limit_is), is ∙ limit_is))
       (λ far. let e = ap (λ o. length (journal_in o)) (none_is states s (omega (arith, far))) in absurd (omega (arith, e, long, is, limit_is, some)))
 
   module _ (at s n : ℕ) (blamed : get_or ends at end.Ended ≡ end.Full s n) (within : at < workers + 1) (first : (j : ℕ) → j < at → get_or ends j end.Ended ≡ end.Ended) (here : s < length engine.locks) where
@@ -155,19 +156,30 @@ module _ (engine : Shards) (states : List Shard) (orders : List Line) (workers :
   by_blame at end.Memory inner is other first plain = absurd plain
   by_blame zero (end.Full s n) inner is other first plain =
       let w = (timer_is (end.Full s n) is).1 in let f = full_at s n w.1 w.3 in record {
-        inside = f.0; full = f.1; caller = 0; first = first; end = is ∙ ap (end.Full s) f.2; lacks = w.2;
+        inside = f.0;
+        full = f.1;
+        caller = 0;
+        first = first;
+        end = is ∙ ap (end.Full s) f.2;
+        lacks = w.2;
         over = is_over zero s n is inner first f.0 (let e = f.1 in omega (arith, e));
       }
   by_blame (suc i) (end.Full s n) inner is other first plain =
       let less : i < workers = omega (arith, inner) in
       let w = (worker_is i less (end.Full s n) is).2 in let f = full_at s n w.1 w.3 in record {
-        inside = f.0; full = f.1; caller = suc i; first = first; end = is ∙ ap (end.Full s) f.2; lacks = (less, w.2);
+        inside = f.0;
+        full = f.1;
+        caller = suc i;
+        first = first;
+        end = is ∙ ap (end.Full s) f.2;
+        lacks = (less, w.2);
         over = is_over (suc i) s n is inner first f.0 (let e = f.1 in omega (arith, e));
       }
   by_blame zero end.LinkFault inner is other first plain = absurd (timer_is end.LinkFault is)
   by_blame (suc i) end.LinkFault inner is other first plain =
       let less : i < workers = omega (arith, inner) in let w = worker_is i less end.LinkFault is in let e : i + 1 ≡ suc i = omega arith in record {
-        some = omega arith; few = omega (arith, less);
+        some = omega arith;
+        few = omega (arith, less);
         over = subst (λ n. (after n).counts.over ≡ false) e w.2;
         faults = subst (λ n. (after n).counts.receive_faults ≡ 1) e (let a = w.3 in let b = no_faults i less in omega (arith, a, b));
       }
@@ -176,7 +188,8 @@ module _ (engine : Shards) (states : List Shard) (orders : List Line) (workers :
   by_blame zero (end.Turns n) inner is other first plain = absurd (timer_is (end.Turns n) is)
   by_blame (suc i) (end.Turns n) inner is other first plain =
       let less : i < workers = omega (arith, inner) in let w = worker_is i less (end.Turns n) is in let e : i + 1 ≡ suc i = omega arith in record {
-        some = omega arith; few = omega (arith, less);
+        some = omega arith;
+        few = omega (arith, less);
         over = subst (λ n. (after n).counts.over ≡ false) e w.2;
         faults = subst (λ n. (after n).counts.receive_faults ≡ 0) e (w.3 ∙ no_faults i less);
         gave = subst (λ n. (after n).counts.gave ≡ limits.turns) e (let a = w.5 in let b = gave_none i less in omega (arith, a, b, turns_few));
@@ -195,7 +208,10 @@ module _ (engine : Shards) (states : List Shard) (orders : List Line) (workers :
   by_ended : AllEnded ends → IsDone engine (history_at states) orders workers limits before after c d ends lost run
   by_ended all =
       let t = timer_is end.Ended (all 0 (let a = ends_count in omega (arith, a))) in record {
-        links = link_done all; ticker = timer_gave t.3; faults = t.2; timer = t.0;
+        links = link_done all;
+        ticker = timer_gave t.3;
+        faults = t.2;
+        timer = t.0;
         workers_are = λ at less. (worker_is at less end.Ended (all (suc at) (let a = ends_count in omega (arith, a, less)))).0;
       }
 
@@ -208,3 +224,13 @@ module _ (engine : Shards) (states : List Shard) (orders : List Line) (workers :
 
   pub cause : All IsPlain ends → (finish : Finish) → finish ≡ finish_from 0 ends → IsCause engine (history_at states) orders workers limits before after c d ends lost run journal finish
   cause plain finish is = subst (IsCause engine (history_at states) orders workers limits before after c d ends lost run journal) (sym is) (by_either (blame 0 ends plain) plain)
+
+  completes_by : (finish : Finish) → IsCause engine (history_at states) orders workers limits before after c d ends lost run journal finish → Completes engine (history_at states) orders workers limits before after c d ends lost run journal finish
+  completes_by Done x links clock few = refl
+  completes_by (LinkFault n) x links clock few = absurd (let a = (links n x.some x.few).1 in let b = x.faults in omega (arith, a, b))
+  completes_by ClockFault x links clock few = absurd (omega (arith, x, clock))
+  completes_by (JournalFull s) x links clock few = absurd (few s x.inside x.over)
+  completes_by (Turns n) x links clock few = absurd (cc (sym (links n x.some x.few).0 ∙ x.over))
+
+  pub completes : All IsPlain ends → (finish : Finish) → finish ≡ finish_from 0 ends → Completes engine (history_at states) orders workers limits before after c d ends lost run journal finish
+  completes plain finish is = completes_by finish (cause plain finish is)

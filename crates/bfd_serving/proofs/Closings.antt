@@ -92,7 +92,6 @@ module _ {L : Type 0} (told : L → LinkTold) (engine : Shards) (l : Knows) (own
     (served : HasServed told engine l (told own) (told own2) c d orders limits links back ends lost)
     (of : IsOf engine l.1) (zero_is : l.0 ≡ 0) (closed : AreClosed engine l states)
     (few : length links ≤ 64) (turns_few : limits.turns ≤ 1000000000) (ticks_few : limits.ticks ≤ 1000000000) (orders_few : length orders ≤ 200000) where
-
   -- what is known of one shard
   at_shard : (s : ℕ) → s < length engine.locks → (x : Shard) × (slice_get states s ≡ Some x) × IsClosed engine l s x
   at_shard s less = let x = there_is states s (let b = closed.long in omega (arith, less, b)) in (x.0, x.1, closed.each s x.0 x.1)
@@ -121,8 +120,17 @@ module _ {L : Type 0} (told : L → LinkTold) (engine : Shards) (l : Knows) (own
     own = served.own;
     own_is = λ s less. ap (calls by 0) (history_is s) ∙ (ap (λ n. calls by n (seen_at l s)) (sym zero_is) ∙ served.own_is s less);
     did = record {
-      got = timer_did.got; done = timer_did.done; cut = timer_did.cut; untried = timer_did.untried; all = timer_did.all; did = timer_did.did;
-      aside = timer_did.aside; given = timer_did.given; gave = timer_did.gave; few = timer_did.few; ends = timer_end_is.1;
+      got = timer_did.got;
+      done = timer_did.done;
+      cut = timer_did.cut;
+      untried = timer_did.untried;
+      all = timer_did.all;
+      did = timer_did.did;
+      aside = timer_did.aside;
+      given = timer_did.given;
+      gave = timer_did.gave;
+      few = timer_did.few;
+      ends = timer_end_is.1;
     };
   }
 
@@ -135,14 +143,16 @@ module _ {L : Type 0} (told : L → LinkTold) (engine : Shards) (l : Knows) (own
       let e : End = slice_index_or served.worker_ends at end in let m : ℕ = slice_index_or served.worker_losts at miss in
       let w = served.workers at link end miss inner in
       let d : WorkerDid engine (at + 1) w.own (history_at states) (word_at l) t u limits.turns e m = subst (λ h. WorkerDid engine (at + 1) w.own h (word_at l) t u limits.turns e m) histories_are w.worked in
-      let x = worker_unspent engine (history_at states) (word_at l) t u limits.turns (worker_acts engine d.cut) d.untried e words_small d.ends in
-      (x.0, record {
-        own = w.own;
-        own_is = λ s less. (let a = at_shard s less in
-            ap (calls by (at + 1)) (ap journal_in a.1)
-            ∙ kept_here (kept_at l s) a.0.journal at (at + 1) (w.own s) (w.kept s less) a.2.kept);
-        did = record { done = d.done; cut = d.cut; untried = d.untried; did = d.did; ends = x.1; few = d.few };
-      })
+      let x = worker_unspent engine (history_at states) (word_at l) t u limits.turns (worker_acts engine d.cut) d.untried e words_small d.ends in (
+        x.0,
+        record {
+          own = w.own;
+          own_is = λ s less. (let a = at_shard s less in
+              ap (calls by (at + 1)) (ap journal_in a.1)
+              ∙ kept_here (kept_at l s) a.0.journal at (at + 1) (w.own s) (w.kept s less) a.2.kept);
+          did = record { done = d.done; cut = d.cut; untried = d.untried; did = d.did; ends = x.1; few = d.few };
+        },
+      )
 
   -- a kept number is that of a worker
   kept_numbers : (s : ℕ) → s < length engine.locks → (n : ℕ) → length links < n → (i : ℕ) (j : ℕ × List Entry) → slice_get (kept_at l s) i ≡ Some j → j.0 ≢ n
@@ -155,7 +165,7 @@ module _ {L : Type 0} (told : L → LinkTold) (engine : Shards) (l : Knows) (own
   others_here : (n s : ℕ) → s < length engine.locks → length links < n → calls by n (history_at states s) ≡ []
   others_here n s less far = let a = at_shard s less in
       ap (calls by n) (ap journal_in a.1) ∙ a.2.unmade n (λ z. absurd (omega (arith, z, far)))
-          (ap (has n) (served.made s less) ∙ none_has n (kept_at l s) (kept_numbers s less n far))
+      (ap (has n) (served.made s less) ∙ none_has n (kept_at l s) (kept_numbers s less n far))
 
   each_ran : (at : ℕ) → at < length links → WorkerRan engine (history_at states) (at + 1) ((told_by told own links) (at + 1)) ((told_by told own2 back) (at + 1)) limits.turns (slice_index_or served.worker_ends at Ended) (slice_index_or served.worker_losts at 0)
   each_ran at inner =
@@ -167,9 +177,17 @@ module _ {L : Type 0} (told : L → LinkTold) (engine : Shards) (l : Knows) (own
 
   pub have_run : HaveRun engine (history_at states) orders (length links) limits (told_by told own links) (told_by told own2 back) c d ends lost
   have_run = record {
-    timer_end = served.timer_end; timer_missing = served.timer_lost; timer = timer_ran;
-    worker_ends = served.worker_ends; missing = served.worker_losts; ends_are = served.ends_are;
-    ends_long = served.ends_long; missing_long = served.losts_long; each = each_ran; others = others_here; lost_is = served.lost_is;
+    timer_end = served.timer_end;
+    timer_missing = served.timer_lost;
+    timer = timer_ran;
+    worker_ends = served.worker_ends;
+    missing = served.worker_losts;
+    ends_are = served.ends_are;
+    ends_long = served.ends_long;
+    missing_long = served.losts_long;
+    each = each_ran;
+    others = others_here;
+    lost_is = served.lost_is;
   }
 
   pub unspent : All IsUnspent ends
@@ -183,13 +201,14 @@ pub one_more : {X : Type 0} (P : X → Type 0) (xs : List X) (at : ℕ) (x : X) 
 one_more P xs at x inside is here before k d h = dite (dec_lt k at)
     (λ less. before k d less)
     (λ last. let same : k ≡ at = omega (arith, last, h) in
-        subst P (is ∙ (get_or_default xs at x d inside ∙ ap (λ i. get_or xs i d) (sym same))) here)
+    subst P (is ∙ (get_or_default xs at x d inside ∙ ap (λ i. get_or xs i d) (sym same))) here)
 
 pub closed_shards : (engine : Shards) (l : Knows) (states seen : List Shard) → AreClosed engine l states → seen ≡ states → All IsShard seen → AreClosedShards engine states
 closed_shards engine l states seen closed same kept = record {
   long = closed.long;
   each = λ n x e. (let a = closed.each n x e in record {
-    configs = a.configs; limit = a.limit;
+    configs = a.configs;
+    limit = a.limit;
     kept = subst IsShard (read states n x x e) (subst (All IsShard) same kept n x (within states n x e));
   });
 }

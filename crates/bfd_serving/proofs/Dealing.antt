@@ -45,7 +45,7 @@ module _ {A : Type 0} where
       let split : drop at xs ≡ x ∷ drop (at + 1) xs = drop_more xs at x inside ∙ ap (λ y. y ∷ drop (at + 1) xs) (sym is) in
       let far : drop (n - 1) (drop (at + 1) xs) ≡ drop next xs = (let e : at + 1 + (n - 1) ≡ next = omega (arith, some, next_is) in drop_twice (at + 1) (n - 1) xs ∙ ap (λ k. drop k xs) e) in
       let one : share n 0 (drop at xs) ≡ x ∷ share n 0 (drop next xs) =
-          ap (share n 0) split ∙ (share_one n x (drop (at + 1) xs) ∙ ap (λ ys. x ∷ ys) (sym (share_from n (n - 1) (drop (at + 1) xs)) ∙ ap (share n 0) far)) in
+      ap (share n 0) split ∙ (share_one n x (drop (at + 1) xs) ∙ ap (λ ys. x ∷ ys) (sym (share_from n (n - 1) (drop (at + 1) xs)) ∙ ap (share n 0) far)) in
       ap (λ ys. ys ++ share n 0 (drop next xs)) pushed ∙ (append_assoc part (x ∷ []) (share n 0 (drop next xs)) ∙ (ap (λ ys. part ++ ys) (sym one) ∙ whole))
 
   share_nothing : (n : ℕ) (xs : List A) → xs ≡ [] → share n 0 xs ≡ []
@@ -84,11 +84,11 @@ parts_are engine shards configs parts states locks same dealt closed =
     let long : length parts ≡ length (map (λ (state : Shard). configs_of state.sessions) states) = dealt.long ∙ (sym locks ∙ (sym closed.long ∙ sym (length-map states (λ (state : Shard). configs_of state.sessions)))) in
     same_lists parts (map (λ state. configs_of state.sessions) states) long
     (λ k d h. let few : k < shards = (let a = dealt.long in omega (arith, a, h)) in
-        let in_states : k < length states = (let a = closed.long in omega (arith, a, few, locks)) in
-        get_or_default parts k d [] h ∙ (dealt.each k few ∙ own_share engine shards configs k states d locks same closed in_states))
+    let in_states : k < length states = (let a = closed.long in omega (arith, a, few, locks)) in
+    get_or_default parts k d [] h ∙ (dealt.each k few ∙ own_share engine shards configs k states d locks same closed in_states))
 
 -- each part is within its ranges
 pub parts_fit : (shards : ℕ) (configs : List SessionConfig) (parts : List (List SessionConfig)) → AreFit configs → AreDealt shards shards configs parts → AllByRecursion AreFit parts
 parts_fit shards configs parts fit dealt = recursion_from_All AreFit parts
     (λ k d h. let few : k < shards = (let a = dealt.long in omega (arith, a, h)) in
-        subst AreFit (sym (get_or_default parts k d [] h ∙ dealt.each k few)) (all_share IsFit shards k configs fit))
+    subst AreFit (sym (get_or_default parts k d [] h ∙ dealt.each k few)) (all_share IsFit shards k configs fit))

@@ -43,9 +43,9 @@ pub shut_next : {L : Type 0} (told : L → LinkTold) (own : L) (p q : PortsTold)
     → (n : ℕ) → n ≤ length (ys ++ x ∷ []) → q.shut n ≡ Some (told (get_or (own ∷ (ys ++ x ∷ [])) n own))
 shut_next told own p q number ys x is number_is old n h = dite (dec_lt n (length ys + 1))
     (λ less. ap (λ (z : PortsTold). z.shut n) is ∙ (shut_else number n (told x) p (λ e. absurd (omega (arith, e, number_is, less)))
-        ∙ (old n (omega (arith, less)) ∙ ap (λ w. Some (told w)) (sym (get_front (own ∷ ys) (x ∷ []) n own (omega (arith, less)))))))
+    ∙ (old n (omega (arith, less)) ∙ ap (λ w. Some (told w)) (sym (get_front (own ∷ ys) (x ∷ []) n own (omega (arith, less)))))))
     (λ last. let at : n ≡ length (own ∷ ys) = omega (arith, last, h, length-append ys (x ∷ [])) in
-        ap (λ (z : PortsTold). z.shut n) is ∙ (shut_here number n (told x) p (omega (arith, at, number_is)) ∙ ap (λ w. Some (told w)) (sym (get_last (own ∷ ys) x n own at))))
+    ap (λ (z : PortsTold). z.shut n) is ∙ (shut_here number n (told x) p (omega (arith, at, number_is)) ∙ ap (λ w. Some (told w)) (sym (get_last (own ∷ ys) x n own at))))
 
 opened_here : {L : Type 0} (n m : ℕ) (link : L) (p : PortsTold) → m ≡ n → (after_open n (Ok link) p).opened m ≡ true
 opened_here n m link p is = let e : (m == n) ≡ true = grind (arith, nat_tests, is) in rw e refl

@@ -19,7 +19,7 @@ use Rattle.bfd_serving.specs.Finishes.{finish_from, IsPlain}
 use Rattle.bfd_serving.specs.Linking.{IsNew, IsOpenTo, AreShut}
 use Rattle.bfd_serving.specs.Runs.{history_at, told_by, HaveRun, IsOpened, AreClosedShards}
 use Rattle.bfd_serving.specs.Wholes.{HasRun}
-use Rattle.bfd_serving.proofs.Causes.{cause}
+use Rattle.bfd_serving.proofs.Causes.{cause, completes}
 
 -- every link that was opened was shut
 pub all_shut : {L : Type 0} (told : L → LinkTold) (own : L) (back links : List L) (workers : ℕ) (first p q : PortsTold) → IsOpenTo workers first p → length links ≡ workers → length back ≡ length links
@@ -39,8 +39,8 @@ pub whole_run : {L : Type 0} (told : L → LinkTold) (own own2 : L) (links back 
     → limits.turns ≤ 1000000000 → 0 < journal → All IsPlain ends → finish ≡ finish_from 0 ends → HasRun script shards workers journal limits q c d states text lost finish
 whole_run told own own2 links back given script orders shards workers journal limits q c d engine states text ends lost finish opened same orders_are closed text_is own_new new long same_long shut run turns_few some plain finish_is =
     let all : HaveRun engine (history_at states) script.events workers limits (told_by told own links) (told_by told own2 back) c d ends lost =
-        subst (λ n. HaveRun engine (history_at states) script.events n limits (told_by told own links) (told_by told own2 back) c d ends lost) long
-        (subst (λ os. HaveRun engine (history_at states) os (length links) limits (told_by told own links) (told_by told own2 back) c d ends lost) (orders_are ∙ ap (λ (s : Lists). s.events) same) run) in
+    subst (λ n. HaveRun engine (history_at states) script.events n limits (told_by told own links) (told_by told own2 back) c d ends lost) long
+    (subst (λ os. HaveRun engine (history_at states) os (length links) limits (told_by told own links) (told_by told own2 back) c d ends lost) (orders_are ∙ ap (λ (s : Lists). s.events) same) run) in
     let all_new : (n : ℕ) → n ≤ workers → IsNewLink (told_by told own links n) = (λ n h. All-get_or (IsNew told) (own ∷ links) n own (omega (arith, h, long)) (All-cons (IsNew told) own links own_new new)) in record {
       engine = engine;
       opened = subst (λ s. IsOpened engine s shards journal) same opened;
@@ -55,4 +55,5 @@ whole_run told own own2 links back given script orders shards workers journal li
       plain = plain;
       finish_is = finish_is;
       cause = cause engine states script.events workers limits (told_by told own links) (told_by told own2 back) c d ends lost all all_new turns_few journal opened.limit some closed plain finish finish_is;
+      complete = completes engine states script.events workers limits (told_by told own links) (told_by told own2 back) c d ends lost all all_new turns_few journal opened.limit some closed plain finish finish_is;
     }

@@ -19,7 +19,6 @@ use Rattle.bfd_serving.specs.Runs.{HaveRun, all_on}
 
 module _ (engine : Shards) (histories : ℕ → List Entry) (orders : List Line) (workers : ℕ) (limits : Limits) (before after : ℕ → LinkTold) (c d : TickerTold) (ends : List End) (lost : ℕ)
     (run : HaveRun engine histories orders workers limits before after c d ends lost) where
-
   -- every link of a worker and the ticker ended, or it gave its limit of ticks, and no call of any caller is left out
   pub record IsDone : Type 0 where
     pub links : (number : ℕ) → 0 < number → number ≤ workers → ((after number).counts.over ≡ true) × ((after number).counts.receive_faults ≡ 0)
@@ -75,3 +74,12 @@ module _ (engine : Shards) (histories : ℕ → List Entry) (orders : List Line)
   IsCause journal ClockFault = d.faults ≡ risen c.faults 1
   IsCause journal (JournalFull shard) = IsFull journal shard
   IsCause journal (Turns number) = IsTurns number
+
+  -- where every link of a worker ended, no count of a link or of the ticker rose, and no shard has more calls than a journal
+  -- takes, the run is done
+  abbrev pub Completes : ℕ → Finish → Type 0
+  Completes journal finish =
+      ((number : ℕ) → 0 < number → number ≤ workers → ((after number).counts.over ≡ true) × ((after number).counts.receive_faults ≡ 0))
+      → d.faults < risen c.faults 1
+      → ((shard : ℕ) → shard < length engine.locks → IsOver journal shard → ⊥)
+      → finish ≡ Done

@@ -13,7 +13,7 @@ use Rattle.bfd_served.specs.Served.{history_of, served}
 use Rattle.bfd_serving.specs.declared.finish.Finish.{Finish}
 use Rattle.bfd_serving.specs.Finishes.{finish_from, IsPlain}
 use Rattle.bfd_serving.specs.Runs.{HaveRun, IsOpened, AreClosedShards, history_at}
-use Rattle.bfd_serving.specs.Causes.{IsCause}
+use Rattle.bfd_serving.specs.Causes.{IsCause, Completes}
 
 -- a run of a script: its engine, its links from their opening to their shutting, and what all did, to the text
 pub record HasRun (script : Lists) (shards workers journal : ℕ) (limits : Limits) (q : PortsTold) (c d : TickerTold) (states : List Shard) (text : List ℕ) (lost : ℕ) (finish : Finish) : Type 0 where
@@ -30,3 +30,4 @@ pub record HasRun (script : Lists) (shards workers journal : ℕ) (limits : Limi
   pub plain : All IsPlain ends
   pub finish_is : finish ≡ finish_from 0 ends
   pub cause : IsCause engine (history_at states) script.events workers limits before after c d ends lost run journal finish
+  pub complete : Completes engine (history_at states) script.events workers limits before after c d ends lost run journal finish
