@@ -30,6 +30,14 @@ all_shut told own back links workers first p q opened long same_long same shut =
       (λ near. (told (slice_index_or (own ∷ back) n own), shut n (omega (arith, near, long, same_long))));
 }
 
+-- the same links were opened after they were shut
+pub still_open : (last : ℕ) (first p q : PortsTold) → IsOpenTo last first p → ((n : ℕ) → q.opened n ≡ p.opened n) → q.faults ≡ p.faults → IsOpenTo last first q
+still_open last first p q opened same faults = record {
+  open_is = λ n h. same n ∙ opened.open_is n h;
+  others = λ n h. same n ∙ opened.others n h;
+  faults = faults ∙ opened.faults;
+}
+
 pub whole_run : {L : Type 0} (told : L → LinkTold) (own own2 : L) (links back : List L) (given script : Lists) (orders : List Line) (shards workers journal : ℕ) (limits : Limits) (q : PortsTold) (c d : TickerTold) (engine : Shards)
     (states : List Shard) (text : List ℕ) (ends : List End) (lost : ℕ) (finish : Finish)
     → IsOpened engine given shards journal → given ≡ script → orders ≡ given.events → AreClosedShards engine states → text ≡ served (map history_of states) lost

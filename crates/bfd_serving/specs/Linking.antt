@@ -11,7 +11,7 @@ use Rattle.bfd_serving.specs.declared.finish.Refused.TheVariants.{PortFault, Mem
 abbrev pub IsNew : {L : Type 0} → (L → LinkTold) → L → Type 0
 IsNew told link = IsNewLink (told link)
 
--- the links 0 to this number are open, no other was opened, and opening didn't fail
+-- exactly the links 0 to this number were opened, and opening didn't fail
 pub record IsOpenTo (last : ℕ) (before after : PortsTold) : Type 0 where
   pub open_is : (number : ℕ) → number ≤ last → after.opened number ≡ true
   pub others : (number : ℕ) → last < number → after.opened number ≡ false

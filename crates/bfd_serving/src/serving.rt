@@ -1,7 +1,7 @@
 //! A run of a script.
 ghost use Rattle.std.specs.Prelude.{◌≡◌, ◌<◌, ◌≤◌, ℕ, false, IfOk, IfErr};
 ghost use Rattle.bfd_script.specs.Sound.{IsScript};
-ghost use Rattle.bfd_serving.specs.Linking.{AreShut, IsRefused};
+ghost use Rattle.bfd_serving.specs.Linking.{AreShut, IsOpenTo, IsRefused};
 ghost use Rattle.bfd_serving.specs.Wholes.{HasRun};
 
 use crate::copying::dealt;
@@ -35,7 +35,15 @@ pub struct Outcome<W: Timers> {
     pub finish: Finish,
 }
 
-/// Runs a script.
+/// Runs a script whose packets come from links and whose ticks come from a ticker, on 1 to 64 shards, with 1 to 64 workers at
+/// once. It may wait.
+///
+/// Session k of the table stands at place k / shards of shard k % shards, and each shard's journal takes `journal` entries. The
+/// timer is caller 0, over link 0 and the ticker, and gives the script's event lines as orders; worker i is caller i, over link i.
+/// Turns and ticks are at most 1,000,000,000.
+///
+/// `PortFault` comes where a port can't be opened: its count of faults rose, nothing ran, and no link was called. `Memory` comes for
+/// want of memory alone, before the run, in a caller, or after it. In every case each link that was opened is shut.
 pub fn serve_script<
     W: Timers + Send,
     P: Ports,
@@ -58,14 +66,14 @@ where
     P::Link: Send,
     requires script { IsScript script }
     requires shards { (0 < shards) × (shards ≤ 64) }
-    requires workers { workers ≤ 64 }
+    requires workers { (0 < workers) × (workers ≤ 64) }
     requires journal { 0 < journal }
     requires turns { limits.turns ≤ 1000000000 }
     requires ticks { limits.ticks ≤ 1000000000 }
     requires new { (number : ℕ) → (P.told ports.old).opened number ≡ false }
     requires clock { (T.told ticker.old).over ≡ false }
     ensures run { IfOk result (λ run. HasRun script shards workers journal limits (P.told ports.new) (T.told ticker.old) (T.told ticker.new) run.states.items run.text.items run.lost run.finish) }
-    ensures faults { IfOk result (λ run. (P.told ports.new).faults ≡ (P.told ports.old).faults) }
+    ensures opened { IfOk result (λ _. IsOpenTo workers (P.told ports.old) (P.told ports.new)) }
     ensures shut { AreShut (P.told ports.new) }
     ensures refused { IfErr result (λ refused. IsRefused refused (P.told ports.old) (P.told ports.new) (T.told ticker.old) (T.told ticker.new)) }
 {

@@ -12,7 +12,7 @@ use Rattle.bfd_serve.specs.declared.ending.End.{End}
 use Rattle.bfd_serving.specs.Finishes.{IsUnspent, IsPlain, finish_from}
 use Rattle.bfd_serving.specs.Runs.{script_of, history_at, told_by, HaveRun, AreClosedShards}
 use Rattle.bfd_serving.proofs.Dealing.{parts_are, parts_fit}
-use Rattle.bfd_serving.proofs.Wholes.{all_shut, whole_run}
+use Rattle.bfd_serving.proofs.Wholes.{all_shut, still_open, whole_run}
 use Rattle.bfd_serving.proofs.serving.serve_script.Goals as goal
 
 pub returns-in_default-ran-clause-shut : goal.returns-in_default-ran-clause-shut
@@ -66,3 +66,7 @@ returns-clause-run g c =
     (subst (λ r. IfOk r (λ closed. HaveRun e (history_at closed.states.items) c.deref-3.result.now (length c.in_ok-own.links.items) c.args.limits (told_by told c.in_ok-own.own c.in_ok-own.links.items) (told_by told c.run_all-links.new.own c.run_all-links.result.0.items) (clock c.args.ticker.now) (clock c.run_all-links.new.ticker) closed.ends.items closed.lost)) ok c.run_all-links.ensures.run)
     c.requires.turns c.requires.journal (subst (All IsPlain) c.deref-4.ensures.value c.in-Ok-finish_of.ensures.plain)
     (c.in-Ok-finish_of.ensures.value ∙ ap (finish_from 0) c.deref-4.ensures.value)
+
+pub returns-clause-opened : goal.returns-clause-opened
+returns-clause-opened g c =
+    still_open c.args.workers (g.P.Ports.told c.args.ports.now) (g.P.Ports.told c.open_all.new.ports) (g.P.Ports.told c.shut_all.new.ports) c.in_ok-own.ensures.opened c.shut_all.ensures.opened c.shut_all.ensures.faults
