@@ -1,0 +1,214 @@
+-- From what all did to the histories of the closed shards.
+use Rattle.std.proofs.Common.{◌≡◌, ◌≢◌, ℕ, zero, suc, ◌+◌, ◌*◌, ◌<◌, ◌≤◌, ◌==◌, ◌||◌, Bool, true, false, List, [], ◌∷◌, ◌++◌, length, map, Option, Some, None, slice_get, get_or, slice_index_or, refl, ap, sym, ◌∙◌, subst, arith}
+use Rattle.std.specs.List.{All, sum}
+use Rattle.std.proofs.lemmas.Bool.Decides.{nat_tests}
+use Rattle.std.proofs.lemmas.List.Elements.{All-same, All-cons}
+use Rattle.std.proofs.lemmas.Nat.{mul-le}
+use Rattle.std.proofs.lemmas.List.{get_or_default}
+use mathlib.Core.Logic.{dite}
+use native.Mathlib.Decide.{dec_lt}
+use Rattle.bfd_turn.specs.Lists.{calls, has, numbers_of}
+use Rattle.bfd_turn.specs.Passes.{last_word}
+use Rattle.bfd_turn.specs.Plays.{AllKept}
+use Rattle.bfd_shard.specs.declared.entry.Entry.{Entry}
+use Rattle.bfd_shard.specs.Shard.{Shard, IsShard}
+use Rattle.bfd_script.specs.declared.entries.Line.{Line}
+use Rattle.bfd_edge.specs.Links.{LinkTold}
+use Rattle.bfd_edge.specs.Tickers.{TickerTold}
+use Rattle.bfd_packet.specs.declared.arrival.Datagram.{Datagram}
+use Rattle.bfd_engine.specs.Turned.{by}
+use Rattle.bfd_engine.specs.Engines.{Shards, Held, Knows, IsOf, AllThere}
+use Rattle.bfd_engine.specs.Calls.{Act, seen_of, word_of, seen_at, word_at, taken_at, made_at, kept_at, mine}
+use Rattle.bfd_engine.specs.Passes.{EachJoined, IsClosed, AreClosed}
+use Rattle.bfd_engine.proofs.Places.{within, same_some}
+use Rattle.bfd_serve.specs.declared.ending.End.{End}
+use Rattle.bfd_serve.specs.declared.ending.End.TheVariants.{Ended, LinkFault, ClockFault, Full, Turns as TurnsMade, Spent, Memory}
+use Rattle.bfd_serve.specs.declared.serving.Limits.{Limits}
+use Rattle.bfd_serve.specs.Works.{IsWorkerEnd}
+use Rattle.bfd_serve.specs.Ticks.{IsTimerEnd}
+use Rattle.bfd_serve.specs.Calls.{worker_acts}
+use Rattle.bfd_serve.specs.Serves.{HasDone, TimerDid, WorkerDid, IsServedBy, HasServed}
+use Rattle.bfd_serving.specs.Runs.{journal_in, history_at, no_words, told_by, TimerRan, WorkerRan, HaveRun, AreClosedShards}
+use Rattle.bfd_serving.specs.Finishes.{IsUnspent}
+
+pub there_is : {X : Type 0} (xs : List X) (i : ℕ) → i < length xs → (x : X) × (slice_get xs i ≡ Some x)
+there_is [] i h = absurd (omega arith)
+there_is (x ∷ xs) zero h = (x, refl)
+there_is (x ∷ xs) (suc i) h = there_is xs i (omega arith)
+
+pub none_is : {X : Type 0} (xs : List X) (i : ℕ) → length xs ≤ i → slice_get xs i ≡ None
+none_is [] zero h = refl
+none_is [] (suc i) h = refl
+none_is (x ∷ xs) zero h = absurd (omega arith)
+none_is (x ∷ xs) (suc i) h = none_is xs i (omega arith)
+
+pub read : {X : Type 0} (xs : List X) (i : ℕ) (x d : X) → slice_get xs i ≡ Some x → get_or xs i d ≡ x
+read [] zero x d e = absurd (cc e)
+read [] (suc i) x d e = absurd (cc e)
+read (y ∷ ys) zero x d e = same_some y x e
+read (y ∷ ys) (suc i) x d e = read ys i x d e
+
+none_has : (n : ℕ) (js : List (ℕ × List Entry)) → ((i : ℕ) (j : ℕ × List Entry) → slice_get js i ≡ Some j → j.0 ≢ n) → has n (numbers_of js) ≡ false
+none_has n [] f = refl
+none_has n (j ∷ js) f = let other = f 0 j refl in let b : (j.0 == n) ≡ false = grind (arith, nat_tests, other) in rw b (none_has n js (λ i x e. f (suc i) x e))
+
+-- every pass that was made was joined
+pub each_joined : (engine : Shards) (l : Knows) → ((shard : ℕ) → shard < length engine.locks → made_at l shard ≡ numbers_of (kept_at l shard)) → EachJoined engine l
+each_joined engine l made shard n inside h = ap (has n) (sym (made shard inside)) ∙ h
+
+-- where no lock has met its last word, no end is Spent
+abbrev pub AreSmall : (ℕ → ℕ) → Type 0
+AreSmall words = (shard : ℕ) → words shard < 18446744073709551614
+
+timer_unspent : (engine : Shards) (histories : ℕ → List Entry) (words : ℕ → ℕ) (c d : TickerTold) (got : List ℕ) (ticks : ℕ) (cut : List Act) (untried : List Datagram) (end : End)
+    → AreSmall words → IsTimerEnd engine histories words c d got ticks cut untried end → IsUnspent end × IsTimerEnd engine histories no_words c d got ticks cut untried end
+timer_unspent engine histories words c d got ticks cut untried (Spent shard word) small i = absurd (let a = small shard in let s = i.1 in let b = s.1 in let e = s.2 in omega (arith, a, b, e))
+timer_unspent engine histories words c d got ticks cut untried (Full shard n) small i = (tt, i)
+timer_unspent engine histories words c d got ticks cut untried Ended small i = (tt, i)
+timer_unspent engine histories words c d got ticks cut untried LinkFault small i = (tt, i)
+timer_unspent engine histories words c d got ticks cut untried ClockFault small i = (tt, i)
+timer_unspent engine histories words c d got ticks cut untried (TurnsMade n) small i = (tt, i)
+timer_unspent engine histories words c d got ticks cut untried Memory small i = (tt, i)
+
+worker_unspent : (engine : Shards) (histories : ℕ → List Entry) (words : ℕ → ℕ) (t u : LinkTold) (turns : ℕ) (cut : List Act) (untried : List Datagram) (end : End)
+    → AreSmall words → IsWorkerEnd engine histories words t u turns cut untried end → IsUnspent end × IsWorkerEnd engine histories no_words t u turns cut untried end
+worker_unspent engine histories words t u turns cut untried (Spent shard word) small i = absurd (let a = small shard in let s = i.2 in let b = s.1 in let e = s.2 in omega (arith, a, b, e))
+worker_unspent engine histories words t u turns cut untried (Full shard n) small i = (tt, i)
+worker_unspent engine histories words t u turns cut untried Ended small i = (tt, i)
+worker_unspent engine histories words t u turns cut untried LinkFault small i = (tt, i)
+worker_unspent engine histories words t u turns cut untried ClockFault small i = (tt, i)
+worker_unspent engine histories words t u turns cut untried (TurnsMade n) small i = (tt, i)
+worker_unspent engine histories words t u turns cut untried Memory small i = (tt, i)
+
+kept_here : (js : List (ℕ × List Entry)) (history : List Entry) (at number : ℕ) (own : List Entry) → slice_get js at ≡ Some (number, own) → AllKept by js history → calls by number history ≡ own
+kept_here js history at number own here kept =
+    let e : get_or js at (number, own) ≡ (number, own) = read js at (number, own) (number, own) here in
+    subst (λ (j : ℕ × List Entry). calls by j.0 history ≡ j.1) e (kept at (number, own) (within js at (number, own) here))
+
+product : (a b : ℕ) → a ≤ 64 → b ≤ 1000000000 → a * b ≤ 64000000000
+product a b h k = mul-le a b 64 1000000000 h k
+
+module _ {L : Type 0} (told : L → LinkTold) (engine : Shards) (l : Knows) (own own2 : L) (c d : TickerTold) (orders : List Line) (limits : Limits) (links back : List L) (ends : List End) (lost : ℕ) (states : List Shard)
+    (served : HasServed told engine l (told own) (told own2) c d orders limits links back ends lost)
+    (of : IsOf engine l.1) (zero_is : l.0 ≡ 0) (closed : AreClosed engine l states)
+    (few : length links ≤ 64) (turns_few : limits.turns ≤ 1000000000) (ticks_few : limits.ticks ≤ 1000000000) (orders_few : length orders ≤ 200000) where
+  -- what is known of one shard
+  at_shard : (s : ℕ) → s < length engine.locks → (x : Shard) × (slice_get states s ≡ Some x) × IsClosed engine l s x
+  at_shard s less = let x = there_is states s (let b = closed.long in omega (arith, less, b)) in (x.0, x.1, closed.each s x.0 x.1)
+
+  history_is : (s : ℕ) → history_at states s ≡ seen_at l s
+  history_is s = dite (dec_lt s (length engine.locks))
+      (λ less. let a = at_shard s less in ap journal_in a.1 ∙ a.2.journal)
+      (λ far. ap journal_in (none_is states s (let b = closed.long in omega (arith, far, b))) ∙ sym (ap seen_of (none_is l.1 s (let f = of.long in omega (arith, f, far)))))
+
+  histories_are : seen_at l ≡ history_at states
+  histories_are i s = sym (history_is s) i
+
+  words_small : AreSmall (word_at l)
+  words_small s = let p = product (length links) limits.turns few turns_few in dite (dec_lt s (length engine.locks))
+      (λ less. let a = at_shard s less in let b = a.2.word in let z = served.taken s less in omega (arith, b, z, p, ticks_few, orders_few))
+      (λ far. let x = ap word_of (none_is l.1 s (let f = of.long in omega (arith, f, far))) in omega (arith, x))
+
+  timer_did : TimerDid engine served.own (history_at states) (word_at l) (told own) (told own2) c d orders limits.ticks served.timer_end served.timer_lost
+  timer_did = subst (λ h. TimerDid engine served.own h (word_at l) (told own) (told own2) c d orders limits.ticks served.timer_end served.timer_lost) histories_are served.timed
+
+  timer_end_is : IsUnspent served.timer_end × IsTimerEnd engine (history_at states) no_words c d timer_did.got limits.ticks timer_did.cut timer_did.untried served.timer_end
+  timer_end_is = timer_unspent engine (history_at states) (word_at l) c d timer_did.got limits.ticks timer_did.cut timer_did.untried served.timer_end words_small timer_did.ends
+
+  timer_ran : TimerRan engine (history_at states) (told own) (told own2) c d orders limits.ticks served.timer_end served.timer_lost
+  timer_ran = record {
+    own = served.own;
+    own_is = λ s less. ap (calls by 0) (history_is s) ∙ (ap (λ n. calls by n (seen_at l s)) (sym zero_is) ∙ served.own_is s less);
+    did = record {
+      got = timer_did.got;
+      done = timer_did.done;
+      cut = timer_did.cut;
+      untried = timer_did.untried;
+      all = timer_did.all;
+      did = timer_did.did;
+      aside = timer_did.aside;
+      given = timer_did.given;
+      gave = timer_did.gave;
+      few = timer_did.few;
+      ends = timer_end_is.1;
+    };
+  }
+
+  -- what the worker of this link did, whatever stands beyond the lists' ends
+  worker_ran : (at : ℕ) (link : L) (end : End) (miss : ℕ) → at < length links
+      → IsUnspent (slice_index_or served.worker_ends at end)
+      × WorkerRan engine (history_at states) (at + 1) (told (slice_index_or links at link)) (told (slice_index_or back at link)) limits.turns (slice_index_or served.worker_ends at end) (slice_index_or served.worker_losts at miss)
+  worker_ran at link end miss inner =
+      let t = told (slice_index_or links at link) in let u = told (slice_index_or back at link) in
+      let e : End = slice_index_or served.worker_ends at end in let m : ℕ = slice_index_or served.worker_losts at miss in
+      let w = served.workers at link end miss inner in
+      let d : WorkerDid engine (at + 1) w.own (history_at states) (word_at l) t u limits.turns e m = subst (λ h. WorkerDid engine (at + 1) w.own h (word_at l) t u limits.turns e m) histories_are w.worked in
+      let x = worker_unspent engine (history_at states) (word_at l) t u limits.turns (worker_acts engine d.cut) d.untried e words_small d.ends in (
+        x.0,
+        record {
+          own = w.own;
+          own_is = λ s less. (let a = at_shard s less in
+              ap (calls by (at + 1)) (ap journal_in a.1)
+              ∙ kept_here (kept_at l s) a.0.journal at (at + 1) (w.own s) (w.kept s less) a.2.kept);
+          did = record { done = d.done; cut = d.cut; untried = d.untried; did = d.did; ends = x.1; few = d.few };
+        },
+      )
+
+  -- a kept number is that of a worker
+  kept_numbers : (s : ℕ) → s < length engine.locks → (n : ℕ) → length links < n → (i : ℕ) (j : ℕ × List Entry) → slice_get (kept_at l s) i ≡ Some j → j.0 ≢ n
+  kept_numbers s less n far i j here same =
+      let inner : i < length links = (let a = within (kept_at l s) i j here in let b = served.kept_long s less in omega (arith, a, b)) in
+      let w = served.workers i own Ended 0 inner in
+      let eq : (i + 1, w.own s) ≡ j = same_some (i + 1, w.own s) j (sym (w.kept s less) ∙ here) in
+      let num : i + 1 ≡ j.0 = ap (λ (x : ℕ × List Entry). x.0) eq in absurd (omega (arith, same, num, inner, far))
+
+  others_here : (n s : ℕ) → s < length engine.locks → length links < n → calls by n (history_at states s) ≡ []
+  others_here n s less far = let a = at_shard s less in
+      ap (calls by n) (ap journal_in a.1) ∙ a.2.unmade n (λ z. absurd (omega (arith, z, far)))
+      (ap (has n) (served.made s less) ∙ none_has n (kept_at l s) (kept_numbers s less n far))
+
+  each_ran : (at : ℕ) → at < length links → WorkerRan engine (history_at states) (at + 1) ((told_by told own links) (at + 1)) ((told_by told own2 back) (at + 1)) limits.turns (slice_index_or served.worker_ends at Ended) (slice_index_or served.worker_losts at 0)
+  each_ran at inner =
+      let e : suc at ≡ at + 1 = omega arith in
+      let x : LinkTold = told (slice_index_or links at own) in
+      let same : told (slice_index_or back at own) ≡ (told_by told own2 back) (at + 1) = ap told (get_or_default back at own own2 (let b = served.back_long in omega (arith, b, inner))) ∙ ap (told_by told own2 back) e in
+      subst (λ u. WorkerRan engine (history_at states) (at + 1) ((told_by told own links) (at + 1)) u limits.turns (slice_index_or served.worker_ends at Ended) (slice_index_or served.worker_losts at 0)) same
+      (subst (λ t. WorkerRan engine (history_at states) (at + 1) t (told (slice_index_or back at own)) limits.turns (slice_index_or served.worker_ends at Ended) (slice_index_or served.worker_losts at 0)) (ap (told_by told own links) e) (worker_ran at own Ended 0 inner).1)
+
+  pub have_run : HaveRun engine (history_at states) orders (length links) limits (told_by told own links) (told_by told own2 back) c d ends lost
+  have_run = record {
+    timer_end = served.timer_end;
+    timer_missing = served.timer_lost;
+    timer = timer_ran;
+    worker_ends = served.worker_ends;
+    missing = served.worker_losts;
+    ends_are = served.ends_are;
+    ends_long = served.ends_long;
+    missing_long = served.losts_long;
+    each = each_ran;
+    others = others_here;
+    lost_is = served.lost_is;
+  }
+
+  pub unspent : All IsUnspent ends
+  unspent = All-same IsUnspent ends (served.timer_end ∷ served.worker_ends) served.ends_are
+      (All-cons IsUnspent served.timer_end served.worker_ends timer_end_is.0
+      (λ i x inner. (worker_ran i own x 0 (let e = served.ends_long in omega (arith, e, inner))).0))
+
+-- one element more of a list
+pub one_more : {X : Type 0} (P : X → Type 0) (xs : List X) (at : ℕ) (x : X) → at < length xs → x ≡ get_or xs at x → P x
+    → ((k : ℕ) (d : X) → k < at → P (get_or xs k d)) → (k : ℕ) (d : X) → k < at + 1 → P (get_or xs k d)
+one_more P xs at x inside is here before k d h = dite (dec_lt k at)
+    (λ less. before k d less)
+    (λ last. let same : k ≡ at = omega (arith, last, h) in
+    subst P (is ∙ (get_or_default xs at x d inside ∙ ap (λ i. get_or xs i d) (sym same))) here)
+
+pub closed_shards : (engine : Shards) (l : Knows) (states seen : List Shard) → AreClosed engine l states → seen ≡ states → All IsShard seen → AreClosedShards engine states
+closed_shards engine l states seen closed same kept = record {
+  long = closed.long;
+  each = λ n x e. (let a = closed.each n x e in record {
+    configs = a.configs;
+    limit = a.limit;
+    kept = subst IsShard (read states n x x e) (subst (All IsShard) same kept n x (within states n x e));
+  });
+}

@@ -1,0 +1,94 @@
+-- Sessions that are copied and dealt out.
+use Rattle.std.proofs.Common.{◌≡◌, ℕ, zero, suc, ◌+◌, ◌-◌, ◌<◌, ◌≤◌, List, [], ◌∷◌, ◌++◌, length, map, drop, get_or, slice_index_or, refl, ap, sym, ◌∙◌, subst, append_assoc, append-nil, length-append, arith}
+use Rattle.std.specs.List.{AllByRecursion}
+use Rattle.std.proofs.lemmas.List.Elements.{recursion_from_All}
+use Rattle.std.proofs.lemmas.List.{drop_more, drop_all, length-map, get_or-map, same_lists, get_or_default}
+use mathlib.Core.Logic.{dite}
+use native.Mathlib.Decide.{dec_lt}
+use Rattle.bfd_session.specs.declared.event.SessionConfig.{SessionConfig}
+use Rattle.bfd_session.specs.Kinds.{configs_of}
+use Rattle.bfd_session.specs.Rows.{AreFit}
+use Rattle.bfd_session.specs.Step.{IsFit}
+use Rattle.bfd_shard.specs.Shard.{Shard}
+use Rattle.bfd_engine.specs.Engines.{Shards, configs_at, share}
+use Rattle.bfd_engine.proofs.Sharing.{all_share}
+use Rattle.bfd_serving.specs.Runs.{AreDealt, IsOpened, AreClosedShards}
+use Rattle.bfd_serving.proofs.Shuts.{get_front, get_last}
+use Rattle.bfd_serving.proofs.Closings.{there_is, read}
+
+module _ {A : Type 0} where
+  -- a share begins with what is left after the elements that are passed over
+  pub share_from : (n c : ℕ) (xs : List A) → share n 0 (drop c xs) ≡ share n c xs
+  unfolding share
+  share_from n zero [] = refl
+  share_from n zero (x ∷ xs) = refl
+  share_from n (suc c) [] = refl
+  share_from n (suc c) (x ∷ xs) = share_from n c xs
+
+  share_one : (n : ℕ) (x : A) (xs : List A) → share n 0 (x ∷ xs) ≡ x ∷ share n (n - 1) xs
+  unfolding share
+  share_one n x xs = refl
+
+  drop_none : (k : ℕ) → drop {A = A} k [] ≡ []
+  drop_none zero = refl
+  drop_none (suc k) = refl
+
+  drop_twice : (i j : ℕ) (xs : List A) → drop j (drop i xs) ≡ drop (i + j) xs
+  drop_twice zero j xs = let e : j ≡ 0 + j = omega arith in ap (λ k. drop k xs) e
+  drop_twice (suc i) j [] = drop_none j ∙ sym (drop_none (suc i + j))
+  drop_twice (suc i) j (x ∷ xs) = let e : suc (i + j) ≡ suc i + j = omega arith in drop_twice i j xs ∙ ap (λ k. drop k (x ∷ xs)) e
+
+  -- one element more of a share
+  pub share_more : (n c at next : ℕ) (xs part more : List A) (x : A) → 0 < n → at < length xs → next ≡ at + n → x ≡ get_or xs at x → more ≡ part ++ x ∷ []
+      → part ++ share n 0 (drop at xs) ≡ share n c xs → more ++ share n 0 (drop next xs) ≡ share n c xs
+  share_more n c at next xs part more x some inside next_is is pushed whole =
+      let split : drop at xs ≡ x ∷ drop (at + 1) xs = drop_more xs at x inside ∙ ap (λ y. y ∷ drop (at + 1) xs) (sym is) in
+      let far : drop (n - 1) (drop (at + 1) xs) ≡ drop next xs = (let e : at + 1 + (n - 1) ≡ next = omega (arith, some, next_is) in drop_twice (at + 1) (n - 1) xs ∙ ap (λ k. drop k xs) e) in
+      let one : share n 0 (drop at xs) ≡ x ∷ share n 0 (drop next xs) =
+      ap (share n 0) split ∙ (share_one n x (drop (at + 1) xs) ∙ ap (λ ys. x ∷ ys) (sym (share_from n (n - 1) (drop (at + 1) xs)) ∙ ap (share n 0) far)) in
+      ap (λ ys. ys ++ share n 0 (drop next xs)) pushed ∙ (append_assoc part (x ∷ []) (share n 0 (drop next xs)) ∙ (ap (λ ys. part ++ ys) (sym one) ∙ whole))
+
+  share_nothing : (n : ℕ) (xs : List A) → xs ≡ [] → share n 0 xs ≡ []
+  unfolding share
+  share_nothing n [] e = refl
+  share_nothing n (x ∷ xs) e = cc
+
+  pub share_over : (n c at : ℕ) (xs part : List A) → length xs ≤ at → part ++ share n 0 (drop at xs) ≡ share n c xs → part ≡ share n c xs
+  share_over n c at xs part over whole = sym (append-nil part) ∙ (ap (λ ys. part ++ ys) (sym (share_nothing n (drop at xs) (drop_all at xs over))) ∙ whole)
+
+-- one part more
+pub dealt_next : (shards at : ℕ) (configs : List SessionConfig) (parts more : List (List SessionConfig)) (part : List SessionConfig) → part ≡ share shards at configs → more ≡ parts ++ part ∷ []
+    → AreDealt shards at configs parts → AreDealt shards (at + 1) configs more
+dealt_next shards at configs parts more part is pushed old = subst (AreDealt shards (at + 1) configs) (sym pushed) (record {
+  long = (let a = old.long in omega (arith, a, length-append parts (part ∷ [])));
+  each = λ s h. dite (dec_lt s at)
+      (λ less. get_front parts (part ∷ []) s [] (let a = old.long in omega (arith, a, less)) ∙ old.each s less)
+      (λ last. let same : s ≡ at = omega (arith, last, h) in get_last parts part s [] (same ∙ sym old.long) ∙ (is ∙ ap (λ k. share shards k configs) (sym same)));
+})
+
+pub dealt_none : (shards : ℕ) (configs : List SessionConfig) → AreDealt shards 0 configs []
+dealt_none shards configs = record { long = refl; each = λ s h. absurd (omega (arith, h)) }
+
+own_share : (engine : Shards) (shards : ℕ) (configs : List SessionConfig) (k : ℕ) (states : List Shard) (d : List SessionConfig) → length engine.locks ≡ shards → engine.configs ≡ configs → AreClosedShards engine states → k < length states
+    → share shards k configs ≡ get_or (map (λ (state : Shard). configs_of state.sessions) states) k d
+own_share engine shards configs k states d locks same closed inside =
+    let x = there_is states k inside in
+    sym (get_or-map (λ (state : Shard). configs_of state.sessions) states k x.0 d inside
+    ∙ (ap (λ (state : Shard). configs_of state.sessions) (read states k x.0 x.0 x.1)
+    ∙ ((closed.each k x.0 x.1).configs ∙ (ap (λ n. share n k engine.configs) locks ∙ ap (share shards k) same))))
+
+-- the parts are what the shards were made of
+pub parts_are : (engine : Shards) (shards : ℕ) (configs : List SessionConfig) (parts : List (List SessionConfig)) (states : List Shard) → length engine.locks ≡ shards → engine.configs ≡ configs → AreDealt shards shards configs parts → AreClosedShards engine states
+    → parts ≡ map (λ state. configs_of state.sessions) states
+parts_are engine shards configs parts states locks same dealt closed =
+    let long : length parts ≡ length (map (λ (state : Shard). configs_of state.sessions) states) = dealt.long ∙ (sym locks ∙ (sym closed.long ∙ sym (length-map states (λ (state : Shard). configs_of state.sessions)))) in
+    same_lists parts (map (λ state. configs_of state.sessions) states) long
+    (λ k d h. let few : k < shards = (let a = dealt.long in omega (arith, a, h)) in
+    let in_states : k < length states = (let a = closed.long in omega (arith, a, few, locks)) in
+    get_or_default parts k d [] h ∙ (dealt.each k few ∙ own_share engine shards configs k states d locks same closed in_states))
+
+-- each part is within its ranges
+pub parts_fit : (shards : ℕ) (configs : List SessionConfig) (parts : List (List SessionConfig)) → AreFit configs → AreDealt shards shards configs parts → AllByRecursion AreFit parts
+parts_fit shards configs parts fit dealt = recursion_from_All AreFit parts
+    (λ k d h. let few : k < shards = (let a = dealt.long in omega (arith, a, h)) in
+    subst AreFit (sym (get_or_default parts k d [] h ∙ dealt.each k few)) (all_share IsFit shards k configs fit))

@@ -1,0 +1,7 @@
+pub mod Shuts
+pub mod Closings
+pub mod Tables
+pub mod Dealing
+pub mod Counts
+pub mod Causes
+pub mod Wholes

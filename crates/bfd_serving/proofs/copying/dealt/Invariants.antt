@@ -1,0 +1,7 @@
+-- The parts so far.
+use Rattle.std.proofs.Common.{map}
+use Rattle.bfd_serving.specs.Runs.{AreDealt}
+use Rattle.bfd_serving.proofs.copying.dealt.Given as goal
+
+abbrev pub invariant-loop-shard : goal.invariant-loop-shard
+invariant-loop-shard l = record { dealt : AreDealt l.shards l.shard l.configs (map (λ part. part.items) l.parts.items) }

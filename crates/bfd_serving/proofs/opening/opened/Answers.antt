@@ -1,0 +1,6 @@
+-- A script's sessions and reflectors stand in order.
+use Rattle.bfd_serving.proofs.Tables.{sorted}
+use Rattle.bfd_serving.proofs.opening.opened.Goals as goal
+
+pub open-requires-clause-sorted : goal.open-requires-clause-sorted
+open-requires-clause-sorted g c = sorted c.args.configs.items c.args.pool.items c.args.events.now c.requires.script

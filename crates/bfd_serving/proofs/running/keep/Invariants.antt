@@ -1,0 +1,7 @@
+-- The shards so far.
+use Rattle.std.proofs.Common.{ℕ, ◌<◌, slice_index_or}
+use Rattle.bfd_shard.specs.Shard.{Shard, IsShard}
+use Rattle.bfd_serving.proofs.running.keep.Given as goal
+
+abbrev pub invariant-loop-at : goal.invariant-loop-at
+invariant-loop-at g l = (k : ℕ) (d : Shard) → k < l.at → IsShard (slice_index_or l.states k d)

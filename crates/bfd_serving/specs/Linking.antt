@@ -1,0 +1,41 @@
+-- The links of a run, opened and shut.
+use Rattle.std.specs.Prelude.{◌≡◌, ◌≤◌, ◌<◌, ℕ, true, false, Some}
+use Rattle.bfd_edge.specs.Faults.{risen}
+use Rattle.bfd_edge.specs.Links.{LinkTold, IsNewLink}
+use Rattle.bfd_edge.specs.Ports.{PortsTold}
+use Rattle.bfd_edge.specs.Tickers.{TickerTold}
+use Rattle.bfd_serving.specs.declared.finish.Refused.{Refused}
+use Rattle.bfd_serving.specs.declared.finish.Refused.TheVariants.{PortFault, Memory}
+
+-- the link was never called
+abbrev pub IsNew : {L : Type 0} → (L → LinkTold) → L → Type 0
+IsNew told link = IsNewLink (told link)
+
+-- exactly the links 0 to this number were opened, and opening didn't fail
+pub record IsOpenTo (last : ℕ) (before after : PortsTold) : Type 0 where
+  pub open_is : (number : ℕ) → number ≤ last → after.opened number ≡ true
+  pub others : (number : ℕ) → last < number → after.opened number ≡ false
+  pub faults : after.faults ≡ before.faults
+
+-- every link that was opened was shut
+pub record AreShut (ports : PortsTold) : Type 0 where
+  pub shut : (number : ℕ) → ports.opened number ≡ true → (link : LinkTold) × (ports.shut number ≡ Some link)
+
+-- .. and none was called
+pub record AreUncalled (ports : PortsTold) : Type 0 where
+  pub shut : (number : ℕ) → ports.opened number ≡ true → (link : LinkTold) × (ports.shut number ≡ Some link) × IsNewLink link
+
+-- how opening failed, where it did
+abbrev pub IsFaultOf : Refused → PortsTold → PortsTold → Type 0
+IsFaultOf PortFault before after = after.faults ≡ risen before.faults 1
+IsFaultOf Memory before after = after.faults ≡ before.faults
+
+-- not all links could be opened
+pub record IsUnopened (refused : Refused) (before after : PortsTold) : Type 0 where
+  pub fault : IsFaultOf refused before after
+  pub uncalled : AreUncalled after
+
+-- a port couldn't be opened: the links that were are shut, and nothing ran; want of memory may come at any place
+abbrev pub IsRefused : Refused → PortsTold → PortsTold → TickerTold → TickerTold → Type 0
+IsRefused PortFault before after c d = IsUnopened PortFault before after × (d ≡ c)
+IsRefused Memory before after c d = after.faults ≡ before.faults

@@ -1,0 +1,33 @@
+-- A whole run.
+use Rattle.std.specs.Prelude.{◌≡◌, ℕ, ◌≤◌, List, map, Some}
+use Rattle.std.specs.List.{All}
+use Rattle.bfd_shard.specs.Shard.{Shard}
+use Rattle.bfd_script.specs.Reading.{Lists}
+use Rattle.bfd_edge.specs.Links.{LinkTold, IsNewLink}
+use Rattle.bfd_edge.specs.Ports.{PortsTold}
+use Rattle.bfd_edge.specs.Tickers.{TickerTold}
+use Rattle.bfd_engine.specs.Engines.{Shards}
+use Rattle.bfd_serve.specs.declared.ending.End.{End}
+use Rattle.bfd_serve.specs.declared.serving.Limits.{Limits}
+use Rattle.bfd_served.specs.Served.{history_of, served}
+use Rattle.bfd_serving.specs.declared.finish.Finish.{Finish}
+use Rattle.bfd_serving.specs.Finishes.{finish_from, IsPlain}
+use Rattle.bfd_serving.specs.Runs.{HaveRun, IsOpened, AreClosedShards, history_at}
+use Rattle.bfd_serving.specs.Causes.{IsCause, Completes}
+
+-- a run of a script: its engine, its links from their opening to their shutting, and what all did, to the text
+pub record HasRun (script : Lists) (shards workers journal : ℕ) (limits : Limits) (q : PortsTold) (c d : TickerTold) (states : List Shard) (text : List ℕ) (lost : ℕ) (finish : Finish) : Type 0 where
+  pub engine : Shards
+  pub opened : IsOpened engine script shards journal
+  pub closed : AreClosedShards engine states
+  pub text_is : text ≡ served (map history_of states) lost
+  pub before : ℕ → LinkTold
+  pub after : ℕ → LinkTold
+  pub new : (number : ℕ) → number ≤ workers → IsNewLink (before number)
+  pub shut : (number : ℕ) → number ≤ workers → q.shut number ≡ Some (after number)
+  pub ends : List End
+  pub run : HaveRun engine (history_at states) script.events workers limits before after c d ends lost
+  pub plain : All IsPlain ends
+  pub finish_is : finish ≡ finish_from 0 ends
+  pub cause : IsCause engine (history_at states) script.events workers limits before after c d ends lost run journal finish
+  pub complete : Completes engine (history_at states) script.events workers limits before after c d ends lost run journal finish
