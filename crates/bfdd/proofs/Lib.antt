@@ -1,3 +1,4 @@
 pub mod Answering
+pub mod Served
 pub mod Taking
 pub mod Wanting

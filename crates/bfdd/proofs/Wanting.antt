@@ -1,13 +1,11 @@
 -- What is true of what is wanted.
-use Rattle.std.proofs.Common.{◌≡◌, List, ℕ, true, Option, Some, None, ◌⊎◌, inl, inr, refl, sym, ap, ◌∙◌, subst}
+use Rattle.std.proofs.Common.{◌≡◌, List, ℕ, Option, Some, None, ◌⊎◌, inl, inr, refl, sym, subst}
 use Rattle.std.specs.Prelude.{IfSome}
 use Rattle.bfd_words.specs.declared.job.Job.{Job}
-use Rattle.bfd_words.specs.declared.job.Job.TheVariants.{Replay, Serve, Load, Pair, Watch}
 use Rattle.bfdd.specs.declared.status.Status.{Status}
-use Rattle.bfdd.specs.declared.status.Status.TheVariants.{Done, Usage, BadLine, ReadFault, WriteFault, TooLarge, NoMember, Memory}
+use Rattle.bfdd.specs.declared.status.Status.TheVariants.{Done, Usage, BadLine, ReadFault, WriteFault, PortFault, LinkFault, TooLarge, JournalFull, Turns, ClockFault, Memory, NoMember}
 use Rattle.bfdd.specs.Status.{IsDecided}
 use Rattle.bfdd.specs.Text.{Wanted, wanted, wanted_of}
-use Rattle.bfdd.specs.Words.{built, is_built}
 
 -- what is true of whatever may be wanted
 pub of_all : (known : Option Wanted) (P : Wanted → Type 0) → ((w : Wanted) → P w) → IfSome known P
@@ -19,18 +17,10 @@ pub of_answer : (known : Option Wanted) (answer : Wanted) (P : Wanted → Type 0
 of_answer None answer P is fact = tt
 of_answer (Some w) answer P is fact = subst P is fact
 
-built_is : (job : Job) → is_built job ≡ true → built (Some job) ≡ Some job
-built_is (Replay hands) is = refl
-built_is (Serve hands turns ticks journal) is = cc
-built_is (Load sessions ticks seed hands) is = refl
-built_is (Pair events seed) is = refl
-built_is (Watch need members shards) is = refl
-
 -- what is true of what is wanted of the job that the words ask for
-pub of_job : (given : Option Job) (job : Job) (left : Option (List ℕ)) (P : Wanted → Type 0) → given ≡ Some job → is_built job ≡ true
-    → IfSome (wanted_of job left) P → IfSome (wanted (built given) left) P
-of_job given job left P is here fact =
-    subst (λ (j : Option Job). IfSome (wanted j left) P) (sym (ap built is ∙ built_is job here)) fact
+pub of_job : (given : Option Job) (job : Job) (left : Option (List ℕ)) (P : Wanted → Type 0) → given ≡ Some job
+    → IfSome (wanted_of job left) P → IfSome (wanted given left) P
+of_job given job left P is fact = subst (λ (j : Option Job). IfSome (wanted j left) P) (sym is) fact
 
 -- a run that is decided, where neither source nor sink failed
 pub settled : (result want : Status) → IsDecided result want → (result ≡ ReadFault → ⊥) → (result ≡ WriteFault → ⊥)
@@ -40,6 +30,11 @@ settled Usage want is reads writes = inl is
 settled (BadLine line fault) want is reads writes = inl is
 settled ReadFault want is reads writes = absurd (reads refl)
 settled WriteFault want is reads writes = absurd (writes refl)
+settled PortFault want is reads writes = inl is
+settled (LinkFault number) want is reads writes = inl is
+settled (JournalFull shard) want is reads writes = inl is
+settled (Turns number) want is reads writes = inl is
+settled ClockFault want is reads writes = inl is
 settled TooLarge want is reads writes = inl is
 settled Memory want is reads writes = inr refl
 settled (NoMember discr) want is reads writes = inl is

@@ -1,5 +1,6 @@
 pub mod Answers
 pub mod Outside
+pub mod Serving
 pub mod Status
 pub mod Text
 pub mod Words

@@ -1,8 +1,11 @@
 -- How a run ends.
-use Rattle.std.specs.Prelude.{◌≡◌, ℕ, ⊤}
+use Rattle.std.specs.Prelude.{◌≡◌, ◌⊎◌, ℕ, List, Option, ⊤}
+use Rattle.std.specs.Io.KnownBytes.{Appends}
+use Rattle.bfd_edge.specs.Faults.{Rose}
 use Rattle.bfd_script.specs.declared.fault.BadLine.{BadLine as FaultyLine}
 use Rattle.bfdd.specs.declared.status.Status.{Status}
-use Rattle.bfdd.specs.declared.status.Status.TheVariants.{Done, Usage, BadLine, ReadFault, WriteFault, TooLarge, NoMember, Memory}
+use Rattle.bfdd.specs.declared.status.Status.TheVariants.{Done, Usage, BadLine, ReadFault, WriteFault, PortFault, LinkFault, TooLarge, JournalFull, Turns, ClockFault, Memory, NoMember}
+use Rattle.bfdd.specs.Outside.{TookFront}
 
 -- the code that the program ends with
 abbrev pub code_of : Status → ℕ
@@ -11,7 +14,12 @@ code_of Usage = 1
 code_of (BadLine line fault) = 2
 code_of ReadFault = 3
 code_of WriteFault = 4
+code_of PortFault = 5
+code_of (LinkFault number) = 6
 code_of TooLarge = 7
+code_of (JournalFull shard) = 8
+code_of (Turns number) = 9
+code_of ClockFault = 10
 code_of Memory = 11
 code_of (NoMember discr) = 12
 
@@ -28,16 +36,52 @@ IsDecided ReadFault wanted = ⊤
 IsDecided WriteFault wanted = wanted ≡ Done
 IsDecided status wanted = status ≡ wanted
 
--- a fact, but where the status is that of a write that failed, or where a faulty line was told
+-- a fact, but where the status is that of a write that failed, or where a text may have been broken off
 abbrev pub UnlessWriting : Status → Type 0 → Type 0
 UnlessWriting WriteFault P = ⊤
 UnlessWriting (BadLine line fault) P = ⊤
+UnlessWriting (LinkFault number) P = ⊤
+UnlessWriting (JournalFull shard) P = ⊤
+UnlessWriting (Turns number) P = ⊤
+UnlessWriting ClockFault P = ⊤
 UnlessWriting status P = P
 
 -- a fact, where nothing is written with the status
 abbrev pub WhereUnwritten : Status → Type 0 → Type 0
 WhereUnwritten Usage P = P
 WhereUnwritten ReadFault P = P
+WhereUnwritten PortFault P = P
 WhereUnwritten TooLarge P = P
 WhereUnwritten (NoMember discr) P = P
 WhereUnwritten status P = ⊤
+
+-- a fact, where the status says that a script was served, or that a port couldn't be opened for it
+abbrev pub WhereServed : Status → Type 0 → Type 0
+WhereServed Done P = P
+WhereServed WriteFault P = P
+WhereServed PortFault P = P
+WhereServed (LinkFault number) P = P
+WhereServed (JournalFull shard) P = P
+WhereServed (Turns number) P = P
+WhereServed ClockFault P = P
+WhereServed status P = ⊤
+
+-- a fact, where the status comes before any port is opened
+abbrev pub WhereUnopened : Status → Type 0 → Type 0
+WhereUnopened Usage P = P
+WhereUnopened ReadFault P = P
+WhereUnopened TooLarge P = P
+WhereUnopened (BadLine line fault) P = P
+WhereUnopened (NoMember discr) P = P
+WhereUnopened status P = ⊤
+
+-- what the sink took of a text: all of it, or a front where its count rose
+abbrev pub IsWritten : Option (List ℕ) → Option (List ℕ) → ℕ → ℕ → List ℕ → Type 0
+IsWritten old new before now text = Appends old new text ⊎ (Rose before now × TookFront old new text)
+
+-- the same by the status: with Done it is all of it, with WriteFault the count rose, and where memory was wanting it is a front
+abbrev pub IsWrittenBy : Status → Option (List ℕ) → Option (List ℕ) → ℕ → ℕ → List ℕ → Type 0
+IsWrittenBy Done old new before now text = Appends old new text
+IsWrittenBy WriteFault old new before now text = Rose before now × TookFront old new text
+IsWrittenBy Memory old new before now text = TookFront old new text
+IsWrittenBy status old new before now text = IsWritten old new before now text

@@ -1,5 +1,5 @@
 -- What a run does with the text of its source.
-use Rattle.std.specs.Prelude.{false, ℕ, List, [], ◌∷◌, ◌++◌, length, nat_lt, codes, option_map, Option, Some, None, Result, Ok, Err, if◌then◌else◌}
+use Rattle.std.specs.Prelude.{true, false, ℕ, List, [], ◌∷◌, ◌++◌, length, nat_lt, codes, Option, Some, None, Result, Ok, Err, if◌then◌else◌}
 use Rattle.std.specs.Fmt.{decimal}
 use Rattle.bfd_script.specs.declared.fault.BadLine.{BadLine as FaultyLine}
 use Rattle.bfd_script.specs.Complaints.{complaint}
@@ -13,7 +13,7 @@ use Rattle.bfd_watching.specs.Members.{first_unknown, watched_of}
 use Rattle.bfd_words.specs.declared.job.Job.{Job}
 use Rattle.bfd_words.specs.declared.job.Job.TheVariants.{Replay, Serve, Load, Pair, Watch}
 use Rattle.bfdd.specs.declared.status.Status.{Status}
-use Rattle.bfdd.specs.declared.status.Status.TheVariants.{Done, Usage, BadLine, TooLarge, NoMember}
+use Rattle.bfdd.specs.declared.status.Status.TheVariants.{Done, BadLine, TooLarge, NoMember}
 use Rattle.bfdd.specs.Words.{reads}
 
 -- the most bytes that a text may have
@@ -58,21 +58,30 @@ abbrev pub load_line : ℕ → Totals → List ℕ
 load_line sessions t =
     line (codes "load" ∷ decimal sessions ∷ decimal t.events ∷ decimal t.txs ∷ decimal t.drops ∷ decimal t.ups ∷ [])
 
--- what is wanted of a job, where the source has these bytes; a job that doesn't read them has no use for them
-abbrev pub answer_to : Job → List ℕ → Wanted
-answer_to (Replay hands) bytes = over (λ script. told (replayed script)) (script_of false bytes)
-answer_to (Watch need members shards) bytes = over (watched need members) (script_of false bytes)
-answer_to (Load sessions ticks seed hands) bytes = told (load_line sessions (totals (script sessions ticks seed)))
-answer_to (Pair events seed) bytes = told (pair_line seed (schedule seed events))
-answer_to (Serve hands turns ticks journal) bytes = bare Usage
+-- of a script that packets and ticks come to the bytes alone decide nothing, and of what is no script the first faulty line is told
+abbrev pub unserved : Result Lists FaultyLine → Option Wanted
+unserved (Ok script) = None
+unserved (Err bad) = Some (ends (BadLine bad.line bad.fault) (complaint_line bad))
+
+-- what is wanted of a job, where the source has these bytes and they decide it; a job that doesn't read them has no use for them
+abbrev pub answer_to : Job → List ℕ → Option Wanted
+answer_to (Replay hands) bytes = Some (over (λ script. told (replayed script)) (script_of false bytes))
+answer_to (Watch need members shards) bytes = Some (over (watched need members) (script_of false bytes))
+answer_to (Load sessions ticks seed hands) bytes = Some (told (load_line sessions (totals (script sessions ticks seed))))
+answer_to (Pair events seed) bytes = Some (told (pair_line seed (schedule seed events)))
+answer_to (Serve hands turns ticks journal) bytes = unserved (script_of true bytes)
 
 -- the same, but that a text may be too large
-abbrev pub answer_within : Job → List ℕ → Wanted
-answer_within job bytes = if nat_lt most_bytes (length bytes) then bare TooLarge else answer_to job bytes
+abbrev pub answer_within : Job → List ℕ → Option Wanted
+answer_within job bytes = if nat_lt most_bytes (length bytes) then Some (bare TooLarge) else answer_to job bytes
+
+abbrev pub of_bytes : Job → Option (List ℕ) → Option Wanted
+of_bytes job (Some bytes) = answer_within job bytes
+of_bytes job None = None
 
 -- what is wanted of a job, where the source tells its bytes or they aren't read
 abbrev pub wanted_of : Job → Option (List ℕ) → Option Wanted
-wanted_of job left = if reads job then option_map (answer_within job) left else Some (answer_to job [])
+wanted_of job left = if reads job then of_bytes job left else answer_to job []
 
 abbrev pub wanted : Option Job → Option (List ℕ) → Option Wanted
 wanted (Some job) left = wanted_of job left

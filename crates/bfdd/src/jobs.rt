@@ -1,5 +1,5 @@
 // What each job has to write.
-ghost use Rattle.std.specs.Prelude.{◌≡◌, false, true, IfOk, string_bytes};
+ghost use Rattle.std.specs.Prelude.{◌≡◌, false, IfOk, Some, string_bytes};
 ghost use Rattle.bfd_load.specs.Load as load;
 ghost use Rattle.bfd_replay.specs.World.{replayed, totals};
 ghost use Rattle.bfd_schedule.specs.Line.{pair_line};
@@ -10,7 +10,7 @@ ghost use Rattle.bfd_script.specs.Sound.{IsScript};
 ghost use Rattle.bfd_words.specs.Ranges.{AreHands, IsFrom, IsJob};
 ghost use Rattle.bfdd.specs.Answers.{IsAnswer};
 ghost use Rattle.bfdd.specs.Text.{answer_to, complaint_line, ends, load_line, over, told, watched};
-ghost use Rattle.bfdd.specs.Words.{is_built};
+ghost use Rattle.bfdd.specs.Words.{serves};
 
 use crate::answer::Answer;
 use crate::replaying::{Replayed, replay_by};
@@ -33,7 +33,7 @@ fn complaint(alloc: Global, bad: BadLine) -> Result<String, AllocError>
 }
 
 /// A text that is no script: its first faulty line is told.
-fn complain(alloc: Global, bad: BadLine) -> Result<Answer, AllocError>
+pub(crate) fn complain(alloc: Global, bad: BadLine) -> Result<Answer, AllocError>
     ensures { IfOk result (λ answer. answer ≡ ends (Status.BadLine bad.line bad.fault) (complaint_line bad)) }
 {
     let text = complaint(alloc, bad)?.into_bytes();
@@ -157,8 +157,8 @@ pub(crate) fn answer_to<R: Threads + Wait + Sync, G: Gate + Sync>(
     gate: &G,
 ) -> Result<Answer, AllocError>
     requires ranges { IsJob job.now }
-    requires built { is_built job.now ≡ true }
-    ensures answer { IfOk result (λ answer. answer ≡ answer_to job.now bytes.items) }
+    requires closed { serves job.now ≡ false }
+    ensures answer { IfOk result (λ answer. answer_to job.now bytes.items ≡ Some answer) }
     ensures sound { IfOk result IsAnswer }
 {
     match job {

@@ -1,15 +1,14 @@
 //! bfdd: the program.
 //!
-//! `main` makes the adapters over standard input and output, hands the words after the program's name to [`run`], and
-//! ends with the status's code. It prints nothing itself. All that the program promises stands on `run`, over any source
-//! and any sink.
+//! `main` makes the adapters over standard input and output, over UDP and over the machine's clock, hands the words after the
+//! program's name to [`run`], and ends with the status's code. It prints nothing itself. All that the program promises stands on
+//! `run`, over any source, any sink, any ports and any ticker.
 //!
-//! Built so far is the word `replay`: it reads a packet file, and writes the report of its events.
+//! Layers, lowest first: `status`, `answer` (a status and a text), `input` and `output` (a whole text from a source and to a
+//! sink), `replaying`, `jobs` and `serving` (what each word has to write), `top` ([`run`] itself).
 //!
-//! Layers, lowest first: `status`, `words` (of the command line), `input` and `output` (a whole text from a source and to a
-//! sink), `top` ([`run`] itself).
-//!
-//! It stands on `bfd_edge`, `bfd_script` and `bfd_replay`.
+//! It stands on `bfd_words` for the words, on `bfd_edge` and `bfd_net` for the outside, on `bfd_script` for packet files, and on
+//! `bfd_workers`, `bfd_serving`, `bfd_watching`, `bfd_load` and `bfd_schedule` for what each word does.
 #![tactic(auto)]
 
 ghost use Rattle.std.specs.Prelude.{◌≡◌, ◌⊎◌, IfErr};
@@ -20,10 +19,12 @@ mod input;
 mod jobs;
 mod output;
 mod replaying;
+mod serving;
 mod status;
 mod top;
 
 use bfd_edge::{OpenGate, StdSink, StdSource};
+use bfd_net::{ClockTicker, UdpPorts};
 pub use status::Status;
 use std::env;
 use std::io::ErrorKind;
@@ -51,7 +52,18 @@ fn main(rt: HostRuntime) -> ExitCode {
     };
     let mut source = StdSource::make(rt.stdin());
     let mut sink = StdSink::make(rt.stdout());
-    let status = run(&rt, rt.alloc(), &words, &mut source, &mut sink, &OpenGate);
+    let mut ports = UdpPorts::make(&rt, rt.alloc());
+    let mut ticker = ClockTicker::make(&rt);
+    let status = run(
+        &rt,
+        rt.alloc(),
+        &words,
+        &mut source,
+        &mut sink,
+        &mut ports,
+        &mut ticker,
+        &OpenGate,
+    );
     ExitCode::from(status.code())
 }
 
@@ -59,5 +71,7 @@ fn main(rt: HostRuntime) -> ExitCode {
 mod meeting_tests;
 #[cfg(test)]
 mod script_tests;
+#[cfg(test)]
+mod serve_tests;
 #[cfg(test)]
 mod tests;

@@ -4,7 +4,7 @@ ghost use Rattle.std.specs.Io.KnownBytes.{Appends};
 ghost use Rattle.bfd_edge.specs.Faults.{Rose};
 ghost use Rattle.bfdd.specs.Answers.{IsAnswer, broken_off};
 ghost use Rattle.bfdd.specs.Outside.{TookFront};
-ghost use Rattle.bfdd.specs.Status.{IsDecided, OnBadLine, UnlessWriting, WhereUnwritten};
+ghost use Rattle.bfdd.specs.Status.{IsDecided, IsWrittenBy, OnBadLine, UnlessWriting, WhereUnwritten};
 ghost use Rattle.bfdd.specs.Text.{complaint_line};
 
 use crate::answer::Answer;
@@ -48,6 +48,7 @@ pub(crate) fn write_answer<K: Sink>(answer: Answer, sink: &mut K) -> Status
     ensures decided { IsDecided result answer.status }
     ensures done { result ≡ Status.Done → Appends (K.taken sink.old) (K.taken sink.new) answer.text }
     ensures front { TookFront (K.taken sink.old) (K.taken sink.new) answer.text }
+    ensures written { IsWrittenBy result (K.taken sink.old) (K.taken sink.new) (K.faults sink.old) (K.faults sink.new) answer.text }
     ensures bad_text { OnBadLine result (λ bad. Appends (K.taken sink.old) (K.taken sink.new) (complaint_line bad)
         ⊎ (Rose (K.faults sink.old) (K.faults sink.new) × TookFront (K.taken sink.old) (K.taken sink.new) (complaint_line bad))) }
     ensures unwritten { WhereUnwritten result (K.taken sink.new ≡ K.taken sink.old) }

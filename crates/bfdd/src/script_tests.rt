@@ -1,6 +1,6 @@
 // What the program doesn't ask for of the crates below it: live scripts, the one spelling, and a load's script as a file.
 use crate::{Status, run};
-use bfd_edge::{MemSink, MemSource, OpenGate};
+use bfd_edge::{MemPorts, MemSink, MemSource, MemTicker, OpenGate};
 use bfd_load::generate;
 use bfd_script::{BadLine, LineFault, ScriptFault, read};
 use bfd_spelling::write;
@@ -144,7 +144,18 @@ fn a_load_as_a_file(rt: HostRuntime) -> Result<(), Fail> {
     let mut sink = MemSink::make(alloc, 4096, Vec::new(alloc));
     let mut words = Vec::new(alloc);
     words.push(String::from_str(alloc, "replay")?)?;
-    let status = run(&rt, alloc, &words, &mut source, &mut sink, &OpenGate);
+    let mut ports = MemPorts::make(alloc, Vec::new(alloc), Vec::new(alloc));
+    let mut ticker = MemTicker::make(Vec::new(alloc), Vec::new(alloc));
+    let status = run(
+        &rt,
+        alloc,
+        &words,
+        &mut source,
+        &mut sink,
+        &mut ports,
+        &mut ticker,
+        &OpenGate,
+    );
     assert_eq!(rt; status, Status::Done);
     assert!(rt;
         sink.as_slice().ends_with(b"\ndone 2132 159 0\n"),

@@ -5,7 +5,8 @@ ghost use Rattle.bfdd.specs.Status.{code_of};
 use bfd_script::LineFault;
 
 /// How a run ended. Where several are true, the first in the order `Usage`, `ReadFault`, `TooLarge`, `BadLine`, `NoMember`,
-/// `WriteFault` comes; `Memory` may come at any place.
+/// `PortFault`, then the first fault of the timer and of the workers in ascending order (`LinkFault`, `JournalFull`, `Turns`,
+/// `ClockFault`), then `WriteFault` comes; `Memory` may come at any place.
 #[derive(Clone, Copy, Debug, PartialEq, Eq)]
 pub enum Status {
     /// All was read and written.
@@ -23,8 +24,23 @@ pub enum Status {
     /// The sink failed.
     WriteFault,
 
+    /// A port couldn't be opened. Nothing ran, nothing was written, and the links that were opened are shut.
+    PortFault,
+
+    /// The link of this number, a worker's, failed to receive. The served text was written, or a front of it where the sink failed.
+    LinkFault(u32),
+
     /// The source gave more than 67,108,864 bytes. Nothing was written.
     TooLarge,
+
+    /// The journal of this shard is at its limit, and there was a call more. The served text was written as with `LinkFault`.
+    JournalFull(u32),
+
+    /// The worker of this number made its number of turns before its link ended. The served text was written as with `LinkFault`.
+    Turns(u32),
+
+    /// The ticker failed. The served text was written as with `LinkFault`.
+    ClockFault,
 
     /// There was no memory.
     Memory,
@@ -44,7 +60,12 @@ impl Status {
             Status::BadLine { .. } => 2,
             Status::ReadFault => 3,
             Status::WriteFault => 4,
+            Status::PortFault => 5,
+            Status::LinkFault(_) => 6,
             Status::TooLarge => 7,
+            Status::JournalFull(_) => 8,
+            Status::Turns(_) => 9,
+            Status::ClockFault => 10,
             Status::Memory => 11,
             Status::NoMember(_) => 12,
         }

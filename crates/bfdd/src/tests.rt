@@ -1,6 +1,6 @@
 // Runs over the outside of memory: the causes of each status, and what is written with it.
 use crate::{Status, run};
-use bfd_edge::{MemSink, MemSource, OpenGate};
+use bfd_edge::{MemPorts, MemSink, MemSource, MemTicker, OpenGate};
 use bfd_script::LineFault;
 use std::alloc::{AllocError, Global};
 use std::sync::Wait;
@@ -100,7 +100,18 @@ fn ended<R: Threads + Wait + Sync>(
         case.sink_chunk.max(1),
         calls(alloc, case.sink_fails)?,
     );
-    let status = run(rt, alloc, &words, &mut source, &mut sink, &OpenGate);
+    let mut ports = MemPorts::make(alloc, Vec::new(alloc), Vec::new(alloc));
+    let mut ticker = MemTicker::make(Vec::new(alloc), Vec::new(alloc));
+    let status = run(
+        rt,
+        alloc,
+        &words,
+        &mut source,
+        &mut sink,
+        &mut ports,
+        &mut ticker,
+        &OpenGate,
+    );
     let written = sink.as_slice().to_vec(alloc)?;
     Ok((status, written))
 }
@@ -240,7 +251,8 @@ fn other_words(rt: HostRuntime) -> Result<(), Fail> {
         "load 0 1 1",
         "watch 2 1",
         "pair 100001 1",
-        "serve",
+        "serve --turns 0",
+        "serve --journal 200001",
         "--help",
     ] {
         let case = Case {

@@ -1,0 +1,79 @@
+-- What `serve` has to tell, and the status that comes of it.
+use Rattle.std.proofs.Common.{◌≡◌, ◌⊎◌, ◌≤◌, ℕ, true, List, length, Option, Some, None, Ok, inl, inr, sym, ap, ◌∙◌, subst, arith}
+use Rattle.std.proofs.Math.Nat.{le-max_right}
+use Rattle.std.proofs.lemmas.List.{append-nil}
+use Rattle.std.specs.Prelude.{◌+◌, ◌-◌, ◌^◌, ◌++◌, min, IfSome}
+use Rattle.std.specs.Io.KnownBytes.{Consumes, IsAtEnd}
+use Rattle.bfd_edge.specs.Faults.{Rose, risen}
+use Rattle.bfd_script.specs.Reading.{Lists, script_of}
+use Rattle.bfd_serving.specs.declared.finish.Finish.{Finish}
+use Rattle.bfd_serving.specs.declared.finish.Finish.TheVariants as finish
+use Rattle.bfd_words.specs.declared.job.Job.{Job}
+use Rattle.bfd_words.specs.declared.job.Job.TheVariants.{Replay, Serve, Load, Pair, Watch}
+use Rattle.bfdd.specs.declared.status.Status.{Status}
+use Rattle.bfdd.specs.declared.status.Status.TheVariants.{Memory}
+use Rattle.bfdd.specs.Answers.{HasText}
+use Rattle.bfdd.specs.Serving.{Comes, Edges, IsFaulty, IsFinished, IsOverlong, IsServed, Tells, status_of}
+use Rattle.bfdd.specs.Text.{Wanted, most_bytes}
+use Rattle.bfdd.specs.Words.{OfServing}
+
+-- the served text goes with every finish
+pub goes_with : (end : Finish) (text : List ℕ) → HasText (status_of end) text
+goes_with finish.Done text = tt
+goes_with (finish.LinkFault number) text = tt
+goes_with finish.ClockFault text = tt
+goes_with (finish.JournalFull shard) text = tt
+goes_with (finish.Turns number) text = tt
+
+-- one fact after another, of a job that serves
+pub serving_then : (given : Option Job) (P Q : Job → Type 0) → OfServing given P → ((job : Job) → P job → Q job) → OfServing given Q
+serving_then None P Q fact next = tt
+serving_then (Some (Replay hands)) P Q fact next = tt
+serving_then (Some (Serve hands turns ticks journal)) P Q fact next = next (Serve hands turns ticks journal) fact
+serving_then (Some (Load sessions ticks seed hands)) P Q fact next = tt
+serving_then (Some (Pair events seed)) P Q fact next = tt
+serving_then (Some (Watch need members shards)) P Q fact next = tt
+
+-- the bytes that a source told are those that were read to its end
+read_whole : (bytes : List ℕ) (right : Option (List ℕ)) (more : List ℕ) → Consumes (Some bytes) right more → IsAtEnd right → bytes ≡ more
+read_whole bytes None more read end = absurd read
+read_whole bytes (Some rest) more read end = read ∙ (ap (λ (x : List ℕ). more ++ x) end ∙ append-nil more)
+
+same_script : (bytes more : List ℕ) (one other : Lists) → bytes ≡ more → script_of true bytes ≡ Ok one → script_of true more ≡ Ok other → other ≡ one
+same_script bytes more one other same first second = cc
+
+no_script : (bytes : List ℕ) (right : Option (List ℕ)) (w : Wanted) (script : Lists) → IsFaulty (Some bytes) right w ⊎ IsOverlong (Some bytes) right w
+    → length bytes ≤ most_bytes → script_of true bytes ≡ Ok script → {X : Type 0} → X
+no_script bytes right w script (inl faulty) few spelled =
+    let same = read_whole bytes right faulty.bytes faulty.read faulty.end in let other = faulty.spelled in cc
+no_script bytes right w script (inr long) few spelled = absurd (omega (arith, few, long.long))
+
+port_rose : (before now : ℕ) → now ≡ risen before 1 → Rose before now
+port_rose before now is =
+    subst (λ (n : ℕ). min (before + 1) (2 ^ 64 - 1) ≤ n) (sym is) (le-max_right before (min (before + 1) (2 ^ 64 - 1)))
+
+-- where the count of ports didn't rise, a script was served to its finish, and the status is that
+finished_by : (job : Job) (script : Lists) (old new : Edges) (w : Wanted) (result : Status)
+    → (result ≡ w.status) ⊎ (result ≡ Memory) → (Rose old.ports.faults new.ports.faults → ⊥) → Comes job script old new w
+    → (result ≡ Memory) ⊎ ((v : Wanted) × IsServed job script old new v × (result ≡ v.status))
+finished_by job script old new w result (inr memory) ports comes = inl memory
+finished_by job script old new w result (inl is) ports (inl served) = inr (w, served, is)
+finished_by job script old new w result (inl is) ports (inr portless) =
+    absurd (ports (port_rose old.ports.faults new.ports.faults portless.refused.0.fault))
+
+of_script : (job : Job) (bytes : List ℕ) (right : Option (List ℕ)) (old new : Edges) (w : Wanted) (result : Status)
+    → (result ≡ w.status) ⊎ (result ≡ Memory) → (Rose old.ports.faults new.ports.faults → ⊥) → Tells job (Some bytes) right old new w
+    → IsFinished job old new result bytes
+of_script job bytes right old new w result is ports (inl served) = λ few script spelled.
+    finished_by job script old new w result is ports
+    (subst (λ (s : Lists). Comes job s old new w)
+    (same_script bytes served.live.bytes script served.script (read_whole bytes right served.live.bytes served.live.read served.live.end) spelled served.live.spelled)
+    served.comes)
+of_script job bytes right old new w result is ports (inr none) = λ few script spelled. no_script bytes right w script none.unread few spelled
+
+-- with an outside that doesn't fail a script is served to its finish
+pub finished : (job : Job) (left right : Option (List ℕ)) (old new : Edges) (w : Wanted) (result : Status)
+    → (result ≡ w.status) ⊎ (result ≡ Memory) → (Rose old.ports.faults new.ports.faults → ⊥) → Tells job left right old new w
+    → IfSome left (IsFinished job old new result)
+finished job None right old new w result is ports tells = tt
+finished job (Some bytes) right old new w result is ports tells = of_script job bytes right old new w result is ports tells
