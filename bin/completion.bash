@@ -7,8 +7,9 @@ _bfdd() {
         [ "$COMP_CWORD" = 1 ] && mapfile -t COMPREPLY < <(compgen -W "replay watch load pair help --help --version" -- "$word") && return
         words="--shards --workers --timers" ;;
     bfdd-capture) words="--help --local --keys --tick --from --to --mode" ;;
-    bfdd-packets) words="--help --report --program --sent --output" ;;
-    bfdd-timeline) words="--help --report --program --output --from --to --lanes --title" ;;
+    bfdd-evidence) words="--help --output --program" ;;
+    bfdd-packets) words="--help --report --served --program --sent --output" ;;
+    bfdd-timeline) words="--help --report --served --program --output --from --to --lanes --title" ;;
     esac
     case "$before" in
     --timers) mapfile -t COMPREPLY < <(compgen -W "hashed levels" -- "$word") && return ;;
@@ -19,4 +20,4 @@ _bfdd() {
     *) mapfile -t COMPREPLY < <(compgen -f -- "$word") ;;
     esac
 }
-complete -o filenames -F _bfdd bfdd bfdd-capture bfdd-packets bfdd-timeline
+complete -o filenames -F _bfdd bfdd bfdd-capture bfdd-evidence bfdd-packets bfdd-timeline
