@@ -4,11 +4,16 @@ _bfdd() {
     COMPREPLY=()
     case "${COMP_WORDS[0]##*/}" in
     bfdd)
-        [ "$COMP_CWORD" = 1 ] && mapfile -t COMPREPLY < <(compgen -W "replay watch load pair help --help --version" -- "$word") && return
-        words="--shards --workers --timers" ;;
+        [ "$COMP_CWORD" = 1 ] && mapfile -t COMPREPLY < <(compgen -W "replay serve watch load pair help --help --version" -- "$word") && return
+        case "${COMP_WORDS[1]}" in
+        replay | load) words="--shards --workers --timers" ;;
+        serve) words="--shards --workers --turns --ticks --journal --timers" ;;
+        watch) words="--shards" ;;
+        esac ;;
     bfdd-capture) words="--help --local --keys --tick --from --to --mode" ;;
-    bfdd-packets) words="--help --report --program --sent --output" ;;
-    bfdd-timeline) words="--help --report --program --output --from --to --lanes --title" ;;
+    bfdd-evidence) words="--help --output --program" ;;
+    bfdd-packets) words="--help --report --served --program --sent --output" ;;
+    bfdd-timeline) words="--help --report --served --program --output --from --to --lanes --title" ;;
     esac
     case "$before" in
     --timers) mapfile -t COMPREPLY < <(compgen -W "hashed levels" -- "$word") && return ;;
@@ -19,4 +24,4 @@ _bfdd() {
     *) mapfile -t COMPREPLY < <(compgen -f -- "$word") ;;
     esac
 }
-complete -o filenames -F _bfdd bfdd bfdd-capture bfdd-packets bfdd-timeline
+complete -o filenames -F _bfdd bfdd bfdd-capture bfdd-evidence bfdd-packets bfdd-timeline

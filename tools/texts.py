@@ -231,13 +231,18 @@ def replayed(program, text):
 def add_replay_arguments(parser):
     """The arguments of a tool that looks at a packet file and its report."""
     parser.add_argument("file", metavar="FILE", help="a packet file; - is standard input")
-    parser.add_argument("--report", metavar="REPORT", help="its report; without, the file is replayed")
+    either = parser.add_mutually_exclusive_group()
+    either.add_argument("--report", metavar="REPORT", help="its report; without, the file is replayed")
+    either.add_argument("--served", metavar="SERVED", help="the served text of a run whose script is FILE")
     parser.add_argument("--program", type=shlex.split, metavar="COMMAND", default=[str(TOP / "bin/bfdd")],
                         help="what replays it, in place of bin/bfdd")
 
 
 def script_and_report(told):
     """What these arguments name."""
+    if told.served:
+        from served import read_run, whole_run
+        return whole_run(*read_run(told.file, told.served))
     text = text_of(told.file)
     script = Script(text, told.file)
     report = text_of(told.report) if told.report else replayed(told.program, text)
