@@ -4,5 +4,4 @@ pub mod Loops
 pub mod Turns
 pub mod Kept
 pub mod Stages
-pub mod Counts
 pub mod Telling

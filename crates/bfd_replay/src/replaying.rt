@@ -1,10 +1,7 @@
-//! A world of sessions, and the replay of a script.
-ghost use Rattle.std.specs.Prelude.{◌≡◌, ◌<◌, ◌≤◌, ◌+◌, ◌*◌, ◌++◌, ℕ, true, IfOk, [], length, map, string_bytes, sum_by};
-ghost use Rattle.std.specs.List.{AllByRecursion};
+//! A world of sessions, event by event.
+ghost use Rattle.std.specs.Prelude.{◌≡◌, IfOk, map};
 ghost use Rattle.bfd_session.specs.Rows.{AreFit, table_of as table_in};
 ghost use Rattle.bfd_session.specs.Step.{started as started_of};
-ghost use Rattle.bfd_script.specs.Report.{sent_by, dropped_by, done_line, report};
-ghost use Rattle.bfd_script.specs.Sound.{IsScript};
 ghost use Rattle.bfd_replay.specs.Stage.{IsStage, IsTable};
 ghost use Rattle.bfd_replay.specs.World.{gives, turned};
 ghost use Rattle.bfd_replay.specs.World as world;
@@ -13,7 +10,7 @@ use crate::world::happen;
 use bfd_demux::{BuildFault, Demux};
 use bfd_rules::{Out, Outs};
 use bfd_sbfd::Reflector;
-use bfd_script::{Line, Script, lines};
+use bfd_script::Line;
 use bfd_session::{Answer, Session, SessionConfig, table_of};
 use std::alloc::{AllocError, Global};
 use std::marker::Model;
@@ -136,82 +133,4 @@ impl Progress {
     {
         self.sessions.as_slice()
     }
-}
-
-/// How many packets an output tells of.
-fn packets(out: &Out) -> u64
-    ensures value { result ≡ sent_by out.now }
-    ensures few { result ≤ 1 }
-{
-    match out {
-        Out::Sent { .. } => 1,
-        Out::Changed { .. } => 0,
-    }
-}
-
-/// How many packets the outputs tell of.
-fn sent(outs: &[Out]) -> u64
-    ensures value { result ≡ sum_by sent_by outs.now }
-    ensures few { result ≤ length outs.now }
-{
-    let mut count = 0u64;
-    for out in outs {
-        count += packets(out);
-    }
-    count
-}
-
-/// How many packets the answer says were dropped.
-fn dropped(answer: &Answer) -> u64
-    ensures value { result ≡ dropped_by answer.now }
-    ensures few { result ≤ 1 }
-{
-    match answer {
-        Answer::Dropped(_) => 1,
-        Answer::Handled | Answer::Ticked | Answer::Refused(_) | Answer::Shown(_) => 0,
-    }
-}
-
-/// The last line of a report.
-fn done_text(alloc: Global, events: u64, txs: u64, drops: u64) -> Result<String, AllocError>
-    ensures { IfOk result (λ text. string_bytes text ≡ done_line events txs drops) }
-{
-    format!(in alloc; "done {events} {txs} {drops}\n")
-}
-
-/// The report of the events that are left.
-fn tell(alloc: Global, replay: Progress, events: Vec<Line>) -> Result<Vec<u8>, AllocError>
-    requires few { length events.items ≤ 200000 }
-    ensures { IfOk result (λ text. text.items ≡ report (world.outcomes events.items replay.world)) }
-{
-    let mut replay = replay;
-    let mut text = Vec::new(alloc);
-    let mut number = 1u64;
-    let mut txs = 0u64;
-    let mut drops = 0u64;
-    for line in events {
-        let answer = replay.happen(line);
-        lines(number, replay.items(), &answer, &mut text)?;
-        txs += sent(replay.items());
-        drops += dropped(&answer);
-        number += 1;
-    }
-    let done = done_text(alloc, number - 1, txs, drops)?;
-    text.extend_from_slice(done.as_bytes())?;
-    Ok(text)
-}
-
-/// The report of a replay of the script, as text: what its events give, one after another. The one refusal is want of
-/// memory.
-pub fn replay(alloc: Global, script: Script) -> Result<Vec<u8>, AllocError>
-    requires { IsScript script }
-    ensures { IfOk result (λ text. text.items ≡ world.replayed script) }
-{
-    let Script {
-        configs,
-        pool,
-        events,
-    } = script;
-    let replay = Progress::open(alloc, configs, pool)?;
-    tell(alloc, replay, events)
 }

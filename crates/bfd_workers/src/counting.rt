@@ -54,3 +54,12 @@ pub(crate) fn up_all<W: Timers>(states: &Vec<ShardState<W>>) -> u32
     }
     count
 }
+
+/// The same, of shards that are let go.
+pub(crate) fn up_at_last<W: Timers>(states: Vec<ShardState<W>>) -> u32
+    requires few { length states.items ≤ 64 }
+    ensures value { (d : Shard) → result ≡ sum_to (λ k. sum_by one_up (slice_index_or states.items k d).sessions) (length states.items) }
+    ensures kept { (k : ℕ) (d : Shard) → k < length states.items → IsShard (slice_index_or states.items k d) }
+{
+    up_all(&states)
+}

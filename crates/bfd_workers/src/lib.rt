@@ -4,10 +4,11 @@
 //! packet is screened and selected here, once. The sessions stand in an engine of 1 to 64 shards, and the events are dealt out to
 //! the shards' queues. Each of 1 to 64 workers has a pass of the engine and takes the shards of its own, in a thread of its own
 //! where one can be had; what each shard's events give is told in a part, and the parts are gathered into one report. [`replay`]
-//! hands out the report, the counts and the shards.
+//! hands out the report, the counts and the shards, and [`reported`] lets the shards go before it puts the report together.
 //!
 //! Modules: `routing` says what a line is, `plan` deals the lines out, `working` is one worker's turns, `jobs` all workers,
-//! `passes` their passes, `running` the engine from opening to closing, `finish` puts the parts in order, `counting` counts.
+//! `passes` their passes, `running` the engine from opening to closing, `finish` puts the parts in order, `counting` counts,
+//! `taking` takes lists apart.
 //!
 //! It stands on `bfd_engine` for the turns, on `bfd_gather` for the report and on `bfd_script`. It promises that the text is that
 //! of `bfd_replay`'s `specs/World.antt`, which knows of no shard, no worker and no lock, for every number of shards and workers; that the counts
@@ -24,8 +25,9 @@ mod plan;
 mod replaying;
 mod routing;
 mod running;
+mod taking;
 #[cfg(test)]
 mod tests;
 mod working;
 
-pub use replaying::{Outcome, replay};
+pub use replaying::{Outcome, Report, replay, reported};

@@ -8,6 +8,7 @@ ghost use Rattle.bfd_gather.specs.Happenings.{told_apart};
 ghost use Rattle.bfd_workers.specs.Planned.{IsTable, IsMet, AreQueues, IsPlanned, happenings, route_is};
 
 use crate::routing::{Route, route_of};
+use crate::taking::next_of;
 use bfd_demux::{BuildFault, Demux};
 use bfd_gather::{Numbered, Part, deal};
 use bfd_rules::Out;
@@ -91,7 +92,9 @@ pub(crate) fn plan(
     let mut queues = empty_queues(alloc, shards as usize)?;
     let mut apart = Part::new(alloc);
     let mut number = 1u64;
-    for line in events {
+    let mut left = events;
+    left.reverse();
+    'lines: while let Some(line) = next_of(&mut left) {
         take_in(
             &mut queues,
             &mut apart,

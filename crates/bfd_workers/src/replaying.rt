@@ -1,17 +1,18 @@
 //! A replay on shards, by several workers.
-ghost use Rattle.std.specs.Prelude.{ℕ, ◌≡◌, ◌≤◌, ◌<◌, IfOk, length};
-ghost use Rattle.bfd_script.specs.Sound.{IsScript};
-ghost use Rattle.bfd_workers.specs.Planned.{IsTable};
-ghost use Rattle.bfd_workers.specs.Replayed.{HaveReplayed};
+ghost use Rattle.std.specs.Prelude.{ℕ, ◌≡◌, ◌≤◌, ◌<◌, IfOk, length, map};
+ghost use Rattle.bfd_gather.specs.Happenings.{AreParts};
 ghost use Rattle.bfd_replay.specs.World.{replayed, totals};
-ghost use Rattle.bfd_workers.specs.Planned.{script_of};
+ghost use Rattle.bfd_script.specs.Sound.{IsScript};
+ghost use Rattle.bfd_session.specs.Step.{started};
+ghost use Rattle.bfd_workers.specs.Planned.{IsTable, happenings, script_of};
+ghost use Rattle.bfd_workers.specs.Replayed.{HaveReplayed};
 
-use crate::counting::up_all;
+use crate::counting::{up_all, up_at_last};
 use crate::finish::in_order;
 use crate::plan::planned;
 use crate::running::{opened, run_all};
 use bfd_edge::Gate;
-use bfd_gather::report;
+use bfd_gather::{Part, report};
 use bfd_sbfd::Reflector;
 use bfd_script::{Line, Script};
 use bfd_session::SessionConfig;
@@ -21,7 +22,7 @@ use std::alloc::{AllocError, Global};
 use std::sync::Wait;
 use std::thread::Threads;
 
-/// What a replay gives.
+/// What a replay gives, with its shards.
 #[derive(Drop)]
 pub struct Outcome<W: Timers> {
     /// The report, as text.
@@ -38,7 +39,49 @@ pub struct Outcome<W: Timers> {
     pub states: Vec<ShardState<W>>,
 }
 
-/// The same, of a script in its parts.
+/// What a replay gives, without its shards.
+#[derive(Drop)]
+pub struct Report {
+    /// The report, as text.
+    pub text: Vec<u8>,
+    /// How many events there were.
+    pub events: u64,
+    /// How many packets were sent in them.
+    pub txs: u64,
+    /// How many packets were dropped in them.
+    pub drops: u64,
+    /// How many sessions are Up at the end.
+    pub up: u32,
+}
+
+/// The parts of a script's report, and the closed shards.
+fn worked<W: Timers + Send, R: Threads + Wait + Sync, G: Gate + Sync>(
+    rt: &R,
+    alloc: Global,
+    configs: Vec<SessionConfig>,
+    pool: Vec<Reflector>,
+    events: Vec<Line>,
+    shards: u32,
+    workers: u32,
+    gate: &G,
+) -> Result<(Vec<Part>, Vec<ShardState<W>>), AllocError>
+    requires table { IsTable configs.items pool.items }
+    requires few { length events.items ≤ 200000 }
+    requires shards { (0 < shards) × (shards ≤ 64) }
+    requires workers { (0 < workers) × (workers ≤ 64) }
+    ensures parts { IfOk result (λ r. AreParts shards 1 0 (happenings configs.items pool.items events.items) (map started configs.items) r.0.items) }
+    ensures states { IfOk result (λ r. HaveReplayed (script_of configs.items pool.items events.items) shards workers r.1.items) }
+{
+    let count = events.len();
+    let room = 5 * configs.len() + 5;
+    let (queues, apart) = planned(alloc, &configs, &pool, events, shards)?;
+    let (engine, first) = opened(alloc, configs, pool, shards, count)?;
+    let (states, all) = run_all(rt, alloc, engine, first, queues, workers, room, gate)?;
+    let parts = in_order(alloc, all, shards, apart)?;
+    Ok((parts, states))
+}
+
+/// A replay of a script in its parts, which keeps its shards.
 fn replay_parts<W: Timers + Send, R: Threads + Wait + Sync, G: Gate + Sync>(
     rt: &R,
     alloc: Global,
@@ -61,11 +104,7 @@ fn replay_parts<W: Timers + Send, R: Threads + Wait + Sync, G: Gate + Sync>(
     ensures states { IfOk result (λ outcome. HaveReplayed (script_of configs.items pool.items events.items) shards workers outcome.states.items) }
 {
     let count = events.len();
-    let room = 5 * configs.len() + 5;
-    let (queues, apart) = planned(alloc, &configs, &pool, events, shards)?;
-    let (engine, first) = opened(alloc, configs, pool, shards, count)?;
-    let (states, all) = run_all(rt, alloc, engine, first, queues, workers, room, gate)?;
-    let parts = in_order(alloc, all, shards, apart)?;
+    let (parts, states) = worked(rt, alloc, configs, pool, events, shards, workers, gate)?;
     let gathered = report(alloc, parts, count as u64)?;
     let up = up_all(&states);
     Ok(Outcome {
@@ -75,6 +114,42 @@ fn replay_parts<W: Timers + Send, R: Threads + Wait + Sync, G: Gate + Sync>(
         drops: gathered.drops,
         up,
         states,
+    })
+}
+
+/// The same, which lets its shards go before the report is put together.
+fn report_parts<W: Timers + Send, R: Threads + Wait + Sync, G: Gate + Sync>(
+    rt: &R,
+    alloc: Global,
+    configs: Vec<SessionConfig>,
+    pool: Vec<Reflector>,
+    events: Vec<Line>,
+    shards: u32,
+    workers: u32,
+    gate: &G,
+) -> Result<Report, AllocError>
+    requires table { IsTable configs.items pool.items }
+    requires few { length events.items ≤ 200000 }
+    requires shards { (0 < shards) × (shards ≤ 64) }
+    requires workers { (0 < workers) × (workers ≤ 64) }
+    ensures text { IfOk result (λ outcome. outcome.text.items ≡ replayed (script_of configs.items pool.items events.items)) }
+    ensures events { IfOk result (λ outcome. outcome.events ≡ (totals (script_of configs.items pool.items events.items)).events) }
+    ensures txs { IfOk result (λ outcome. outcome.txs ≡ (totals (script_of configs.items pool.items events.items)).txs) }
+    ensures drops { IfOk result (λ outcome. outcome.drops ≡ (totals (script_of configs.items pool.items events.items)).drops) }
+    ensures up { IfOk result (λ outcome. outcome.up ≡ (totals (script_of configs.items pool.items events.items)).ups) }
+{
+    let count = events.len();
+    let (parts, states) = worked::<W, R, G>(
+        rt, alloc, configs, pool, events, shards, workers, gate,
+    )?;
+    let up = up_at_last(states);
+    let gathered = report(alloc, parts, count as u64)?;
+    Ok(Report {
+        text: gathered.text,
+        events: count as u64,
+        txs: gathered.txs,
+        drops: gathered.drops,
+        up,
     })
 }
 
@@ -109,4 +184,32 @@ pub fn replay<W: Timers + Send, R: Threads + Wait + Sync, G: Gate + Sync>(
         events,
     } = script;
     replay_parts(rt, alloc, configs, pool, events, shards, workers, gate)
+}
+
+/// The same replay, for whoever wants its report alone: the shards with their journals are let go before the report is put
+/// together, so that the two are never held at once. The one refusal is want of memory.
+#[tactic(auto, using(crate::proofs::Whole::is_table))]
+pub fn reported<W: Timers + Send, R: Threads + Wait + Sync, G: Gate + Sync>(
+    rt: &R,
+    alloc: Global,
+    script: Script,
+    shards: u32,
+    workers: u32,
+    gate: &G,
+) -> Result<Report, AllocError>
+    requires script { IsScript script }
+    requires shards { (0 < shards) × (shards ≤ 64) }
+    requires workers { (0 < workers) × (workers ≤ 64) }
+    ensures text { IfOk result (λ outcome. outcome.text.items ≡ replayed script) }
+    ensures events { IfOk result (λ outcome. outcome.events ≡ (totals script).events) }
+    ensures txs { IfOk result (λ outcome. outcome.txs ≡ (totals script).txs) }
+    ensures drops { IfOk result (λ outcome. outcome.drops ≡ (totals script).drops) }
+    ensures up { IfOk result (λ outcome. outcome.up ≡ (totals script).ups) }
+{
+    let Script {
+        configs,
+        pool,
+        events,
+    } = script;
+    report_parts::<W, R, G>(rt, alloc, configs, pool, events, shards, workers, gate)
 }

@@ -2,7 +2,7 @@
 ghost use Rattle.std.specs.Prelude.{◌≤◌, ◌<◌, IfSome};
 ghost use Rattle.bfd_script.specs.Sound.{IsScript};
 
-use crate::{Outcome, replay};
+use crate::{Outcome, Report, replay, reported};
 use bfd_edge::{Gate, OpenGate};
 use bfd_script::{Script, read};
 use bfd_wheel::HashedWheel;
@@ -99,5 +99,26 @@ fn workers_meet(rt: HostRuntime) -> Result<(), Fail> {
         (3, 4, 0, 0)
     );
     assert_eq!(rt; beside.states.len(), 2);
+    Ok(())
+}
+
+fn told_alone<R: Threads + Wait + Sync>(rt: &R, alloc: Global) -> Option<Report> {
+    let script = script(alloc)?;
+    reported::<HashedWheel, R, OpenGate>(rt, alloc, script, 7, 5, &OpenGate).ok()
+}
+
+#[test]
+fn report_alone(rt: HostRuntime) -> Result<(), Fail> {
+    let outcome = replayed(&rt, rt.alloc(), 1, 1, &OpenGate).ok_or("no script")?;
+    let report = told_alone(&rt, rt.alloc()).ok_or("no script")?;
+    assert!(rt; report.text == outcome.text, "the same text");
+    assert!(rt;
+        report.text.ends_with(b"\ndone 3 4 0\n"),
+        "the counts in the text"
+    );
+    assert_eq!(rt;
+        (report.events, report.txs, report.drops, report.up),
+        (3, 4, 0, 0)
+    );
     Ok(())
 }

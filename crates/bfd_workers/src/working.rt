@@ -10,6 +10,7 @@ ghost use Rattle.bfd_engine.specs.Turned.{room_in};
 ghost use Rattle.bfd_gather.specs.Pieces.{event_pieces};
 ghost use Rattle.bfd_workers.specs.Working.{AreMet, HasDoneAt, HasFinished, HasLeft, HasStopped, HasTold, HasUsed, IsElsewhere, IsIdle, IsReady, IsRefused, IsStopAt, is_tick};
 
+use crate::taking::next_of;
 use bfd_edge::Gate;
 use bfd_engine::{Engine, EngineFault, EnginePass};
 use bfd_gather::{Numbered, Part};
@@ -89,22 +90,6 @@ fn one_event<W: Timers, R: Wait, G: Gate, L: Ledger>(
     }
 }
 
-/// After how many events a queue gives memory back.
-const GIVEN_BACK: usize = 4096;
-
-/// Takes the first event of a queue that is kept in reverse. The queue gives memory back on its way: the journal needs it.
-fn next_event(left: &mut Vec<Numbered>) -> Option<Numbered>
-    ensures first { IfSome result (λ event. reverse left.old.items ≡ event ∷ reverse left.new.items) }
-    ensures fewer { IfSome result (λ event. length left.new.items < length left.old.items) }
-    ensures none { result ≡ None → reverse left.old.items ≡ [] }
-{
-    let event = left.pop()?;
-    if left.len().is_multiple_of(GIVEN_BACK) {
-        left.shrink_to_fit();
-    }
-    Some(event)
-}
-
 /// The events of a shard's queue, in their order.
 fn one_shard<W: Timers, R: Wait, G: Gate, L: Ledger>(
     rt: &R,
@@ -134,7 +119,7 @@ fn one_shard<W: Timers, R: Wait, G: Gate, L: Ledger>(
 {
     let mut left = queue;
     left.reverse();
-    'events: while let Some(event) = next_event(&mut left) {
+    'events: while let Some(event) = next_of(&mut left) {
         match one_event(rt, engine, pass, shard, event, part, outs, steps, gate) {
             Ok(()) => {}
             Err(fault) => return Err(fault),

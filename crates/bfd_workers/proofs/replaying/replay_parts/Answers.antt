@@ -1,87 +1,36 @@
--- The report, the counts and the states of the whole script.
-use Rattle.std.proofs.Common.{rules, ◌≡◌, ◌%◌, ◌∙◌, [], length, map, sym, ap, subst, arith}
-use Rattle.std.specs.Prelude.{slice_index_or, sum_by}
-use Rattle.std.specs.List.{AllByRecursion}
-use Rattle.std.proofs.lemmas.List.{length-map}
+-- The report and the counts of the whole script.
+use Rattle.std.proofs.Common.{rules, ◌≡◌, ◌∙◌, length, map, sym, ap}
+use Rattle.std.specs.Prelude.{sum_by}
 use Rattle.bfd_session.specs.Step.{started}
 use Rattle.bfd_script.specs.Report.{report, sent, dropped}
-use Rattle.bfd_workers.specs.Planned.{IsMet, happenings, script_of}
-use Rattle.bfd_workers.proofs.Whole.{events_are, happenings_long, none, room_enough, met_queues, short_queues, are_parts, have_replayed, ups_are}
+use Rattle.bfd_workers.specs.Planned.{happenings, script_of}
+use Rattle.bfd_workers.proofs.Whole.{events_are, happenings_long, none, ups_are}
 use Rattle.bfd_workers.proofs.Worlds.{world_is}
 use Rattle.bfd_workers.proofs.replaying.replay_parts.Goals as goal
 
-pub run_all-requires-clause-long : goal.run_all-requires-clause-long
-run_all-requires-clause-long g c = λ κs within. sym (length-map c.in_ok-queues.queues.items (λ q. q.items)) ∙ (c.in_ok-queues.ensures.queues.long ∙ sym c.in_ok-engine.ensures.shards)
-
-pub run_all-requires-clause-met : goal.run_all-requires-clause-met
-run_all-requires-clause-met g c = λ κs within.
-    met_queues c.in_ok-engine.engine c.args.shards (happenings c.args.configs.items c.args.pool.items c.args.events.items) (map (λ q. q.items) c.in_ok-queues.queues.items)
-    (sym c.in_ok-engine.ensures.shards) c.requires.shards.0 c.in_ok-queues.ensures.queues
-    (subst (λ cs. AllByRecursion (IsMet cs) (happenings c.args.configs.items c.args.pool.items c.args.events.items)) (sym c.in_ok-engine.ensures.configs) c.in_ok-queues.ensures.met)
-
-pub run_all-requires-clause-room : goal.run_all-requires-clause-room
-run_all-requires-clause-room g c = λ κs within s. room_enough c.in_ok-engine.engine s _ c.args.configs.items c.in_ok-engine.ensures.configs (search rules)
-
-pub run_all-requires-clause-short : goal.run_all-requires-clause-short
-run_all-requires-clause-short g c = λ κs within s.
-    (let a = short_queues c.args.shards (happenings c.args.configs.items c.args.pool.items c.args.events.items) (map (λ q. q.items) c.in_ok-queues.queues.items) s c.in_ok-queues.ensures.queues in
-    let b = c.in_ok-engine.ensures.limit in let d : c.len-count.result ≡ length c.args.events.items = search rules in
-    let e = happenings_long c.args.configs.items c.args.pool.items c.args.events.items in omega (arith, a, b, d, e))
-
-pub in_order-requires-clause-some : goal.in_order-requires-clause-some
-in_order-requires-clause-some g c =
-    (let a = c.in_ok-states.ensures.told.long in let b = length-map c.in_ok-states.all.items (λ parts. parts.items) in let d = c.requires.workers.0 in omega (arith, a, b, d))
-
-pub in_order-requires-clause-wide : goal.in_order-requires-clause-wide
-in_order-requires-clause-wide g c = λ i h. c.in_ok-states.ensures.told.wide i
-    (let a = c.in_ok-states.ensures.told.long in let b = length-map c.in_ok-states.all.items (λ parts. parts.items) in omega (arith, a, b, h)) ∙ c.in_ok-engine.ensures.shards
-
 pub returns-clause-text : goal.returns-clause-text
 returns-clause-text g c =
-    let hs = happenings c.args.configs.items c.args.pool.items c.args.events.items in
-    let script = script_of c.args.configs.items c.args.pool.items c.args.events.items in
-    let are = are_parts c.in_ok-engine.engine c.args.shards c.args.workers hs c.args.configs.items (map (λ q. q.items) c.in_ok-queues.queues.items) (map (λ parts. parts.items) c.in_ok-states.all.items)
-    c.in_ok-parts.parts.items c.in_ok-queues.apart c.requires.shards.0 (sym c.in_ok-engine.ensures.shards) c.in_ok-engine.ensures.configs c.requires.table.configs.ascends
-    c.in_ok-queues.ensures.queues c.in_ok-states.ensures.told c.in_ok-parts.ensures.long (λ s h. c.in_ok-parts.ensures.each s h
-    ∙ ap (λ n. slice_index_or (slice_index_or (map (λ parts. parts.items) c.in_ok-states.all.items) (s % n) []) s []) (sym (length-map c.in_ok-states.all.items (λ parts. parts.items))))
-    c.in_ok-parts.ensures.last c.in_ok-queues.ensures.apart in
-    c.in_ok-gathered.ensures.text c.args.shards 0 hs (map started c.args.configs.items)
-    (let d : c.len-count.result ≡ length c.args.events.items = search rules in happenings_long c.args.configs.items c.args.pool.items c.args.events.items ∙ sym d) are ∙ ap report (world_is script)
+    let long : c.len-count.result ≡ length c.args.events.items = search rules in
+    c.in_ok-gathered.ensures.text c.args.shards 0 (happenings c.args.configs.items c.args.pool.items c.args.events.items) (map started c.args.configs.items)
+    (happenings_long c.args.configs.items c.args.pool.items c.args.events.items ∙ sym long) c.in_ok-parts.ensures.parts
+    ∙ ap report (world_is (script_of c.args.configs.items c.args.pool.items c.args.events.items))
 
 pub returns-clause-events : goal.returns-clause-events
 returns-clause-events g c =
-    let d : c.len-count.result ≡ length c.args.events.items = search rules in d ∙ events_are (script_of c.args.configs.items c.args.pool.items c.args.events.items)
+    let long : c.len-count.result ≡ length c.args.events.items = search rules in
+    long ∙ events_are (script_of c.args.configs.items c.args.pool.items c.args.events.items)
 
 pub returns-clause-txs : goal.returns-clause-txs
 returns-clause-txs g c =
-    let hs = happenings c.args.configs.items c.args.pool.items c.args.events.items in
-    let script = script_of c.args.configs.items c.args.pool.items c.args.events.items in
-    let are = are_parts c.in_ok-engine.engine c.args.shards c.args.workers hs c.args.configs.items (map (λ q. q.items) c.in_ok-queues.queues.items) (map (λ parts. parts.items) c.in_ok-states.all.items)
-    c.in_ok-parts.parts.items c.in_ok-queues.apart c.requires.shards.0 (sym c.in_ok-engine.ensures.shards) c.in_ok-engine.ensures.configs c.requires.table.configs.ascends
-    c.in_ok-queues.ensures.queues c.in_ok-states.ensures.told c.in_ok-parts.ensures.long (λ s h. c.in_ok-parts.ensures.each s h
-    ∙ ap (λ n. slice_index_or (slice_index_or (map (λ parts. parts.items) c.in_ok-states.all.items) (s % n) []) s []) (sym (length-map c.in_ok-states.all.items (λ parts. parts.items))))
-    c.in_ok-parts.ensures.last c.in_ok-queues.ensures.apart in
-    c.in_ok-gathered.ensures.txs c.args.shards 0 hs (map started c.args.configs.items) are ∙ ap (sum_by sent) (world_is script)
+    c.in_ok-gathered.ensures.txs c.args.shards 0 (happenings c.args.configs.items c.args.pool.items c.args.events.items) (map started c.args.configs.items) c.in_ok-parts.ensures.parts
+    ∙ ap (sum_by sent) (world_is (script_of c.args.configs.items c.args.pool.items c.args.events.items))
 
 pub returns-clause-drops : goal.returns-clause-drops
 returns-clause-drops g c =
-    let hs = happenings c.args.configs.items c.args.pool.items c.args.events.items in
-    let script = script_of c.args.configs.items c.args.pool.items c.args.events.items in
-    let are = are_parts c.in_ok-engine.engine c.args.shards c.args.workers hs c.args.configs.items (map (λ q. q.items) c.in_ok-queues.queues.items) (map (λ parts. parts.items) c.in_ok-states.all.items)
-    c.in_ok-parts.parts.items c.in_ok-queues.apart c.requires.shards.0 (sym c.in_ok-engine.ensures.shards) c.in_ok-engine.ensures.configs c.requires.table.configs.ascends
-    c.in_ok-queues.ensures.queues c.in_ok-states.ensures.told c.in_ok-parts.ensures.long (λ s h. c.in_ok-parts.ensures.each s h
-    ∙ ap (λ n. slice_index_or (slice_index_or (map (λ parts. parts.items) c.in_ok-states.all.items) (s % n) []) s []) (sym (length-map c.in_ok-states.all.items (λ parts. parts.items))))
-    c.in_ok-parts.ensures.last c.in_ok-queues.ensures.apart in
-    c.in_ok-gathered.ensures.drops c.args.shards 0 hs (map started c.args.configs.items) are ∙ ap (sum_by dropped) (world_is script)
-
-pub returns-clause-states : goal.returns-clause-states
-returns-clause-states g c =
-    have_replayed c.in_ok-engine.engine (script_of c.args.configs.items c.args.pool.items c.args.events.items) c.args.shards c.args.workers (map (λ q. q.items) c.in_ok-queues.queues.items)
-    c.in_ok-states.states.items (sym c.in_ok-engine.ensures.shards) c.in_ok-engine.ensures.configs c.in_ok-queues.ensures.queues c.in_ok-states.ensures.states
+    c.in_ok-gathered.ensures.drops c.args.shards 0 (happenings c.args.configs.items c.args.pool.items c.args.events.items) (map started c.args.configs.items) c.in_ok-parts.ensures.parts
+    ∙ ap (sum_by dropped) (world_is (script_of c.args.configs.items c.args.pool.items c.args.events.items))
 
 pub returns-clause-up : goal.returns-clause-up
 returns-clause-up g c =
-    let have = have_replayed c.in_ok-engine.engine (script_of c.args.configs.items c.args.pool.items c.args.events.items) c.args.shards c.args.workers (map (λ q. q.items) c.in_ok-queues.queues.items)
-    c.in_ok-states.states.items (sym c.in_ok-engine.ensures.shards) c.in_ok-engine.ensures.configs c.in_ok-queues.ensures.queues c.in_ok-states.ensures.states in
-    ups_are (script_of c.args.configs.items c.args.pool.items c.args.events.items) c.args.shards c.args.workers c.up_all-up.result c.in_ok-states.states.items none c.requires.shards.0 have
-    c.up_all-up.ensures.kept (c.up_all-up.ensures.value none)
+    ups_are (script_of c.args.configs.items c.args.pool.items c.args.events.items) c.args.shards c.args.workers c.up_all-up.result c.in_ok-parts.states.items none c.requires.shards.0
+    c.in_ok-parts.ensures.states c.up_all-up.ensures.kept (c.up_all-up.ensures.value none)
