@@ -13,7 +13,7 @@ ghost use Rattle.bfdd.specs.Text.{answer_to, complaint_line, ends, load_line, ov
 ghost use Rattle.bfdd.specs.Words.{serves};
 
 use crate::answer::Answer;
-use crate::replaying::{Replayed, replay_by};
+use crate::replaying::replay_by;
 use crate::status::Status;
 use bfd_edge::Gate;
 use bfd_load::generate;
@@ -21,6 +21,7 @@ use bfd_schedule::pair_line;
 use bfd_script::{BadLine, Script, ScriptFault, read};
 use bfd_watching::{first_unknown, watched};
 use bfd_words::{Hands, Job};
+use bfd_workers::Report;
 use std::alloc::{AllocError, Global};
 use std::sync::Wait;
 use std::thread::Threads;
@@ -103,11 +104,11 @@ fn watch_answer(
 }
 
 /// The summary line of a load.
-fn load_text(alloc: Global, sessions: u32, replayed: &Replayed) -> Result<String, AllocError>
+fn load_text(alloc: Global, sessions: u32, replayed: &Report) -> Result<String, AllocError>
     ensures { IfOk result (λ text. string_bytes text ≡ load_line sessions
         (record { events = replayed.now.events; txs = replayed.now.txs; drops = replayed.now.drops; ups = replayed.now.up })) }
 {
-    let Replayed {
+    let Report {
         events,
         txs,
         drops,
