@@ -2,6 +2,7 @@
 import argparse
 import contextlib
 import fcntl
+import functools
 import os
 import shlex
 import shutil
@@ -113,6 +114,7 @@ class Run:
         return ran.stderr
 
 
+@functools.lru_cache(maxsize=1)
 def turns(text):
     """The entries of a served text: (shard, caller, words of the event, report lines as lists of words)."""
     found, shard = [], 0
