@@ -2,6 +2,7 @@
 import argparse
 import contextlib
 import fcntl
+import functools
 import os
 import shlex
 import shutil
@@ -113,6 +114,7 @@ class Run:
         return ran.stderr
 
 
+@functools.lru_cache(maxsize=1)
 def turns(text):
     """The entries of a served text: (shard, caller, words of the event, report lines as lists of words)."""
     found, shard = [], 0
@@ -153,23 +155,36 @@ def proved():
     return [built.stdout.strip()] if built.returncode == 0 else sys.exit(2)
 
 
-def outcome(function, program):
+def keep(folder, title, place):
+    """Keeps the last script and served text of a test."""
+    Path(place).mkdir(parents=True, exist_ok=True)
+    for name in ("a.script", "a.served"):
+        if (folder / name).exists():
+            shutil.copy(folder / name, Path(place) / f"{title}.{name.removeprefix('a.')}")
+
+
+def outcome(title, function, program, kept):
     """What is wrong, or None, and why it was skipped, or None."""
     with tempfile.TemporaryDirectory(prefix="bfdd-tests-") as folder, contextlib.ExitStack() as after:
         os.chmod(folder, 0o755)  # (daemons that drop their rights look into it)
+        folder = Path(folder)
         try:
-            function(program, Path(folder), after)
+            function(program, folder, after)
         except Skip as why:
             return None, str(why)
         except (Wrong, OSError, ValueError, IndexError, subprocess.SubprocessError) as wrong:
             return str(wrong) or repr(wrong), None
+        finally:
+            if kept:
+                keep(folder, title, kept)
     return None, None
 
 
 def main(name, tests, prepare=None):
     """Runs the tests of a table: (name, function)."""
-    parser = argparse.ArgumentParser(usage=f"{name} [--program COMMAND] [WORD..]")
+    parser = argparse.ArgumentParser(usage=f"{name} [--install] [--keep FOLDER] [--program COMMAND] [WORD..]")
     parser.add_argument("--program", type=shlex.split, help="a command in place of the proved program")
+    parser.add_argument("--keep", metavar="FOLDER", help="keep each test's script and served text there")
     parser.add_argument("--list", action="store_true", help="the names alone")
     parser.add_argument("--install", action="store_true", help="first install what Debian has of what is missing")
     parser.add_argument("words", nargs="*", help="parts of names")
@@ -185,7 +200,7 @@ def main(name, tests, prepare=None):
     failed = skipped = 0
     print(f"1..{len(chosen)}", flush=True)
     for number, (title, function) in enumerate(chosen, 1):
-        wrong, why = outcome(function, program)
+        wrong, why = outcome(title, function, program, told.keep)
         failed, skipped = failed + bool(wrong), skipped + bool(why)
         print(f"{'not ok' if wrong else 'ok'} {number} - {title}" + (f" # SKIP {why}" if why else ""), flush=True)
         if wrong:
