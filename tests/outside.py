@@ -180,15 +180,24 @@ def outcome(title, function, program, kept):
     return None, None
 
 
+<<<<<<< HEAD
 def main(name, tests, prepare=None):
     """Runs the tests of a table: (name, function)."""
     parser = argparse.ArgumentParser(usage=f"{name} [--install] [--keep FOLDER] [--program COMMAND] [WORD..]")
+=======
+def main(name, tests, prepare=None, long=()):
+    """Runs the tests of a table: (name, function), and with the word --long those of `long` as well."""
+    parser = argparse.ArgumentParser(usage=f"{name} [--program COMMAND] {'[--long] ' if long else ''}[WORD..]")
+    if long:
+        parser.add_argument("--long", action="store_true", help="the long tests as well")
+>>>>>>> c65f91762d847bceb39455ace4b94bc7a9ca1bc8
     parser.add_argument("--program", type=shlex.split, help="a command in place of the proved program")
     parser.add_argument("--keep", metavar="FOLDER", help="keep each test's script and served text there")
     parser.add_argument("--list", action="store_true", help="the names alone")
     parser.add_argument("--install", action="store_true", help="first install what Debian has of what is missing")
     parser.add_argument("words", nargs="*", help="parts of names")
     told = parser.parse_args()
+    tests = [*tests, *long] if long and told.long else tests
     chosen = [(title, function) for title, function in tests if not told.words or any(word in title for word in told.words)]
     if told.list:
         print("\n".join(title for title, _ in chosen))
