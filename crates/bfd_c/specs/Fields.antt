@@ -41,67 +41,75 @@ abbrev pub is_paired : Role → Fields → Bool
 is_paired role f = nat_lt f.active 2 && (is_interval f.rx && is_echo_interval role f.echo)
 
 -- a point-to-point session (RFC 5881, RFC 5883)
+abbrev pub pair_with : Role → Fields → Addr → Addr → Option KeyChain → SessionConfig
+pair_with role f local remote keys = Pair (record {
+  discr = f.discr;
+  role = role;
+  iface = f.iface;
+  local = local;
+  remote = remote;
+  active = f.active == 1;
+  tx = f.tx;
+  rx = f.rx;
+  mult = f.mult;
+  echo = f.echo;
+  seed = f.seed;
+  keys = keys;
+})
+
 abbrev pub pair_by : Role → Fields → Option Addr → Option Addr → Option (Option KeyChain) → Option SessionConfig
 pair_by role f (Some local) (Some remote) (Some keys) =
-    if is_named f && (is_sending f && is_paired role f) then Some (Pair (record {
-      discr = f.discr;
-      role = role;
-      iface = f.iface;
-      local = local;
-      remote = remote;
-      active = f.active == 1;
-      tx = f.tx;
-      rx = f.rx;
-      mult = f.mult;
-      echo = f.echo;
-      seed = f.seed;
-      keys = keys;
-    }))
-    else None
+    if is_named f && (is_sending f && is_paired role f) then Some (pair_with role f local remote keys) else None
 pair_by role f local remote keys = None
 
 -- an initiator; `other` is the reflector's discriminator (RFC 7880)
+abbrev pub seek_with : Fields → Addr → Addr → SessionConfig
+seek_with f local remote = Seek (record {
+  discr = f.discr;
+  target = f.other;
+  iface = f.iface;
+  local = local;
+  remote = remote;
+  tx = f.tx;
+  mult = f.mult;
+  seed = f.seed;
+})
+
 abbrev pub seek_by : Fields → Option Addr → Option Addr → Option SessionConfig
 seek_by f (Some local) (Some remote) =
-    if is_named f && (is_sending f && nat_le 1 f.other) then Some (Seek (record {
-      discr = f.discr;
-      target = f.other;
-      iface = f.iface;
-      local = local;
-      remote = remote;
-      tx = f.tx;
-      mult = f.mult;
-      seed = f.seed;
-    }))
-    else None
+    if is_named f && (is_sending f && nat_le 1 f.other) then Some (seek_with f local remote) else None
 seek_by f local remote = None
 
 -- a head; `remote` is the group (RFC 8562)
+abbrev pub head_with : Fields → Addr → Addr → SessionConfig
+head_with f local group = Head (record {
+  discr = f.discr;
+  iface = f.iface;
+  local = local;
+  group = group;
+  tx = f.tx;
+  mult = f.mult;
+  seed = f.seed;
+})
+
 abbrev pub head_by : Fields → Option Addr → Option Addr → Option SessionConfig
 head_by f (Some local) (Some group) =
-    if is_named f && is_sending f then Some (Head (record {
-      discr = f.discr;
-      iface = f.iface;
-      local = local;
-      group = group;
-      tx = f.tx;
-      mult = f.mult;
-      seed = f.seed;
-    }))
-    else None
+    if is_named f && is_sending f then Some (head_with f local group) else None
 head_by f local group = None
 
 -- a tail; `other` is the head's discriminator, `local` the group, `remote` the head's address (RFC 8562)
+abbrev pub tail_with : Fields → Addr → Addr → SessionConfig
+tail_with f group source = Tail (record {
+  discr = f.discr;
+  head = f.other;
+  iface = f.iface;
+  group = group;
+  source = source;
+})
+
 abbrev pub tail_by : Fields → Option Addr → Option Addr → Option SessionConfig
 tail_by f (Some group) (Some source) =
-    if is_named f && nat_le 1 f.other then Some (Tail (record {
-      discr = f.discr;
-      head = f.other;
-      iface = f.iface;
-      group = group;
-      source = source;
-    }))
-    else None
+    if is_named f && nat_le 1 f.other then Some (tail_with f group source) else None
 tail_by f group source = None
 
 -- the session of the fields, by the number of its kind

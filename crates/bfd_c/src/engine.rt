@@ -1,5 +1,5 @@
 //! What an open handle holds.
-ghost use Rattle.std.specs.Prelude.{◌≡◌, ◌≢◌, IfOk, [], drop};
+ghost use Rattle.std.specs.Prelude.{◌≡◌, IfOk, drop};
 ghost use Rattle.std.specs.Option.{option_copied};
 ghost use Rattle.bfd_replay.specs.Stage.{IsTable};
 ghost use Rattle.bfd_c.specs.Engines.{after, asked, first_of, soonest, started};
@@ -51,6 +51,14 @@ fn soonest_of(sessions: &[Session]) -> Option<u64>
     sessions
         .iter()
         .fold(None, |least, session| sooner(least, session.due()))
+}
+
+/// How many outputs were read, once one more was, if one was left.
+#[tactic(auto, using(crate::proofs::Outputs::one_more, crate::proofs::Outputs::none_more))]
+fn further(items: &[Out], read: usize) -> usize
+    ensures { drop result items.now ≡ drop 1 (drop read items.now) }
+{
+    if read < items.len() { read + 1 } else { read }
 }
 
 impl Engine {
@@ -109,10 +117,9 @@ impl Engine {
 
     /// The first output that is left was read.
     pub(crate) fn read_on(&mut self)
-        requires { self.old.left ≢ [] }
         ensures { self.new ≡ record self.old { left = drop 1 self.old.left } }
     {
-        self.read += 1;
+        self.read = further(self.world.items(), self.read);
     }
 
     /// What the last event was answered.

@@ -1,17 +1,17 @@
 //! One session by its fields, as C gives them.
-ghost use Rattle.std.specs.Prelude.{◌≡◌, ◌≤◌, ◌<◌, IfSome, IsTrue, Some, length};
+ghost use Rattle.std.specs.Prelude.{◌≡◌, ◌≤◌, ◌<◌, true, IfSome, Some, length};
 ghost use Rattle.bfd_rules.specs.Sound.{is_interval, is_echo_interval};
 ghost use Rattle.bfd_script.specs.Secrets as secrets;
 ghost use Rattle.bfd_script.specs.Sound.{AreKeys};
-ghost use Rattle.bfd_replay.specs.Stage.{IsTable};
+ghost use Rattle.bfd_script.specs.Values.{IsAddress};
 ghost use Rattle.bfd_c.specs.Fields as fields;
 ghost use Rattle.bfd_c.specs.Fields.{config_of, is_named, is_paired, is_sending, keys_of};
-ghost use Rattle.bfd_c.specs.Singles.{Stands};
+ghost use Rattle.bfd_c.specs.Singles.{IsNamed, IsPaired, IsSending, Stands};
 ghost use Rattle.bfd_c.specs.Wire.{addr_of};
 
 use crate::wire::{Address, read_address};
 use bfd_mp::{HeadConfig, TailConfig};
-use bfd_packet::{AuthType, Key, Keys, Secret};
+use bfd_packet::{Addr, AuthType, Key, Keys, Secret};
 use bfd_rules::{Config, Role};
 use bfd_sbfd::SeekConfig;
 use bfd_session::SessionConfig;
@@ -102,21 +102,24 @@ fn keys(f: &Fields) -> Option<Option<Keys>>
 
 /// Whether this is an interval that may be configured.
 fn interval(n: u32) -> bool
-    ensures { result ≡ is_interval n }
+    ensures value { result ≡ is_interval n }
+    ensures range { result ≡ true → (10000 ≤ n) × (n ≤ 60000000) }
 {
     n >= 10_000 && n <= 60_000_000
 }
 
 /// Whether the discriminator and the interface are in their ranges.
 fn named(f: &Fields) -> bool
-    ensures { result ≡ is_named f.now }
+    ensures value { result ≡ is_named f.now }
+    ensures range { result ≡ true → IsNamed f.now }
 {
     f.discr >= 1 && f.iface < 65_536
 }
 
 /// Whether the interval to send at and the Detect Mult are in their ranges.
 fn sending(f: &Fields) -> bool
-    ensures { result ≡ is_sending f.now }
+    ensures value { result ≡ is_sending f.now }
+    ensures range { result ≡ true → IsSending f.now }
 {
     interval(f.tx) && f.mult >= 1 && f.mult < 256
 }
@@ -133,9 +136,37 @@ fn may_echo(role: Role, every: u32) -> bool
 
 /// Whether what a point-to-point session has besides is in its ranges.
 fn paired(role: Role, f: &Fields) -> bool
-    ensures { result ≡ is_paired role f.now }
+    ensures value { result ≡ is_paired role f.now }
+    ensures range { result ≡ true → IsPaired role f.now }
 {
     f.active < 2 && interval(f.rx) && may_echo(role, f.echo)
+}
+
+/// A point-to-point session of values in their ranges.
+fn pair_with(role: Role, f: Fields, local: Addr, remote: Addr, keys: Option<Keys>) -> SessionConfig
+    requires named { IsNamed f }
+    requires sending { IsSending f }
+    requires paired { IsPaired role f }
+    requires local { IsAddress local }
+    requires remote { IsAddress remote }
+    requires keys { AreKeys keys }
+    ensures value { result ≡ fields.pair_with role f local remote keys }
+    ensures sound { Stands result }
+{
+    SessionConfig::Pair(Config {
+        discr: f.discr,
+        role,
+        iface: f.iface,
+        local,
+        remote,
+        active: f.active == 1,
+        tx: f.tx,
+        rx: f.rx,
+        mult: f.mult as u8,
+        echo: f.echo,
+        seed: f.seed,
+        keys,
+    })
 }
 
 /// A point-to-point session.
@@ -153,20 +184,29 @@ fn pair(role: Role, f: &Fields) -> Option<SessionConfig>
     if !(named(f) && sending(f) && paired(role, f)) {
         return None;
     }
-    Some(SessionConfig::Pair(Config {
+    Some(pair_with(role, *f, local, remote, keys))
+}
+
+/// An initiator of values in their ranges.
+fn seek_with(f: Fields, local: Addr, remote: Addr) -> SessionConfig
+    requires named { IsNamed f }
+    requires sending { IsSending f }
+    requires other { 0 < f.other }
+    requires local { IsAddress local }
+    requires remote { IsAddress remote }
+    ensures value { result ≡ fields.seek_with f local remote }
+    ensures sound { Stands result }
+{
+    SessionConfig::Seek(SeekConfig {
         discr: f.discr,
-        role,
+        target: f.other,
         iface: f.iface,
         local,
         remote,
-        active: f.active == 1,
         tx: f.tx,
-        rx: f.rx,
         mult: f.mult as u8,
-        echo: f.echo,
         seed: f.seed,
-        keys,
-    }))
+    })
 }
 
 /// An initiator.
@@ -180,16 +220,27 @@ fn seek(f: &Fields) -> Option<SessionConfig>
     if !(named(f) && sending(f) && f.other >= 1) {
         return None;
     }
-    Some(SessionConfig::Seek(SeekConfig {
+    Some(seek_with(*f, local, remote))
+}
+
+/// A head of values in their ranges.
+fn head_with(f: Fields, local: Addr, group: Addr) -> SessionConfig
+    requires named { IsNamed f }
+    requires sending { IsSending f }
+    requires local { IsAddress local }
+    requires group { IsAddress group }
+    ensures value { result ≡ fields.head_with f local group }
+    ensures sound { Stands result }
+{
+    SessionConfig::Head(HeadConfig {
         discr: f.discr,
-        target: f.other,
         iface: f.iface,
         local,
-        remote,
+        group,
         tx: f.tx,
         mult: f.mult as u8,
         seed: f.seed,
-    }))
+    })
 }
 
 /// A head.
@@ -203,15 +254,25 @@ fn head(f: &Fields) -> Option<SessionConfig>
     if !(named(f) && sending(f)) {
         return None;
     }
-    Some(SessionConfig::Head(HeadConfig {
+    Some(head_with(*f, local, group))
+}
+
+/// A tail of values in their ranges.
+fn tail_with(f: Fields, group: Addr, source: Addr) -> SessionConfig
+    requires named { IsNamed f }
+    requires other { 0 < f.other }
+    requires group { IsAddress group }
+    requires source { IsAddress source }
+    ensures value { result ≡ fields.tail_with f group source }
+    ensures sound { Stands result }
+{
+    SessionConfig::Tail(TailConfig {
         discr: f.discr,
+        head: f.other,
         iface: f.iface,
-        local,
         group,
-        tx: f.tx,
-        mult: f.mult as u8,
-        seed: f.seed,
-    }))
+        source,
+    })
 }
 
 /// A tail.
@@ -225,13 +286,7 @@ fn tail(f: &Fields) -> Option<SessionConfig>
     if !(named(f) && f.other >= 1) {
         return None;
     }
-    Some(SessionConfig::Tail(TailConfig {
-        discr: f.discr,
-        head: f.other,
-        iface: f.iface,
-        group,
-        source,
-    }))
+    Some(tail_with(*f, group, source))
 }
 
 /// The session of the fields, or None where a value that its kind uses is outside its range.
