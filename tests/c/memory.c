@@ -5,41 +5,41 @@ void *__libc_malloc(size_t);
 void *__libc_realloc(void *, size_t);
 void __libc_free(void *);
 
-static long asked, refused, blocks; /* of the requests that one is refused, from 1; 0 for none */
+static volatile long asked, refused, blocks; /* of the requests that one is refused, from 1; 0 for none */
 
-static bool refuses(void) { return ++asked == refused; }
+static bool refuses(void) {
+    asked = asked + 1;
+    return asked == refused;
+}
 
 void *malloc(size_t size) {
     void *block = refuses() ? NULL : __libc_malloc(size);
-    blocks += block != NULL;
+    blocks = blocks + (block != NULL);
     return block;
 }
 
 void *realloc(void *old, size_t size) {
     void *block = refuses() ? NULL : __libc_realloc(old, size);
-    blocks += block && !old;
+    blocks = blocks + (block && !old);
     return block;
 }
 
 void free(void *block) {
-    blocks -= block != NULL;
+    blocks = blocks - (block != NULL);
     __libc_free(block);
 }
 
-/* The call with each of its requests refused, and then with none: how many there are. */
+/* The call with each of its requests refused, until none was: how many requests ended it. A list that can't have the room that it
+ * would like takes less, so not each one does. */
 #define TRIED(call) __extension__ ({ \
-        long at = 0, before = blocks; \
-        uint32_t code; \
+        long at = 0, ended = 0, before; \
         do { \
-            asked = 0, refused = ++at; \
-            code = (call); \
-            refused = 0; \
-            if (code != BFDD_DONE) { \
-                CHECK(code, BFDD_MEMORY); \
-                CHECK(blocks, before); \
-            } \
-        } while (code != BFDD_DONE); \
-        at - 1; \
+            before = blocks, asked = 0, refused = ++at; \
+            uint32_t code = (call); \
+            refused = 0, ended += code == BFDD_MEMORY; \
+            CHECK(code == BFDD_MEMORY ? blocks == before : code == BFDD_DONE, true); \
+        } while (asked >= at); \
+        ended; \
     })
 
 static const char table[] = "bfd 2\np2p 1 single 1 10.0.0.1 10.0.0.2 active 1000000 1000000 3 0 0\nauth 1 5 7 6b\nkey 1 8 6c\n"
@@ -52,7 +52,7 @@ int main(void) {
     bfdd_output out = {0};
     const long before = blocks;
     long text = TRIED(open_text(&engine, table, &complaint));
-    CHECK(text > 10, true);
+    CHECK(text > 5, true);
     /* an open handle is as it was where opening it anew is refused: this one still has session 2 */
     long fields = 0;
     bfdd_packet packet = from_peer;
@@ -73,6 +73,6 @@ int main(void) {
     CHECK(fields > 3, true);
     bfdd_close(&engine);
     CHECK(blocks, before);
-    printf("opening takes %ld requests of a text, %ld of one session\n", text, fields);
+    printf("%ld requests end the opening of a text, %ld that of one session\n", text, fields);
     return 0;
 }
