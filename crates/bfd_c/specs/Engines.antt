@@ -1,0 +1,69 @@
+-- An engine behind a handle, and what a call makes of it. A call's code is 0 where it did its work, 1 where the handle is closed,
+-- 2 for want of memory, 3 where a value is outside its range, 4 where nothing is left, 5 where a text is no table and 6 where it
+-- has event lines.
+use Rattle.std.specs.Prelude.{ℕ, List, [], ◌∷◌, Option, None, Some, Result, Ok, Err, fold}
+use Rattle.bfd_num.specs.Due.{sooner}
+use Rattle.bfd_rules.specs.declared.outputs.Out.{Out}
+use Rattle.bfd_sbfd.specs.declared.reflecting.Reflector.{Reflector}
+use Rattle.bfd_session.specs.declared.event.SessionConfig.{SessionConfig}
+use Rattle.bfd_session.specs.declared.event.Answer.{Answer}
+use Rattle.bfd_session.specs.declared.event.Answer.TheVariants.{Handled}
+use Rattle.bfd_session.specs.Due.{due}
+use Rattle.bfd_session.specs.Kinds.{Running}
+use Rattle.bfd_script.specs.declared.entries.Line.{Line}
+use Rattle.bfd_script.specs.declared.fault.BadLine.{BadLine}
+use Rattle.bfd_script.specs.Reading.{Lists}
+use Rattle.bfd_replay.specs.World.{World, happens, opened}
+
+-- an engine: its sessions and reflectors with the greatest tick so far, the outputs of the last event that are left to be read,
+-- and what it was answered
+pub record Instance : Type 0 where
+  pub world : World
+  pub left : List Out
+  pub answer : Answer
+
+-- the engine of a table, before the first event
+abbrev pub started : List SessionConfig → List Reflector → Instance
+started configs pool = record { world = opened configs pool; left = []; answer = Handled }
+
+-- the engine after an event
+abbrev pub after : Line → Instance → Instance
+after line e = record {
+  world = (happens line e.world).world;
+  left = (happens line e.world).outcome.items;
+  answer = (happens line e.world).outcome.answer;
+}
+
+-- an event that was asked for, or values of which one is outside its range; and the code
+abbrev pub asked : Option Line → Instance → Instance × ℕ
+asked None e = (e, 3)
+asked (Some line) e = (after line e, 0)
+
+-- the same of a handle: what it holds afterwards, and the code
+abbrev pub called : Option Line → Option Instance → Option Instance × ℕ
+called line None = (None, 1)
+called line (Some e) = (Some (asked line e).0, (asked line e).1)
+
+-- what a handle that held this holds once it was opened with a script, a table alone, and the code
+abbrev pub opened_with : Lists → List Line → Option Instance → Option Instance × ℕ
+opened_with s [] held = (Some (started s.configs s.pool), 0)
+opened_with s (event ∷ events) held = (held, 6)
+
+-- once it was opened with a text
+abbrev pub opened_by : Result Lists BadLine → Option Instance → Option Instance × ℕ
+opened_by (Err bad) held = (held, 5)
+opened_by (Ok s) held = opened_with s s.events held
+
+-- once it was opened with one session; without, a value is outside its range
+abbrev pub opened_for : Option SessionConfig → Option Instance → Option Instance × ℕ
+opened_for None held = (held, 3)
+opened_for (Some config) held = (Some (started (config ∷ []) []), 0)
+
+-- the least tick that a session needs next
+abbrev pub soonest : List Running → Option ℕ
+soonest sessions = fold (λ least s. sooner least (due s)) None sessions
+
+-- the first of the outputs that are left
+abbrev pub first_of : List Out → Option Out
+first_of [] = None
+first_of (out ∷ outs) = Some out

@@ -1,0 +1,9 @@
+pub mod Owning
+pub mod Engines
+pub mod Wire
+pub mod Lines
+pub mod Fields
+pub mod Telling
+pub mod Reading
+pub mod Opening
+pub mod Singles

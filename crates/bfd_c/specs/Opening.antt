@@ -1,0 +1,35 @@
+-- What opening a handle hands out.
+use Rattle.std.specs.Prelude.{ℕ, ◌≡◌, ◌≢◌, ◌==◌, List, [], ◌∷◌, Result, Ok, Err, if◌then◌else◌}
+use Rattle.bfd_session.specs.declared.event.SessionConfig.{SessionConfig}
+use Rattle.bfd_script.specs.declared.fault.BadLine.{BadLine}
+use Rattle.bfd_script.specs.Reading.{Lists}
+use Rattle.bfd_c.specs.declared.opening.Complaint.{Complaint}
+use Rattle.bfd_c.specs.declared.opening.Unopened.{Unopened}
+use Rattle.bfd_c.specs.declared.opening.Unopened.TheVariants.{Memory, Bad, Events}
+use Rattle.bfd_c.specs.Engines.{Instance, started}
+use Rattle.bfd_c.specs.Telling.{complaint_of}
+
+-- a table of one session
+abbrev pub one : SessionConfig → List SessionConfig
+one config = config ∷ []
+
+-- what stands in the struct of a complaint after a call that answered this code
+abbrev pub complaint_by : Result Lists BadLine → Complaint → Complaint
+complaint_by (Err bad) before = complaint_of bad
+complaint_by (Ok s) before = before
+
+abbrev pub complained : ℕ → Result Lists BadLine → Complaint → Complaint
+complained code text before = if code == 5 then complaint_by text before else before
+
+-- a text that is a table alone comes to its engine
+abbrev pub IsOpened : Result Lists BadLine → Instance → Type 0
+IsOpened (Err bad) e = ⊥
+IsOpened (Ok s) e = (s.events ≡ []) × (e ≡ started s.configs s.pool)
+
+-- any other text comes to its complaint, or to its having event lines; or memory is wanting
+abbrev pub IsWhy : Result Lists BadLine → Unopened → Type 0
+IsWhy text Memory = Unit {0}
+IsWhy (Err bad) (Bad b) = b ≡ bad
+IsWhy (Ok s) (Bad b) = ⊥
+IsWhy (Err bad) Events = ⊥
+IsWhy (Ok s) Events = s.events ≢ []

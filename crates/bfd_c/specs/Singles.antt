@@ -1,0 +1,30 @@
+-- A session that makes a table by itself, and the ranges of its fields.
+use Rattle.std.specs.Prelude.{◌≤◌, ◌<◌, IsTrue}
+use Rattle.bfd_rules.specs.declared.config.Role.{Role}
+use Rattle.bfd_rules.specs.Sound.{is_echo_interval}
+use Rattle.bfd_session.specs.declared.event.SessionConfig.{SessionConfig}
+use Rattle.bfd_session.specs.Step.{IsFit}
+use Rattle.bfd_script.specs.Sound.{IsRow}
+use Rattle.bfd_c.specs.declared.fields.Fields.{Fields}
+
+-- its values are in their ranges
+abbrev pub Stands : SessionConfig → Type 0
+Stands config = IsFit config × IsRow config
+
+-- the discriminator and the interface are
+pub record IsNamed (f : Fields) : Type 0 where
+  pub discr : 0 < f.discr
+  pub iface : f.iface < 65536
+
+-- the interval to send at and the Detect Mult are
+pub record IsSending (f : Fields) : Type 0 where
+  pub tx_least : 10000 ≤ f.tx
+  pub tx_most : f.tx ≤ 60000000
+  pub some_mult : 0 < f.mult
+  pub most_mult : f.mult < 256
+
+-- what a point-to-point session has besides is
+pub record IsPaired (role : Role) (f : Fields) : Type 0 where
+  pub rx_least : 10000 ≤ f.rx
+  pub rx_most : f.rx ≤ 60000000
+  pub echo : IsTrue (is_echo_interval role f.echo)

@@ -1,0 +1,168 @@
+-- What C reads of an output, of an answer and of a fault, field by field. What a kind doesn't use is 0.
+use Rattle.std.specs.Prelude.{ℕ, ◌-◌, ◌++◌, List, [], length, replicate, Option, None, Some}
+use Rattle.bfd_packet.specs.declared.arrival.Datagram.{Datagram}
+use Rattle.bfd_packet.specs.declared.discard.Test.{Test}
+use Rattle.bfd_packet.specs.declared.discard.Test.TheVariants.{Short, Version, LengthMin, LengthOver, DetectMult, Multipoint, MyDiscr, YourUnknown, YourZeroState, NoSession, Ttl, AuthUnexpected, AuthMissing, AuthType, AuthKey, AuthLen, AuthSeq, AuthDigest, AdminDown, NotDemand, MultipointYour, NoTail, EchoForm, EchoStale}
+use Rattle.bfd_packet.specs.Layout.{state_number}
+use Rattle.bfd_packet.specs.TestNames.{name_of}
+use Rattle.bfd_rules.specs.declared.commands.Refusal.{Refusal}
+use Rattle.bfd_rules.specs.declared.commands.Refusal.TheVariants.{PollBusy, WrongState, OutOfRange, WrongKind, UnknownSession}
+use Rattle.bfd_rules.specs.declared.outputs.Out.{Out}
+use Rattle.bfd_rules.specs.declared.outputs.Out.TheVariants.{Changed, Sent}
+use Rattle.bfd_session.specs.declared.event.Answer.{Answer}
+use Rattle.bfd_session.specs.declared.event.Answer.TheVariants.{Handled, Ticked, Dropped, Refused, Shown as Showing}
+use Rattle.bfd_session.specs.declared.event.Shown.{Shown}
+use Rattle.bfd_script.specs.declared.fault.LineFault.{LineFault}
+use Rattle.bfd_script.specs.declared.fault.LineFault.TheVariants as faults
+use Rattle.bfd_script.specs.declared.fault.BadLine.{BadLine}
+use Rattle.bfd_c.specs.declared.opening.Complaint.{Complaint}
+use Rattle.bfd_script.specs.Report.{refusal_name}
+use Rattle.bfd_c.specs.declared.telling.Output.{Output}
+use Rattle.bfd_c.specs.declared.telling.Answered.{Answered}
+use Rattle.bfd_c.specs.declared.wire.Address.{Address}
+use Rattle.bfd_c.specs.Wire.{address_of}
+
+-- bytes with zeros behind them
+abbrev pub filled : ℕ → List ℕ → List ℕ
+filled size bytes = bytes ++ replicate (size - length bytes) 0
+
+-- a name in an array of 16
+abbrev pub named : List ℕ → List ℕ
+named name = filled 16 name
+
+-- where nothing is sent
+abbrev pub nowhere : Address
+nowhere = record { family = 0; bytes = replicate 16 0 }
+
+-- a change of state has the kind 1, a packet to send the kind 2
+abbrev pub output_of : Out → Output
+output_of (Changed discr old new diag) = record {
+  kind = 1;
+  discr = discr;
+  was = state_number old;
+  state = state_number new;
+  diag = diag;
+  ttl = 0;
+  iface = 0;
+  sport = 0;
+  dport = 0;
+  src = nowhere;
+  dst = nowhere;
+  len = 0;
+  bytes = replicate 52 0;
+}
+output_of (Sent discr d) = record {
+  kind = 2;
+  discr = discr;
+  was = 0;
+  state = 0;
+  diag = 0;
+  ttl = d.ttl;
+  iface = d.iface;
+  sport = d.sport;
+  dport = d.dport;
+  src = address_of d.src;
+  dst = address_of d.dst;
+  len = length d.bytes;
+  bytes = filled 52 d.bytes;
+}
+
+-- the number of a test that discards
+abbrev pub test_number : Test → ℕ
+test_number Short = 1
+test_number Version = 2
+test_number LengthMin = 3
+test_number LengthOver = 4
+test_number DetectMult = 5
+test_number Multipoint = 6
+test_number MyDiscr = 7
+test_number YourUnknown = 8
+test_number YourZeroState = 9
+test_number NoSession = 10
+test_number Ttl = 11
+test_number AuthUnexpected = 12
+test_number AuthMissing = 13
+test_number AuthType = 14
+test_number AuthKey = 15
+test_number AuthLen = 16
+test_number AuthSeq = 17
+test_number AuthDigest = 18
+test_number AdminDown = 19
+test_number NotDemand = 20
+test_number MultipointYour = 21
+test_number NoTail = 22
+test_number EchoForm = 23
+test_number EchoStale = 24
+
+-- the number of a refusal
+abbrev pub refusal_number : Refusal → ℕ
+refusal_number PollBusy = 1
+refusal_number WrongState = 2
+refusal_number OutOfRange = 3
+refusal_number WrongKind = 4
+refusal_number UnknownSession = 5
+
+-- an answer without a view: 0 handled, 1 ticked, 2 dropped by a test, 3 refused
+abbrev pub plain : ℕ → ℕ → List ℕ → Answered
+plain kind code name = record {
+  kind = kind;
+  code = code;
+  name = name;
+  discr = 0;
+  state = 0;
+  diag = 0;
+  remote_state = 0;
+  poll = 0;
+  remote_discr = 0;
+  adv_tx = 0;
+  used_tx = 0;
+  used_rx = 0;
+  detect = 0;
+}
+
+-- what a session shows has the kind 4
+abbrev pub view_of : Shown → Answered
+view_of s = record {
+  kind = 4;
+  code = 0;
+  name = replicate 16 0;
+  discr = s.discr;
+  state = state_number s.state;
+  diag = s.diag;
+  remote_state = state_number s.remote_state;
+  poll = s.poll;
+  remote_discr = s.remote_discr;
+  adv_tx = s.adv_tx;
+  used_tx = s.used_tx;
+  used_rx = s.used_rx;
+  detect = s.detect;
+}
+
+abbrev pub answer_of : Answer → Answered
+answer_of Handled = plain 0 0 (replicate 16 0)
+answer_of Ticked = plain 1 0 (replicate 16 0)
+answer_of (Dropped test) = plain 2 (test_number test) (named (name_of test))
+answer_of (Refused refusal) = plain 3 (refusal_number refusal) (named (refusal_name refusal))
+answer_of (Showing s) = view_of s
+
+-- the number of a line's fault
+abbrev pub fault_number : LineFault → ℕ
+fault_number faults.NotAscii = 1
+fault_number faults.TooLong = 2
+fault_number faults.UnknownWord = 3
+fault_number faults.FieldCount = 4
+fault_number faults.BadNumber = 5
+fault_number faults.OutOfRange = 6
+fault_number faults.BadHex = 7
+fault_number faults.BadAddress = 8
+fault_number faults.SameDiscr = 9
+fault_number faults.SameAddresses = 10
+fault_number faults.NoSuchSession = 11
+fault_number faults.Order = 12
+fault_number faults.MissingEnd = 13
+fault_number faults.TooMany = 14
+fault_number faults.SameKey = 16
+
+-- a complaint about a text
+abbrev pub complaint_of : BadLine → Complaint
+complaint_of bad = record { line = bad.line; fault = fault_number bad.fault }

@@ -1,0 +1,176 @@
+//! The calls that are events: a packet, a tick, a command and a question.
+ghost use Rattle.std.specs.Prelude.{◌≡◌, ◌≢◌, None, Some, Ok, Err, IfOk, OnErr};
+ghost use Rattle.bfd_c.specs.Engines.{asked, called};
+ghost use Rattle.bfd_c.specs.Lines.{cmd_of, command_line, packet_line, show_line, tick_line};
+
+use crate::engine::{CLOSED, Engine, MEMORY};
+use crate::handle::Handle;
+use crate::wire::{Packet, arrival};
+use bfd_num::{Moment, Tick};
+use bfd_rules::Cmd;
+use bfd_script::Line;
+use std::alloc::{AllocError, Global};
+
+/// A tick.
+fn tick(t: u64) -> Option<Line>
+    ensures { result ≡ tick_line t }
+{
+    match Tick::new(t) {
+        Some(t) => Some(Line::Tick(t)),
+        None => None,
+    }
+}
+
+/// A question.
+fn show(moment: u64, discr: u32) -> Option<Line>
+    ensures { result ≡ show_line moment discr }
+{
+    if discr == 0 {
+        return None;
+    }
+    match Moment::new(moment) {
+        Some(moment) => Some(Line::Show { moment, discr }),
+        None => None,
+    }
+}
+
+/// The command of a number.
+fn cmd(verb: u32, value: u64) -> Option<Cmd>
+    ensures { result ≡ cmd_of verb value }
+{
+    match verb {
+        1 => Some(Cmd::Disable),
+        2 => Some(Cmd::Enable),
+        3 => Some(Cmd::Reset),
+        4 => Some(Cmd::Path(value)),
+        5 => Some(Cmd::Tx(value)),
+        6 => Some(Cmd::Rx(value)),
+        7 => Some(Cmd::Mult(value)),
+        8 => Some(Cmd::Demand(value)),
+        9 => Some(Cmd::EchoEvery(value)),
+        10 => Some(Cmd::Key(value)),
+        _ => None,
+    }
+}
+
+/// A command.
+fn command(moment: u64, discr: u32, verb: u32, value: u64) -> Option<Line>
+    ensures { result ≡ command_line moment discr verb value }
+{
+    if discr == 0 {
+        return None;
+    }
+    match (Moment::new(moment), cmd(verb, value)) {
+        (Some(moment), Some(cmd)) => Some(Line::Cmd { moment, discr, cmd }),
+        _ => None,
+    }
+}
+
+/// A packet. It's refused for want of memory alone, and only where its values are in their ranges.
+fn packet(alloc: Global, packet: &Packet, payload: &[u8]) -> Result<Option<Line>, AllocError>
+    ensures value { IfOk result (λ line. line ≡ packet_line packet.now payload.now) }
+    ensures fits { OnErr result (packet_line packet.now payload.now ≢ None) }
+{
+    let Some(moment) = Moment::new(packet.moment) else {
+        return Ok(None);
+    };
+    match arrival(alloc, packet, payload)? {
+        Some(arrival) => Ok(Some(Line::Rx { moment, arrival })),
+        None => Ok(None),
+    }
+}
+
+/// An event that was asked for, or none where a value is outside its range.
+fn call(alloc: Global, handle: &mut Handle, line: Option<Line>) -> u32
+    ensures { (handle.new.kept.held, result) ≡ called line handle.old.kept.held }
+{
+    match handle.take(alloc) {
+        Some(engine) => {
+            let mut engine = engine;
+            let code = engine.ask(line);
+            *handle = Handle::hold(engine);
+            code
+        }
+        None => CLOSED,
+    }
+}
+
+/// A packet for an open engine.
+fn hear(alloc: Global, engine: &mut Engine, values: &Packet, payload: &[u8]) -> u32
+    ensures done { result ≢ 2 → (engine.new, result) ≡ asked (packet_line values.now payload.now) engine.old }
+    ensures memory { result ≡ 2 → engine.new ≡ engine.old }
+    ensures fits { result ≡ 2 → packet_line values.now payload.now ≢ None }
+{
+    match packet(alloc, values, payload) {
+        Ok(line) => engine.ask(line),
+        Err(AllocError) => MEMORY,
+    }
+}
+
+/// A packet came in. The first 256 bytes of its payload are kept.
+///
+/// 1 comes exactly where the handle is closed; 3 exactly where it's open and the moment is 2^60 or above, the port isn't 1 to
+/// 5, the interface is above 65,535, or a family isn't 4 or 6; 2 only for want of memory for the payload, where neither 1 nor 3
+/// comes. Then nothing has changed.
+#[unsafe(no_mangle)]
+pub extern "C" fn bfdd_receive(
+    alloc: Global,
+    handle: &mut Handle,
+    packet: &Packet,
+    payload: &[u8],
+) -> u32
+    ensures done { result ≢ 2 → (handle.new.kept.held, result) ≡ called (packet_line packet.now payload.now) handle.old.kept.held }
+    ensures kept { result ≡ 2 → handle.new.kept.held ≡ handle.old.kept.held }
+    ensures memory { result ≡ 2 → (packet_line packet.now payload.now ≢ None) × (handle.old.kept.held ≢ None) }
+{
+    match handle.take(alloc) {
+        Some(engine) => {
+            let mut engine = engine;
+            let code = hear(alloc, &mut engine, packet, payload);
+            *handle = Handle::hold(engine);
+            code
+        }
+        None => CLOSED,
+    }
+}
+
+/// A tick of the clock, in milliseconds; one below the greatest so far counts as that.
+///
+/// 1 comes exactly where the handle is closed, 3 exactly where it's open and the tick is above the greatest,
+/// 1,152,921,504,606,846. Then nothing has changed.
+#[unsafe(no_mangle)]
+pub extern "C" fn bfdd_tick(alloc: Global, handle: &mut Handle, ms: u64) -> u32
+    ensures { (handle.new.kept.held, result) ≡ called (tick_line ms) handle.old.kept.held }
+{
+    call(alloc, handle, tick(ms))
+}
+
+/// A command to the session of this discriminator: 1 disable, 2 enable, 3 reset, 4 path, 5 tx, 6 rx, 7 mult, 8 demand, 9 echo,
+/// 10 key, with the value where it has one.
+///
+/// 1 comes exactly where the handle is closed; 3 exactly where it's open and the moment is 2^60 or above, the discriminator is
+/// 0, or the command none of these. Then nothing has changed. What the session refuses is an answer, with the code 0.
+#[unsafe(no_mangle)]
+pub extern "C" fn bfdd_command(
+    alloc: Global,
+    handle: &mut Handle,
+    moment: u64,
+    discr: u32,
+    verb: u32,
+    value: u64,
+) -> u32
+    ensures { (handle.new.kept.held, result) ≡ called (command_line moment discr verb value) handle.old.kept.held }
+{
+    call(alloc, handle, command(moment, discr, verb, value))
+}
+
+/// A question: the session of this discriminator is to show itself. What has come due by the moment is done first.
+///
+/// 1 comes exactly where the handle is closed; 3 exactly where it's open and the moment is 2^60 or above, or the discriminator
+/// is 0. Then nothing has changed.
+#[unsafe(no_mangle)]
+pub extern "C" fn bfdd_show(alloc: Global, handle: &mut Handle, moment: u64, discr: u32) -> u32
+    ensures { (handle.new.kept.held, result) ≡ called (show_line moment discr) handle.old.kept.held }
+{
+    call(alloc, handle, show(moment, discr))
+}

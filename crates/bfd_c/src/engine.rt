@@ -1,0 +1,131 @@
+//! What an open handle holds.
+ghost use Rattle.std.specs.Prelude.{◌≡◌, IfOk, drop};
+ghost use Rattle.std.specs.Option.{option_copied};
+ghost use Rattle.bfd_replay.specs.Stage.{IsTable};
+ghost use Rattle.bfd_c.specs.Engines.{after, asked, first_of, soonest, started};
+
+use bfd_num::sooner;
+use bfd_replay::Progress;
+use bfd_rules::Out;
+use bfd_sbfd::Reflector;
+use bfd_script::Line;
+use bfd_session::{Answer, Session, SessionConfig};
+use std::alloc::{AllocError, Global};
+use std::marker::Model;
+
+pub(crate) const DONE: u32 = 0;
+
+pub(crate) const CLOSED: u32 = 1;
+
+pub(crate) const MEMORY: u32 = 2;
+
+pub(crate) const RANGE: u32 = 3;
+
+pub(crate) const END: u32 = 4;
+
+pub(crate) const TEXT: u32 = 5;
+
+pub(crate) const EVENTS: u32 = 6;
+
+/// Sessions and reflectors, the outputs of the last event, of which so many were read, and its answer.
+#[derive(Drop)]
+pub struct Engine {
+    world: Progress,
+    read: usize,
+    answer: Answer,
+}
+
+impl Model for Engine {
+    ghost use Rattle.std.specs.Prelude.{drop};
+    ghost use Rattle.bfd_c.specs.Engines.{Instance};
+
+    ghost Value = { Instance };
+
+    ghost view = { λ e. record { world = e.world.world; left = drop e.read e.world.items; answer = e.answer } };
+}
+
+/// The sooner of this due tick and those of the sessions.
+fn soonest_of(sessions: &[Session]) -> Option<u64>
+    ensures { result ≡ soonest sessions.now }
+{
+    sessions
+        .iter()
+        .fold(None, |least, session| sooner(least, session.due()))
+}
+
+/// How many outputs were read, once one more was, if one was left.
+#[tactic(auto, using(crate::proofs::Outputs::one_more, crate::proofs::Outputs::none_more))]
+fn further(items: &[Out], read: usize) -> usize
+    ensures { drop result items.now ≡ drop 1 (drop read items.now) }
+{
+    if read < items.len() { read + 1 } else { read }
+}
+
+impl Engine {
+    /// The sessions and reflectors of a table, before the first event. The one refusal is want of memory.
+    pub(crate) fn start(
+        alloc: Global,
+        configs: Vec<SessionConfig>,
+        pool: Vec<Reflector>,
+    ) -> Result<Engine, AllocError>
+        requires { IsTable configs.items pool.items }
+        ensures { IfOk result (λ engine. engine ≡ started configs.items pool.items) }
+    {
+        let world = Progress::open(alloc, configs, pool)?;
+        let read = world.items().len();
+        Ok(Engine {
+            world,
+            read,
+            answer: Answer::Handled,
+        })
+    }
+
+    /// One event. Its outputs stand to be read from the first on.
+    fn happen(&mut self, line: Line)
+        ensures { self.new ≡ after line self.old }
+    {
+        self.answer = self.world.happen(line);
+        self.read = 0;
+    }
+
+    /// The event that was asked for; where it's none, a value is outside its range.
+    pub(crate) fn ask(&mut self, line: Option<Line>) -> u32
+        ensures { (self.new, result) ≡ asked line self.old }
+    {
+        match line {
+            Some(line) => {
+                self.happen(line);
+                DONE
+            }
+            None => RANGE,
+        }
+    }
+
+    /// The least tick that a session needs next.
+    pub(crate) fn due(&self) -> Option<u64>
+        ensures { result ≡ soonest self.now.world.sessions }
+    {
+        soonest_of(self.world.sessions())
+    }
+
+    /// The first output that is left to be read.
+    pub(crate) fn first(&self) -> Option<&Out>
+        ensures { option_copied result ≡ first_of self.now.left }
+    {
+        self.world.items().get(self.read)
+    }
+
+    /// The first output that is left was read.
+    pub(crate) fn read_on(&mut self)
+        ensures { self.new ≡ record self.old { left = drop 1 self.old.left } }
+    {
+        self.read = further(self.world.items(), self.read);
+    }
+
+    /// What the last event was answered.
+    pub(crate) fn answer(&self) -> &Answer
+        ensures { result.now ≡ self.now.answer }
+    {
+        &self.answer
+    }
+}

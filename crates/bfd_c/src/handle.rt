@@ -1,0 +1,63 @@
+//! A handle.
+ghost use Rattle.std.specs.Prelude.{◌≡◌, None, Some, option_map, is_some};
+
+use crate::apart::Apart;
+use crate::engine::Engine;
+use crate::kept::Kept;
+use std::alloc::Global;
+
+/// A handle, which C keeps: closed, or open with an engine. Zeros are a closed one.
+#[repr(C)]
+pub struct Handle {
+    pub(crate) kept: Kept,
+    pub(crate) is_open: bool,
+    ghost fits: { is_some kept.held ≡ is_open },
+}
+
+impl Handle {
+    /// A closed handle.
+    pub(crate) fn closed(alloc: Global) -> Handle
+        ensures { result.kept.held ≡ None }
+    {
+        Handle {
+            kept: Kept::empty(alloc),
+            is_open: false,
+        }
+    }
+
+    /// An open handle with this engine.
+    pub(crate) fn hold(engine: Box<Engine>) -> Handle
+        ensures { result.kept.held ≡ Some engine.value }
+    {
+        Handle {
+            kept: Kept::of_apart(Apart::of(engine)),
+            is_open: true,
+        }
+    }
+
+    /// The engine, if the handle is open.
+    pub(crate) fn into_engine(self) -> Option<Box<Engine>>
+        ensures { option_map (λ b. b.value) result ≡ self.kept.held }
+    {
+        let Handle { kept, is_open } = self;
+        if is_open {
+            Some(kept.into_apart().into_box())
+        } else {
+            None
+        }
+    }
+
+    /// Takes the engine out, if the handle is open, and leaves it closed.
+    pub(crate) fn take(&mut self, alloc: Global) -> Option<Box<Engine>>
+        ensures closed { self.new.kept.held ≡ None }
+        ensures value { option_map (λ b. b.value) result ≡ self.old.kept.held }
+    {
+        std::mem::replace(self, Handle::closed(alloc)).into_engine()
+    }
+}
+
+impl Drop for Handle {
+    fn drop(self) {
+        drop(self.into_engine());
+    }
+}

@@ -1,0 +1,37 @@
+//! The engine as a C library, `libbfdd`.
+//!
+//! A program in C keeps a handle, which is closed or owns an engine: the sessions and reflectors of a table, and what the last
+//! event gave. `bfdd_open` and `bfdd_open_session` open it, `bfdd_close` closes it. `bfdd_receive`, `bfdd_tick`, `bfdd_command`
+//! and `bfdd_show` are one event each. `bfdd_next` then hands out the event's outputs one by one, `bfdd_answer` what it was
+//! answered, and `bfdd_due` the tick that is needed next. `include/bfdd.h` is the C side.
+//!
+//! It stands on `bfd_replay`, whose `Progress` is a world of sessions that goes event by event and keeps no journal, on
+//! `bfd_script` for the lines of a table, and on what those stand on. It promises that each call is that world's event, or the
+//! code that says why it is none, exactly by its cause; that nothing changes where a call is refused; and that what is handed
+//! out is what the event gave, field by field. No call asks anything of a handle: one of zeros is closed, and refused.
+//!
+//! What C owes, and no proof can see, stands in the header.
+#![tactic(auto)]
+
+mod apart;
+mod asking;
+mod engine;
+mod fields;
+mod handle;
+mod kept;
+mod naming;
+mod opening;
+mod packing;
+mod reading;
+mod telling;
+mod wire;
+
+pub use asking::{bfdd_command, bfdd_receive, bfdd_show, bfdd_tick};
+pub use engine::Engine;
+pub use fields::Fields;
+pub use handle::Handle;
+pub use kept::{Kept, Opaque};
+pub use opening::{Complaint, bfdd_close, bfdd_open, bfdd_open_session};
+pub use reading::{bfdd_answer, bfdd_due, bfdd_next};
+pub use telling::{Answered, Output};
+pub use wire::{Address, Packet};

@@ -1,0 +1,22 @@
+//! Bytes in an array, as C has them.
+ghost use Rattle.std.specs.Prelude.{◌≡◌, ◌≤◌, ◌-◌, ◌++◌, length, replicate};
+
+/// The bytes of a name, and zeros behind them.
+pub(crate) fn packed_name(from: &[u8]) -> [u8; 16]
+    requires { length from.now ≤ 16 }
+    ensures { result ≡ from.now ++ replicate (16 - length from.now) 0 }
+{
+    let mut bytes = [0; 16];
+    bytes[..from.len()].copy_from_slice(from);
+    bytes
+}
+
+/// The bytes of a packet, and zeros behind them.
+pub(crate) fn packed_wire(from: &[u8]) -> [u8; 52]
+    requires { length from.now ≤ 52 }
+    ensures { result ≡ from.now ++ replicate (52 - length from.now) 0 }
+{
+    let mut bytes = [0; 52];
+    bytes[..from.len()].copy_from_slice(from);
+    bytes
+}

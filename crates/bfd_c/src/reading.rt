@@ -1,0 +1,94 @@
+//! The calls that read what the last event gave, and when the next is needed.
+ghost use Rattle.std.specs.Prelude.{◌≡◌};
+ghost use Rattle.bfd_c.specs.Engines.{soonest};
+ghost use Rattle.bfd_c.specs.Reading.{answered, due, due_by, next, next_by, told_by, told_of};
+
+use crate::engine::{CLOSED, DONE, END, Engine};
+use crate::handle::Handle;
+use crate::telling::{Answered, Output, told_answer, told_output};
+use std::alloc::Global;
+
+/// The next output that wasn't read.
+fn read_next(engine: &mut Engine, output: &mut Output) -> u32
+    ensures call { (engine.new, result) ≡ next_by engine.old.left engine.old }
+    ensures told { output.new ≡ told_by engine.old.left output.old }
+{
+    match engine.first() {
+        Some(out) => {
+            *output = told_output(out);
+            engine.read_on();
+            DONE
+        }
+        None => END,
+    }
+}
+
+/// The next output of the last event, in their order. Every event makes them stand to be read from the first on; what wasn't read
+/// of the event before is gone.
+///
+/// 1 comes exactly where the handle is closed, 4 exactly where all were read. Then nothing has changed, `output` neither.
+#[unsafe(no_mangle)]
+pub extern "C" fn bfdd_next(alloc: Global, handle: &mut Handle, output: &mut Output) -> u32
+    ensures call { (handle.new.kept.held, result) ≡ next handle.old.kept.held }
+    ensures told { output.new ≡ told_of handle.old.kept.held output.old }
+{
+    match handle.take(alloc) {
+        Some(engine) => {
+            let mut engine = engine;
+            let code = read_next(&mut engine, output);
+            *handle = Handle::hold(engine);
+            code
+        }
+        None => CLOSED,
+    }
+}
+
+/// What the last event was answered; before the first, that it was handled.
+///
+/// 1 comes exactly where the handle is closed, and then nothing has changed, `answer` neither.
+#[unsafe(no_mangle)]
+pub extern "C" fn bfdd_answer(alloc: Global, handle: &mut Handle, answer: &mut Answered) -> u32
+    ensures held { handle.new.kept.held ≡ handle.old.kept.held }
+    ensures told { (answer.new, result) ≡ answered handle.old.kept.held answer.old }
+{
+    match handle.take(alloc) {
+        Some(engine) => {
+            *answer = told_answer(engine.answer());
+            *handle = Handle::hold(engine);
+            DONE
+        }
+        None => CLOSED,
+    }
+}
+
+/// The due tick of an engine.
+fn read_due(engine: &Engine, ms: &mut u64) -> u32
+    ensures { (ms.new, result) ≡ due_by (soonest engine.now.world.sessions) ms.old }
+{
+    match engine.due() {
+        Some(t) => {
+            *ms = t;
+            DONE
+        }
+        None => END,
+    }
+}
+
+/// The least tick that a session needs next, in milliseconds: no tick below it does anything. It may lie at or below the last one;
+/// then the next tick does what is due.
+///
+/// 1 comes exactly where the handle is closed, 4 exactly where no session needs a tick. Then `ms` hasn't changed.
+#[unsafe(no_mangle)]
+pub extern "C" fn bfdd_due(alloc: Global, handle: &mut Handle, ms: &mut u64) -> u32
+    ensures held { handle.new.kept.held ≡ handle.old.kept.held }
+    ensures told { (ms.new, result) ≡ due handle.old.kept.held ms.old }
+{
+    match handle.take(alloc) {
+        Some(engine) => {
+            let code = read_due(&engine, ms);
+            *handle = Handle::hold(engine);
+            code
+        }
+        None => CLOSED,
+    }
+}

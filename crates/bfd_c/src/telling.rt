@@ -1,0 +1,173 @@
+//! What an event gave, as C reads it.
+ghost use Rattle.std.specs.Prelude.{◌≡◌, replicate};
+ghost use Rattle.bfd_c.specs.Telling as telling;
+
+use crate::naming::{refusal_name, refusal_number, state_number, test_name, test_number};
+use crate::packing::packed_wire;
+use crate::wire::{Address, told_address};
+use bfd_packet::{Datagram, State};
+use bfd_rules::Out;
+use bfd_session::{Answer, Shown};
+
+/// One output: the kind 1 is a change of state, 2 a packet to send. What a kind doesn't use is 0.
+#[repr(C)]
+#[derive(Drop)]
+pub struct Output {
+    pub kind: u32,
+    /// The discriminator of the session, or of the reflector that answers.
+    pub discr: u32,
+    /// The state before and after: 0 AdminDown, 1 Down, 2 Init, 3 Up.
+    pub was: u8,
+    pub state: u8,
+    /// The diagnostic, 0 to 31.
+    pub diag: u8,
+    /// The IP TTL or Hop Limit to send with.
+    pub ttl: u8,
+    pub iface: u32,
+    pub sport: u16,
+    pub dport: u16,
+    pub src: Address,
+    pub dst: Address,
+    /// How many of the bytes are to be sent, at most 52.
+    pub len: u32,
+    pub bytes: [u8; 52],
+}
+
+/// What an event was answered: the kind 0 is handled, 1 ticked, 2 dropped, 3 refused, 4 shown. Of dropped and refused, `code` is
+/// the number and `name` the name of the cause, with zeros behind it. What a kind doesn't use is 0.
+#[repr(C)]
+#[derive(Drop)]
+pub struct Answered {
+    pub kind: u32,
+    pub code: u32,
+    pub name: [u8; 16],
+    pub discr: u32,
+    pub state: u8,
+    pub diag: u8,
+    pub remote_state: u8,
+    /// The Poll Sequence: 0 none, 1 wanted, 2 running.
+    pub poll: u8,
+    pub remote_discr: u32,
+    /// Intervals, and the Detection Time, in microseconds.
+    pub adv_tx: u32,
+    pub used_tx: u32,
+    pub used_rx: u32,
+    pub detect: u64,
+}
+
+/// A change of state for C.
+fn changed(discr: u32, was: State, state: State, diag: u8) -> Output
+    ensures { result ≡ telling.output_of (Out.Changed discr was state diag) }
+{
+    let nowhere = Address {
+        family: 0,
+        bytes: [0; 16],
+    };
+    Output {
+        kind: 1,
+        discr,
+        was: state_number(was),
+        state: state_number(state),
+        diag,
+        ttl: 0,
+        iface: 0,
+        sport: 0,
+        dport: 0,
+        src: nowhere,
+        dst: nowhere,
+        len: 0,
+        bytes: [0; 52],
+    }
+}
+
+/// A packet to send for C.
+fn sent(discr: u32, datagram: &Datagram) -> Output
+    ensures { result ≡ telling.output_of (Out.Sent discr datagram.now) }
+{
+    let wire = datagram.bytes.as_slice();
+    Output {
+        kind: 2,
+        discr,
+        was: 0,
+        state: 0,
+        diag: 0,
+        ttl: datagram.ttl,
+        iface: datagram.iface,
+        sport: datagram.sport,
+        dport: datagram.dport,
+        src: told_address(datagram.src),
+        dst: told_address(datagram.dst),
+        len: wire.len() as u32,
+        bytes: packed_wire(wire),
+    }
+}
+
+/// The output for C.
+pub(crate) fn told_output(out: &Out) -> Output
+    ensures { result ≡ telling.output_of out.now }
+{
+    match out {
+        Out::Changed {
+            discr,
+            old,
+            new,
+            diag,
+        } => changed(*discr, *old, *new, *diag),
+        Out::Sent { discr, datagram } => sent(*discr, datagram),
+    }
+}
+
+/// An answer without a view.
+fn plain(kind: u32, code: u32, name: [u8; 16]) -> Answered
+    ensures { result ≡ telling.plain kind code name }
+{
+    Answered {
+        kind,
+        code,
+        name,
+        discr: 0,
+        state: 0,
+        diag: 0,
+        remote_state: 0,
+        poll: 0,
+        remote_discr: 0,
+        adv_tx: 0,
+        used_tx: 0,
+        used_rx: 0,
+        detect: 0,
+    }
+}
+
+/// A view for C.
+fn view(shown: &Shown) -> Answered
+    ensures { result ≡ telling.view_of shown.now }
+{
+    Answered {
+        kind: 4,
+        code: 0,
+        name: [0; 16],
+        discr: shown.discr,
+        state: state_number(shown.state),
+        diag: shown.diag,
+        remote_state: state_number(shown.remote_state),
+        poll: shown.poll,
+        remote_discr: shown.remote_discr,
+        adv_tx: shown.adv_tx,
+        used_tx: shown.used_tx,
+        used_rx: shown.used_rx,
+        detect: shown.detect,
+    }
+}
+
+/// The answer for C.
+pub(crate) fn told_answer(answer: &Answer) -> Answered
+    ensures { result ≡ telling.answer_of answer.now }
+{
+    match answer {
+        Answer::Handled => plain(0, 0, [0; 16]),
+        Answer::Ticked => plain(1, 0, [0; 16]),
+        Answer::Dropped(test) => plain(2, test_number(*test), test_name(*test)),
+        Answer::Refused(refusal) => { plain(3, refusal_number(*refusal), refusal_name(*refusal)) }
+        Answer::Shown(shown) => view(shown),
+    }
+}

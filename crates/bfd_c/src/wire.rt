@@ -1,0 +1,113 @@
+//! Addresses and packets, as C gives and reads them.
+ghost use Rattle.std.specs.Prelude.{◌≡◌, ◌≢◌, None, IfOk, IfSome, OnErr};
+ghost use Rattle.bfd_script.specs.Values.{IsAddress};
+ghost use Rattle.bfd_c.specs.Wire.{addr_of, address_of, arrival_of, port_of};
+
+use bfd_packet::{Addr, Arrival, Payload, Port};
+use std::alloc::{AllocError, Global};
+
+/// An IP address: the family 4 or 6, and its bytes in network order, of which family 4 has four. The others are 0 in what is
+/// handed out, and count for nothing in what is handed in.
+#[repr(C)]
+#[derive(Clone, Copy, Drop)]
+pub struct Address {
+    pub family: u32,
+    pub bytes: [u8; 16],
+}
+
+/// A packet that came in, but for its payload. The port is 1 single, 2 multi, 3 echo, 4 sbfd, 5 answer.
+#[repr(C)]
+#[derive(Clone, Copy, Drop)]
+pub struct Packet {
+    /// Microseconds, below 2^60.
+    pub moment: u64,
+    pub port: u32,
+    /// The interface's number, 0 to 65,535.
+    pub iface: u32,
+    pub src: Address,
+    pub dst: Address,
+    /// The sender's UDP port.
+    pub sport: u16,
+    /// The IP TTL or Hop Limit with which it came.
+    pub ttl: u8,
+}
+
+/// The address, where the family is 4 or 6.
+pub(crate) fn read_address(address: &Address) -> Option<Addr>
+    ensures value { result ≡ addr_of address.now }
+    ensures range { IfSome result IsAddress }
+{
+    let b = &address.bytes;
+    match address.family {
+        4 => Some(Addr::V4(u32::from_be_bytes([b[0], b[1], b[2], b[3]]))),
+        6 => Some(Addr::V6(u128::from_be_bytes(address.bytes))),
+        _ => None,
+    }
+}
+
+/// The address for C.
+pub(crate) fn told_address(addr: Addr) -> Address
+    ensures { result ≡ address_of addr }
+{
+    match addr {
+        Addr::V4(n) => {
+            let [a, b, c, d] = n.to_be_bytes();
+            Address {
+                family: 4,
+                bytes: [a, b, c, d, 0, 0, 0, 0, 0, 0, 0, 0, 0, 0, 0, 0],
+            }
+        }
+        Addr::V6(n) => Address {
+            family: 6,
+            bytes: n.to_be_bytes(),
+        },
+    }
+}
+
+/// The kind of port of a number.
+fn port(number: u32) -> Option<Port>
+    ensures { result ≡ port_of number }
+{
+    match number {
+        1 => Some(Port::Single),
+        2 => Some(Port::Multi),
+        3 => Some(Port::Echo),
+        4 => Some(Port::Sbfd),
+        5 => Some(Port::Answer),
+        _ => None,
+    }
+}
+
+/// The packet with its payload, of which the first 256 bytes are kept, where its port, its interface and its addresses are in
+/// their ranges. It's refused for want of memory alone, and only where they are.
+pub(crate) fn arrival(
+    alloc: Global,
+    packet: &Packet,
+    payload: &[u8],
+) -> Result<Option<Arrival>, AllocError>
+    ensures value { IfOk result (λ arrival. arrival ≡ arrival_of packet.now payload.now) }
+    ensures fits { OnErr result (arrival_of packet.now payload.now ≢ None) }
+{
+    if packet.iface > 65_535 {
+        return Ok(None);
+    }
+    match (
+        port(packet.port),
+        read_address(&packet.src),
+        read_address(&packet.dst),
+    ) {
+        (Some(port), Some(src), Some(dst)) => {
+            let payload = Payload::keep(alloc, payload)?;
+            Ok(Some(Arrival {
+                port,
+                iface: packet.iface,
+                src,
+                sport: packet.sport,
+                dst,
+                ttl: packet.ttl,
+                payload,
+            }))
+        }
+        _ => Ok(None),
+    }
+}

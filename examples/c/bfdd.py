@@ -1,0 +1,119 @@
+"""libbfdd through ctypes: the structs of include/bfdd.h, and the calls by their names.
+
+    library = bfdd.load("/usr/local/lib/libbfdd.so")
+    with bfdd.Engine(library) as engine:
+        engine.open(b"bfd 1\n..")
+"""
+import ctypes
+from ctypes import POINTER, Structure, byref, c_bool, c_char, c_char_p, c_size_t, c_uint8, c_uint16, c_uint32, c_uint64, c_void_p
+
+DONE, CLOSED, MEMORY, RANGE, END, TEXT, EVENTS = range(7)
+PORTS = {"single": 1, "multi": 2, "echo": 3, "sbfd": 4, "answer": 5}
+VERBS = {"disable": 1, "enable": 2, "reset": 3, "path": 4, "tx": 5, "rx": 6, "mult": 7, "demand": 8, "echo": 9, "key": 10}
+STATES = ["AdminDown", "Down", "Init", "Up"]
+CHANGED, SENT = 1, 2
+HANDLED, TICKED, DROPPED, REFUSED, SHOWN = range(5)
+
+
+class Handle(Structure):
+    _fields_ = [("kept", c_void_p), ("is_open", c_bool)]
+
+
+class Address(Structure):
+    _fields_ = [("family", c_uint32), ("bytes", c_uint8 * 16)]
+
+
+class Complaint(Structure):
+    _fields_ = [("line", c_uint64), ("fault", c_uint32)]
+
+
+class Session(Structure):
+    _fields_ = [(name, c_uint32) for name in ("kind", "discr", "other", "iface")] \
+        + [("local", Address), ("remote", Address)] \
+        + [(name, c_uint32) for name in ("active", "tx", "rx", "mult", "echo", "seed", "auth", "key_id", "key_len")] \
+        + [("key", c_uint8 * 20)]
+
+
+class Packet(Structure):
+    _fields_ = [("moment", c_uint64), ("port", c_uint32), ("iface", c_uint32), ("src", Address), ("dst", Address),
+                ("sport", c_uint16), ("ttl", c_uint8)]
+
+
+class Answered(Structure):
+    _fields_ = [("kind", c_uint32), ("code", c_uint32), ("name", c_char * 16), ("discr", c_uint32), ("state", c_uint8),
+                ("diag", c_uint8), ("remote_state", c_uint8), ("poll", c_uint8), ("remote_discr", c_uint32),
+                ("adv_tx", c_uint32), ("used_tx", c_uint32), ("used_rx", c_uint32), ("detect", c_uint64)]
+
+
+class Output(Structure):
+    _fields_ = [("kind", c_uint32), ("discr", c_uint32), ("was", c_uint8), ("state", c_uint8), ("diag", c_uint8),
+                ("ttl", c_uint8), ("iface", c_uint32), ("sport", c_uint16), ("dport", c_uint16), ("src", Address),
+                ("dst", Address), ("len", c_uint32), ("bytes", c_uint8 * 52)]
+
+
+def load(path):
+    """The library, with the types of its calls."""
+    library = ctypes.CDLL(path)
+    handle = POINTER(Handle)
+    for name, *types in [
+            ("open", handle, c_char_p, c_size_t, POINTER(Complaint)), ("open_session", handle, POINTER(Session)),
+            ("receive", handle, POINTER(Packet), c_char_p, c_size_t), ("tick", handle, c_uint64),
+            ("command", handle, c_uint64, c_uint32, c_uint32, c_uint64), ("show", handle, c_uint64, c_uint32),
+            ("answer", handle, POINTER(Answered)), ("next", handle, POINTER(Output)), ("due", handle, POINTER(c_uint64))]:
+        call = getattr(library, f"bfdd_{name}")
+        call.argtypes, call.restype = types, c_uint32
+    library.bfdd_close.argtypes, library.bfdd_close.restype = [handle], None
+    return library
+
+
+def address(text):
+    """An address of four numbers with dots, or of 32 hexadecimal digits."""
+    v4 = "." in text
+    raw = bytes(map(int, text.split("."))) if v4 else bytes.fromhex(text)
+    return Address(4 if v4 else 6, (c_uint8 * 16)(*raw))
+
+
+class Fault(Exception):
+    """A call answered this code."""
+
+
+class Engine:
+    """A handle. A call that is refused raises its code as a Fault."""
+
+    def __init__(self, library):
+        self.library, self.handle = library, Handle()
+
+    def __enter__(self):
+        return self
+
+    def __exit__(self, *_why):
+        self.library.bfdd_close(byref(self.handle))
+
+    def call(self, name, *values):
+        code = getattr(self.library, f"bfdd_{name}")(byref(self.handle), *values)
+        if code not in (DONE, END):
+            raise Fault(code)
+        return code
+
+    def open(self, text):
+        self.call("open", text, len(text), byref(Complaint()))
+
+    def receive(self, moment, port, iface, src, dst, ttl, payload, sport=49152):
+        packet = Packet(moment, PORTS[port], iface, address(src), address(dst), sport, ttl)
+        self.call("receive", byref(packet), payload, len(payload))
+
+    def outputs(self):
+        """The outputs that are left, one by one."""
+        output = Output()
+        while self.call("next", byref(output)) == DONE:
+            yield output
+
+    def answer(self):
+        answered = Answered()
+        self.call("answer", byref(answered))
+        return answered
+
+    def due(self):
+        """The tick that is needed next, or None."""
+        ms = c_uint64()
+        return ms.value if self.call("due", byref(ms)) == DONE else None

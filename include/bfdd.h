@@ -1,0 +1,238 @@
+/* libbfdd: a Bidirectional Forwarding Detection engine (RFC 5880, 5881, 5883, 7880, 7881 and 8562), of which every function
+ * is proved. docs/EMBEDDING.md tells when to call what, and what is proved.
+ *
+ * The library does no input, no output and no waiting, and knows no clock and no thread: the caller hands packets and ticks
+ * in, and sends what comes out.
+ *
+ * OWNERSHIP. A handle is closed, or owns one engine. The caller keeps the handle; the engine behind it is the library's. A
+ * handle begins as BFDD_HANDLE_INIT, and bfdd_close frees all that it owns. Everything else is the caller's: no call keeps a
+ * pointer that it was given, and none hands one out.
+ *
+ * UNITS. Moments are microseconds since a start that the caller chooses, below 2^60. Ticks are milliseconds since the same
+ * start, at most 1,152,921,504,606,846. Intervals are microseconds. Numbers are in the machine's order, the bytes of
+ * addresses in network order.
+ *
+ * ERRORS. A call answers BFDD_DONE, or why it did nothing: then the engine is as it was, and so is every struct but for a
+ * complaint about a text. That a packet is dropped or a command refused is an answer and no error: see bfdd_answer.
+ *
+ * THREADS. A handle may go from thread to thread, and different handles may be used at once. A handle is in one call at a
+ * time: what several threads share stands behind a lock of the caller.
+ *
+ * WHAT THE CALLER OWES, since no proof can see it:
+ * - A handle is written by the library alone. It isn't copied while it's open, and a forged one isn't used.
+ * - No pointer is null, not even with length 0. It points to an object of its type, and a slice to as many bytes as its length
+ *   says. No two parameters of a call overlap.
+ * - Each byte of a struct that is handed in has been written, and so has what is handed out: begin with zeros.
+ * - malloc, realloc and free are one allocator, with blocks aligned to 16.
+ * - No call comes from a signal handler, nor from the forked child of a process that has threads.
+ */
+#ifndef BFDD_H
+#define BFDD_H
+
+#include <stdbool.h>
+#include <stddef.h>
+#include <stdint.h>
+
+#ifdef __cplusplus
+extern "C" {
+#endif
+
+/* What a call answers. */
+enum bfdd_code {
+    BFDD_DONE = 0,   /* it did its work */
+    BFDD_CLOSED = 1, /* the handle is closed */
+    BFDD_MEMORY = 2, /* there was no memory */
+    BFDD_RANGE = 3,  /* a value is outside its range */
+    BFDD_END = 4,    /* nothing is left to be read; no tick is needed */
+    BFDD_TEXT = 5,   /* the text is no table */
+    BFDD_EVENTS = 6  /* the text has event lines */
+};
+
+/* A handle. Its fields are the library's. */
+typedef struct {
+    void *kept;
+    bool is_open;
+} bfdd_handle;
+
+#define BFDD_HANDLE_INIT {NULL, false}
+
+/* An IP address. The last twelve bytes of an IPv4 address count for nothing; in what is handed out they are 0. */
+typedef struct {
+    uint32_t family; /* 4 or 6 */
+    uint8_t bytes[16];
+} bfdd_address;
+
+/* Opening ------------------------------------------------------------------------------------------------------------- */
+
+/* What is wrong with a text. */
+typedef struct {
+    uint64_t line;  /* the first faulty line, from 1 */
+    uint32_t fault; /* an enum bfdd_fault */
+} bfdd_complaint;
+
+enum bfdd_fault {
+    BFDD_NOT_ASCII = 1, BFDD_TOO_LONG = 2, BFDD_UNKNOWN_WORD = 3, BFDD_FIELD_COUNT = 4, BFDD_BAD_NUMBER = 5,
+    BFDD_OUT_OF_RANGE = 6, BFDD_BAD_HEX = 7, BFDD_BAD_ADDRESS = 8, BFDD_SAME_DISCR = 9, BFDD_SAME_ADDRESSES = 10,
+    BFDD_NO_SUCH_SESSION = 11, BFDD_ORDER = 12, BFDD_MISSING_END = 13, BFDD_TOO_MANY = 14, BFDD_SAME_KEY = 16
+};
+
+/* Opens a handle with the sessions and reflectors of a table: the text of a packet file (docs/FORMATS.md) without event
+ * lines, as "bfd 1\np2p ..\nrun\nend\n". At most 65,536 sessions and reflectors. What the handle owned is freed, once all
+ * is there. BFDD_TEXT, and then `complaint` is written; BFDD_EVENTS; BFDD_MEMORY. */
+uint32_t bfdd_open(bfdd_handle *handle, const uint8_t *text, size_t length, bfdd_complaint *complaint);
+
+enum bfdd_kind {
+    BFDD_SINGLE_HOP = 1, /* point-to-point over a single hop (RFC 5881) */
+    BFDD_MULTIHOP = 2,   /* point-to-point over several (RFC 5883) */
+    BFDD_INITIATOR = 3,  /* of seamless BFD (RFC 7880) */
+    BFDD_HEAD = 4,       /* of a multipoint tree (RFC 8562) */
+    BFDD_TAIL = 5
+};
+
+/* One session, by the fields of its table line. What its kind doesn't use counts for nothing, but is written. */
+typedef struct {
+    uint32_t kind;  /* an enum bfdd_kind */
+    uint32_t discr; /* the local discriminator, from 1 */
+    uint32_t other; /* initiator: the reflector's discriminator; tail: the head's; from 1 */
+    uint32_t iface; /* the interface's number, 0 to 65,535 */
+    bfdd_address local;  /* the address to send from; tail: the group */
+    bfdd_address remote; /* the peer's; head: the group; tail: the head's */
+    uint32_t active;  /* point-to-point: 1 active, 0 passive */
+    uint32_t tx;      /* all but a tail: Desired Min TX Interval, 10,000 to 60,000,000 */
+    uint32_t rx;      /* point-to-point: Required Min RX Interval, 10,000 to 60,000,000 */
+    uint32_t mult;    /* all but a tail: Detect Mult, 1 to 255 */
+    uint32_t echo;    /* point-to-point: 0, or over a single hop 10,000 to 60,000,000 */
+    uint32_t seed;    /* all but a tail: the first draw of jitter, and the first sequence number; best a random one */
+    uint32_t auth;    /* point-to-point: 0 none, 1 password, 2 and 3 MD5, 4 and 5 SHA1 (RFC 5880 section 4.1) */
+    uint32_t key_id;  /* 0 to 255 */
+    uint32_t key_len; /* 1 to 16, or with SHA1 to 20 */
+    uint8_t key[20];
+} bfdd_session;
+
+/* Opens a handle with this session alone. Several keys, several sessions and reflectors need bfdd_open. What the handle owned
+ * is freed, once all is there. BFDD_RANGE, BFDD_MEMORY. */
+uint32_t bfdd_open_session(bfdd_handle *handle, const bfdd_session *session);
+
+/* Closes a handle, and frees all that it owns. A closed handle stays closed. */
+void bfdd_close(bfdd_handle *handle);
+
+/* Events -------------------------------------------------------------------------------------------------------------- */
+/* Each event puts an answer and outputs in the place of those of the event before. */
+
+/* On which kind of port a packet came. */
+enum bfdd_port {
+    BFDD_PORT_SINGLE = 1, /* UDP 3784: control packets over a single hop, and those of heads */
+    BFDD_PORT_MULTI = 2,  /* UDP 4784: control packets over several hops */
+    BFDD_PORT_ECHO = 3,   /* UDP 3785: echo packets that came back */
+    BFDD_PORT_SBFD = 4,   /* UDP 7784: packets for a reflector */
+    BFDD_PORT_ANSWER = 5  /* the source port of an initiator: answers of a reflector */
+};
+
+/* A packet that came in, but for its payload. */
+typedef struct {
+    uint64_t moment; /* when it came */
+    uint32_t port;   /* an enum bfdd_port */
+    uint32_t iface;  /* the interface's number, 0 to 65,535 */
+    bfdd_address src, dst;
+    uint16_t sport; /* the sender's UDP port */
+    uint8_t ttl;    /* the IP TTL or Hop Limit with which it came */
+} bfdd_packet;
+
+/* A packet came in. Of the payload the first 256 bytes are kept. BFDD_CLOSED, BFDD_RANGE, BFDD_MEMORY. */
+uint32_t bfdd_receive(bfdd_handle *handle, const bfdd_packet *packet, const uint8_t *payload, size_t length);
+
+/* The clock has come to this millisecond; one below the greatest so far counts as that. BFDD_CLOSED, BFDD_RANGE. */
+uint32_t bfdd_tick(bfdd_handle *handle, uint64_t ms);
+
+/* docs/PROTOCOL.md says what each command does, and when it's refused. */
+enum bfdd_verb {
+    BFDD_DISABLE = 1, BFDD_ENABLE = 2, BFDD_RESET = 3, /* the value counts for nothing */
+    BFDD_PATH = 4,     /* a concatenated path: 0 none, 6 down, 8 down in reverse */
+    BFDD_TX = 5, BFDD_RX = 6, BFDD_MULT = 7,
+    BFDD_DEMAND = 8,   /* demand mode: 1 on, 0 off */
+    BFDD_ECHO = 9,     /* the interval of the Echo function, 0 for none */
+    BFDD_KEY = 10      /* the id of the key to send with */
+};
+
+/* A command to the session of this discriminator, from 1. BFDD_CLOSED; BFDD_RANGE for a moment, a discriminator or a command
+ * that is none. What the session refuses is an answer, also that no session has the discriminator. */
+uint32_t bfdd_command(bfdd_handle *handle, uint64_t moment, uint32_t discr, uint32_t command, uint64_t value);
+
+/* The session of this discriminator, from 1, is to show itself: the answer has it. What has come due by the moment is done
+ * first. BFDD_CLOSED, BFDD_RANGE. */
+uint32_t bfdd_show(bfdd_handle *handle, uint64_t moment, uint32_t discr);
+
+/* What an event gave ----------------------------------------------------------------------------------------------------- */
+
+enum bfdd_answer_kind {
+    BFDD_HANDLED = 0, /* the packet or the command was taken; before the first event it is this too */
+    BFDD_TICKED = 1,  /* a tick has passed */
+    BFDD_DROPPED = 2, /* the packet was discarded */
+    BFDD_REFUSED = 3, /* the command or the question was refused */
+    BFDD_SHOWN = 4    /* what the session shows */
+};
+
+/* Why a packet was discarded: the first of these that is true of it. */
+enum bfdd_drop {
+    BFDD_DROP_SHORT = 1, BFDD_DROP_VERSION = 2, BFDD_DROP_LENGTH_MIN = 3, BFDD_DROP_LENGTH_OVER = 4,
+    BFDD_DROP_DETECT_MULT = 5, BFDD_DROP_MULTIPOINT = 6, BFDD_DROP_MY_DISCR = 7, BFDD_DROP_YOUR_UNKNOWN = 8,
+    BFDD_DROP_YOUR_ZERO_STATE = 9, BFDD_DROP_NO_SESSION = 10, BFDD_DROP_TTL = 11, BFDD_DROP_AUTH_UNEXPECTED = 12,
+    BFDD_DROP_AUTH_MISSING = 13, BFDD_DROP_AUTH_TYPE = 14, BFDD_DROP_AUTH_KEY = 15, BFDD_DROP_AUTH_LEN = 16,
+    BFDD_DROP_AUTH_SEQ = 17, BFDD_DROP_AUTH_DIGEST = 18, BFDD_DROP_ADMIN_DOWN = 19, BFDD_DROP_NOT_DEMAND = 20,
+    BFDD_DROP_MULTIPOINT_YOUR = 21, BFDD_DROP_NO_TAIL = 22, BFDD_DROP_ECHO_FORM = 23, BFDD_DROP_ECHO_STALE = 24
+};
+
+/* Why a command or a question was refused. */
+enum bfdd_refusal {
+    BFDD_POLL_BUSY = 1, BFDD_WRONG_STATE = 2, BFDD_VALUE_OUT_OF_RANGE = 3, BFDD_WRONG_KIND = 4, BFDD_UNKNOWN_SESSION = 5
+};
+
+enum bfdd_state { BFDD_ADMIN_DOWN = 0, BFDD_DOWN = 1, BFDD_INIT = 2, BFDD_UP = 3 };
+
+/* An answer. What its kind doesn't use is 0. */
+typedef struct {
+    uint32_t kind; /* an enum bfdd_answer_kind */
+    uint32_t code; /* dropped: an enum bfdd_drop; refused: an enum bfdd_refusal */
+    char name[16]; /* dropped and refused: the cause by name, which ends with a zero */
+    uint32_t discr; /* shown: this and all below */
+    uint8_t state, diag, remote_state; /* states are enum bfdd_state, the diagnostic is RFC 5880's */
+    uint8_t poll;   /* the Poll Sequence: 0 none, 1 wanted, 2 running */
+    uint32_t remote_discr;
+    uint32_t adv_tx;  /* the Desired Min TX Interval that is advertised */
+    uint32_t used_tx; /* the one in use */
+    uint32_t used_rx; /* the Required Min RX Interval in use */
+    uint64_t detect;  /* the Detection Time */
+} bfdd_answered;
+
+/* What the last event was answered. BFDD_CLOSED. */
+uint32_t bfdd_answer(bfdd_handle *handle, bfdd_answered *answer);
+
+enum bfdd_output_kind { BFDD_CHANGED = 1, BFDD_SENT = 2 };
+
+/* An output: a change of a session's state, or a packet to send. What its kind doesn't use is 0. */
+typedef struct {
+    uint32_t kind;  /* an enum bfdd_output_kind */
+    uint32_t discr; /* whose it is: a session's, or of a packet that answers for a reflector the reflector's */
+    uint8_t was, state; /* changed: the state before and after, enum bfdd_state */
+    uint8_t diag;       /* changed: the diagnostic afterwards */
+    uint8_t ttl;        /* sent: this and all below */
+    uint32_t iface;
+    uint16_t sport, dport;
+    bfdd_address src, dst;
+    uint32_t len; /* how many of the bytes are the payload, at most 52 */
+    uint8_t bytes[52];
+} bfdd_output;
+
+/* The next output of the last event, in the order in which they came. BFDD_CLOSED; BFDD_END where all were read. What isn't
+ * read before the next event is gone. */
+uint32_t bfdd_next(bfdd_handle *handle, bfdd_output *output);
+
+/* The least tick that is needed next: none below it does anything. It may lie at or below the last tick; then the next tick
+ * does what is due. It changes with each event. BFDD_CLOSED; BFDD_END where none is needed before the next event. */
+uint32_t bfdd_due(bfdd_handle *handle, uint64_t *ms);
+
+#ifdef __cplusplus
+}
+#endif
+
+#endif

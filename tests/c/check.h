@@ -1,0 +1,28 @@
+/* What the tests share. */
+#ifndef CHECK_H
+#define CHECK_H
+#include <bfdd.h>
+#include <inttypes.h>
+#include <stdio.h>
+#include <stdlib.h>
+#include <string.h>
+
+#define CHECK(is, wanted) check(__FILE__, __LINE__, #is, (uint64_t)(is), (uint64_t)(wanted))
+
+static inline void check(const char *file, int line, const char *what, uint64_t is, uint64_t wanted) {
+    if (is == wanted) return;
+    fprintf(stderr, "%s:%d: %s is %" PRIu64 ", and must be %" PRIu64 "\n", file, line, what, is, wanted);
+    exit(1);
+}
+
+static inline uint32_t open_text(bfdd_handle *engine, const char *text, bfdd_complaint *complaint) {
+    return bfdd_open(engine, (const uint8_t *)text, strlen(text), complaint);
+}
+
+/* A control packet of a peer in Down with My Discriminator 7, as from 10.0.0.2. */
+static const uint8_t down[24] = {0x20, 0x40, 3, 24, 0, 0, 0, 7, 0, 0, 0, 0, 0, 15, 0x42, 0x40, 0, 15, 0x42, 0x40};
+static const bfdd_packet from_peer = {1500, BFDD_PORT_SINGLE, 1, {4, {10, 0, 0, 2}}, {4, {10, 0, 0, 1}}, 49152, 255};
+static const bfdd_session pair = {.kind = BFDD_SINGLE_HOP, .discr = 1, .iface = 1, .local = {4, {10, 0, 0, 1}},
+                                  .remote = {4, {10, 0, 0, 2}}, .active = 1, .tx = 1000000, .rx = 1000000, .mult = 3};
+
+#endif

@@ -1,0 +1,185 @@
+/* A wrong call of each kind gets its code, and changes nothing. */
+#include "check.h"
+
+static void closed(void) {
+    bfdd_handle engine = BFDD_HANDLE_INIT;
+    bfdd_output out = {.kind = 77};
+    bfdd_answered answer = {.kind = 77};
+    uint64_t due = 77;
+    CHECK(bfdd_receive(&engine, &from_peer, down, sizeof down), BFDD_CLOSED);
+    CHECK(bfdd_tick(&engine, 1), BFDD_CLOSED);
+    CHECK(bfdd_tick(&engine, UINT64_MAX), BFDD_CLOSED);
+    CHECK(bfdd_command(&engine, 0, 1, BFDD_DISABLE, 0), BFDD_CLOSED);
+    CHECK(bfdd_show(&engine, 0, 1), BFDD_CLOSED);
+    CHECK(bfdd_next(&engine, &out), BFDD_CLOSED);
+    CHECK(bfdd_answer(&engine, &answer), BFDD_CLOSED);
+    CHECK(bfdd_due(&engine, &due), BFDD_CLOSED);
+    CHECK(out.kind, 77);
+    CHECK(answer.kind, 77);
+    CHECK(due, 77);
+    bfdd_close(&engine);
+    bfdd_close(&engine);
+    CHECK(engine.is_open, false);
+}
+
+static void texts(void) {
+    bfdd_handle engine = BFDD_HANDLE_INIT;
+    bfdd_complaint complaint = {77, 77};
+    uint64_t due = 0;
+    CHECK(open_text(&engine, "bfd 1\nrun\nshow 1 1\nend\n", &complaint), BFDD_TEXT);
+    CHECK(complaint.line, 3);
+    CHECK(complaint.fault, BFDD_NO_SUCH_SESSION);
+    CHECK(open_text(&engine, "bfd 1\nrun\ntick 1\nend\n", &complaint), BFDD_TEXT);
+    CHECK(complaint.fault, BFDD_ORDER);
+    CHECK(open_text(&engine, "", &complaint), BFDD_TEXT);
+    CHECK(complaint.line, 1);
+    CHECK(complaint.fault, BFDD_MISSING_END);
+    complaint.line = 77;
+    CHECK(open_text(&engine, "bfd 1\np2p 1 single 1 10.0.0.1 10.0.0.2 active 1000000 1000000 3 0 0\nrun\nshow 1 1\nend\n", &complaint), BFDD_EVENTS);
+    CHECK(complaint.line, 77);
+    CHECK(engine.is_open, false);
+    CHECK(open_text(&engine, "bfd 1\np2p 1 single 1 10.0.0.1 10.0.0.2 active 1000000 1000000 3 0 0\nrun\nend\n", &complaint), BFDD_DONE);
+    CHECK(bfdd_due(&engine, &due), BFDD_DONE);
+    CHECK(open_text(&engine, "bfd 1\nrun\nend", &complaint), BFDD_DONE);
+    CHECK(bfdd_due(&engine, &due), BFDD_END);
+    bfdd_close(&engine);
+}
+
+/* Each field of a session one outside its range; and the two ends of it. */
+static void fields(void) {
+    bfdd_handle engine = BFDD_HANDLE_INIT;
+#define WRONG(kind_, field, value) do { \
+        bfdd_session s = pair; \
+        s.other = 900, s.kind = (kind_), s.field = (value); \
+        CHECK(bfdd_open_session(&engine, &s), BFDD_RANGE); \
+    } while (0)
+#define RIGHT(kind_, field, value) do { \
+        bfdd_session s = pair; \
+        s.other = 900, s.kind = (kind_), s.field = (value); \
+        CHECK(bfdd_open_session(&engine, &s), BFDD_DONE); \
+    } while (0)
+    WRONG(0, kind, 0);
+    WRONG(6, kind, 6);
+    for (uint32_t kind = BFDD_SINGLE_HOP; kind <= BFDD_TAIL; kind++) {
+        WRONG(kind, discr, 0);
+        WRONG(kind, iface, 65536);
+        WRONG(kind, local.family, 5);
+        WRONG(kind, remote.family, 0);
+        CHECK(engine.is_open, kind > BFDD_SINGLE_HOP);
+        RIGHT(kind, discr, UINT32_MAX);
+        RIGHT(kind, iface, 65535);
+        RIGHT(kind, local.family, 6);
+        if (kind == BFDD_TAIL) continue;
+        WRONG(kind, tx, 9999);
+        WRONG(kind, tx, 60000001);
+        WRONG(kind, mult, 0);
+        WRONG(kind, mult, 256);
+        RIGHT(kind, tx, 10000);
+        RIGHT(kind, mult, 255);
+    }
+    for (uint32_t kind = BFDD_SINGLE_HOP; kind <= BFDD_MULTIHOP; kind++) {
+        WRONG(kind, active, 2);
+        WRONG(kind, rx, 9999);
+        WRONG(kind, echo, 9999);
+        WRONG(kind, auth, 6);
+        WRONG(kind, auth, 1); /* a key of no bytes */
+    }
+    WRONG(BFDD_MULTIHOP, echo, 10000);
+    RIGHT(BFDD_SINGLE_HOP, echo, 10000);
+    WRONG(BFDD_INITIATOR, other, 0);
+    WRONG(BFDD_TAIL, other, 0);
+    RIGHT(BFDD_HEAD, other, 0);
+    bfdd_session s = pair;
+    s.auth = 3, s.key_len = 16, s.key_id = 255;
+    CHECK(bfdd_open_session(&engine, &s), BFDD_DONE);
+    s.key_len = 17;
+    CHECK(bfdd_open_session(&engine, &s), BFDD_RANGE);
+    s.auth = 5, s.key_len = 20;
+    CHECK(bfdd_open_session(&engine, &s), BFDD_DONE);
+    s.key_len = 21;
+    CHECK(bfdd_open_session(&engine, &s), BFDD_RANGE);
+    s.key_len = 20, s.key_id = 256;
+    CHECK(bfdd_open_session(&engine, &s), BFDD_RANGE);
+    bfdd_close(&engine);
+}
+
+static void events(void) {
+    const uint64_t bound = UINT64_C(1) << 60, most = UINT64_C(1152921504606846);
+    bfdd_handle engine = BFDD_HANDLE_INIT;
+    bfdd_answered answer = {0};
+    bfdd_output out = {0}, first = {0};
+    uint64_t due = 0;
+    CHECK(bfdd_open_session(&engine, &pair), BFDD_DONE);
+    CHECK(bfdd_next(&engine, &out), BFDD_END);
+    CHECK(bfdd_receive(&engine, &from_peer, down, sizeof down), BFDD_DONE);
+    /* wrong calls leave the outputs of the packet to be read */
+#define WRONG_PACKET(field, value) do { \
+        bfdd_packet p = from_peer; \
+        p.field = (value); \
+        CHECK(bfdd_receive(&engine, &p, down, sizeof down), BFDD_RANGE); \
+    } while (0)
+    WRONG_PACKET(moment, bound);
+    WRONG_PACKET(port, 0);
+    WRONG_PACKET(port, 6);
+    WRONG_PACKET(iface, 65536);
+    WRONG_PACKET(src.family, 0);
+    WRONG_PACKET(dst.family, 5);
+    CHECK(bfdd_tick(&engine, most + 1), BFDD_RANGE);
+    CHECK(bfdd_show(&engine, bound, 1), BFDD_RANGE);
+    CHECK(bfdd_show(&engine, 1, 0), BFDD_RANGE);
+    CHECK(bfdd_command(&engine, bound, 1, BFDD_DISABLE, 0), BFDD_RANGE);
+    CHECK(bfdd_command(&engine, 1, 0, BFDD_DISABLE, 0), BFDD_RANGE);
+    CHECK(bfdd_command(&engine, 1, 1, 0, 0), BFDD_RANGE);
+    CHECK(bfdd_command(&engine, 1, 1, 11, 0), BFDD_RANGE);
+    CHECK(bfdd_next(&engine, &first), BFDD_DONE);
+    CHECK(first.kind, BFDD_CHANGED);
+    CHECK(first.discr, 1);
+    CHECK(first.was, BFDD_DOWN);
+    CHECK(first.state, BFDD_INIT);
+    CHECK(bfdd_answer(&engine, &answer), BFDD_DONE);
+    CHECK(answer.kind, BFDD_HANDLED);
+    while (bfdd_next(&engine, &out) == BFDD_DONE) {}
+    CHECK(bfdd_next(&engine, &out), BFDD_END);
+    /* what is refused by a session is an answer */
+    CHECK(bfdd_command(&engine, 2000, 9, BFDD_DISABLE, 0), BFDD_DONE);
+    CHECK(bfdd_answer(&engine, &answer), BFDD_DONE);
+    CHECK(answer.kind, BFDD_REFUSED);
+    CHECK(answer.code, BFDD_UNKNOWN_SESSION);
+    CHECK(strcmp(answer.name, "UnknownSession"), 0);
+    bfdd_packet far = from_peer;
+    far.ttl = 254;
+    CHECK(bfdd_receive(&engine, &far, down, sizeof down), BFDD_DONE);
+    CHECK(bfdd_answer(&engine, &answer), BFDD_DONE);
+    CHECK(answer.kind, BFDD_DROPPED);
+    CHECK(answer.code, BFDD_DROP_TTL);
+    CHECK(strcmp(answer.name, "Ttl"), 0);
+    CHECK(bfdd_show(&engine, 2000, 1), BFDD_DONE);
+    CHECK(bfdd_answer(&engine, &answer), BFDD_DONE);
+    CHECK(answer.kind, BFDD_SHOWN);
+    CHECK(answer.remote_discr, 7);
+    CHECK(answer.detect, 3000000);
+    /* a tick below the due one does nothing, and that one something */
+    CHECK(bfdd_due(&engine, &due), BFDD_DONE);
+    CHECK(bfdd_tick(&engine, due - 1), BFDD_DONE);
+    CHECK(bfdd_next(&engine, &out), BFDD_END);
+    CHECK(bfdd_tick(&engine, due), BFDD_DONE);
+    CHECK(bfdd_next(&engine, &out), BFDD_DONE);
+    CHECK(out.kind, BFDD_SENT);
+    CHECK(out.dport, 3784);
+    CHECK(out.sport, 49152);
+    CHECK(out.ttl, 255);
+    CHECK(out.iface, 1);
+    CHECK(memcmp(&out.src, &pair.local, sizeof out.src), 0);
+    CHECK(memcmp(&out.dst, &pair.remote, sizeof out.dst), 0);
+    CHECK(out.len, 24);
+    CHECK(bfdd_tick(&engine, most), BFDD_DONE);
+    bfdd_close(&engine);
+}
+
+int main(void) {
+    closed();
+    texts();
+    fields();
+    events();
+    return 0;
+}
