@@ -180,17 +180,11 @@ def outcome(title, function, program, kept):
     return None, None
 
 
-<<<<<<< HEAD
-def main(name, tests, prepare=None):
-    """Runs the tests of a table: (name, function)."""
-    parser = argparse.ArgumentParser(usage=f"{name} [--install] [--keep FOLDER] [--program COMMAND] [WORD..]")
-=======
 def main(name, tests, prepare=None, long=()):
     """Runs the tests of a table: (name, function), and with the word --long those of `long` as well."""
-    parser = argparse.ArgumentParser(usage=f"{name} [--program COMMAND] {'[--long] ' if long else ''}[WORD..]")
+    parser = argparse.ArgumentParser(usage=f"{name} [--install] [--keep FOLDER] [--program COMMAND] {'[--long] ' if long else ''}[WORD..]")
     if long:
         parser.add_argument("--long", action="store_true", help="the long tests as well")
->>>>>>> c65f91762d847bceb39455ace4b94bc7a9ca1bc8
     parser.add_argument("--program", type=shlex.split, help="a command in place of the proved program")
     parser.add_argument("--keep", metavar="FOLDER", help="keep each test's script and served text there")
     parser.add_argument("--list", action="store_true", help="the names alone")
