@@ -5,6 +5,8 @@ pub mod Numbered
 pub mod Inserting
 pub mod Pooling
 pub mod Kept
+pub mod Cutting
+pub mod Decoding
 pub mod Elements
 pub mod Naming
 pub mod Giving

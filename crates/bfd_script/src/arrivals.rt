@@ -43,8 +43,8 @@ fn arrival(
     ensures value { Gives (λ a. a) result (arrival_of port iface src.now dst.now ttl.now payload.now) }
     ensures sound { IfOk result (λ a. (m : ℕ) → m < moment_bound → IsReceived m a) }
 {
-    let src = address(alloc, src)?;
-    let dst = address(alloc, dst)?;
+    let src = address(src)?;
+    let dst = address(dst)?;
     let ttl = number(ttl, 0, 255)? as u8;
     let payload = payload_read(alloc, payload)?;
     Ok(Arrival {

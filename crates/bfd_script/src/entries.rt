@@ -310,11 +310,11 @@ fn read_values(
 {
     match word {
         Word::Bfd => Ok(read_version(values)?),
-        Word::P2p => Ok(Entry::Row(read_pair(alloc, values)?)),
-        Word::Sbfd => Ok(Entry::Row(read_seek(alloc, values)?)),
+        Word::P2p => Ok(Entry::Row(read_pair(values)?)),
+        Word::Sbfd => Ok(Entry::Row(read_seek(values)?)),
         Word::Reflector => Ok(Entry::Reflect(read_reflector(values)?)),
-        Word::Head => Ok(Entry::Row(read_head(alloc, values)?)),
-        Word::Tail => Ok(Entry::Row(read_tail(alloc, values)?)),
+        Word::Head => Ok(Entry::Row(read_head(values)?)),
+        Word::Tail => Ok(Entry::Row(read_tail(values)?)),
         Word::Auth => read_auth(alloc, values),
         Word::Key => read_added(alloc, values),
         Word::Run => Ok(read_alone(Entry::Run, values)?),
@@ -349,18 +349,19 @@ fn read_fields(
     read_values(alloc, version, word, values)
 }
 
-/// What a line says by itself, or the first of its faults that it has by itself.
-pub(crate) fn read_line(
+/// What a line says by itself, or the first of its faults that it has by itself. `fields` is room for its fields.
+pub(crate) fn read_line<'a>(
     alloc: Global,
     version: Version,
     place: Place,
     live: bool,
-    line: &[u8],
+    line: &'a [u8],
+    fields: &mut Vec<&'a str>,
 ) -> Result<Entry, ReadFault>
     ensures value { Gives (λ entry. entry) result (entry_of version place live line.now) }
     ensures sound { IfOk result IsEntry }
 {
     let text = line_text(line)?;
-    let fields = split_fields(alloc, text)?;
-    read_fields(alloc, version, place, live, &fields)
+    split_fields(text, fields)?;
+    read_fields(alloc, version, place, live, fields)
 }

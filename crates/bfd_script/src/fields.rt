@@ -1,16 +1,21 @@
 // Lines, fields and numbers.
-ghost use Rattle.std.specs.Prelude.{◌≡◌, ◌==◌, ◌<◌, ◌≤◌, ◌∷◌, IfOk, length, map, position};
+ghost use Rattle.std.specs.Prelude.{◌≡◌, ◌==◌, ◌<◌, ◌≤◌, ◌∷◌, ◌&&◌, ◌||◌, Err, IfOk, IfSome, Ok, OnOk, if◌then◌else◌, length, map, nat_lt, not, position, slice_index, true};
 ghost use Rattle.std.specs.List.{list_all};
 ghost use Rattle.std.specs.Char.{is_ascii_digit};
-ghost use Rattle.bfd_script.specs.Fields.{fields_of, is_number, is_printable, lines_of, number_in, text_of};
+ghost use Rattle.std.specs.Str.Parse.{digits_value};
+ghost use Rattle.bfd_script.specs.Fields.{fields_of, is_printable, lines_of, number_in, text_of};
 ghost use Rattle.bfd_script.specs.Gives.{SeesField};
+ghost use Rattle.bfd_script.specs.declared.fault.LineFault.TheVariants.{OutOfRange};
 
 use crate::fault::LineFault;
-use std::alloc::{AllocError, Global};
+use std::alloc::AllocError;
 use std::str;
 
 /// The most bytes that a line may have before its LF.
 const MOST_LINE: usize = 4096;
+
+/// Before which a number may be multiplied by ten, and a digit added, within 64 bits.
+const MOST_BEFORE_DIGIT: u64 = 1_000_000_000_000_000_000;
 
 /// Where the first LF is.
 fn first_lf(text: &[u8]) -> Option<usize>
@@ -39,7 +44,13 @@ pub(crate) fn first_line(text: &[u8]) -> (&[u8], &[u8])
 fn is_all_printable(line: &[u8]) -> bool
     ensures { result ≡ list_all is_printable line.now }
 {
-    line.iter().all(|byte| *byte >= b' ' && *byte <= b'~')
+    let mut rest = line;
+    let mut printable = true;
+    while let [byte, after @ ..] = rest {
+        printable &= *byte >= b' ' && *byte <= b'~';
+        rest = after;
+    }
+    printable
 }
 
 /// The line as text: refused where it is too long or has a byte that isn't printable.
@@ -59,11 +70,12 @@ pub(crate) fn line_text(line: &[u8]) -> Result<&str, LineFault>
     }
 }
 
-/// What stands between the spaces of a line.
-pub(crate) fn split_fields(alloc: Global, text: &str) -> Result<Vec<&str>, AllocError>
-    ensures { IfOk result (λ fields. map (λ field. field.now) fields.items ≡ fields_of text.now) }
+/// What stands between the spaces of a line, in `fields`, whose room is used again for each line.
+pub(crate) fn split_fields<'a>(text: &'a str, fields: &mut Vec<&'a str>) -> Result<(), AllocError>
+    ensures { OnOk result (map (λ field. field.now) fields.new.items ≡ fields_of text.now) }
 {
-    text.split(' ').collect(alloc)
+    fields.clear();
+    fields.extend(text.split(' '))
 }
 
 /// Whether each byte is a decimal digit.
@@ -73,29 +85,67 @@ fn is_all_digits(field: &[u8]) -> bool
     field.iter().all(|byte| byte.is_ascii_digit())
 }
 
-/// Whether a field is decimal digits without leading zero.
-fn is_decimal(field: &[u8]) -> bool
-    ensures { result ≡ is_number field.now }
+/// Whether a field has a digit, and no zero before another one.
+fn is_led(field: &[u8]) -> bool
+    ensures { result ≡ (nat_lt 0 (length field.now) && not (nat_lt 1 (length field.now) && slice_index field.now 0 == 48)) }
 {
-    is_all_digits(field) && !field.is_empty() && !(field.len() > 1 && field[0] == b'0')
+    !field.is_empty() && !(field.len() > 1 && field[0] == b'0')
+}
+
+/// The number that decimal digits write, in one pass: None where one is no digit, and where the number is near 2^64 or above.
+fn small_number(field: &[u8]) -> Option<u64>
+    ensures { IfSome result (λ n. (n ≡ digits_value 10 field.now) × (list_all is_ascii_digit field.now ≡ true)) }
+{
+    let mut rest = field;
+    let mut n = 0;
+    while let [digit, after @ ..] = rest {
+        if !digit.is_ascii_digit() || n > MOST_BEFORE_DIGIT {
+            return None;
+        }
+        n = n * 10 + (*digit - b'0') as u64;
+        rest = after;
+    }
+    Some(n)
+}
+
+/// A number of a range, or OutOfRange.
+fn within(n: u64, least: u64, most: u64) -> Result<u64, LineFault>
+    ensures value { result ≡ (if nat_lt n least || nat_lt most n then Err OutOfRange else Ok n) }
+    ensures range { IfOk result (λ n. (least ≤ n) × (n ≤ most)) }
+{
+    if n < least || most < n {
+        return Err(LineFault::OutOfRange);
+    }
+    Ok(n)
+}
+
+/// The same as `number`, by digits that it may look at twice.
+#[tactic(auto, using(crate::proofs::Decimal::too_large))]
+fn any_number(field: &str, least: u64, most: u64) -> Result<u64, LineFault>
+    ensures value { result ≡ number_in least most field.now }
+    ensures range { IfOk result (λ n. (least ≤ n) × (n ≤ most)) }
+{
+    if !is_all_digits(field.as_bytes()) || !is_led(field.as_bytes()) {
+        return Err(LineFault::BadNumber);
+    }
+    match field.parse::<u64>() {
+        Ok(n) => within(n, least, most),
+        Err(_) => Err(LineFault::OutOfRange),
+    }
 }
 
 /// A field that is a number from `least` to `most`: BadNumber where it is no number, OutOfRange where it is another one.
-#[tactic(auto, using(crate::proofs::Decimal::too_large))]
 pub(crate) fn number(field: &str, least: u64, most: u64) -> Result<u64, LineFault>
     ensures value { result ≡ number_in least most field.now }
     ensures range { IfOk result (λ n. (least ≤ n) × (n ≤ most)) }
 {
-    if !is_decimal(field.as_bytes()) {
-        return Err(LineFault::BadNumber);
-    }
-    match field.parse::<u64>() {
-        Ok(n) => {
-            if n < least || most < n {
-                return Err(LineFault::OutOfRange);
+    match small_number(field.as_bytes()) {
+        Some(n) => {
+            if !is_led(field.as_bytes()) {
+                return Err(LineFault::BadNumber);
             }
-            Ok(n)
+            within(n, least, most)
         }
-        Err(_) => Err(LineFault::OutOfRange),
+        None => any_number(field, least, most),
     }
 }

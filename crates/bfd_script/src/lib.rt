@@ -14,8 +14,8 @@
 //! `pool` (the sessions and the reflectors so far), `state` (what is kept from line to line), `reading` (the whole text);
 //! beside them `names` and `report`.
 //!
-//! It stands on `bfd_num`, `bfd_packet`, `bfd_rules`, `bfd_mp`, `bfd_sbfd`, `bfd_demux` and `bfd_session`, and on `byteorder`
-//! and `hex`.
+//! It stands on `bfd_num`, `bfd_packet`, `bfd_rules`, `bfd_mp`, `bfd_sbfd`, `bfd_demux` and `bfd_session`, and on `byteorder`,
+//! `hex` and `itoa`.
 #![tactic(auto)]
 
 mod arrivals;

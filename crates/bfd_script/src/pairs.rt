@@ -2,17 +2,15 @@
 ghost use Rattle.std.specs.Prelude.{◌≡◌, IfOk, IsTrue, map};
 ghost use Rattle.bfd_rules.specs.Sound.{is_echo_interval};
 ghost use Rattle.bfd_session.specs.Step.{IsFit};
-ghost use Rattle.bfd_script.specs.Gives.{Gives};
 ghost use Rattle.bfd_script.specs.Pairs.{AreEnds, IsTiming, active_of, config_by, echo_of, ends_of, pair_fields, pair_of, pair_with, role_of, timing_fields, timing_of};
 ghost use Rattle.bfd_script.specs.Sound.{IsRow};
 
-use crate::fault::{LineFault, ReadFault};
+use crate::fault::LineFault;
 use crate::fields::number;
 use crate::values::address;
 use bfd_packet::Addr;
 use bfd_rules::{Config, Role};
 use bfd_session::SessionConfig;
-use std::alloc::Global;
 
 /// The values of a `p2p` line.
 const PAIR_VALUES: usize = 11;
@@ -90,21 +88,20 @@ fn echo(role: Role, field: &str) -> Result<u32, LineFault>
 /// The first five values.
 #[tactic(auto, unfolding(crate::specs::Pairs::ends_of))]
 fn read_ends(
-    alloc: Global,
     discr: &str,
     role: &str,
     iface: &str,
     local: &str,
     remote: &str,
-) -> Result<Ends, ReadFault>
-    ensures value { Gives (λ e. e) result (ends_of discr.now role.now iface.now local.now remote.now) }
+) -> Result<Ends, LineFault>
+    ensures value { result ≡ ends_of discr.now role.now iface.now local.now remote.now }
     ensures range { IfOk result AreEnds }
 {
     let discr = number(discr, 1, 4_294_967_295)? as u32;
     let role = role_named(role)?;
     let iface = number(iface, 0, 65_535)? as u32;
-    let local = address(alloc, local)?;
-    let remote = address(alloc, remote)?;
+    let local = address(local)?;
+    let remote = address(remote)?;
     Ok(Ends {
         discr,
         role,
@@ -186,26 +183,26 @@ fn pair(ends: Ends, rest: &[&str]) -> Result<SessionConfig, LineFault>
 }
 
 /// The session of these values.
-fn pair_fields(alloc: Global, values: &[&str]) -> Result<SessionConfig, ReadFault>
-    ensures value { Gives (λ c. c) result (pair_fields (map (λ value. value.now) values.now)) }
+fn pair_fields(values: &[&str]) -> Result<SessionConfig, LineFault>
+    ensures value { result ≡ pair_fields (map (λ value. value.now) values.now) }
     ensures sound { IfOk result (λ c. IsFit c × IsRow c) }
 {
     match values {
         [discr, role, iface, local, remote, rest @ ..] => {
-            let ends = read_ends(alloc, discr, role, iface, local, remote)?;
-            Ok(pair(ends, rest)?)
+            let ends = read_ends(discr, role, iface, local, remote)?;
+            pair(ends, rest)
         }
-        _ => Err(ReadFault::Fault(LineFault::FieldCount)),
+        _ => Err(LineFault::FieldCount),
     }
 }
 
 /// The session of a `p2p` line.
-pub(crate) fn read_pair(alloc: Global, values: &[&str]) -> Result<SessionConfig, ReadFault>
-    ensures value { Gives (λ c. c) result (pair_of (map (λ value. value.now) values.now)) }
+pub(crate) fn read_pair(values: &[&str]) -> Result<SessionConfig, LineFault>
+    ensures value { result ≡ pair_of (map (λ value. value.now) values.now) }
     ensures sound { IfOk result (λ c. IsFit c × IsRow c) }
 {
     if values.len() != PAIR_VALUES {
-        return Err(ReadFault::Fault(LineFault::FieldCount));
+        return Err(LineFault::FieldCount);
     }
-    pair_fields(alloc, values)
+    pair_fields(values)
 }

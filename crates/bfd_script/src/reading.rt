@@ -11,11 +11,24 @@ use crate::script::Script;
 use crate::state::Reading;
 use std::alloc::Global;
 
-/// The state after one more line.
-fn read_step(alloc: Global, live: bool, reading: Reading, line: &[u8]) -> Result<Reading, ReadFault>
+/// The state after one more line. `fields` is room for its fields.
+fn read_step<'a>(
+    alloc: Global,
+    live: bool,
+    reading: Reading,
+    line: &'a [u8],
+    fields: &mut Vec<&'a str>,
+) -> Result<Reading, ReadFault>
     ensures { Gives (λ s. s) result (step live reading line.now) }
 {
-    let entry = read_line(alloc, reading.version(), reading.place(), live, line)?;
+    let entry = read_line(
+        alloc,
+        reading.version(),
+        reading.place(),
+        live,
+        line,
+        fields,
+    )?;
     reading.accept(entry)
 }
 
@@ -27,11 +40,12 @@ pub fn read(alloc: Global, bytes: &[u8], live: bool) -> Result<Script, ScriptFau
     ensures sound { IfOk result IsScript }
 {
     let mut reading = Reading::new(alloc);
+    let mut fields = Vec::new(alloc);
     let mut rest = bytes;
     let mut number = 1;
     while !rest.is_empty() {
         let (line, after) = first_line(rest);
-        match read_step(alloc, live, reading, line) {
+        match read_step(alloc, live, reading, line, &mut fields) {
             Ok(next) => reading = next,
             Err(ReadFault::Fault(fault)) => {
                 return Err(ScriptFault::Bad(BadLine {

@@ -1,21 +1,18 @@
 // The table lines of seamless BFD.
 ghost use Rattle.std.specs.Prelude.{◌≡◌, IfOk, map};
 ghost use Rattle.bfd_session.specs.Step.{IsFit};
-ghost use Rattle.bfd_script.specs.Gives.{Gives};
 ghost use Rattle.bfd_script.specs.Seamless as lines;
 ghost use Rattle.bfd_script.specs.Sound.{IsReflector, IsRow};
 
-use crate::fault::{LineFault, ReadFault};
+use crate::fault::LineFault;
 use crate::fields::number;
 use crate::values::address;
 use bfd_sbfd::{Reflector, SeekConfig};
 use bfd_session::SessionConfig;
-use std::alloc::Global;
 
 /// An initiator of these values.
 #[tactic(auto, unfolding(crate::specs::Seamless::initiator_of))]
 fn initiator(
-    alloc: Global,
     discr: &str,
     target: &str,
     iface: &str,
@@ -24,15 +21,15 @@ fn initiator(
     tx: &str,
     mult: &str,
     seed: &str,
-) -> Result<SessionConfig, ReadFault>
-    ensures value { Gives (λ c. c) result (lines.initiator_of discr.now target.now iface.now local.now remote.now tx.now mult.now seed.now) }
+) -> Result<SessionConfig, LineFault>
+    ensures value { result ≡ lines.initiator_of discr.now target.now iface.now local.now remote.now tx.now mult.now seed.now }
     ensures sound { IfOk result (λ c. IsFit c × IsRow c) }
 {
     let discr = number(discr, 1, 4_294_967_295)? as u32;
     let target = number(target, 1, 4_294_967_295)? as u32;
     let iface = number(iface, 0, 65_535)? as u32;
-    let local = address(alloc, local)?;
-    let remote = address(alloc, remote)?;
+    let local = address(local)?;
+    let remote = address(remote)?;
     let tx = number(tx, 10_000, 60_000_000)? as u32;
     let mult = number(mult, 1, 255)? as u8;
     let seed = number(seed, 0, 4_294_967_295)? as u32;
@@ -49,31 +46,26 @@ fn initiator(
 }
 
 /// The initiator of the first two values and the others.
-fn seek_with(
-    alloc: Global,
-    discr: &str,
-    target: &str,
-    rest: &[&str],
-) -> Result<SessionConfig, ReadFault>
-    ensures value { Gives (λ c. c) result (lines.seek_with discr.now target.now (map (λ value. value.now) rest.now)) }
+fn seek_with(discr: &str, target: &str, rest: &[&str]) -> Result<SessionConfig, LineFault>
+    ensures value { result ≡ lines.seek_with discr.now target.now (map (λ value. value.now) rest.now) }
     ensures sound { IfOk result (λ c. IsFit c × IsRow c) }
 {
     match rest {
         [iface, local, remote, tx, mult, seed] => {
-            initiator(alloc, discr, target, iface, local, remote, tx, mult, seed)
+            initiator(discr, target, iface, local, remote, tx, mult, seed)
         }
-        _ => Err(ReadFault::Fault(LineFault::FieldCount)),
+        _ => Err(LineFault::FieldCount),
     }
 }
 
 /// The initiator of an `sbfd` line.
-pub(crate) fn read_seek(alloc: Global, values: &[&str]) -> Result<SessionConfig, ReadFault>
-    ensures value { Gives (λ c. c) result (lines.seek_of (map (λ value. value.now) values.now)) }
+pub(crate) fn read_seek(values: &[&str]) -> Result<SessionConfig, LineFault>
+    ensures value { result ≡ lines.seek_of (map (λ value. value.now) values.now) }
     ensures sound { IfOk result (λ c. IsFit c × IsRow c) }
 {
     match values {
-        [discr, target, rest @ ..] => seek_with(alloc, discr, target, rest),
-        _ => Err(ReadFault::Fault(LineFault::FieldCount)),
+        [discr, target, rest @ ..] => seek_with(discr, target, rest),
+        _ => Err(LineFault::FieldCount),
     }
 }
 

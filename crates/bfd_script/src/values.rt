@@ -1,8 +1,9 @@
 // Addresses and bytes.
-ghost use Rattle.std.specs.Prelude.{◌≡◌, ◌<◌, ◌≤◌, ◌==◌, IfOk, length, map, take};
+ghost use Rattle.std.specs.Prelude.{◌≡◌, ◌<◌, ◌≤◌, ◌%◌, ◌==◌, ◌∷◌, [], IfOk, MatchResult, length, take};
 ghost use Rattle.std.specs.List.{slice_split};
 ghost use Rattle.hex.specs.Hex.{IsBytes};
 ghost use Rattle.bfd_script.specs.Gives.{Gives};
+ghost use Rattle.bfd_script.specs.declared.fault.LineFault.TheVariants.{BadAddress};
 ghost use Rattle.bfd_script.specs.Values.{IsAddress, address_of, bytes_of, dotted_of, octet_of, payload_of, quad_of};
 
 use crate::fault::{LineFault, ReadFault};
@@ -10,7 +11,10 @@ use crate::fields::number;
 use bfd_packet::{Addr, Payload};
 use byteorder::{BigEndian, ByteOrder};
 use hex::FromHexError;
-use std::alloc::{AllocError, Global};
+use std::alloc::Global;
+
+/// How many bytes of a payload are kept.
+const MOST_KEPT: usize = 256;
 
 /// One of the four numbers of an address.
 fn octet(field: &str) -> Result<u8, LineFault>
@@ -35,37 +39,38 @@ fn quad(a: &str, b: &str, c: &str, d: &str) -> Result<Addr, LineFault>
     Ok(Addr::V4(u32::from_be_bytes([a, b, c, d])))
 }
 
-/// An address of these parts, of which there have to be four.
-fn dotted(parts: &[&str]) -> Result<Addr, LineFault>
-    ensures value { result ≡ dotted_of (map (λ part. part.now) parts.now) }
-    ensures range { IfOk result IsAddress }
+/// What stands before the first dot of a field, and after it: BadAddress where it has none.
+fn cut(field: &str) -> Result<(&str, &str), LineFault>
+    ensures { MatchResult result (λ parts. slice_split (λ byte. byte == 46) field.now ≡ parts.0.now ∷ slice_split (λ byte. byte == 46) parts.1.now) (λ fault. (fault ≡ BadAddress) × (slice_split (λ byte. byte == 46) field.now ≡ field.now ∷ [])) }
 {
-    match parts {
-        [a, b, c, d] => quad(a, b, c, d),
-        _ => Err(LineFault::BadAddress),
+    match field.split_once('.') {
+        Some((front, rest)) => Ok((front, rest)),
+        None => Err(LineFault::BadAddress),
     }
 }
 
-/// What stands between the dots of a field.
-fn split_dots(alloc: Global, field: &str) -> Result<Vec<&str>, AllocError>
-    ensures { IfOk result (λ parts. map (λ part. part.now) parts.items ≡ slice_split (λ byte. byte == 46) field.now) }
+/// An address of what stands between the dots of a field, of which there have to be three.
+#[tactic(auto, using(crate::proofs::Cutting::four))]
+fn dotted(field: &str) -> Result<Addr, LineFault>
+    ensures value { result ≡ dotted_of (slice_split (λ byte. byte == 46) field.now) }
+    ensures range { IfOk result IsAddress }
 {
-    field.split('.').collect(alloc)
+    let (a, rest) = cut(field)?;
+    let (b, rest) = cut(rest)?;
+    let (c, d) = cut(rest)?;
+    quad(a, b, c, d)
 }
 
 /// A field that is an address: 32 hexadecimal digits of both cases, or four numbers 0 to 255 with dots. BadAddress where
 /// it is neither.
-pub(crate) fn address(alloc: Global, field: &str) -> Result<Addr, ReadFault>
-    ensures value { Gives (λ a. a) result (address_of field.now) }
+pub(crate) fn address(field: &str) -> Result<Addr, LineFault>
+    ensures value { result ≡ address_of field.now }
     ensures range { IfOk result IsAddress }
 {
     let mut bytes = [0; 16];
     match hex::decode_to_slice(field, &mut bytes) {
         Ok(()) => Ok(Addr::V6(BigEndian::read_u128(&bytes))),
-        Err(_) => {
-            let parts = split_dots(alloc, field)?;
-            Ok(dotted(&parts)?)
-        }
+        Err(_) => dotted(field),
     }
 }
 
@@ -97,12 +102,34 @@ pub(crate) fn bytes_read(alloc: Global, field: &str) -> Result<Vec<u8>, ReadFaul
     }
 }
 
+/// A field of an even number of digits, 2 to 512, that is a payload.
+#[tactic(auto, using(crate::proofs::Decoding::payload_by_room))]
+fn short_payload(alloc: Global, field: &str) -> Result<Payload, ReadFault>
+    requires some { 2 ≤ length field.now }
+    requires few { length field.now ≤ 512 }
+    requires even { length field.now % 2 ≡ 0 }
+    ensures value { Gives (λ p. p) result (payload_of field.now) }
+    ensures bytes { IfOk result (λ payload. IsBytes payload) }
+    ensures short { IfOk result (λ payload. length payload ≤ 256) }
+{
+    let mut room = [0; MOST_KEPT];
+    let bytes = &mut room[..field.len() / 2];
+    match hex::decode_to_slice(field, bytes) {
+        Ok(()) => keep(alloc, bytes),
+        Err(_) => Err(ReadFault::Fault(LineFault::BadHex)),
+    }
+}
+
 /// A field that is a payload: bytes, of which the first 256 are kept.
 pub(crate) fn payload_read(alloc: Global, field: &str) -> Result<Payload, ReadFault>
     ensures value { Gives (λ p. p) result (payload_of field.now) }
     ensures bytes { IfOk result (λ payload. IsBytes payload) }
     ensures short { IfOk result (λ payload. length payload ≤ 256) }
 {
+    let digits = field.len();
+    if 2 <= digits && digits <= 2 * MOST_KEPT && digits % 2 == 0 {
+        return short_payload(alloc, field);
+    }
     let bytes = bytes_read(alloc, field)?;
     keep(alloc, &bytes)
 }

@@ -1,0 +1,7 @@
+use Rattle.std.proofs.Common.{◌≡◌, ◌++◌, take}
+use Rattle.std.specs.List.{flat_map}
+use Rattle.bfd_script.specs.Report.{item_line}
+use Rattle.bfd_script.proofs.report.push_items.Given as goal
+
+abbrev pub invariant-loop-out : goal.invariant-loop-out
+invariant-loop-out l = l.text.items ≡ l.initial.text.items ++ flat_map (item_line l.number) (take l.out-index l.outs)
