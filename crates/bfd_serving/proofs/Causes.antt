@@ -1,12 +1,10 @@
 -- What the first fault shows.
-use Rattle.std.proofs.Common.{◌≡◌, ◌≢◌, ◌⊎◌, ℕ, zero, suc, ◌+◌, ◌<◌, ◌≤◌, ◌==◌, true, false, List, [], ◌∷◌, ◌++◌, length, get_or, slice_get, slice_index_or, Some, None, refl, ap, sym, ◌∙◌, subst, inl, inr, arith}
+use Rattle.std.proofs.Common.{◌≡◌, ◌≢◌, ◌⊎◌, ℕ, zero, suc, ◌+◌, ◌<◌, ◌≤◌, ◌==◌, true, false, List, [], ◌∷◌, ◌++◌, length, get_or, refl, ap, sym, ◌∙◌, subst, inl, inr, arith}
 use Rattle.std.specs.List.{All}
 use Rattle.std.proofs.lemmas.List.Elements.{All-head, All-tail}
 use Rattle.std.proofs.lemmas.Bool.Decides.{nat_tests}
 use mathlib.Core.Logic.{dite}
 use native.Mathlib.Decide.{ℕ_discrete, dec_lt}
-use Rattle.bfd_packet.specs.declared.arrival.Datagram.{Datagram}
-use Rattle.bfd_shard.specs.declared.entry.Entry.{Entry}
 use Rattle.bfd_shard.specs.Shard.{Shard}
 use Rattle.bfd_script.specs.declared.entries.Line.{Line}
 use Rattle.bfd_edge.specs.Faults.{risen}
@@ -20,7 +18,7 @@ use Rattle.bfd_serve.specs.declared.ending.End.{End}
 use Rattle.bfd_serve.specs.declared.ending.End.TheVariants as end
 use Rattle.bfd_serve.specs.declared.serving.Limits.{Limits}
 use Rattle.bfd_serve.specs.Calls.{worker_acts}
-use Rattle.bfd_serve.specs.Works.{IsWorkerEnd, StartsOn, Stops}
+use Rattle.bfd_serve.specs.Works.{IsWorkerEnd, StartsOn}
 use Rattle.bfd_serve.specs.Ticks.{IsTimerEnd, is_clock_fault}
 use Rattle.bfd_serve.specs.Orders.{timer_acts}
 use Rattle.bfd_serve.proofs.Histories.{weight_append}
@@ -28,9 +26,9 @@ use Rattle.bfd_serve.proofs.Turning.{acts_append}
 use Rattle.bfd_serving.specs.declared.finish.Finish.{Finish}
 use Rattle.bfd_serving.specs.declared.finish.Finish.TheVariants.{Done, LinkFault, ClockFault, JournalFull, Turns}
 use Rattle.bfd_serving.specs.Finishes.{finish_by, finish_from, IsPlain}
-use Rattle.bfd_serving.specs.Runs.{calls_on, all_on, journal_in, history_at, no_words, HaveRun, AreClosedShards}
-use Rattle.bfd_serving.specs.Causes.{IsDone, IsLinkFault, IsTurns, Lacks, IsAll, IsOver, IsFull, IsCause, Completes}
-use Rattle.bfd_serving.proofs.Counts.{total, all_counted, bonus, bonuses, bonus_some, gather}
+use Rattle.bfd_serving.specs.Runs.{calls_on, journal_in, history_at, no_words, HaveRun, AreClosedShards}
+use Rattle.bfd_serving.specs.Causes.{IsDone, IsAll, IsOver, IsCause, Completes}
+use Rattle.bfd_serving.proofs.Counts.{all_counted, bonus, bonus_some, gather}
 use Rattle.bfd_serving.proofs.Closings.{there_is, none_is}
 
 -- the first caller that has not ended well, if there is one

@@ -1,6 +1,6 @@
 -- From what all did to the histories of the closed shards.
-use Rattle.std.proofs.Common.{◌≡◌, ◌≢◌, ℕ, zero, suc, ◌+◌, ◌*◌, ◌<◌, ◌≤◌, ◌==◌, ◌||◌, Bool, true, false, List, [], ◌∷◌, ◌++◌, length, map, Option, Some, None, slice_get, get_or, slice_index_or, refl, ap, sym, ◌∙◌, subst, arith}
-use Rattle.std.specs.List.{All, sum}
+use Rattle.std.proofs.Common.{◌≡◌, ◌≢◌, ℕ, zero, suc, ◌+◌, ◌*◌, ◌<◌, ◌≤◌, ◌==◌, false, List, [], ◌∷◌, length, Some, None, slice_get, get_or, slice_index_or, refl, ap, sym, ◌∙◌, subst, arith}
+use Rattle.std.specs.List.{All}
 use Rattle.std.proofs.lemmas.Bool.Decides.{nat_tests}
 use Rattle.std.proofs.lemmas.List.Elements.{All-same, All-cons}
 use Rattle.std.proofs.lemmas.Nat.{mul-le}
@@ -8,7 +8,6 @@ use Rattle.std.proofs.lemmas.List.{get_or_default}
 use mathlib.Core.Logic.{dite}
 use native.Mathlib.Decide.{dec_lt}
 use Rattle.bfd_turn.specs.Lists.{calls, has, numbers_of}
-use Rattle.bfd_turn.specs.Passes.{last_word}
 use Rattle.bfd_turn.specs.Plays.{AllKept}
 use Rattle.bfd_shard.specs.declared.entry.Entry.{Entry}
 use Rattle.bfd_shard.specs.Shard.{Shard, IsShard}
@@ -17,8 +16,8 @@ use Rattle.bfd_edge.specs.Links.{LinkTold}
 use Rattle.bfd_edge.specs.Tickers.{TickerTold}
 use Rattle.bfd_packet.specs.declared.arrival.Datagram.{Datagram}
 use Rattle.bfd_engine.specs.Turned.{by}
-use Rattle.bfd_engine.specs.Engines.{Shards, Held, Knows, IsOf, AllThere}
-use Rattle.bfd_engine.specs.Calls.{Act, seen_of, word_of, seen_at, word_at, taken_at, made_at, kept_at, mine}
+use Rattle.bfd_engine.specs.Engines.{Shards, Knows, IsOf}
+use Rattle.bfd_engine.specs.Calls.{Act, seen_of, word_of, seen_at, word_at, made_at, kept_at}
 use Rattle.bfd_engine.specs.Passes.{EachJoined, IsClosed, AreClosed}
 use Rattle.bfd_engine.proofs.Places.{within, same_some}
 use Rattle.bfd_serve.specs.declared.ending.End.{End}
@@ -27,7 +26,7 @@ use Rattle.bfd_serve.specs.declared.serving.Limits.{Limits}
 use Rattle.bfd_serve.specs.Works.{IsWorkerEnd}
 use Rattle.bfd_serve.specs.Ticks.{IsTimerEnd}
 use Rattle.bfd_serve.specs.Calls.{worker_acts}
-use Rattle.bfd_serve.specs.Serves.{HasDone, TimerDid, WorkerDid, IsServedBy, HasServed}
+use Rattle.bfd_serve.specs.Serves.{TimerDid, WorkerDid, HasServed}
 use Rattle.bfd_serving.specs.Runs.{journal_in, history_at, no_words, told_by, TimerRan, WorkerRan, HaveRun, AreClosedShards}
 use Rattle.bfd_serving.specs.Finishes.{IsUnspent}
 

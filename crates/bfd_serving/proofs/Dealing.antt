@@ -1,5 +1,5 @@
 -- Sessions that are copied and dealt out.
-use Rattle.std.proofs.Common.{◌≡◌, ℕ, zero, suc, ◌+◌, ◌-◌, ◌<◌, ◌≤◌, List, [], ◌∷◌, ◌++◌, length, map, drop, get_or, slice_index_or, refl, ap, sym, ◌∙◌, subst, append_assoc, append-nil, length-append, arith}
+use Rattle.std.proofs.Common.{◌≡◌, ℕ, zero, suc, ◌+◌, ◌-◌, ◌<◌, ◌≤◌, List, [], ◌∷◌, ◌++◌, length, map, drop, get_or, refl, ap, sym, ◌∙◌, subst, append_assoc, append-nil, length-append, arith}
 use Rattle.std.specs.List.{AllByRecursion}
 use Rattle.std.proofs.lemmas.List.Elements.{recursion_from_All}
 use Rattle.std.proofs.lemmas.List.{drop_more, drop_all, length-map, get_or-map, same_lists, get_or_default}
@@ -10,9 +10,9 @@ use Rattle.bfd_session.specs.Kinds.{configs_of}
 use Rattle.bfd_session.specs.Rows.{AreFit}
 use Rattle.bfd_session.specs.Step.{IsFit}
 use Rattle.bfd_shard.specs.Shard.{Shard}
-use Rattle.bfd_engine.specs.Engines.{Shards, configs_at, share}
+use Rattle.bfd_engine.specs.Engines.{Shards, share}
 use Rattle.bfd_engine.proofs.Sharing.{all_share}
-use Rattle.bfd_serving.specs.Runs.{AreDealt, IsOpened, AreClosedShards}
+use Rattle.bfd_serving.specs.Runs.{AreDealt, AreClosedShards}
 use Rattle.bfd_serving.proofs.Shuts.{get_front, get_last}
 use Rattle.bfd_serving.proofs.Closings.{there_is, read}
 

@@ -1,5 +1,5 @@
 -- One link more is opened or shut.
-use Rattle.std.proofs.Common.{◌≡◌, ◌≢◌, ℕ, zero, suc, ◌+◌, ◌<◌, ◌≤◌, ◌==◌, ◌||◌, true, false, List, [], ◌∷◌, ◌++◌, length, get_or, slice_index_or, Some, Result, Ok, Err, refl, ap, sym, ◌∙◌, subst, length-append, arith}
+use Rattle.std.proofs.Common.{◌≡◌, ◌≢◌, ℕ, zero, suc, ◌+◌, ◌<◌, ◌≤◌, ◌==◌, true, false, List, [], ◌∷◌, ◌++◌, length, get_or, Some, Ok, Err, refl, ap, sym, ◌∙◌, subst, length-append, arith}
 use Rattle.std.specs.List.{All}
 use Rattle.std.proofs.lemmas.List.Elements.{All-cons, All-get_or}
 use Rattle.std.proofs.lemmas.Bool.Decides.{nat_tests}
@@ -10,10 +10,10 @@ use Rattle.bfd_edge.specs.Ports.{PortsTold, after_open, after_shut}
 use Rattle.bfd_edge.specs.declared.fault.Fault.{Fault}
 use Rattle.bfd_edge.specs.declared.fault.Fault.TheVariants as fault
 use Rattle.bfd_serving.specs.declared.finish.Refused.{Refused}
-use Rattle.bfd_serving.specs.declared.finish.Refused.TheVariants.{PortFault, Memory}
+use Rattle.bfd_serving.specs.declared.finish.Refused.TheVariants.{Memory}
 use Rattle.bfd_edge.specs.Faults.{risen}
 use Rattle.bfd_serving.specs.Finishes.{refused_by}
-use Rattle.bfd_serving.specs.Linking.{IsNew, IsOpenTo, AreShut, AreUncalled, IsFaultOf, IsUnopened}
+use Rattle.bfd_serving.specs.Linking.{IsNew, IsOpenTo, AreUncalled, IsFaultOf, IsUnopened}
 
 pub get_front : {X : Type 0} (xs ys : List X) (i : ℕ) (d : X) → i < length xs → get_or (xs ++ ys) i d ≡ get_or xs i d
 get_front [] ys i d h = absurd (omega arith)

@@ -1,6 +1,6 @@
 -- What a run did, by the histories of the closed shards.
-use Rattle.std.specs.Prelude.{◌≡◌, ℕ, ◌+◌, ◌<◌, ◌≤◌, List, [], ◌∷◌, length, map, slice_get, slice_index_or, Option, None, Some}
-use Rattle.std.specs.List.{All, sum}
+use Rattle.std.specs.Prelude.{◌≡◌, ℕ, ◌+◌, ◌<◌, List, [], ◌∷◌, length, slice_get, slice_index_or, Option, None, Some}
+use Rattle.std.specs.List.{sum}
 use Rattle.bfd_turn.specs.Lists.{calls}
 use Rattle.bfd_sbfd.specs.declared.reflecting.Reflector.{Reflector}
 use Rattle.bfd_session.specs.declared.event.SessionConfig.{SessionConfig}
@@ -10,8 +10,7 @@ use Rattle.bfd_shard.specs.Shard.{Shard, IsShard}
 use Rattle.bfd_script.specs.declared.entries.Line.{Line}
 use Rattle.bfd_script.specs.Reading.{Lists}
 use Rattle.bfd_edge.specs.Faults.{risen}
-use Rattle.bfd_edge.specs.Links.{LinkTold, IsNewLink}
-use Rattle.bfd_edge.specs.Ports.{PortsTold}
+use Rattle.bfd_edge.specs.Links.{LinkTold}
 use Rattle.bfd_edge.specs.Tickers.{TickerTold}
 use Rattle.bfd_engine.specs.Turned.{by}
 use Rattle.bfd_engine.specs.Engines.{Shards, configs_at, share}
@@ -21,9 +20,6 @@ use Rattle.bfd_serve.specs.declared.ending.End.TheVariants.{Ended}
 use Rattle.bfd_serve.specs.declared.serving.Limits.{Limits}
 use Rattle.bfd_serve.specs.Calls.{calls_of, entries}
 use Rattle.bfd_serve.specs.Serves.{TimerDid, WorkerDid}
-use Rattle.bfd_served.specs.Served.{history_of, served}
-use Rattle.bfd_serving.specs.declared.finish.Finish.{Finish}
-use Rattle.bfd_serving.specs.Finishes.{finish_from, IsPlain, IsUnspent}
 
 abbrev pub journal_in : Option Shard → List Entry
 journal_in (Some shard) = shard.journal

@@ -1,6 +1,6 @@
 -- One link more is open, or one can't be.
 use Rattle.std.proofs.Common.{◌+◌}
-use Rattle.bfd_serving.proofs.Shuts.{none_open, next_unopened, first_unopened, open_next, open_first}
+use Rattle.bfd_serving.proofs.Shuts.{next_unopened}
 use Rattle.bfd_serving.proofs.linking.open_all.Goals as goal
 
 pub returns-in-Err-open-clause-opened : goal.returns-in-Err-open-clause-opened

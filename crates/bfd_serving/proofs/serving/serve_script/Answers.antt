@@ -1,14 +1,11 @@
 -- A whole run, put together.
-use Rattle.std.proofs.Common.{rules, ◌≡◌, ◌<◌, ◌≤◌, ◌+◌, ℕ, List, [], ◌∷◌, length, map, IfOk, Ok, ap, sym, ◌∙◌, subst}
+use Rattle.std.proofs.Common.{rules, length, map, IfOk, Ok, ap, sym, ◌∙◌, subst}
 use Rattle.std.specs.List.{All}
-use Rattle.bfd_session.specs.declared.event.SessionConfig.{SessionConfig}
 use Rattle.bfd_session.specs.Kinds.{configs_of}
 use Rattle.bfd_session.specs.Rows.{AreFit}
 use Rattle.bfd_script.specs.Reading.{Lists}
 use Rattle.bfd_shard.specs.Shard.{Shard}
-use Rattle.bfd_engine.specs.Engines.{Shards}
 use Rattle.bfd_served.specs.Served.{history_of, served}
-use Rattle.bfd_serve.specs.declared.ending.End.{End}
 use Rattle.bfd_serving.specs.Finishes.{IsUnspent, IsPlain, finish_from}
 use Rattle.bfd_serving.specs.Runs.{script_of, history_at, told_by, HaveRun, AreClosedShards}
 use Rattle.bfd_serving.proofs.Dealing.{parts_are, parts_fit}
