@@ -1,4 +1,4 @@
--- The seal and its parts own what a box at the same types owns.
+-- A box of an engine, in its parts and behind a handle: all three own the same.
 use mir.Syntax.{impl, tnil, dnil}
 use mathlib.Core.List.{[]}
 use denote.Signature.{Slot, plain}

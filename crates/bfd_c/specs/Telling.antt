@@ -1,6 +1,5 @@
 -- What C reads of an output, of an answer and of a fault, field by field. What a kind doesn't use is 0.
-use Rattle.std.specs.Prelude.{ℕ, ◌-◌, ◌++◌, List, [], length, replicate, Option, None, Some}
-use Rattle.bfd_packet.specs.declared.arrival.Datagram.{Datagram}
+use Rattle.std.specs.Prelude.{ℕ, ◌-◌, ◌++◌, List, length, replicate}
 use Rattle.bfd_packet.specs.declared.discard.Test.{Test}
 use Rattle.bfd_packet.specs.declared.discard.Test.TheVariants.{Short, Version, LengthMin, LengthOver, DetectMult, Multipoint, MyDiscr, YourUnknown, YourZeroState, NoSession, Ttl, AuthUnexpected, AuthMissing, AuthType, AuthKey, AuthLen, AuthSeq, AuthDigest, AdminDown, NotDemand, MultipointYour, NoTail, EchoForm, EchoStale}
 use Rattle.bfd_packet.specs.Layout.{state_number}

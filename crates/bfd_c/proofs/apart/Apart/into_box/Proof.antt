@@ -1,4 +1,4 @@
--- `into_box` hands what the parts own to `from_raw`.
+-- The parts give what they own to `from_raw`, which makes a box of it.
 use mathlib.Core.Path.{◌≡◌, refl, sym, subst, ap}
 use mathlib.Core.List.{List, [], ◌∷◌, ◌++◌}
 use lib.Dec.{T}

@@ -1,4 +1,4 @@
--- `of` takes the box apart, and the parts own what it owned.
+-- A box is taken apart by `into_raw_with_allocator`, and what it owned goes to its parts.
 use mathlib.Core.Path.{◌≡◌, refl, sym, subst, ap, ◌∙◌}
 use mathlib.Core.List.{List, [], ◌∷◌, ◌++◌}
 use seplogic.Ra.Ura.{Ura}

@@ -1,4 +1,4 @@
--- A seal goes to another thread as the box in it does.
+-- What a handle keeps goes to another thread as the box would.
 use mir.Raw.{raw}
 use base.Shift.{Keyless}
 use denote.Memory.{lone}

@@ -1,4 +1,4 @@
--- `empty` makes a seal that owns nothing: a null pointer beside the allocator.
+-- A null pointer beside the allocator owns nothing.
 use Rattle.std.specs.Prelude.{None}
 use Rattle.std.proofs.Common.{lit<}
 use mathlib.Core.Path.{refl, sym, subst}

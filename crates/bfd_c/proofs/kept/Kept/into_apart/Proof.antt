@@ -1,4 +1,4 @@
--- `into_apart` moves two fields, and what they own goes with them.
+-- Both fields are moved back, where there is an engine; the other case is ruled out.
 use Rattle.std.specs.Prelude.{Option, None, Some, Bool, true, false, ◌≡◌}
 use mathlib.Core.Path.{refl, sym, subst}
 use mathlib.Core.List.{List, [], ◌∷◌, ◌++◌}

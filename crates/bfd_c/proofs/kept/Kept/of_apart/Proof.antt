@@ -1,4 +1,4 @@
--- `of_apart` moves two fields, and what they own goes with them.
+-- Both fields are moved, and what they own goes along.
 use Rattle.std.specs.Prelude.{Some}
 use mathlib.Core.Path.{refl, sym, subst}
 use mathlib.Core.List.{List, [], ◌∷◌, ◌++◌}
