@@ -10,10 +10,9 @@ use Rattle.bfd_session.specs.Alone.{Outcome}
 use Rattle.std.proofs.lemmas.Grind.{flat_map-append}
 use Rattle.bfd_session.specs.Names.{named}
 use Rattle.bfd_script.specs.Report.{event_lines, item_line, sent_by}
-use Rattle.bfd_gather.specs.declared.key.Key.{Key}
 use Rattle.bfd_gather.specs.declared.key.Mark.{Mark}
 use Rattle.bfd_gather.specs.Pieces.{Piece, texts, key, whole_piece, item_piece}
-use Rattle.bfd_gather.specs.Inside.{pieces_at, mark_of, IsPart}
+use Rattle.bfd_gather.specs.Inside.{pieces_at, key_of, mark, mark_of, IsPart}
 use Rattle.bfd_gather.proofs.Sizes.{item_some, event_some}
 
 -- each packet that the piece counts has a byte of text
@@ -39,9 +38,9 @@ pieces_append (m ∷ ms) ns t u h =
     let s = sum_by-cons (λ (n : Mark). n.long) m ms in
     let fits : m.long ≤ length t = omega (arith, h, s) in
     let left : long_of ms ≡ length (drop m.long t) = omega (arith, h, s, length-drop m.long t) in
-    ap (λ v. record { key = m.key; text = v; txs = m.txs; drops = m.drops } ∷ pieces_at (ms ++ ns) (drop m.long (t ++ u))) (take-append-le m.long t u fits)
-    ∙ (ap (λ v. record { key = m.key; text = take m.long t; txs = m.txs; drops = m.drops } ∷ pieces_at (ms ++ ns) v) (drop-append-le m.long t u fits)
-    ∙ ap (λ qs. record { key = m.key; text = take m.long t; txs = m.txs; drops = m.drops } ∷ qs) (pieces_append ms ns (drop m.long t) u left))
+    ap (λ v. record { key = key_of m; text = v; txs = m.txs; drops = m.drops } ∷ pieces_at (ms ++ ns) (drop m.long (t ++ u))) (take-append-le m.long t u fits)
+    ∙ (ap (λ v. record { key = key_of m; text = take m.long t; txs = m.txs; drops = m.drops } ∷ pieces_at (ms ++ ns) v) (drop-append-le m.long t u fits)
+    ∙ ap (λ qs. record { key = key_of m; text = take m.long t; txs = m.txs; drops = m.drops } ∷ qs) (pieces_append ms ns (drop m.long t) u left))
 
 -- marks have all of their pieces' text
 pub long_marks : (ps : List Piece) → long_of (map mark_of ps) ≡ length (texts ps)
@@ -91,26 +90,19 @@ items_have n (o ∷ os) = (omega (arith, item_some n o), items_have n os)
 pub whole_has : (n : ℕ) (o : Outcome) → HasText (whole_piece n o)
 whole_has n o = event_some n o
 
-abbrev mark : Key → ℕ → ℕ → ℕ → Mark
-mark k l t d = record { key = k; long = l; txs = t; drops = d }
-
-same_mark : (m n : Mark) → m.key ≡ n.key → m.long ≡ n.long → m.txs ≡ n.txs → m.drops ≡ n.drops → m ≡ n
-same_mark m n k l t d =
-    ap (λ (x : Key). mark x m.long m.txs m.drops) k ∙ (ap (λ (x : ℕ). mark n.key x m.txs m.drops) l
-    ∙ (ap (λ (x : ℕ). mark n.key n.long x m.drops) t ∙ ap (λ (x : ℕ). mark n.key n.long n.txs x) d))
-
 -- a list of one output
 pub one_text : (n : ℕ) (os : List Out) → event_lines n (record { items = os; answer = Handled }) ≡ texts (map (item_piece n) os)
 one_text n [] = refl
 one_text n (o ∷ os) = append_assoc (item_line n o) (flat_map (item_line n) os) [] ∙ ap (λ t. item_line n o ++ t) (one_text n os)
 
-pub one_mark : (n : ℕ) (os : List Out) (o : Out) (m : Mark) → length os ≡ 1 → o ≡ get_or os 0 o → m.long ≡ length (event_lines n (record { items = os; answer = Handled }))
-    → m.key ≡ key n (named o) → m.txs ≡ sent_by o → m.drops ≡ 0 → m ∷ [] ≡ map mark_of (map (item_piece n) os)
-one_mark n [] o m h e long k txs drops = absurd (omega (arith, h))
-one_mark n (x ∷ []) o m h e long k txs drops =
-    let here : m.long ≡ length (item_line n x) = long ∙ (ap length (one_text n (x ∷ [])) ∙ ap length (append-nil (item_line n x))) in
-    ap (λ (y : Mark). y ∷ []) (same_mark m (mark_of (item_piece n x)) (k ∙ ap (λ z. key n (named z)) e) here (txs ∙ ap sent_by e) drops)
-one_mark n (x ∷ y ∷ os) o m h e long k txs drops = absurd (omega (arith, h))
+pub one_mark : (n : ℕ) (os : List Out) (o : Out) (long txs drops : ℕ) (m : Mark) → length os ≡ 1 → o ≡ get_or os 0 o
+    → long ≡ length (event_lines n (record { items = os; answer = Handled })) → txs ≡ sent_by o → drops ≡ 0 → m ≡ mark (key n (named o)) long txs drops → m ∷ [] ≡ map mark_of (map (item_piece n) os)
+one_mark n [] o long txs drops m h e l t d is = absurd (omega (arith, h))
+one_mark n (x ∷ []) o long txs drops m h e l t d is =
+    let here : long ≡ length (item_line n x) = l ∙ (ap length (one_text n (x ∷ [])) ∙ ap length (append-nil (item_line n x))) in
+    ap (λ (y : Mark). y ∷ []) (is ∙ (ap (λ y. mark (key n (named y)) long txs drops) e ∙ (ap (λ y. mark (key n (named x)) y txs drops) here
+    ∙ (ap (λ y. mark (key n (named x)) (length (item_line n x)) y drops) (t ∙ ap sent_by e) ∙ ap (λ y. mark (key n (named x)) (length (item_line n x)) (sent_by x) y) d))))
+one_mark n (x ∷ y ∷ os) o long txs drops m h e l t d is = absurd (omega (arith, h))
 
 -- a part has a mark for each piece
 long_at : (ms : List Mark) (t : List ℕ) → length (pieces_at ms t) ≡ length ms

@@ -3,17 +3,24 @@ use Rattle.std.specs.Prelude.{ℕ, ◌≡◌, ◌≤◌, ◌<◌, ◌+◌, false
 use Rattle.std.specs.List.{AllByRecursion}
 use Rattle.bfd_gather.specs.declared.key.Key.{Key}
 use Rattle.bfd_gather.specs.declared.key.Mark.{Mark}
-use Rattle.bfd_gather.specs.Pieces.{Piece, precedes}
+use Rattle.bfd_gather.specs.Pieces.{Piece, key, precedes}
+
+-- the key of a mark, and the mark with this key, of so many bytes of text and so many packets
+abbrev pub key_of : Mark → Key
+key_of m = key m.event m.discr
+
+abbrev pub mark : Key → ℕ → ℕ → ℕ → Mark
+mark k long txs drops = record { event = k.event; discr = k.discr; long = long; txs = txs; drops = drops }
 
 -- the pieces of these marks, whose text this is
 abbrev pub pieces_at : List Mark → List ℕ → List Piece
 pieces_at [] text = []
 pieces_at (m ∷ rest) text =
-    record { key = m.key; text = take m.long text; txs = m.txs; drops = m.drops } ∷ pieces_at rest (drop m.long text)
+    record { key = key_of m; text = take m.long text; txs = m.txs; drops = m.drops } ∷ pieces_at rest (drop m.long text)
 
 -- the mark of a piece
 abbrev pub mark_of : Piece → Mark
-mark_of p = record { key = p.key; long = length p.text; txs = p.txs; drops = p.drops }
+mark_of p = mark p.key (length p.text) p.txs p.drops
 
 -- a part that has given as many pieces as `next`, whose text ends at `at`; each packet that a mark counts has a byte of text
 pub record IsPart (marks : List Mark) (text : List ℕ) (next at : ℕ) : Type 0 where

@@ -1,5 +1,6 @@
 //! The order of a report.
-ghost use Rattle.std.specs.Prelude.{◌≡◌};
+ghost use Rattle.std.specs.Prelude.{◌≡◌, IfSome};
+ghost use Rattle.bfd_gather.specs.Inside as inside;
 ghost use Rattle.bfd_gather.specs.Pieces as pieces;
 
 /// Where a piece stands in a report: by the number of its event, then by discriminator.
@@ -9,13 +10,55 @@ pub(crate) struct Key {
     pub(crate) discr: u32,
 }
 
-/// A piece of a part: its key, how many bytes of text it has, and how many packets it tells were sent and were dropped.
+/// A piece of a part: its key, how many bytes of text it has, and how many packets it tells were sent and were dropped. A
+/// replay has one for each packet that comes and each that is sent, so it is kept in 24 bytes.
 #[derive(Clone, Copy)]
 pub(crate) struct Mark {
-    pub(crate) key: Key,
-    pub(crate) long: usize,
-    pub(crate) txs: u64,
-    pub(crate) drops: u64,
+    event: u64,
+    discr: u32,
+    long: u32,
+    txs: u32,
+    drops: u32,
+}
+
+impl Mark {
+    /// The mark of a piece, or none where its text has 4 GiB or more.
+    pub(crate) fn of(key: Key, long: usize, txs: u64, drops: u64) -> Option<Mark>
+        ensures { IfSome result (λ mark. mark ≡ inside.mark key long txs drops) }
+    {
+        Some(Mark {
+            event: key.event,
+            discr: key.discr,
+            long: u32::try_from(long).ok()?,
+            txs: u32::try_from(txs).ok()?,
+            drops: u32::try_from(drops).ok()?,
+        })
+    }
+
+    /// The piece's key.
+    pub(crate) fn key(self) -> Key
+        ensures { result ≡ inside.key_of self }
+    {
+        Key {
+            event: self.event,
+            discr: self.discr,
+        }
+    }
+
+    /// How many bytes of text it has.
+    pub(crate) fn long(self) -> usize
+        ensures { result ≡ self.long }
+    {
+        self.long as usize
+    }
+
+    /// How many packets it tells were sent, and were dropped.
+    pub(crate) fn counts(self) -> (u64, u64)
+        ensures txs { result.0 ≡ self.txs }
+        ensures drops { result.1 ≡ self.drops }
+    {
+        (u64::from(self.txs), u64::from(self.drops))
+    }
 }
 
 impl Key {

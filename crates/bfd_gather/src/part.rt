@@ -1,5 +1,5 @@
 //! What one shard tells of its events.
-ghost use Rattle.std.specs.Prelude.{◌≡◌, ◌<◌, ◌≤◌, ◌+◌, ◌++◌, ◌∷◌, [], IfOk, OnErr, OnOk, drop, length, map, take};
+ghost use Rattle.std.specs.Prelude.{◌≡◌, ◌<◌, ◌≤◌, ◌+◌, ◌++◌, ◌∷◌, [], IfOk, IfSome, OnErr, OnOk, drop, length, map, take};
 ghost use Rattle.bfd_script.specs.Report.{event_lines};
 ghost use Rattle.bfd_gather.specs.Pieces.{texts, whole_piece, item_piece};
 ghost use Rattle.bfd_gather.specs.Inside.{mark_of, first_key, first_text, first_txs, first_drops};
@@ -50,17 +50,20 @@ fn append_event(
     marks.reserve(1)?;
     let before = text.len();
     lines(number, outs, answer, text)?;
-    let mark = Mark {
-        key: Key {
-            event: number,
-            discr: 0,
-        },
-        long: text.len() - before,
-        txs: sent(outs),
-        drops: dropped(answer),
+    let key = Key {
+        event: number,
+        discr: 0,
     };
-    marks.push_reserved(mark);
-    Ok(())
+    match Mark::of(key, text.len() - before, sent(outs), dropped(answer)) {
+        Some(mark) => {
+            marks.push_reserved(mark);
+            Ok(())
+        }
+        None => {
+            text.truncate(before);
+            Err(AllocError)
+        }
+    }
 }
 
 /// Appends the lines of outputs, and gives how long they are.
@@ -74,23 +77,19 @@ fn append_lines(text: &mut Vec<u8>, number: u64, item: &[Out]) -> Result<usize, 
     Ok(text.len() - before)
 }
 
-/// The mark of one output of a tick, whose line is so long.
+/// The mark of one output of a tick, whose line is so long, if it isn't too long.
 #[tactic(auto, using(crate::proofs::Marks::one_mark))]
-fn item_mark(number: u64, item: &[Out], long: usize) -> Mark
+fn item_mark(number: u64, item: &[Out], long: usize) -> Option<Mark>
     requires one { length item.now ≡ 1 }
     requires long { long ≡ length (event_lines number (record { items = item.now; answer = Answer.Handled })) }
-    ensures { result ∷ [] ≡ map mark_of (map (item_piece number) item.now) }
+    ensures { IfSome result (λ mark. mark ∷ [] ≡ map mark_of (map (item_piece number) item.now)) }
 {
     let out = &item[0];
-    Mark {
-        key: Key {
-            event: number,
-            discr: named(out),
-        },
-        long,
-        txs: packets(out),
-        drops: 0,
-    }
+    let key = Key {
+        event: number,
+        discr: named(out),
+    };
+    Mark::of(key, long, packets(out), 0)
 }
 
 /// Appends the line of one output of a tick, and its mark.
@@ -108,9 +107,18 @@ fn append_item(
     ensures same_marks { OnErr result (marks.new.items ≡ marks.old.items) }
 {
     marks.reserve(1)?;
+    let before = text.len();
     let long = append_lines(text, number, item)?;
-    marks.push_reserved(item_mark(number, item, long));
-    Ok(())
+    match item_mark(number, item, long) {
+        Some(mark) => {
+            marks.push_reserved(mark);
+            Ok(())
+        }
+        None => {
+            text.truncate(before);
+            Err(AllocError)
+        }
+    }
 }
 
 /// Appends the lines of the outputs of a tick, and their marks; or none of them.
@@ -160,7 +168,7 @@ impl Part {
     }
 
     /// Tells all that an event of one session, or of none, gave. `number` is the event's in the replay. The one refusal is
-    /// want of memory, and then the part is as before.
+    /// want of memory, as which 4 GiB of text for one event count, and then the part is as before.
     pub fn tell_event(
         &mut self,
         number: u64,
@@ -187,7 +195,7 @@ impl Part {
         ensures { result ≡ first_key self.now }
     {
         if self.next < self.marks.len() {
-            Some(self.marks[self.next].key)
+            Some(self.marks[self.next].key())
         } else {
             None
         }
@@ -207,9 +215,9 @@ impl Part {
         ensures same_text { OnErr result (text.new.items ≡ text.old.items) }
     {
         let mark = self.marks[self.next];
-        copy(&self.text, self.at, mark.long, text)?;
+        copy(&self.text, self.at, mark.long(), text)?;
         self.next += 1;
-        self.at += mark.long;
-        Ok((mark.txs, mark.drops))
+        self.at += mark.long();
+        Ok(mark.counts())
     }
 }
