@@ -45,12 +45,22 @@ pub(crate) fn complain(alloc: Global, bad: BadLine) -> Result<Answer, AllocError
     })
 }
 
+/// Lets bytes go. A large list that is dropped whole would have the allocator grow the lists that come within its heap, by copying
+/// and with holes; one that has shrunk goes back to the system.
+fn let_go(bytes: Vec<u8>) {
+    let mut bytes = bytes;
+    bytes.truncate(1);
+    bytes.shrink_to_fit();
+}
+
 /// The script that these bytes spell. They aren't kept.
 fn script_in(alloc: Global, bytes: Vec<u8>) -> Result<Script, ScriptFault>
     ensures script { GivesScript result (script_of false bytes.items) }
     ensures sound { IfOk result IsScript }
 {
-    read(alloc, bytes.as_slice(), false)
+    let script = read(alloc, bytes.as_slice(), false);
+    let_go(bytes);
+    script
 }
 
 /// `replay` of these bytes.
