@@ -167,6 +167,45 @@ fn runs(rt: HostRuntime) -> Result<(), Fail> {
     Ok(())
 }
 
+/// A session hears its peer, and loses it; 185 bytes.
+const HEARD: &str = "bfd 1\n\
+    p2p 1 single 1 10.0.0.1 10.0.0.2 passive 1000000 1000000 3 0 0\n\
+    run\n\
+    rx 1500 single 1 10.0.0.2 10.0.0.1 255 204003180000000700000000000f42400000000000000000\n\
+    tick 3001\n\
+    tick 3002\n\
+    end\n";
+
+#[test]
+fn fails_around_a_packet(rt: HostRuntime) -> Result<(), Fail> {
+    let first = reading("the first read", 16, Some(0), Status::ReadFault, "");
+    let last = reading("the last read", 16, Some(12), Status::ReadFault, "");
+    let cases = [
+        Case {
+            text: HEARD,
+            ..first
+        },
+        Case {
+            text: HEARD,
+            ..last
+        },
+        writing(
+            "the second write",
+            HEARD,
+            Some(1),
+            Status::WriteFault,
+            "1 state 1 ",
+        ),
+    ];
+    for case in &cases {
+        let (status, written) = ended(&rt, rt.alloc(), case)?;
+        let name = case.name;
+        assert_eq!(rt; status, case.status, "{name}");
+        assert_eq!(rt; written.as_slice(), case.written.as_bytes(), "{name}");
+    }
+    Ok(())
+}
+
 /// Down to Up and down again by silence, over a packet with P.
 const UP_AND_DOWN: &str = "bfd 1\n\
     p2p 1 single 1 10.0.0.1 10.0.0.2 active 300000 300000 3 0 0\n\
