@@ -1,7 +1,7 @@
 //! A shard's turn that is held from call to call, and adds no entry.
-ghost use Rattle.std.specs.Prelude.{◌≡◌, ◌<◌, Some, IfOk, IfErr, length, slice_get, slice_set};
+ghost use Rattle.std.specs.Prelude.{◌≡◌, ◌<◌, Some, IfOk, IfErr, OnErr, length, slice_get, slice_set};
 ghost use Rattle.bfd_turn.specs.Passes.{TableId, having_done};
-ghost use Rattle.bfd_engine.specs.Engines.{IsOf};
+ghost use Rattle.bfd_engine.specs.Engines.{IsOf, AllThere};
 ghost use Rattle.bfd_engine.specs.Holds.{IsHeld, HasTaken, IsKept};
 ghost use Rattle.bfd_engine.specs.Turned.{OfShard};
 
@@ -44,7 +44,7 @@ impl<W: Timers> Engine<W> {
     /// The turn of a shard, if nobody has it. It doesn't wait.
     ///
     /// Busy comes exactly where the word read is odd or the exchange finds another word, and Spent exactly where the word read
-    /// is 2^64 - 2. Either way all is as before but the last word that the pass has met.
+    /// is 2^64 - 2. Either way all is as before but the last word that the pass has met: where no turn was held, none is.
     pub fn try_hold(&self, pass: &mut EnginePass, shard: u32) -> Result<Hold<W>, HoldFault>
         requires of { IsOf self.now pass.old.1 }
         requires shard { shard < length self.now.locks }
@@ -52,6 +52,7 @@ impl<W: Timers> Engine<W> {
         ensures of { IsOf self.now pass.new.1 }
         ensures hold { IfOk result (HasTaken self.now shard pass.old pass.new) }
         ensures kept { IfErr result (λ fault. IsKept fault shard pass.old pass.new) }
+        ensures there { OnErr result (AllThere pass.old.1 → AllThere pass.new.1) }
     {
         let at = shard as usize;
         let own = pass.lift(at);

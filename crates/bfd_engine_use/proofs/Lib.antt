@@ -1,2 +1,3 @@
-mod Adding
-mod Rooms
+pub mod Rooms
+mod Worked
+pub mod Joins

@@ -1,17 +1,19 @@
 //! Eight threads on three shards, beside the journals that they leave.
-ghost use Rattle.std.specs.Prelude.{◌≡◌, ◌<◌, ◌+◌, IfSome, length};
+ghost use Rattle.std.specs.Prelude.{◌≡◌, ◌<◌, ◌≤◌, [], IfSome, length, map};
 ghost use Rattle.std.specs.List.{All};
-ghost use Rattle.bfd_engine.specs.Engines.{IsOf, AllThere};
-ghost use Rattle.bfd_engine_use.specs.Ready.{IsReady};
+ghost use Rattle.bfd_engine_use.specs.Joining.{HasOpen};
+ghost use Rattle.bfd_engine_use.specs.Ready.{IsReady, number_of};
 
-use crate::tests::{Plain, fresh, journal, opened, part, play};
-use crate::threads::{Call, Job, at_once};
+use crate::passes::{add_job, finish};
+use crate::tests::{Plain, fresh, opened, play};
+use crate::threads::{Call, Job, Saw, at_once};
 use bfd_engine::EnginePass;
 use bfd_num::{Moment, Steps, Tick, next_j};
 use bfd_packet::{Addr, Arrival, Payload, Port};
 use bfd_rules::{Cmd, Out, Outs};
 use bfd_session::Answer;
-use bfd_shard::Entry;
+use bfd_shard::{Entry, ShardState};
+use bfd_wheel::PlainTimers;
 use std::alloc::{AllocError, Global};
 use std::marker::Brand;
 use std::process::Abort;
@@ -21,7 +23,7 @@ use std::test::Fail;
 use std::thread::Threads;
 
 /// A packet for the session with this discriminator: a state, flags and numbers that are drawn.
-fn packet(alloc: Global, j: u32, discr: u32) -> Result<Arrival, AllocError> {
+pub(crate) fn packet(alloc: Global, j: u32, discr: u32) -> Result<Arrival, AllocError> {
     let mut bytes = [0; 24];
     bytes[0] = 0x20;
     bytes[1] = (j >> 8 & 0xf0) as u8;
@@ -88,6 +90,35 @@ fn shards_of(alloc: Global, calls: &[Call]) -> Result<Vec<u32>, AllocError> {
     Ok(list)
 }
 
+/// The shards of each job's calls.
+fn shards_of_each(alloc: Global, jobs: &[Job]) -> Result<Vec<Vec<u32>>, AllocError> {
+    let mut list = Vec::new(alloc);
+    for job in jobs {
+        list.push(shards_of(alloc, job.calls.as_slice())?)?;
+    }
+    Ok(list)
+}
+
+/// What a thread saw, the shard of each of its calls, and how many of them were looked at.
+#[derive(Drop)]
+struct Sight {
+    saw: Vec<Saw>,
+    shards: Vec<u32>,
+    at: usize,
+}
+
+/// What the threads saw, beside the shards of their calls.
+fn sights(alloc: Global, saws: Vec<Vec<Saw>>, shards: Vec<Vec<u32>>) -> Option<Vec<Sight>> {
+    let mut shards = shards;
+    let mut list = Vec::new(alloc);
+    for saw in saws.into_iter().rev() {
+        let shards = shards.pop()?;
+        list.push(Sight { saw, shards, at: 0 }).ok()?;
+    }
+    list.reverse();
+    Some(list)
+}
+
 /// The two outputs are the same.
 fn same_out(a: &Out, b: &Out) -> bool {
     match a {
@@ -128,212 +159,134 @@ fn same_outs(a: &[Out], b: &[Out]) -> bool {
     true
 }
 
-/// The place of the next call of this shard, from a place on; or how many calls there are.
-fn next_of(shards: &[u32], shard: u32, from: usize) -> usize {
-    for i in from..shards.len() {
-        if shards[i] == shard {
+/// The place of the next call of this shard that wasn't looked at; or how many calls there are.
+fn next_of(sight: &Sight, shard: u32) -> usize {
+    for i in sight.at..sight.shards.len() {
+        if sight.shards[i] == shard {
             return i;
         }
     }
-    shards.len()
+    sight.shards.len()
 }
 
-/// Whether a thread saw this at its next call of the shard, which is then behind it.
-fn saw(
-    job: &Job,
-    shards: &[u32],
-    shard: u32,
-    at: &mut usize,
-    answer: Answer,
-    outs: &[Out],
-) -> bool {
-    let next = next_of(shards, shard, *at);
-    match job.saw.get(next) {
-        Some(seen) => {
-            *at = next.saturating_add(1);
-            seen.answer == Ok(answer) && same_outs(seen.outs.as_slice(), outs)
-        }
+/// Whether the thread saw this at its next call of the shard, which was then looked at.
+fn saw(sight: &mut Sight, shard: u32, answer: Answer, outs: &[Out]) -> bool {
+    let next = next_of(sight, shard);
+    sight.at = next.saturating_add(1);
+    match sight.saw.get(next) {
+        Some(seen) => seen.answer == Ok(answer) && same_outs(seen.outs.items(), outs),
         None => false,
     }
 }
 
-/// The next thread's job: a pass of its own, and calls that are drawn.
-#[tactic(auto, using(crate::proofs::Rooms::room_enough))]
-fn job(engine: &Plain, alloc: Global, first: &mut EnginePass, seed: u32) -> Option<Job>
-    requires of { IsOf engine.now first.old.1 }
-    requires there { AllThere first.old.1 }
-    requires first { first.old.0 ≡ 0 }
-    requires few { first.old.2 < 64 }
-    requires configs { length engine.now.configs ≡ 4 }
-    ensures of { IsOf engine.now first.new.1 }
-    ensures there { AllThere first.new.1 }
-    ensures number { first.new.0 ≡ 0 }
-    ensures used { first.new.2 ≡ first.old.2 + 1 }
-    ensures job { IfSome result (λ j. IsReady engine.now j) }
-{
-    let pass = part(engine, alloc, first)?;
-    let calls = calls(alloc, seed)?;
-    match Outs::make(alloc, 25) {
-        Ok(outs) => Some(Job {
-            pass,
-            calls,
-            saw: Vec::new(alloc),
-            outs,
-        }),
-        Err(_) => None,
-    }
-}
-
-/// One job more.
-fn add_job(
-    engine: &Plain,
-    alloc: Global,
-    first: &mut EnginePass,
-    seed: u32,
-    list: &mut Vec<Job>,
-) -> Option<()>
-    requires of { IsOf engine.now first.old.1 }
-    requires there { AllThere first.old.1 }
-    requires first { first.old.0 ≡ 0 }
-    requires few { first.old.2 < 64 }
-    requires configs { length engine.now.configs ≡ 4 }
-    requires jobs { All (λ j. IsReady engine.now j) list.old.items }
-    ensures of { IsOf engine.now first.new.1 }
-    ensures there { AllThere first.new.1 }
-    ensures number { first.new.0 ≡ 0 }
-    ensures used { first.new.2 ≡ first.old.2 + 1 }
-    ensures jobs { All (λ j. IsReady engine.now j) list.new.items }
-{
-    let next = job(engine, alloc, first, seed)?;
-    list.push(next).ok()
-}
-
 /// Eight jobs.
-fn jobs(engine: &Plain, alloc: Global, first: &mut EnginePass) -> Option<Vec<Job>>
-    requires of { IsOf engine.now first.old.1 }
-    requires there { AllThere first.old.1 }
-    requires first { first.old.0 ≡ 0 }
+#[tactic(auto, using(crate::proofs::Rooms::room_enough))]
+fn jobs(alloc: Global, engine: &Plain, first: &mut EnginePass) -> Option<Vec<Job>>
+    requires passes { HasOpen engine.now first.old [] }
     requires used { first.old.2 ≡ 0 }
     requires configs { length engine.now.configs ≡ 4 }
-    ensures of { IsOf engine.now first.new.1 }
-    ensures there { AllThere first.new.1 }
-    ensures jobs { IfSome result (λ list. All (λ j. IsReady engine.now j) list.items) }
+    ensures passes { IfSome result (λ list. HasOpen engine.now first.new (map number_of list.items)) }
+    ensures ready { IfSome result (λ list. All (λ (j : _). IsReady engine.now j) list.items) }
 {
     let mut list = Vec::new(alloc);
     for number in 0..8 {
-        add_job(engine, alloc, first, number, &mut list)?;
+        let calls = calls(alloc, number)?;
+        add_job(alloc, engine, first, &mut list, calls, 25).ok()?;
     }
     Some(list)
 }
 
-/// Holds each entry of a shard's journal, on one thread, against what its caller saw. Gives how many there are.
+/// Does an entry of a shard's journal again. Gives whether its caller saw what it gave.
+fn again<L: Ledger>(
+    alloc: Global,
+    state: &mut ShardState<PlainTimers>,
+    entry: &Entry,
+    shard: u32,
+    sights: &mut [Sight],
+    outs: &mut Outs,
+    steps: &mut Steps<L>,
+) -> Option<bool> {
+    let place = (entry.caller as usize).checked_sub(1)?;
+    let answer = play(state, entry.copy(alloc).ok()?, outs, steps)?;
+    let sight = sights.get_mut(place)?;
+    Some(saw(sight, shard, answer, outs.items()))
+}
+
+/// Whether all calls of a shard were looked at. The next look is at the first call.
+fn over(sights: &mut [Sight], shard: u32) -> bool {
+    for sight in sights {
+        if next_of(sight, shard) != sight.shards.len() {
+            return false;
+        }
+        sight.at = 0;
+    }
+    true
+}
+
+/// Holds each entry of a closed shard's journal, on one thread, against what its caller saw. Gives how many there are.
 fn beside_journal<R: Abort, L: Ledger>(
     rt: &R,
     alloc: Global,
+    journal: &[Entry],
     shard: u32,
-    list: Vec<Entry>,
-    jobs: &[Job],
-    shards: &[Vec<u32>],
+    sights: &mut [Sight],
     steps: &mut Steps<L>,
 ) -> Option<usize> {
     let mut state = fresh(alloc, shard).ok()?;
     let mut outs = Outs::make(alloc, 25).ok()?;
-    let mut at = vec![in alloc; 0usize; 8].ok()?;
-    let count = list.len();
-    for entry in list {
-        let place = (entry.caller as usize).checked_sub(1)?;
-        let answer = play(&mut state, entry, &mut outs, steps)?;
-        let seen = saw(
-            jobs.get(place)?,
-            shards.get(place)?.as_slice(),
-            shard,
-            at.get_mut(place)?,
-            answer,
-            outs.items(),
-        );
-        assert!(*rt; seen, "shard {shard}, caller {place}");
+    for entry in journal {
+        let seen = again(alloc, &mut state, entry, shard, sights, &mut outs, steps)?;
+        assert!(*rt; seen, "shard {shard}, caller {}", entry.caller);
     }
-    for place in 0..8 {
-        let shards = shards.get(place)?.as_slice();
-        assert_eq!(*rt; next_of(shards, shard, *at.get(place)?), shards.len());
-    }
-    Some(count)
+    assert!(*rt; over(sights, shard), "shard {shard}");
+    Some(journal.len())
 }
 
-/// The shards of the jobs' calls.
-fn shards_of_each(alloc: Global, jobs: &[Job]) -> Result<Vec<Vec<u32>>, AllocError> {
-    let mut list = Vec::new(alloc);
-    for job in jobs {
-        list.push(shards_of(alloc, job.calls.as_slice())?)?;
-    }
-    Ok(list)
-}
-
-/// Reads a shard's journal and holds it against what the threads saw. Gives how many entries there are.
-fn beside_shard<R: Wait + Abort, L: Ledger>(
+/// The same for each shard. Gives how many entries there are.
+fn beside_journals<R: Abort, L: Ledger>(
     rt: &R,
     alloc: Global,
-    engine: &Plain,
-    pass: &mut EnginePass,
-    shard: u32,
-    jobs: &[Job],
-    shards: &[Vec<u32>],
-    steps: &mut Steps<L>,
-) -> Option<usize>
-    requires of { IsOf engine.now pass.old.1 }
-    requires there { AllThere pass.old.1 }
-    requires shard { shard < length engine.now.locks }
-    ensures of { IsOf engine.now pass.new.1 }
-    ensures there { AllThere pass.new.1 }
-{
-    let list = journal(rt, alloc, engine, pass, shard)?;
-    beside_journal(rt, alloc, shard, list, jobs, shards, steps)
-}
-
-/// The same for three shards.
-fn beside_shards<R: Wait + Abort, L: Ledger>(
-    rt: &R,
-    alloc: Global,
-    engine: &Plain,
-    pass: &mut EnginePass,
-    jobs: &[Job],
-    shards: &[Vec<u32>],
+    shards: &[ShardState<PlainTimers>],
+    sights: &mut [Sight],
     blank: Blank,
 ) -> Option<usize>
-    requires of { IsOf engine.now pass.old.1 }
-    requires there { AllThere pass.old.1 }
-    requires shards { length engine.now.locks ≡ 3 }
     requires name { blank.name ≡ L.name }
     requires parts { blank.parts ≡ L.parts }
     requires some { 0 < blank.parts }
 {
     let mut steps = Steps::<L>::new(blank);
-    let count0 = beside_shard(rt, alloc, engine, pass, 0, jobs, shards, &mut steps)?;
-    let count1 = beside_shard(rt, alloc, engine, pass, 1, jobs, shards, &mut steps)?;
-    let count2 = beside_shard(rt, alloc, engine, pass, 2, jobs, shards, &mut steps)?;
-    count0.checked_add(count1)?.checked_add(count2)
+    let mut count = 0usize;
+    for (state, shard) in shards.iter().zip(0u32..64) {
+        let more = beside_journal(rt, alloc, state.journal(), shard, sights, &mut steps)?;
+        count = count.checked_add(more)?;
+    }
+    Some(count)
 }
 
-/// Eight threads make their calls, and each shard's journal is held against what they saw. Gives how many entries there are.
-fn eight<R: Threads + Wait + Abort + Sync>(rt: &R, alloc: Global) -> Option<usize> {
+/// Eight threads make their calls; their passes are joined, and the engine is closed. Gives the shards, and what each thread saw.
+fn eight<R: Threads + Wait + Sync>(
+    rt: &R,
+    alloc: Global,
+) -> Option<(Vec<ShardState<PlainTimers>>, Vec<Sight>)> {
     let (engine, mut first) = opened(alloc, 100_000)?;
-    let mut jobs = jobs(&engine, alloc, &mut first)?;
+    let mut jobs = jobs(alloc, &engine, &mut first)?;
     let shards = shards_of_each(alloc, jobs.as_slice()).ok()?;
-    at_once(rt, &engine, jobs.as_mut_slice());
-    beside_shards::<R, Brand>(
-        rt,
-        alloc,
-        &engine,
-        &mut first,
-        jobs.as_slice(),
-        shards.as_slice(),
-        Blank::new(1),
-    )
+    at_once(rt, alloc, &engine, jobs.as_mut_slice());
+    let (states, saws) = finish(alloc, engine, first, jobs).ok()?;
+    Some((states, sights(alloc, saws, shards)?))
 }
 
 #[test]
 fn eight_threads(rt: HostRuntime) -> Result<(), Fail> {
-    let count = eight(&rt, rt.alloc()).ok_or("no memory")?;
+    let (states, mut sights) = eight(&rt, rt.alloc()).ok_or("no memory")?;
+    let count = beside_journals::<HostRuntime, Brand>(
+        &rt,
+        rt.alloc(),
+        states.as_slice(),
+        sights.as_mut_slice(),
+        Blank::new(1),
+    )
+    .ok_or("no memory")?;
     assert_eq!(rt; count, 4000);
     Ok(())
 }

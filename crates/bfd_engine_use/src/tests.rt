@@ -1,10 +1,11 @@
 //! Two shards' turns at once, a tick that goes back, a full journal, and a question to nobody.
-ghost use Rattle.std.specs.Prelude.{◌≡◌, ◌<◌, ◌+◌, [], IfOk, IfSome, length};
+ghost use Rattle.std.specs.Prelude.{◌≡◌, ◌<◌, ◌+◌, [], IfOk, IfSome, OnErr, length};
 ghost use Rattle.bfd_session.specs.Step.{IsFit};
 ghost use Rattle.bfd_session.specs.Kinds.{discr_of};
 ghost use Rattle.bfd_session.specs.Rows.{AreFit};
 ghost use Rattle.bfd_engine.specs.Engines.{IsOf, AllThere};
 ghost use Rattle.bfd_engine.specs.Opening.{IsNewPass, IsSorted};
+ghost use Rattle.bfd_engine_use.specs.Joining.{HasOpen};
 
 use bfd_engine::{Engine, EngineFault, EnginePass, HoldFault};
 use bfd_num::{Moment, Steps, Tick};
@@ -58,8 +59,10 @@ fn configs(alloc: Global) -> Result<Vec<SessionConfig>, AllocError>
 }
 
 /// An engine of four sessions in three shards, whose journals take so many entries.
+#[tactic(auto, using(crate::proofs::Joins::open_new))]
 pub(crate) fn opened(alloc: Global, limit: usize) -> Option<(Plain, EnginePass)>
     ensures pass { IfSome result (λ r. IsNewPass r.0 r.1) }
+    ensures passes { IfSome result (λ r. HasOpen r.0 r.1 []) }
     ensures shards { IfSome result (λ r. length r.0.locks ≡ 3) }
     ensures configs { IfSome result (λ r. length r.0.configs ≡ 4) }
 {
@@ -67,11 +70,13 @@ pub(crate) fn opened(alloc: Global, limit: usize) -> Option<(Plain, EnginePass)>
     Engine::open(alloc, list, Vec::new(alloc), 3, limit).ok()
 }
 
-/// Whether this caller may have the shard's turn. One that it has is given back.
+/// Whether this caller may have the shard's turn. One that it has is given back; refused, it may ask again.
 fn tries(engine: &Plain, pass: &mut EnginePass, shard: u32) -> Result<(), HoldFault>
     requires of { IsOf engine.now pass.old.1 }
     requires there { AllThere pass.old.1 }
     requires shard { shard < length engine.now.locks }
+    ensures of { IsOf engine.now pass.new.1 }
+    ensures there { OnErr result (AllThere pass.new.1) }
 {
     match engine.try_hold(pass, shard) {
         Ok(hold) => {
@@ -83,7 +88,7 @@ fn tries(engine: &Plain, pass: &mut EnginePass, shard: u32) -> Result<(), HoldFa
 }
 
 /// A further pass.
-pub(crate) fn part(engine: &Plain, alloc: Global, first: &mut EnginePass) -> Option<EnginePass>
+fn part(engine: &Plain, alloc: Global, first: &mut EnginePass) -> Option<EnginePass>
     requires of { IsOf engine.now first.old.1 }
     requires there { AllThere first.old.1 }
     requires first { first.old.0 ≡ 0 }
@@ -100,18 +105,35 @@ pub(crate) fn part(engine: &Plain, alloc: Global, first: &mut EnginePass) -> Opt
     }
 }
 
-/// What others are told of shards 1 and 0 while a caller has the turn of shard 0, and of shard 0 after that.
+/// What others are told of shards 1 and 0 while a caller has the turn of shard 0, and the second of them of shard 0 after that.
+fn told_beside(
+    engine: &Plain,
+    first: &mut EnginePass,
+    other: &mut EnginePass,
+    third: &mut EnginePass,
+) -> Option<[Result<(), HoldFault>; 3]>
+    requires first { IsOf engine.now first.old.1 × AllThere first.old.1 }
+    requires other { IsOf engine.now other.old.1 × AllThere other.old.1 }
+    requires third { IsOf engine.now third.old.1 × AllThere third.old.1 }
+    requires shards { length engine.now.locks ≡ 3 }
+{
+    let hold = engine.try_hold(first, 0).ok()?;
+    let beside = tries(engine, other, 1);
+    let same = tries(engine, third, 0);
+    engine.let_go(first, hold);
+    if same.is_ok() {
+        return None;
+    }
+    let after = tries(engine, third, 0);
+    Some([beside, same, after])
+}
+
+/// The same of a new engine.
 fn holds(alloc: Global) -> Option<[Result<(), HoldFault>; 3]> {
     let (engine, mut first) = opened(alloc, 100_000)?;
     let mut other = part(&engine, alloc, &mut first)?;
     let mut third = part(&engine, alloc, &mut first)?;
-    let mut fourth = part(&engine, alloc, &mut first)?;
-    let hold = engine.try_hold(&mut first, 0).ok()?;
-    let beside = tries(&engine, &mut other, 1);
-    let same = tries(&engine, &mut third, 0);
-    engine.let_go(&mut first, hold);
-    let after = tries(&engine, &mut fourth, 0);
-    Some([beside, same, after])
+    told_beside(&engine, &mut first, &mut other, &mut third)
 }
 
 #[test]
@@ -122,7 +144,7 @@ fn each_shard_has_a_turn_of_its_own(rt: HostRuntime) -> Result<(), Fail> {
 }
 
 /// A shard's journal, as a caller reads it.
-pub(crate) fn journal<R: Wait>(
+fn journal<R: Wait>(
     rt: &R,
     alloc: Global,
     engine: &Plain,
@@ -268,33 +290,62 @@ fn a_tick_that_goes_back(rt: HostRuntime) -> Result<(), Fail> {
     Ok(())
 }
 
-/// A second question, where the journal takes one entry; and one to nobody.
-fn fills<R: Wait, L: Ledger>(
+/// A question to a session, with room for what it puts out.
+fn asks<R: Wait, L: Ledger>(
     rt: &R,
-    alloc: Global,
+    engine: &Plain,
+    pass: &mut EnginePass,
+    discr: u32,
+    outs: &mut Outs,
+    steps: &mut Steps<L>,
+) -> Option<Result<Answer, EngineFault>>
+    requires of { IsOf engine.now pass.old.1 }
+    requires there { AllThere pass.old.1 }
+    requires room { outs.old.room ≡ 5 }
+    ensures of { IsOf engine.now pass.new.1 }
+    ensures there { AllThere pass.new.1 }
+    ensures room { outs.new.room ≡ 5 }
+{
+    outs.clear();
+    let moment = Moment::new(7)?;
+    Some(engine.show(rt, pass, moment, discr, outs, steps))
+}
+
+/// Two questions to session 1, and one to nobody.
+fn asks_on<R: Wait, L: Ledger>(
+    rt: &R,
+    engine: &Plain,
+    pass: &mut EnginePass,
+    outs: &mut Outs,
     blank: Blank,
-) -> Option<(Result<Answer, EngineFault>, Result<Answer, EngineFault>)>
+) -> Option<[Result<Answer, EngineFault>; 3]>
+    requires of { IsOf engine.now pass.old.1 }
+    requires there { AllThere pass.old.1 }
+    requires room { outs.old.room ≡ 5 }
     requires name { blank.name ≡ L.name }
     requires parts { blank.parts ≡ L.parts }
     requires some { 0 < blank.parts }
 {
     let mut steps = Steps::<L>::new(blank);
+    let shown = asks(rt, engine, pass, 1, outs, &mut steps)?;
+    let full = asks(rt, engine, pass, 1, outs, &mut steps)?;
+    let unknown = asks(rt, engine, pass, 7, outs, &mut steps)?;
+    Some([shown, full, unknown])
+}
+
+/// The same of a new engine, whose journals take one entry.
+fn fills<R: Wait>(rt: &R, alloc: Global) -> Option<[Result<Answer, EngineFault>; 3]> {
+    let Ok(mut outs) = Outs::make(alloc, 5) else {
+        return None;
+    };
     let (engine, mut pass) = opened(alloc, 1)?;
-    let mut outs = Outs::make(alloc, 15).ok()?;
-    let moment = Moment::new(7)?;
-    engine
-        .show(rt, &mut pass, moment, 1, &mut outs, &mut steps)
-        .ok()?;
-    let full = engine.show(rt, &mut pass, moment, 1, &mut outs, &mut steps);
-    let unknown = engine.show(rt, &mut pass, moment, 7, &mut outs, &mut steps);
-    Some((full, unknown))
+    asks_on::<R, Brand>(rt, &engine, &mut pass, &mut outs, Blank::new(1))
 }
 
 #[test]
 fn a_full_journal(rt: HostRuntime) -> Result<(), Fail> {
-    let (full, unknown) = fills::<HostRuntime, Brand>(&rt, rt.alloc(), Blank::new(1)).ok_or(
-        "no memory",
-    )?;
+    let [shown, full, unknown] = fills(&rt, rt.alloc()).ok_or("no memory")?;
+    assert!(rt; shown.is_ok());
     assert_eq!(rt; full, Err(EngineFault::Full(0, 1)));
     let refused = Answer::Refused(Refusal::UnknownSession);
     assert_eq!(rt; unknown, Ok(refused));

@@ -1,13 +1,15 @@
 //! A packet thread and a timer thread, side by side.
-ghost use Rattle.std.specs.Prelude.{ℕ, ◌≡◌, ◌≤◌, ◌<◌, ◌+◌, ◌*◌, length, slice_index_or};
+ghost use Rattle.std.specs.Prelude.{ℕ, ◌≡◌, ◌≤◌, ◌<◌, ◌+◌, ◌*◌, [], OnOk, length, map, slice_index_or};
 ghost use Rattle.std.specs.List.{All};
+ghost use Rattle.bfd_engine.specs.Calls.{IsDone};
 ghost use Rattle.bfd_engine.specs.Engines.{IsOf, AllThere, configs_at};
-ghost use Rattle.bfd_engine_use.specs.Ready.{IsReady};
+ghost use Rattle.bfd_engine_use.specs.Calling.{act_of, HasWorked, HasEnded};
+ghost use Rattle.bfd_engine_use.specs.Ready.{IsReady, number_of};
 
 use bfd_engine::{Engine, EngineFault, EnginePass};
 use bfd_num::{Moment, Steps, Tick};
 use bfd_packet::Arrival;
-use bfd_rules::{Cmd, Out, Outs};
+use bfd_rules::{Cmd, Outs};
 use bfd_session::Answer;
 use bfd_wheel::Timers;
 use std::alloc::{AllocError, Global};
@@ -28,20 +30,25 @@ pub enum Call {
     Advance(u32, Tick),
 }
 
-/// What a thread saw of a call.
+/// What a thread saw of a call: its answer, and what it put out.
 #[derive(Drop)]
 pub struct Saw {
     pub answer: Result<Answer, EngineFault>,
-    pub outs: Vec<Out>,
+    pub outs: Outs,
 }
 
-/// What a thread does with a pass of its own, the last call first, and what it saw. `outs` has room for any call's outputs.
+/// What a thread does with a pass of its own.
 #[derive(Drop)]
 pub struct Job {
     pub pass: EnginePass,
+    /// What it is still to do, the last call first.
     pub calls: Vec<Call>,
+    /// What it saw of each call that it made, in their order.
     pub saw: Vec<Saw>,
-    pub outs: Outs,
+    /// For how many outputs of a call there is to be room.
+    pub room: usize,
+    /// That its calls were made; or that memory was wanting before the next of them.
+    pub ended: Result<(), AllocError>,
 }
 
 /// One call.
@@ -58,7 +65,7 @@ fn make<W: Timers, R: Wait, L: Ledger>(
     requires room { (shard : ℕ) → 5 * length (configs_at engine.now shard) + 5 ≤ outs.old.spare }
     ensures of { IsOf engine.now pass.new.1 }
     ensures there { AllThere pass.new.1 }
-    ensures room { outs.new.room ≡ outs.old.room }
+    ensures call { IsDone (act_of engine.now call) engine.now pass.old pass.new outs.old.items outs.new.items result }
 {
     match call {
         Call::Packet(moment, arrival) => engine.receive(rt, pass, moment, arrival, outs, steps),
@@ -71,73 +78,82 @@ fn make<W: Timers, R: Wait, L: Ledger>(
     }
 }
 
-/// One call, and what was seen of it. Want of memory for it is the one refusal.
-fn see<W: Timers, R: Wait, L: Ledger>(
+/// The next call of a job, and what was seen of it. Want of memory is the one refusal, and comes before the call.
+fn next<W: Timers, R: Wait, L: Ledger>(
     rt: &R,
+    alloc: Global,
     engine: &Engine<W>,
     job: &mut Job,
-    call: Call,
     steps: &mut Steps<L>,
 ) -> Result<(), AllocError>
-    requires of { IsOf engine.now job.old.pass.1 }
-    requires there { AllThere job.old.pass.1 }
-    requires room { (shard : ℕ) → 5 * length (configs_at engine.now shard) + 5 ≤ job.old.outs.room }
-    ensures of { IsOf engine.now job.new.pass.1 }
-    ensures there { AllThere job.new.pass.1 }
-    ensures room { job.new.outs.room ≡ job.old.outs.room }
+    requires ready { IsReady engine.now job.old }
+    requires some { 0 < length job.old.calls.items }
+    ensures worked { HasWorked engine.now job.old job.new }
+    ensures one { OnOk result (length job.new.calls.items + 1 ≡ length job.old.calls.items) }
 {
-    job.outs.clear();
-    let answer = make(rt, engine, &mut job.pass, call, &mut job.outs, steps);
-    let outs = job.outs.take()?;
-    job.saw.push(Saw { answer, outs })?;
+    let mut outs = Outs::make(alloc, job.room)?;
+    job.saw.reserve(1)?;
+    let Some(call) = job.calls.pop() else {
+        unreachable!()
+    };
+    let answer = make(rt, engine, &mut job.pass, call, &mut outs, steps);
+    job.saw.push_reserved(Saw { answer, outs });
     Ok(())
 }
 
-/// All calls of a job.
-fn work<W: Timers, R: Wait, L: Ledger>(rt: &R, engine: &Engine<W>, job: &mut Job, blank: Blank)
-    requires of { IsOf engine.now job.old.pass.1 }
-    requires there { AllThere job.old.pass.1 }
-    requires room { (shard : ℕ) → 5 * length (configs_at engine.now shard) + 5 ≤ job.old.outs.room }
+/// All calls of a job, or those before memory was wanting.
+fn work<W: Timers, R: Wait, L: Ledger>(
+    rt: &R,
+    alloc: Global,
+    engine: &Engine<W>,
+    job: &mut Job,
+    blank: Blank,
+) -> Result<(), AllocError>
+    requires ready { IsReady engine.now job.old }
     requires name { blank.name ≡ L.name }
     requires parts { blank.parts ≡ L.parts }
     requires some { 0 < blank.parts }
-    ensures of { IsOf engine.now job.new.pass.1 }
-    ensures there { AllThere job.new.pass.1 }
+    ensures worked { HasWorked engine.now job.old job.new }
+    ensures all { OnOk result (job.new.calls.items ≡ []) }
 {
     let mut steps = Steps::<L>::new(blank);
     for count in 0..job.calls.len() {
-        let Some(call) = job.calls.pop() else {
-            return;
-        };
-        if see(rt, engine, job, call, &mut steps).is_err() {
-            return;
-        }
+        next(rt, alloc, engine, job, &mut steps)?;
     }
+    Ok(())
 }
 
 /// The same, with a count of its own.
-fn work_alone<W: Timers, R: Wait>(rt: &R, engine: &Engine<W>, job: &mut Job)
+fn work_alone<W: Timers, R: Wait>(rt: &R, alloc: Global, engine: &Engine<W>, job: &mut Job)
     requires { IsReady engine.now job.old }
-    ensures of { IsOf engine.now job.new.pass.1 }
-    ensures there { AllThere job.new.pass.1 }
+    ensures { HasEnded engine.now job.old job.new }
 {
-    work::<W, R, Brand>(rt, engine, job, Blank::new(1));
+    job.ended = work::<W, R, Brand>(rt, alloc, engine, job, Blank::new(1));
 }
 
-/// All jobs, each in a thread of its own.
+/// Does all jobs, each in a thread of its own where one can be had. It may wait.
+///
+/// Every pass comes back in its place, with its number, and no turn held. What a thread did are the calls that its job no longer
+/// has, in their order, with the answer and the outputs of each.
 pub fn at_once<W: Timers + Send, R: Threads + Wait + Sync>(
     rt: &R,
+    alloc: Global,
     engine: &Engine<W>,
     jobs: &mut [Job],
 )
     requires { All (λ (j : _). IsReady engine.now j) jobs.old }
-    ensures of { (i : ℕ) (d : _) → i < length jobs.old → IsOf engine.now (slice_index_or jobs.new i d).pass.1 }
-    ensures there { (i : ℕ) (d : _) → i < length jobs.old → AllThere (slice_index_or jobs.new i d).pass.1 }
+    ensures long { length jobs.new ≡ length jobs.old }
+    ensures each { (i : ℕ) (d : _) → i < length jobs.old → HasEnded engine.now (slice_index_or jobs.old i d) (slice_index_or jobs.new i d) }
+    ensures ready { All (λ (j : _). IsReady engine.now j) jobs.new }
+    ensures numbers { map number_of jobs.new ≡ map number_of jobs.old }
 {
     thread::for_each_mut(
         rt,
         jobs,
         64,
-        &|_, job: &mut Job| work_alone(rt, engine, job),
+        &|_, job: &mut Job|
+            requires { IsReady engine.now job.now }
+            ensures { HasEnded engine.entry.now job.entry.now job.exit.now }
+        { work_alone(rt, alloc, engine, job) },
     );
 }

@@ -1,10 +1,10 @@
-use Rattle.std.proofs.Common.{◌≡◌}
-use Rattle.bfd_engine.specs.Engines.{IsOf, AllThere}
+-- So many calls are behind the job.
+use Rattle.std.proofs.Common.{◌≡◌, ◌+◌, length}
+use Rattle.bfd_engine_use.specs.Calling.{HasWorked}
 use Rattle.bfd_engine_use.proofs.threads.work.Given as goal
 
 abbrev pub invariant-loop-count : goal.invariant-loop-count
 invariant-loop-count g l = record {
-  of : IsOf l.engine l.job.pass.1;
-  there : AllThere l.job.pass.1;
-  room : l.job.outs.room ≡ l.initial.job.outs.room;
+  worked : HasWorked l.engine l.initial.job l.job;
+  left : l.count + length l.job.calls.items ≡ length l.initial.job.calls.items;
 }

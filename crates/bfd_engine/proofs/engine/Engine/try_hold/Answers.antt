@@ -3,8 +3,8 @@ use Rattle.std.proofs.Common.{◌≡◌, ◌∙◌, get_or, Some, slice_set, set
 use Rattle.std.proofs.lemmas.Option.{get_or_from_slice_get}
 use Rattle.bfd_turn.specs.Passes.{IsBack, WasBusy, WasSpent}
 use Rattle.bfd_engine.specs.Turned.{OfShard}
-use Rattle.bfd_engine.specs.Engines.{Shards, Knows, IsOf}
-use Rattle.bfd_engine.proofs.Places.{of_set, none_set}
+use Rattle.bfd_engine.specs.Engines.{Shards, Knows, IsOf, AllThere}
+use Rattle.bfd_engine.proofs.Places.{of_set, none_set, there_set}
 use Rattle.bfd_engine.proofs.Lending.{has_taken, busy_is, spent_is, was_busy, was_spent}
 use Rattle.bfd_engine.proofs.engine.Engine.try_hold.Goals as goal
 
@@ -56,3 +56,13 @@ returns-in-Err-Spent-clause-kept g c =
     let is : c.put-in-Err-Spent.new.self ≡ (c.args.pass.now.0, slice_set c.args.pass.now.1 c.args.shard (Some c.in-Err-Spent.back), c.args.pass.now.2) = rw (c.put-in-Err-Spent.ensures, c.lift-own.ensures.rest, set-set) refl in
     was_spent c.args.pass.now c.put-in-Err-Spent.new.self c.args.shard c.in-Err-Spent.word c.lift-own.result c.in-Err-Spent.back c.lift-own.ensures.pass is
     e.0.1 e.1
+
+pub returns-in-Err-Busy-clause-there : goal.returns-in-Err-Busy-clause-there
+returns-in-Err-Busy-clause-there g c =
+    let is : c.put.new.self ≡ (c.args.pass.now.0, slice_set c.args.pass.now.1 c.args.shard (Some c.in-Err-Busy.back), c.args.pass.now.2) = rw (c.put.ensures, c.lift-own.ensures.rest, set-set) refl in
+    λ all. subst AllThere (sym (ap (λ (k : Knows). k.1) is)) (there_set c.args.pass.now.1 c.args.shard c.in-Err-Busy.back all)
+
+pub returns-in-Err-Spent-clause-there : goal.returns-in-Err-Spent-clause-there
+returns-in-Err-Spent-clause-there g c =
+    let is : c.put-in-Err-Spent.new.self ≡ (c.args.pass.now.0, slice_set c.args.pass.now.1 c.args.shard (Some c.in-Err-Spent.back), c.args.pass.now.2) = rw (c.put-in-Err-Spent.ensures, c.lift-own.ensures.rest, set-set) refl in
+    λ all. subst AllThere (sym (ap (λ (k : Knows). k.1) is)) (there_set c.args.pass.now.1 c.args.shard c.in-Err-Spent.back all)
