@@ -4,8 +4,12 @@ _bfdd() {
     COMPREPLY=()
     case "${COMP_WORDS[0]##*/}" in
     bfdd)
-        [ "$COMP_CWORD" = 1 ] && mapfile -t COMPREPLY < <(compgen -W "replay watch load pair help --help --version" -- "$word") && return
-        words="--shards --workers --timers" ;;
+        [ "$COMP_CWORD" = 1 ] && mapfile -t COMPREPLY < <(compgen -W "replay serve watch load pair help --help --version" -- "$word") && return
+        case "${COMP_WORDS[1]}" in
+        replay | load) words="--shards --workers --timers" ;;
+        serve) words="--shards --workers --turns --ticks --journal --timers" ;;
+        watch) words="--shards" ;;
+        esac ;;
     bfdd-capture) words="--help --local --keys --tick --from --to --mode" ;;
     bfdd-evidence) words="--help --output --program" ;;
     bfdd-packets) words="--help --report --served --program --sent --output" ;;
