@@ -6,6 +6,7 @@ import functools
 import os
 import shlex
 import shutil
+import signal
 import socket
 import struct
 import subprocess
@@ -129,6 +130,18 @@ def turns(text):
     return found
 
 
+@functools.lru_cache(maxsize=1)
+def busy(text):
+    """The entries without those of ticks that gave nothing, which are nearly all."""
+    return [entry for entry in turns(text) if entry[2][0] != "tick" or entry[3]]
+
+
+@functools.lru_cache(maxsize=1)
+def ticks(text):
+    """The moments of the ticks, by shard and then in their order."""
+    return [moment(event) for _, _, event, _ in turns(text) if event[0] == "tick"]
+
+
 def moment(event):
     """When an event was, microseconds."""
     return int(event[1]) * (1000 if event[0] == "tick" else 1)
@@ -136,7 +149,7 @@ def moment(event):
 
 def changes(text, discr):
     """(moment, old, new, diagnostic) of the changes of a session's state."""
-    return [(moment(event), words[2], words[3], int(words[4])) for _, _, event, lines in turns(text) for words in lines
+    return [(moment(event), words[2], words[3], int(words[4])) for _, _, event, lines in busy(text) for words in lines
             if words[:2] == ["state", str(discr)]]
 
 
@@ -200,6 +213,7 @@ def main(name, tests, prepare=None, long=()):
         prepare(told.install)
     program = told.program or proved()
     enter_own_network()
+    signal.signal(signal.SIGTERM, lambda *_: sys.exit(143))  # (so that daemons and namespaces are ended then too)
     failed = skipped = 0
     print(f"1..{len(chosen)}", flush=True)
     for number, (title, function) in enumerate(chosen, 1):
