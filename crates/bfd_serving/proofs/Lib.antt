@@ -5,3 +5,4 @@ pub mod Dealing
 pub mod Counts
 pub mod Causes
 pub mod Wholes
+mod NewLinks
