@@ -1,5 +1,5 @@
 // Runs of `serve` over links and tickers of memory.
-ghost use Rattle.std.specs.Prelude.{◌≡◌, IfOk};
+ghost use Rattle.std.specs.Prelude.{◌≡◌, false, IfOk};
 ghost use Rattle.bfd_edge.specs.Links.{IsNewLink};
 ghost use Rattle.bfd_edge.specs.MemoryLink as memory_link;
 ghost use Rattle.bfd_edge.specs.MemoryPorts.{AllNew};
