@@ -163,12 +163,12 @@ fn plain<'a>(words: &'a str, first: &'a [Hears], status: Status, written: &'a st
     }
 }
 
-/// Runs a case: its status, what was written, and how many links are shut.
+/// Runs a case: its status, what was written, and which of the links 0 to 2 are shut.
 fn ended<R: Threads + Wait + Sync>(
     rt: &R,
     alloc: Global,
     case: &Case<'_>,
-) -> Result<(Status, Vec<u8>, u32), AllocError> {
+) -> Result<(Status, Vec<u8>, (bool, bool, bool)), AllocError> {
     let words = split(alloc, case.words)?;
     let mut source = MemSource::make(case.script.as_bytes().to_vec(alloc)?, 16, Vec::new(alloc));
     let mut sink = MemSink::make(alloc, 10, calls(alloc, case.sink_fails)?);
@@ -189,89 +189,141 @@ fn ended<R: Threads + Wait + Sync>(
         &mut ticker,
         &OpenGate,
     );
-    let mut shut = 0;
-    while shut < 3 && ports.shut_link(shut).is_some() {
-        shut += 1;
-    }
+    let shut = (
+        ports.shut_link(0).is_some(),
+        ports.shut_link(1).is_some(),
+        ports.shut_link(2).is_some(),
+    );
     Ok((status, sink.as_slice().to_vec(alloc)?, shut))
 }
 
-#[test]
-fn serves(rt: HostRuntime) -> Result<(), Fail> {
-    let one = &[Hears::Packet(1500)];
-    let two = &[Hears::Packet(1500), Hears::Packet(2500)];
-    let failed = &[Hears::Failed];
-    let order = Status::BadLine {
-        line: 3,
-        fault: LineFault::NoSuchSession,
-    };
-    let cases = [
-        plain("serve --workers 1", one, Status::Done, HEARD),
-        plain(
+/// The case of this number.
+fn case_of(number: u32) -> Option<Case<'static>> {
+    match number {
+        0 => Some(plain(
+            "serve --workers 1",
+            &[Hears::Packet(1500)],
+            Status::Done,
+            HEARD,
+        )),
+        1 => Some(plain(
             "serve --workers 1 --shards 2 --timers levels",
-            one,
+            &[Hears::Packet(1500)],
             Status::Done,
             HEARD_BY_TWO,
-        ),
-        plain(
+        )),
+        2 => Some(plain(
             "serve --workers 1",
             &[Hears::Packet(1500), Hears::Failed],
             Status::LinkFault(1),
             HEARD,
-        ),
-        Case {
-            script: ACTIVE,
-            tick: Some(750),
-            send_fails: Some(0),
-            ..plain("serve --workers 1", &[], Status::Done, SENT)
-        },
-        plain(
+        )),
+        3 => Some(plain(
             "serve --workers 1 --turns 1",
             &[Hears::Quiet, Hears::Quiet],
             Status::Turns(1),
             NOTHING,
-        ),
-        plain(
+        )),
+        4 => Some(plain(
             "serve --workers 1 --journal 1",
-            two,
+            &[Hears::Packet(1500), Hears::Packet(2500)],
             Status::JournalFull(0),
             HEARD,
-        ),
-        Case {
+        )),
+        5 => Some(plain(
+            "serve --workers 1",
+            &[Hears::Failed],
+            Status::LinkFault(1),
+            NOTHING,
+        )),
+        _ => faulty_case(number),
+    }
+}
+
+/// The cases in which something else fails.
+fn faulty_case(number: u32) -> Option<Case<'static>> {
+    match number {
+        6 => Some(Case {
+            script: ACTIVE,
+            tick: Some(750),
+            send_fails: Some(0),
+            ..plain("serve --workers 1", &[], Status::Done, SENT)
+        }),
+        7 => Some(Case {
             open_fails: Some(0),
             shut: 0,
-            ..plain("serve --workers 1", one, Status::PortFault, "")
-        },
-        Case {
+            ..plain(
+                "serve --workers 1",
+                &[Hears::Packet(1500)],
+                Status::PortFault,
+                "",
+            )
+        }),
+        8 => Some(Case {
             open_fails: Some(2),
-            ..plain("serve --workers 2", one, Status::PortFault, "")
-        },
-        plain("serve --workers 1", failed, Status::LinkFault(1), NOTHING),
-        Case {
-            second: failed,
+            ..plain(
+                "serve --workers 2",
+                &[Hears::Packet(1500)],
+                Status::PortFault,
+                "",
+            )
+        }),
+        9 => Some(Case {
+            second: &[Hears::Failed],
             shut: 3,
-            ..plain("serve --workers 2", failed, Status::LinkFault(1), NOTHING)
-        },
-        Case {
+            ..plain(
+                "serve --workers 2",
+                &[Hears::Failed],
+                Status::LinkFault(1),
+                NOTHING,
+            )
+        }),
+        10 => Some(Case {
             sink_fails: Some(0),
-            ..plain("serve --workers 1", one, Status::WriteFault, "")
-        },
-        Case {
+            ..plain(
+                "serve --workers 1",
+                &[Hears::Packet(1500)],
+                Status::WriteFault,
+                "",
+            )
+        }),
+        11 => Some(Case {
             tick_fails: Some(0),
             ..plain("serve --workers 1", &[], Status::ClockFault, NOTHING)
-        },
-        Case {
+        }),
+        12 => Some(Case {
             script: TICKED,
             shut: 0,
-            ..plain("serve --workers 1", one, order, "bad 3 NoSuchSession\n")
-        },
-    ];
-    for case in &cases {
-        let (status, written, shut) = ended(&rt, rt.alloc(), case)?;
-        let words = case.words;
-        assert_eq!(rt; status, case.status, "{words}");
-        assert_eq!(rt; written.as_slice(), case.written.as_bytes(), "{words}");
-        assert_eq!(rt; shut, case.shut, "{words}");
+            ..plain(
+                "serve --workers 1",
+                &[],
+                Status::BadLine {
+                    line: 3,
+                    fault: LineFault::NoSuchSession,
+                },
+                "bad 3 NoSuchSession\n",
+            )
+        }),
+        _ => None,
+    }
+}
+
+#[test]
+fn serves(rt: HostRuntime) -> Result<(), Fail> {
+    for number in 0..13 {
+        let case = case_of(number).ok_or("no such case")?;
+        let (status, written, shut) = ended(&rt, rt.alloc(), &case)?;
+        assert_eq!(rt; status, case.status, "case {number}");
+        assert_eq!(rt;
+            written.as_slice(),
+            case.written.as_bytes(),
+            "case {number}"
+        );
+        assert_eq!(rt;
+            shut,
+            (0 < case.shut, 1 < case.shut, 2 < case.shut),
+            "case {number}"
+        );
     }
     Ok(())
 }
