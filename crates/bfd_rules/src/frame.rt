@@ -130,16 +130,12 @@ pub fn drawn(active: bool, mark: &Mark, v: Vars) -> Vars
     ensures kept { frame.draws mark.now v ≡ false → may_send_of active v ≡ true → result.tx_due ≡ v.tx_due }
     ensures later { (m : ℕ) → m ≤ v.base → frame.draws mark.now v ≡ true → has_come (floor_tick m) result.tx_due ≡ false }
 {
+    let mut v = v;
     if !may_send(active, &v) {
-        return Vars { tx_due: None, ..v };
+        v.tx_due = None;
+    } else if is_to_draw(mark, &v) {
+        v.tx_due = Some(pick(v.base, tx_interval(&v), v.mult, v.j));
+        v.j = next_j(v.j);
     }
-    if !is_to_draw(mark, &v) {
-        return v;
-    }
-    let due = pick(v.base, tx_interval(&v), v.mult, v.j);
-    Vars {
-        tx_due: Some(due),
-        j: next_j(v.j),
-        ..v
-    }
+    v
 }

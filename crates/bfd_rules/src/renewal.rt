@@ -13,43 +13,35 @@ use bfd_packet::State;
 
 /// A change of the advertised Desired Min TX or of Required Min RX wants a Poll Sequence.
 #[tactic(auto, unfolding(crate::specs::Renewal::poll_renewed))]
-fn poll_renewed(before: &Vars, v: Vars) -> Vars
-    ensures value { result ≡ renewal.poll_renewed before.now v }
-    ensures state { result.state ≡ v.state }
-    ensures heard { is_some result.heard ≡ is_some v.heard }
-    ensures plain { (c : Config) → IsPlain c v → IsPlain c result }
-    ensures peer { HasPeerMult v → HasPeerMult result }
-    ensures idle { adv_of v ≡ adv_of before.now → v.rx ≡ before.now.rx → result ≡ v }
+fn poll_renewed(before: &Vars, v: &mut Vars)
+    ensures value { v.new ≡ renewal.poll_renewed before.now v.old }
+    ensures state { v.new.state ≡ v.old.state }
+    ensures heard { is_some v.new.heard ≡ is_some v.old.heard }
+    ensures plain { (c : Config) → IsPlain c v.old → IsPlain c v.new }
+    ensures peer { HasPeerMult v.old → HasPeerMult v.new }
+    ensures idle { adv_of v.old ≡ adv_of before.now → v.old.rx ≡ before.now.rx → v.new ≡ v.old }
 {
-    if adv_tx(&v) == adv_tx(before) && v.rx == before.rx {
-        v
-    } else {
-        Vars {
-            poll: Poll::Wanted,
-            ..v
-        }
+    if adv_tx(v) != adv_tx(before) || v.rx != before.rx {
+        v.poll = Poll::Wanted;
     }
 }
 
 /// The intervals in use.
 #[tactic(auto, unfolding(crate::specs::Renewal::used_renewed))]
-fn used_renewed(v: Vars) -> Vars
-    ensures value { result ≡ renewal.used_renewed v }
-    ensures state { result.state ≡ v.state }
-    ensures heard { is_some result.heard ≡ is_some v.heard }
-    ensures plain { (c : Config) → IsPlain c v → IsPlain c result }
-    ensures peer { HasPeerMult v → HasPeerMult result }
-    ensures renewed { IsRenewed result }
-    ensures idle { IsRenewed v → result ≡ v }
+fn used_renewed(v: &mut Vars)
+    ensures value { v.new ≡ renewal.used_renewed v.old }
+    ensures state { v.new.state ≡ v.old.state }
+    ensures heard { is_some v.new.heard ≡ is_some v.old.heard }
+    ensures plain { (c : Config) → IsPlain c v.old → IsPlain c v.new }
+    ensures peer { HasPeerMult v.old → HasPeerMult v.new }
+    ensures renewed { IsRenewed v.new }
+    ensures idle { IsRenewed v.old → v.new ≡ v.old }
 {
     let idle = is_idle(v.poll);
-    let adv = adv_tx(&v);
+    let adv = adv_tx(v);
     let settled = !matches!(v.state, State::Up) || idle;
-    Vars {
-        used_tx: if settled { adv } else { v.used_tx.min(adv) },
-        used_rx: if idle { v.rx } else { v.used_rx.max(v.rx) },
-        ..v
-    }
+    v.used_tx = if settled { adv } else { v.used_tx.min(adv) };
+    v.used_rx = if idle { v.rx } else { v.used_rx.max(v.rx) };
 }
 
 /// A running Poll Sequence begins anew.
@@ -64,26 +56,20 @@ fn poll_again(poll: Poll) -> Poll
 
 /// Where Demand mode ends here, the Detection Time runs from now on; where it begins here, a poll begins anew.
 #[tactic(auto, unfolding(crate::specs::Renewal::demand_renewed))]
-fn demand_renewed(eff: u64, before: &Vars, v: Vars) -> Vars
+fn demand_renewed(eff: u64, before: &Vars, v: &mut Vars)
     requires { eff < moment_bound }
-    ensures value { result ≡ renewal.demand_renewed eff before.now v }
-    ensures state { result.state ≡ v.state }
-    ensures heard { is_some result.heard ≡ is_some v.heard }
-    ensures plain { (c : Config) → IsPlain c v → IsPlain c result }
-    ensures peer { HasPeerMult v → HasPeerMult result }
-    ensures renewed { IsRenewed v → IsRenewed result }
-    ensures idle { demand_of v ≡ demand_of before.now → result ≡ v }
+    ensures value { v.new ≡ renewal.demand_renewed eff before.now v.old }
+    ensures state { v.new.state ≡ v.old.state }
+    ensures heard { is_some v.new.heard ≡ is_some v.old.heard }
+    ensures plain { (c : Config) → IsPlain c v.old → IsPlain c v.new }
+    ensures peer { HasPeerMult v.old → HasPeerMult v.new }
+    ensures renewed { IsRenewed v.old → IsRenewed v.new }
+    ensures idle { demand_of v.old ≡ demand_of before.now → v.new ≡ v.old }
 {
-    match (demand_here(before), demand_here(&v)) {
-        (true, false) => Vars {
-            heard: v.heard.map(|_| eff),
-            ..v
-        },
-        (false, true) => Vars {
-            poll: poll_again(v.poll),
-            ..v
-        },
-        _ => v,
+    match (demand_here(before), demand_here(v)) {
+        (true, false) => v.heard = v.heard.map(|_| eff),
+        (false, true) => v.poll = poll_again(v.poll),
+        _ => {}
     }
 }
 
@@ -101,5 +87,9 @@ pub fn renewed(eff: u64, before: &Vars, v: Vars) -> Vars
     ensures peer { HasPeerMult v → HasPeerMult result }
     ensures idle { IsRenewed v → adv_of v ≡ adv_of before.now → v.rx ≡ before.now.rx → demand_of v ≡ demand_of before.now → result ≡ v }
 {
-    demand_renewed(eff, before, used_renewed(poll_renewed(before, v)))
+    let mut v = v;
+    poll_renewed(before, &mut v);
+    used_renewed(&mut v);
+    demand_renewed(eff, before, &mut v);
+    v
 }
