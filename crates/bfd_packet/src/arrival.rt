@@ -25,16 +25,16 @@ pub enum Addr {
 }
 
 /// A packet as it came in. `iface` is the interface's number, 0 to 65,535; `sport` the sender's UDP port;
-/// `ttl` the IP TTL or Hop Limit with which it came.
+/// `ttl` the IP TTL or Hop Limit with which it came. The widest fields stand first, so that no room is lost between them.
 #[derive(Drop)]
 pub struct Arrival {
-    pub port: Port,
-    pub iface: u32,
     pub src: Addr,
-    pub sport: u16,
     pub dst: Addr,
-    pub ttl: u8,
     pub payload: Payload,
+    pub iface: u32,
+    pub sport: u16,
+    pub ttl: u8,
+    pub port: Port,
 }
 
 /// A packet as it goes out.
