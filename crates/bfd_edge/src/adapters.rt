@@ -1,8 +1,8 @@
 // The trusted edge over std's readers and writers.
-ghost use Rattle.std.specs.Prelude.{◌≡◌, ◌≢◌, ◌⊎◌, Err, ℕ, ◌<◌, [], IfOk, List, Option, length, Ok};
+ghost use Rattle.std.specs.Prelude.{◌≡◌, ◌≢◌, ◌⊎◌, Err, ℕ, ◌<◌, [], IfOk, List, OnErr, Option, length, Ok};
 ghost use Rattle.std.specs.Io.{ReadsAtMost, WritesAtMost};
 ghost use Rattle.std.specs.Io.KnownBytes.{ReadConsumes, WriteAppends};
-ghost use Rattle.bfd_edge.specs.Faults.{HasCause, Rose};
+ghost use Rattle.bfd_edge.specs.Faults.{HasCause, Rose, raised};
 
 use crate::fault::Fault;
 use crate::outside::{Sink, Source};
@@ -29,12 +29,13 @@ impl<R: Read> Source for StdSource<R> {
 
     ghost faults = { λ s. s.faults };
 
-    /// Reads what the reader gives. Its every error is `Failed`.
+    /// Reads what the reader gives. Its every error is `Failed`, and counts as one fault.
     fn read(&mut self, buf: &mut [u8]) -> Result<usize, Fault>
         ensures bound { ReadsAtMost result buf.new }
         ensures bytes { ReadConsumes (R.remaining self.old.reader) (R.remaining self.new.reader) result buf.new }
         ensures cause { HasCause self.old.faults self.new.faults result }
         ensures calm { IfOk result (λ count. self.new.faults ≡ self.old.faults) }
+        ensures once { OnErr result (self.new.faults ≡ raised self.old.faults) }
         ensures no_memory_taken { result ≢ Err Fault.Memory }
     {
         match self.reader.read(buf) {
@@ -68,13 +69,16 @@ impl<W: Write> Sink for StdSink<W> {
 
     ghost faults = { λ s. s.faults };
 
-    /// Writes what the writer takes. Its every error is `Failed`.
+    /// Writes what the writer takes. Its every error is `Failed`, and counts as one fault, as an `Ok(0)` does for a piece
+    /// that isn't empty.
     fn write(&mut self, piece: &[u8]) -> Result<usize, Fault>
         ensures bound { WritesAtMost result piece.now }
         ensures bytes { WriteAppends (W.contents self.old.writer) (W.contents self.new.writer) result piece.now }
         ensures cause { HasCause self.old.faults self.new.faults result }
         ensures none { 0 < length piece.now → result ≡ Ok 0 → Rose self.old.faults self.new.faults }
         ensures calm { IfOk result (λ count. (0 < count) ⊎ (piece.now ≡ []) → self.new.faults ≡ self.old.faults) }
+        ensures once { OnErr result (self.new.faults ≡ raised self.old.faults) }
+        ensures once_for_none { 0 < length piece.now → result ≡ Ok 0 → self.new.faults ≡ raised self.old.faults }
         ensures no_memory_taken { result ≢ Err Fault.Memory }
     {
         match self.writer.write(piece) {

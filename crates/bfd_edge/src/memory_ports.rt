@@ -100,11 +100,12 @@ impl Ports for MemPorts {
         }
     }
 
-    /// Keeps the link under its number. It takes no memory.
+    /// Keeps the link under its number, and leaves all else. It takes no memory.
     fn shut(&mut self, number: u32, link: MemLink)
         requires { (told_of self.old).opened number ≡ true }
         ensures after { told_of self.new ≡ after_shut number (memory_link.told_of link) (told_of self.old) }
         ensures kept { place_in self.new.places ≡ with_place number (Place.Shut link) (place_in self.old.places) }
+        ensures rest { self.new ≡ record self.old { places = self.new.places } }
     {
         self.places.shut(number, link);
     }
