@@ -56,7 +56,7 @@ pub nat_level : (a b : ℕ) → is_eq (nat_cmp a b) ≡ (a == b)
 nat_level a b = grind (arith, nat_tests)
 
 -- the numbers compare Equal either way where one is the other
-nat_level_back : (a b : ℕ) → is_eq (nat_cmp a b) ≡ (b == a)
+pub nat_level_back : (a b : ℕ) → is_eq (nat_cmp a b) ≡ (b == a)
 nat_level_back a b = grind (arith, nat_tests)
 
 -- a key's entry after an insert, where the key had none

@@ -1,5 +1,5 @@
 -- Tables in ascending order, and how many of their entries pass a test.
-use Rattle.std.proofs.Common.{◌≡◌, ◌<◌, ◌≤◌, ℕ, ◌+◌, ◌*◌, ◌^◌, Bool, true, false, cond, List, [], ◌∷◌, length, get_or, refl, sym, ◌∙◌, ap, arith, suc, zero, inl, inr, ◌⊎◌}
+use Rattle.std.proofs.Common.{◌≡◌, ◌<◌, ◌≤◌, ℕ, ◌+◌, ◌-◌, ◌*◌, ◌^◌, Bool, true, false, cond, List, [], ◌∷◌, length, get_or, refl, sym, ◌∙◌, ap, arith, suc, zero, inl, inr, ◌⊎◌}
 use Rattle.std.proofs.Math.Nat.{pow-le-pow_right, mul-le-mul_left, eq-or-lt_of_le}
 use Rattle.std.proofs.lemmas.Bool.Decides.{leb_tells}
 use Rattle.std.proofs.lemmas.Nat.{pow-add}
@@ -95,11 +95,23 @@ module _ {K : Type 0} {cmp : K → K → Ordering} (order : IsTotalOrder cmp) wh
       go Equal e = absurd (apart e)
       go Greater e = let turned = order.antisymm b a ∙ ap ordering_reverse e in cc
 
+less_of : (r : Ordering) → is_lt r ≡ true → r ≡ Less
+less_of Less e = refl
+less_of Equal e = cc
+less_of Greater e = cc
+
 -- a permutation has each key once where the list has
 pub keys_once-IsPermutation : {K V : Type 0} (cmp : K → K → Ordering) (xs ys : List (K × V)) → IsPermutation xs ys → HasKeysOnce cmp xs → HasKeysOnce cmp ys
 keys_once-IsPermutation {K} {V} cmp xs ys moved once key =
     let same = how_many-IsPermutation (λ (entry : K × V). is_eq (cmp entry.0 key)) xs ys moved in
     let before = once key in
+    omega arith
+
+-- and the other way round
+pub keys_once-IsPermutation_back : {K V : Type 0} (cmp : K → K → Ordering) (xs ys : List (K × V)) → IsPermutation xs ys → HasKeysOnce cmp ys → HasKeysOnce cmp xs
+keys_once-IsPermutation_back {K} {V} cmp xs ys moved once key =
+    let same = how_many-IsPermutation (λ (entry : K × V). is_eq (cmp entry.0 key)) xs ys moved in
+    let after = once key in
     omega arith
 
 module _ {K V : Type 0} {cmp : K → K → Ordering} (order : IsTotalOrder cmp) where
@@ -109,6 +121,44 @@ module _ {K V : Type 0} {cmp : K → K → Ordering} (order : IsTotalOrder cmp) 
       lower_of order _ _ (sorted_far (λ (x y : K × V). is_lt (cmp x.0 y.0)) (ranks_by order (λ (entry : K × V). entry.0)) xs up i j d (omega arith) within)
       (λ level. let twice = two_pass (λ (entry : K × V). is_eq (cmp entry.0 (get_or xs j d).0)) xs i j d lt within (ap is_eq level) (ap is_eq (tied_itself order _)) in
       let once_only = once (get_or xs j d).0 in omega arith)
+
+  -- one entry more, above the one before it
+  pub one_longer : (xs : List (K × V)) (p : ℕ) (x y : K × V) → 0 < p → p < length xs → ((d : K × V) → x ≡ get_or xs (p - 1) d) → ((d : K × V) → y ≡ get_or xs p d) → is_lt (cmp x.0 y.0) ≡ true →
+      ((i j : ℕ) (d : K × V) → i < j → j < p → cmp (get_or xs i d).0 (get_or xs j d).0 ≡ Less) →
+      (i j : ℕ) (d : K × V) → i < j → j < p + 1 → cmp (get_or xs i d).0 (get_or xs j d).0 ≡ Less
+  one_longer xs p x y some within before is less up i j d lt le =
+      elim (eq-or-lt_of_le {n = j} {m = p} (omega arith)) [
+        | inl same ↦ elim (eq-or-lt_of_le {n = i} {m = p - 1} (omega arith)) [
+          | inl also ↦ rw (same, also, ← before d, ← is d) (less_of _ less)
+          | inr below ↦ order.trans _ _ _ (up i (p - 1) d below (omega arith)) (rw (same, ← before d, ← is d) (less_of _ less))
+        ]
+        | inr earlier ↦ up i j d lt earlier
+      ]
+
+  -- in an ascending list each key comes once
+  pub once_ascending : (xs : List (K × V)) → IsAscending cmp xs → HasKeysOnce cmp xs
+  once_ascending [] up key = omega arith
+  once_ascending (x ∷ xs) up key = go (once_ascending xs (λ i j d lt within. up (suc i) (suc j) d (omega arith) (omega arith)) key) (cmp x.0 key) refl
+    where
+      level : K × V → Bool
+      level entry = is_eq (cmp entry.0 key)
+
+      counted : how_many level (x ∷ xs) ≡ cond (level x) 1 0 + how_many level xs
+      counted = how_many-cons level x xs
+
+      apart : how_many level xs ≤ 1 → is_eq (cmp x.0 key) ≡ false → how_many level (x ∷ xs) ≤ 1
+      apart few is =
+          let none : how_many level (x ∷ xs) ≡ 0 + how_many level xs = counted ∙ rw is refl in
+          omega arith
+
+      go : how_many level xs ≤ 1 → (r : Ordering) → cmp x.0 key ≡ r → how_many level (x ∷ xs) ≤ 1
+      go few Equal here =
+          let none : how_many level xs ≡ 0 = front_passes level xs zero (omega arith) (λ k d lt. absurd (omega arith))
+          (λ k d le lt. ap is_eq (turned order _ _ (sym (order.congr _ _ _ here) ∙ up zero (suc k) d (omega arith) (omega arith)))) in
+          let one : how_many level (x ∷ xs) ≡ 1 + how_many level xs = counted ∙ rw here refl in
+          omega arith
+      go few Less lower = apart few (ap is_eq lower)
+      go few Greater higher = apart few (ap is_eq higher)
 
   -- a key below the one at m has a lower entry everywhere up to m
   pub lower_up_to : (xs : List (K × V)) (key : K) (m : ℕ) (x : K × V) → IsAscending cmp xs → m < length xs → ((d : K × V) → x ≡ get_or xs m d) → cmp x.0 key ≡ Less →

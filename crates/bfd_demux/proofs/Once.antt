@@ -22,7 +22,7 @@ use Rattle.bfd_demux.proofs.AlikeRows.{nat_level, selector_level, same_selector_
 use Rattle.bfd_demux.proofs.Ascending.{how_many-cons}
 
 -- how many of two lists
-how_many-append : {X : Type 0} (test : X → Bool) (xs ys : List X) → how_many test (xs ++ ys) ≡ how_many test xs + how_many test ys
+pub how_many-append : {X : Type 0} (test : X → Bool) (xs ys : List X) → how_many test (xs ++ ys) ≡ how_many test xs + how_many test ys
 how_many-append test [] ys = omega arith
 how_many-append test (x ∷ xs) ys =
     let rest = how_many-append test xs ys in

@@ -55,6 +55,10 @@ is_heard _ _ = false
 abbrev pub names_of : List Row → List (Name × Option Port)
 names_of rows = map (λ row. (name_of row, heard_on row.kind)) rows
 
+-- the discriminators of all rows, with nothing beside them
+abbrev pub discrs_of : List Row → List (ℕ × Unit {0})
+discrs_of rows = map (λ row. (row.discr, tt)) rows
+
 -- the kinds and addresses of the rows that have addresses, with their discriminators
 abbrev pub addresses_of : List Row → List (RowKind × ℕ)
 addresses_of rows = map (λ row. (row.kind, row.discr)) (filter (λ row. has_addresses row.kind) rows)

@@ -10,12 +10,12 @@ ghost use Rattle.bfd_packet.specs.States.{is_init_or_up};
 ghost use Rattle.bfd_demux.specs.Rows.{build_fault, early_fault, has_addresses, same_selector};
 ghost use Rattle.bfd_demux.specs.Selection.{first_header_failing, first_table_failing, has_discr, has_selector, is_by_addresses, is_echo_form, is_session, knows, reflector_index, selector_on, session_index, target_of, the_one};
 ghost use Rattle.bfd_demux.specs.Parts.{echo_target, first_echo_failing, first_past_header, first_session_failing, index_on, names_session, target_named};
-ghost use Rattle.bfd_demux.specs.Index.{names_of, addresses_of};
+ghost use Rattle.bfd_demux.specs.Index.{names_of};
 ghost use Rattle.bfd_demux.specs.Table.{how_many};
 
 use crate::fault::BuildFault;
 use crate::name::{Name, heard_on, is_heard, name_on, names_before, row_name};
-use crate::repeats::{repeated_addresses, repeated_discr};
+use crate::repeats::{addresses_of, repeated_addresses, repeated_discr};
 use crate::row::{Row, RowKind};
 use crate::table::{place_of, sort_by_key};
 use crate::target::Target;
@@ -346,16 +346,6 @@ fn names_of(alloc: Global, rows: &[Row]) -> Result<Vec<(Name, Option<Port>)>, Al
 {
     rows.iter()
         .map(|row| (row_name(row), heard_on(row)))
-        .collect(alloc)
-}
-
-// The kind, addresses and discriminator of each row that has addresses.
-fn addresses_of(alloc: Global, rows: &[Row]) -> Result<Vec<(RowKind, u32)>, AllocError>
-    ensures { IfOk result (λ addresses. addresses.items ≡ addresses_of rows.now) }
-{
-    rows.iter()
-        .filter(|row| row.kind.has_addresses())
-        .map(|row| (row.kind, row.discr))
         .collect(alloc)
 }
 

@@ -1,6 +1,6 @@
 //! Sorted tables: entries by key in ascending order, and the search that counts each entry that it looks at.
 
-ghost use Rattle.std.specs.Prelude.{◌≡◌, ◌+◌, ◌<◌, ◌≤◌, length, false, IfSome, IfNone};
+ghost use Rattle.std.specs.Prelude.{◌≡◌, ◌+◌, ◌<◌, ◌≤◌, length, false, true, IfSome, IfNone};
 ghost use Rattle.std.specs.List.{list_any};
 ghost use Rattle.std.specs.List.Sorted.{IsPermutation};
 ghost use Rattle.std.specs.Ordering.{is_eq};
@@ -10,13 +10,32 @@ use bfd_num::Steps;
 use std::cmp::Ordering;
 use std::sync::ledger::Ledger;
 
-/// Puts entries into the ascending order of their keys.
-pub fn sort_by_key<K: Ord + Copy, V>(entries: &mut Vec<(K, V)>)
-    requires { HasKeysOnce K.cmp entries.old.items }
-    ensures permutation { IsPermutation entries.old.items entries.new.items }
-    ensures ascending { IsAscending K.cmp entries.new.items }
+/// Whether each entry's key is below the next entry's.
+fn is_ascending<K: Ord, V>(entries: &[(K, V)]) -> bool
+    ensures rising { result ≡ true → IsAscending K.cmp entries.now }
+    ensures told { IsAscending K.cmp entries.now → result ≡ true }
 {
+    for place in 1..entries.len() {
+        if !entries[place - 1].0.cmp(&entries[place].0).is_lt() {
+            return false;
+        }
+    }
+    true
+}
+
+/// Puts entries into the ascending order of their keys, and tells whether each key comes once. Entries that
+/// already stand so are looked through and left where they are.
+pub fn sort_by_key<K: Ord + Copy, V>(entries: &mut Vec<(K, V)>) -> bool
+    ensures permutation { IsPermutation entries.old.items entries.new.items }
+    ensures ascending { HasKeysOnce K.cmp entries.old.items → IsAscending K.cmp entries.new.items }
+    ensures once { result ≡ true → HasKeysOnce K.cmp entries.old.items }
+    ensures told { HasKeysOnce K.cmp entries.old.items → result ≡ true }
+{
+    if is_ascending(entries) {
+        return true;
+    }
     entries.sort_unstable_by_key(|entry| entry.0);
+    is_ascending(entries)
 }
 
 /// The place of the entry with this key, which is also the number of entries with a lower key, or None where

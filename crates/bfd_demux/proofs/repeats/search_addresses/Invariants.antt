@@ -4,7 +4,7 @@ use Rattle.std.specs.List.{position_from}
 use Rattle.bfd_demux.specs.declared.row.RowKind.{RowKind}
 use Rattle.bfd_demux.specs.contracts.row.RowKindOrd.TheImpl as kinds
 use Rattle.bfd_demux.specs.Rows.{first_repeat, repeat_after, same_addresses, same_selector, has_addresses}
-use Rattle.bfd_demux.proofs.repeats.repeated_addresses.Given as goal
+use Rattle.bfd_demux.proofs.repeats.search_addresses.Given as goal
 
 abbrev pub invariant-loop-place : goal.invariant-loop-place
 invariant-loop-place l =

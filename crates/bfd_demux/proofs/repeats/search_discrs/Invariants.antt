@@ -3,7 +3,7 @@ use Rattle.std.specs.Ordering.{nat_cmp}
 use Rattle.std.specs.BTreeMap.{get}
 use Rattle.std.specs.List.{position_from}
 use Rattle.bfd_demux.specs.Rows.{first_repeat, repeat_after, same_discr}
-use Rattle.bfd_demux.proofs.repeats.repeated_discr.Given as goal
+use Rattle.bfd_demux.proofs.repeats.search_discrs.Given as goal
 
 abbrev pub invariant-loop-place : goal.invariant-loop-place
 invariant-loop-place l =

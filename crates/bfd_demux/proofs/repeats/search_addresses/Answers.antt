@@ -3,8 +3,8 @@ use Rattle.std.specs.BTreeMap.{get}
 use Rattle.bfd_demux.specs.contracts.row.RowKindOrd.TheImpl as kinds
 use Rattle.bfd_demux.specs.Rows.{same_addresses}
 use Rattle.bfd_demux.proofs.AlikeRows.{repeated_here, repeated_later, kinds_more, kinds_same, unaddressed, position_from-none}
-use Rattle.bfd_demux.proofs.repeats.repeated_addresses.Goals as goal
-use Rattle.bfd_demux.proofs.repeats.repeated_addresses.Goals.{then-has_addresses+in_default+in_ok-insert, else-has_addresses}
+use Rattle.bfd_demux.proofs.repeats.search_addresses.Goals as goal
+use Rattle.bfd_demux.proofs.repeats.search_addresses.Goals.{then-has_addresses+in_default+in_ok-insert, else-has_addresses}
 
 pub returns-in-Some : goal.returns-in-Some
 returns-in-Some c =

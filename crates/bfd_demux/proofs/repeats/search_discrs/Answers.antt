@@ -3,7 +3,7 @@ use Rattle.std.specs.Ordering.{nat_cmp}
 use Rattle.std.specs.BTreeMap.{get}
 use Rattle.bfd_demux.specs.Rows.{same_discr}
 use Rattle.bfd_demux.proofs.AlikeRows.{repeated_here, repeated_later, discrs_more}
-use Rattle.bfd_demux.proofs.repeats.repeated_discr.Goals as goal
+use Rattle.bfd_demux.proofs.repeats.search_discrs.Goals as goal
 
 pub returns-in-Some : goal.returns-in-Some
 returns-in-Some c =
