@@ -21,13 +21,14 @@ pub fn detach(nodes: &mut [Node], dues: &mut [u64], id: u32)
     dues[id as usize] = NEVER;
 }
 
-/// Takes the id off its list, if it is on one: at most 1 step.
+/// Takes the id off its list, if it is on one: at most 1 step, and 1 where it is.
 pub(crate) fn free<L: Ledger>(nodes: &mut [Node], dues: &mut [u64], id: u32, steps: &mut Steps<L>)
     requires id { id < length dues.old }
     requires linked { slice_index dues.old id ≢ never → IsLinked id dues.old nodes.old }
     ensures wheel { (n now : ℕ) → IsWheel n now dues.old nodes.old → IsWheel n now dues.new nodes.new }
     ensures dues { dues.new ≡ slice_set dues.old id never }
     ensures cost { steps.new ≤ steps.old + 1 }
+    ensures counts { slice_index dues.old id ≢ never → steps.new ≡ steps.old + 1 }
 {
     if dues[id as usize] != NEVER {
         detach(nodes, dues, id);

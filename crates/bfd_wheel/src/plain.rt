@@ -1,5 +1,5 @@
 //! Timers as a plain list.
-ghost use Rattle.std.specs.Prelude.{◌≡◌, ◌+◌, ◌^◌, ◌<◌, ◌≤◌, length, Some, slice_set};
+ghost use Rattle.std.specs.Prelude.{◌≡◌, ◌+◌, ◌^◌, ◌<◌, ◌≤◌, length, None, Some, slice_set};
 
 use crate::form::Timers;
 use crate::list::{due_at, forget, no_dues, write};
@@ -44,7 +44,11 @@ impl Timers for PlainTimers {
         steps.tick();
     }
 
-    fn clear<L: Ledger>(&mut self, id: u32, steps: &mut Steps<L>) {
+    fn clear<L: Ledger>(&mut self, id: u32, steps: &mut Steps<L>)
+        requires id { id < length self.old }
+        ensures dues { self.new ≡ slice_set self.old id None }
+        ensures cost { steps.new ≡ steps.old + 1 }
+    {
         write(&mut self.dues, id, NEVER);
         steps.tick();
     }

@@ -18,6 +18,7 @@ pub(crate) fn take(nodes: &mut [Node], dues: &mut [u64], now: u64, t: u64, out: 
     requires t { t < 2 ^ 60 }
     requires room { length dues.old ≤ out.old.spare }
     ensures wheel { IsWheel (length dues.old) result dues.new nodes.new }
+    ensures now { result ≡ max now t }
     ensures items { out.new.items ≡ out.old.items ++ come t (map due_of dues.old) }
     ensures room { room_of out.new ≡ room_of out.old }
     ensures dues { map due_of dues.new ≡ map (without t) (map due_of dues.old) }
@@ -36,6 +37,7 @@ fn gather(nodes: &mut [Node], dues: &mut [u64], now: u64, t: u64, out: &mut Ids)
     requires turn { t < now + 4096 }
     requires room { length dues.old ≤ out.old.spare }
     ensures wheel { IsWheel (length dues.old) result dues.new nodes.new }
+    ensures now { result ≡ max now t }
     ensures items { out.new.items ≡ out.old.items ++ come t (map due_of dues.old) }
     ensures room { room_of out.new ≡ room_of out.old }
     ensures dues { map due_of dues.new ≡ map (without t) (map due_of dues.old) }
@@ -116,6 +118,7 @@ fn jump(nodes: &mut [Node], dues: &mut [u64], now: u64, t: u64, out: &mut Ids) -
     requires t { t < 2 ^ 60 }
     requires room { length dues.old ≤ out.old.spare }
     ensures wheel { IsWheel (length dues.old) result dues.new nodes.new }
+    ensures now { result ≡ max now t }
     ensures items { out.new.items ≡ out.old.items ++ come t (map due_of dues.old) }
     ensures room { room_of out.new ≡ room_of out.old }
     ensures dues { map due_of dues.new ≡ map (without t) (map due_of dues.old) }
