@@ -1,11 +1,11 @@
 -- The first line of a text ends at its first LF.
-use Rattle.std.proofs.Common.{◌≡◌, ℕ, ◌+◌, ◌<◌, ◌==◌, not, cond, Bool, true, false, List, [], ◌∷◌, length, take, drop, Some, None, refl, ap, ◌∙◌, arith, suc, nat_lt, subst, ◌≤◌}
-use Rattle.std.specs.List.{position, prefix_len}
-use Rattle.std.proofs.lemmas.Option.{cond_some}
-use Rattle.std.proofs.lemmas.Bool.Decides.{nat_tests}
+use Rattle.std.proofs.Common.{◌≡◌, ℕ, ◌+◌, ◌<◌, ◌==◌, not, cond, Bool, true, false, List, [], ◌∷◌, length, take, drop, refl, ap, ◌∙◌, arith, suc, subst, ◌≤◌}
+use Rattle.std.specs.Prelude.{slice_index}
+use Rattle.std.specs.List.{prefix_len}
+use Rattle.memchr.specs.Find.{NoneBefore, Nowhere, Passes}
 use Rattle.std.proofs.Math.Seq.{take-length}
 use Rattle.std.proofs.Math.ListN.{drop_of_length-le}
-use Rattle.std.proofs.lemmas.List.Sums.{prefix_len-le-length}
+use Rattle.std.proofs.lemmas.List.Sums.{prefix_len_is}
 use Rattle.bfd_script.specs.Fields.{lines_of, onto_line}
 
 -- a byte before the first LF
@@ -36,29 +36,36 @@ pub first : (text : List ℕ) → 0 < length text
 first [] some = absurd (omega arith)
 first (byte ∷ bytes) some = one_more (byte == 10) byte bytes (first bytes)
 
+not_true : (b : Bool) → (b ≡ true → ⊥) → b ≡ false
+not_true true never = absurd (never refl)
+not_true false never = refl
+
+-- a byte that ends a line
+abbrev is_end : ℕ → Bool
+is_end byte = byte == 10
+
+-- the first line ends at the first LF
+at_end : (text : List ℕ) (end : ℕ) → end ≤ length text → Nowhere (Passes is_end text) 0 end → (end < length text → is_end (slice_index text end) ≡ true)
+    → line_length text ≡ end
+at_end text end within none here =
+    prefix_len_is in_line text end 0 within
+    (λ k l. ap (λ b. not b) (not_true (is_end (slice_index text k)) (none k (omega arith) l)))
+    (λ l. ap (λ b. not b) (here l))
+
 -- a text with an LF
-pub first_of_more : (text : List ℕ) (end : ℕ) → position (λ byte. byte == 10) text ≡ Some end
+pub first_of_more : (text : List ℕ) (end : ℕ) → NoneBefore (Passes is_end text) 0 (length text) end × Passes is_end text end
     → (end < length text) × (lines_of text ≡ take end text ∷ lines_of (drop (end + 1) text))
 first_of_more text end found =
-    let P : ℕ → Type 0 = λ n. (n < length text) × (lines_of text ≡ take n text ∷ lines_of (drop (n + 1) text)) in
-    let here = cond_some (nat_lt (line_length text) (length text)) (line_length text) end found in
-    let inside : line_length text < length text = grind (arith, nat_tests) in
-    subst P here.1 (inside, first text (omega arith))
-
--- no place is found where the test fails
-not_found : (b : Bool) (n : ℕ) → cond b (Some n) None ≡ None → b ≡ false
-not_found true n absent = cc
-not_found false n absent = refl
+    let inside = found.0.high in
+    let P : ℕ → Type 0 = λ n. lines_of text ≡ take n text ∷ lines_of (drop (n + 1) text) in
+    (inside, subst P (at_end text end (omega (arith, inside)) found.0.before (λ _. found.1)) (first text (omega (arith, inside))))
 
 -- a text without LF
-pub the_last : (text : List ℕ) → position (λ byte. byte == 10) text ≡ None → 0 < length text
+pub the_last : (text : List ℕ) → Nowhere (Passes is_end text) 0 (length text) → 0 < length text
     → lines_of text ≡ text ∷ []
 the_last text absent some =
-    let past = not_found (nat_lt (line_length text) (length text)) (line_length text) absent in
-    let most : line_length text ≤ length text = prefix_len-le-length in_line text in
-    let whole : line_length text ≡ length text = grind (arith, nat_tests) in
+    let whole = at_end text (length text) (omega arith) absent (λ l. absurd (omega (arith, l))) in
     let behind : length text ≤ length text + 1 = omega arith in
-    let e = first text some in
     let P : ℕ → Type 0 = λ n. lines_of text ≡ take n text ∷ lines_of (drop (n + 1) text) in
-    let at_end : P (length text) = subst P whole e in
-    at_end ∙ rw (take-length text, drop_of_length-le text behind) refl
+    let e : P (length text) = subst P whole (first text some) in
+    e ∙ rw (take-length text, drop_of_length-le text behind) refl

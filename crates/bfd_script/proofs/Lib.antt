@@ -1,6 +1,7 @@
 pub mod Ascii
 pub mod Decimal
 pub mod FirstLine
+pub mod SideBySide
 pub mod Numbered
 pub mod Inserting
 pub mod Pooling

@@ -1,5 +1,5 @@
 // Lines, fields and numbers.
-ghost use Rattle.std.specs.Prelude.{◌≡◌, ◌==◌, ◌<◌, ◌≤◌, ◌∷◌, ◌&&◌, ◌||◌, Err, IfOk, IfSome, Ok, OnOk, if◌then◌else◌, length, map, nat_lt, not, position, slice_index, true};
+ghost use Rattle.std.specs.Prelude.{◌≡◌, ◌==◌, ◌<◌, ◌≤◌, ◌∷◌, ◌&&◌, ◌||◌, Err, IfOk, IfSome, IsTrue, Ok, OnOk, if◌then◌else◌, length, map, nat_lt, not, slice_index, true};
 ghost use Rattle.std.specs.List.{list_all};
 ghost use Rattle.std.specs.Char.{is_ascii_digit};
 ghost use Rattle.std.specs.Str.Parse.{digits_value};
@@ -8,21 +8,19 @@ ghost use Rattle.bfd_script.specs.Gives.{SeesField};
 ghost use Rattle.bfd_script.specs.declared.fault.LineFault.TheVariants.{OutOfRange};
 
 use crate::fault::LineFault;
+use memchr::memchr;
 use std::alloc::AllocError;
+use std::simd::prelude::*;
 use std::str;
 
 /// The most bytes that a line may have before its LF.
 const MOST_LINE: usize = 4096;
 
+/// How many bytes are looked at side by side.
+const RUN: usize = 32;
+
 /// Before which a number may be multiplied by ten, and a digit added, within 64 bits.
 const MOST_BEFORE_DIGIT: u64 = 1_000_000_000_000_000_000;
-
-/// Where the first LF is.
-fn first_lf(text: &[u8]) -> Option<usize>
-    ensures { result ≡ position (λ byte. byte == 10) text.now }
-{
-    text.iter().position(|byte| *byte == b'\n')
-}
 
 /// The first line without its LF, and the text after it.
 #[tactic(auto, using(crate::proofs::FirstLine::first_of_more, crate::proofs::FirstLine::the_last))]
@@ -31,7 +29,7 @@ pub(crate) fn first_line(text: &[u8]) -> (&[u8], &[u8])
     ensures lines { lines_of text.now ≡ result.0.now ∷ lines_of result.1.now }
     ensures shorter { length result.1.now < length text.now }
 {
-    match first_lf(text) {
+    match memchr(b'\n', text) {
         Some(end) => {
             let (_, rest) = text.split_at(end + 1);
             (&text[..end], rest)
@@ -40,8 +38,17 @@ pub(crate) fn first_line(text: &[u8]) -> (&[u8], &[u8])
     }
 }
 
-/// Whether each byte may stand in a line.
-fn is_all_printable(line: &[u8]) -> bool
+/// Whether each byte of a run may stand in a line: surely so where the answer is true.
+fn is_run_printable(run: &[u8; RUN]) -> bool
+    ensures { IsTrue result → list_all is_printable run.now ≡ true }
+{
+    let bytes = u8x32::from_array(*run);
+    bytes.simd_lt(u8x32::splat(b' ')).to_bitmask() == 0
+        && bytes.simd_gt(u8x32::splat(b'~')).to_bitmask() == 0
+}
+
+/// Whether each byte may stand in a line, by one after another.
+fn is_rest_printable(line: &[u8]) -> bool
     ensures { result ≡ list_all is_printable line.now }
 {
     let mut rest = line;
@@ -51,6 +58,20 @@ fn is_all_printable(line: &[u8]) -> bool
         rest = after;
     }
     printable
+}
+
+/// Whether each byte may stand in a line.
+fn is_all_printable(line: &[u8]) -> bool
+    ensures { result ≡ list_all is_printable line.now }
+{
+    let mut rest = line;
+    while let Some((run, after)) = rest.split_first_chunk::<RUN>() {
+        if !is_run_printable(run) {
+            break;
+        }
+        rest = after;
+    }
+    is_rest_printable(rest)
 }
 
 /// The line as text: refused where it is too long or has a byte that isn't printable.

@@ -15,7 +15,7 @@
 //! beside them `names` and `report`.
 //!
 //! It stands on `bfd_num`, `bfd_packet`, `bfd_rules`, `bfd_mp`, `bfd_sbfd`, `bfd_demux` and `bfd_session`, and on `byteorder`,
-//! `hex` and `itoa`.
+//! `hex`, `itoa` and `memchr`.
 #![tactic(auto)]
 
 mod arrivals;

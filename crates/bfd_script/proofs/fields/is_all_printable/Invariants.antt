@@ -1,11 +1,11 @@
-use Rattle.std.proofs.Common.{◌≡◌, ◌&&◌, length}
+use Rattle.std.proofs.Common.{◌≡◌, length}
 use Rattle.std.specs.List.{list_all}
 use Rattle.bfd_script.specs.Fields.{is_printable}
 use Rattle.bfd_script.proofs.fields.is_all_printable.Given as goal
 
--- what was seen and what is left are the line
-abbrev pub invariant-loop-rest : goal.invariant-loop-rest
-invariant-loop-rest l = (l.printable && list_all is_printable l.rest) ≡ list_all is_printable l.line
+-- the runs so far may stand in a line, so it depends on what is left
+abbrev pub invariant-loop-run : goal.invariant-loop-run
+invariant-loop-run l = list_all is_printable l.rest ≡ list_all is_printable l.line
 
-abbrev pub decreases-loop-rest : goal.decreases-loop-rest
-decreases-loop-rest l = length l.rest
+abbrev pub decreases-loop-run : goal.decreases-loop-run
+decreases-loop-run l = length l.rest
