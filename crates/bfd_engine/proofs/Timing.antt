@@ -5,9 +5,9 @@ use Rattle.bfd_session.specs.Kinds.{Running, configs_of}
 use Rattle.bfd_shard.specs.declared.entry.Entry.{Entry}
 use Rattle.bfd_shard.specs.declared.entry.ShardEvent.{ShardEvent}
 use Rattle.bfd_shard.specs.declared.entry.ShardEvent.TheVariants.{Own, Tick}
-use Rattle.bfd_shard.specs.Expired.{expired, forgotten, IsExact}
+use Rattle.bfd_shard.specs.Expired.{expired, forgotten}
 use Rattle.bfd_shard.specs.History.{events_of, last_tick, runs}
-use Rattle.bfd_shard.specs.Shard.{Shard, IsShard, IsOver, NoneDue}
+use Rattle.bfd_shard.specs.Shard.{Shard, IsExact, IsShard, IsOver, NoneDue}
 use Rattle.bfd_engine.specs.Turned.{entry_of, IsTimely}
 
 pub timely : (old new : Shard) (caller : ℕ) (event : ShardEvent) (configs : List SessionConfig) (seen : List Entry) → IsShard old → IsShard new

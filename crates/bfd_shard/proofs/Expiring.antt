@@ -11,9 +11,9 @@ use Rattle.bfd_session.specs.Kinds.{Running, configs_of}
 use Rattle.bfd_session.specs.Step.{IsSound, tick_next}
 use Rattle.bfd_shard.specs.declared.entry.ShardEvent.{ShardEvent}
 use Rattle.bfd_shard.specs.declared.entry.ShardEvent.TheVariants.{Own, Tick}
-use Rattle.bfd_shard.specs.Expired.{expired, forgets, forgotten, has_expired, IsExact}
+use Rattle.bfd_shard.specs.Expired.{expired, forgets, forgotten, has_expired}
 use Rattle.bfd_shard.specs.History.{events_of, last_tick, moved, runs}
-use Rattle.bfd_shard.specs.Shard.{Shard, IsShard}
+use Rattle.bfd_shard.specs.Shard.{Shard, IsExact, IsShard}
 use Rattle.bfd_shard.proofs.Runs.{runs_more}
 
 -- what a tick does to what was heard

@@ -1,6 +1,7 @@
 pub mod Moves
 pub mod Ticks
 pub mod Runs
+pub mod Expiring
+pub mod OnTime
 pub mod Setting
 pub mod Dealing
-pub mod Expiring

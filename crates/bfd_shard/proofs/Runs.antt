@@ -14,7 +14,7 @@ use Rattle.bfd_shard.specs.declared.entry.ShardEvent.{ShardEvent}
 use Rattle.bfd_shard.specs.declared.entry.ShardEvent.TheVariants.{Own, Tick}
 use Rattle.bfd_shard.specs.declared.entry.Entry.{Entry}
 use Rattle.bfd_shard.specs.History.{events_of, later, last_from, last_tick, after, run_from, run, runs_from, runs, moved, own_moved}
-use Rattle.bfd_shard.specs.Shard.{shard_of, IsShard, IsHistory, CanHappen}
+use Rattle.bfd_shard.specs.Shard.{shard_of, IsShard, IsHistory, IsOnTime, CanHappen}
 use Rattle.bfd_shard.proofs.Moves.{session_at, stands_below}
 use Rattle.bfd_shard.proofs.Ticks.{nobody}
 
@@ -155,8 +155,8 @@ history_more cs (x ∷ es) e h can = (h.0, history_more cs es e h.1 can)
 -- an event leaves a shard
 pub shard_more : (last limit room room2 : ℕ) (entry : Entry) (ss ss2 : List Running) (j : List Entry) → IsShard (shard_of ss last j limit room)
     → length j < limit → later last entry.event ≤ greatest_tick → CanHappen (configs_of ss) entry.event → ss2 ≡ moved last entry.event ss → AllByRecursion IsSound ss2
-    → IsShard (shard_of ss2 (later last entry.event) (j ++ entry ∷ []) limit room2)
-shard_more last limit room room2 entry ss ss2 j s below early can m sound =
+    → IsOnTime (configs_of ss) (events_of j ++ entry.event ∷ []) → IsShard (shard_of ss2 (later last entry.event) (j ++ entry ∷ []) limit room2)
+shard_more last limit room room2 entry ss ss2 j s below early can m sound timely =
     let es : List ShardEvent = events_of j in
     let e : ShardEvent = entry.event in
     let told : events_of (j ++ entry ∷ []) ≡ es ++ e ∷ [] = map-append (λ (x : Entry). x.event) j (entry ∷ []) in
@@ -173,4 +173,6 @@ shard_more last limit room room2 entry ss ss2 j s below early can m sound =
           ∙ (sym (runs_more es e cs) ∙ (ap (λ (xs : List ShardEvent). runs xs cs) (sym told)
           ∙ ap (runs (events_of (j ++ entry ∷ []))) (sym configs)))));
       sound = sound;
+      timely = subst (λ (xs : List ShardEvent). IsOnTime (configs_of ss2) xs) (sym told)
+          (subst (λ (ks : List SessionConfig). IsOnTime ks (es ++ e ∷ [])) (sym configs) timely);
     }

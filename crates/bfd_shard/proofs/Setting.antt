@@ -10,6 +10,7 @@ use Rattle.bfd_session.specs.Step.{IsSound, started}
 use Rattle.bfd_shard.specs.declared.entry.Entry.{Entry}
 use Rattle.bfd_shard.specs.History.{last_from, run_from, runs_from, runs}
 use Rattle.bfd_shard.specs.Shard.{shard_of, IsShard, IsTimed}
+use Rattle.bfd_shard.proofs.OnTime.{none_yet}
 
 -- one more of a list stands in for the other's
 stands_in : {A B : Type 0} (f : A → B) (xs : List A) (ys : List B) (i : ℕ) (d : A) → i < length xs → length ys ≡ length xs
@@ -59,6 +60,7 @@ shard_at cs limit room few sound = record {
   early = omega arith;
   whole = sym (ap (runs []) (configs_started cs) ∙ runs_none 0 cs);
   sound = sound;
+  timely = none_yet (configs_of (map started cs));
 }
 
 -- a shard at the start

@@ -1,14 +1,12 @@
 -- Which sessions a tick expires.
-use Rattle.std.specs.Prelude.{ℕ, ◌≡◌, ◌*◌, ◌&&◌, Bool, List, max, zip, is_some, is_none}
+use Rattle.std.specs.Prelude.{ℕ, ◌*◌, ◌&&◌, Bool, List, max, zip, is_some, is_none}
 use Rattle.bfd_num.specs.Due.{has_come}
 use Rattle.bfd_lanes.specs.Places.{places}
 use Rattle.bfd_session.specs.declared.event.SessionConfig.{SessionConfig}
 use Rattle.bfd_session.specs.Due.{detects}
-use Rattle.bfd_session.specs.Kinds.{Running, configs_of}
+use Rattle.bfd_session.specs.Kinds.{Running}
 use Rattle.bfd_shard.specs.declared.entry.ShardEvent.{ShardEvent}
-use Rattle.bfd_shard.specs.declared.entry.ShardEvent.TheVariants.{Own, Tick}
-use Rattle.bfd_shard.specs.History.{events_of, last_tick, runs}
-use Rattle.bfd_shard.specs.Shard.{Shard}
+use Rattle.bfd_shard.specs.History.{last_tick, runs}
 
 -- the Detection Time of a session has expired by the tick `last` (RFC 5880 section 6.8.4)
 abbrev pub has_expired : ℕ → Running → Bool
@@ -26,8 +24,3 @@ forgets pair = is_some pair.0.vars.heard && is_none pair.1.vars.heard
 -- the places, ascending, of the sessions that have forgotten so, from the sessions before and after
 abbrev pub forgotten : List Running → List Running → List ℕ
 forgotten before after = places forgets 0 (zip before after)
-
--- a tick of a shard forgets of exactly the expired sessions that a packet was heard; of an own event this says nothing
-abbrev pub IsExact : Shard → ShardEvent → List Running → Type 0
-IsExact shard (Own place moment event) after = Unit {0}
-IsExact shard (Tick t) after = forgotten shard.sessions after ≡ expired (configs_of shard.sessions) (events_of shard.journal) t

@@ -1,5 +1,5 @@
 pub mod History
+pub mod Expired
 pub mod Shard
 pub mod Inside
 pub mod Dealing
-pub mod Expired

@@ -1,5 +1,5 @@
 -- What a shard keeps between events.
-use Rattle.std.specs.Prelude.{ℕ, ◌≡◌, ◌≤◌, ◌*◌, false, List, length, map, slice_get, Option, Some}
+use Rattle.std.specs.Prelude.{ℕ, ◌≡◌, ◌≤◌, ◌*◌, ◌++◌, false, List, [], ◌∷◌, length, map, slice_get, Option, Some}
 use Rattle.std.specs.List.{AllByRecursion}
 use Rattle.bfd_num.specs.Numbers.{greatest_tick}
 use Rattle.bfd_num.specs.Due.{has_come}
@@ -12,6 +12,7 @@ use Rattle.bfd_session.specs.Step.{IsSound, CanTake}
 use Rattle.bfd_shard.specs.declared.entry.ShardEvent.{ShardEvent}
 use Rattle.bfd_shard.specs.declared.entry.ShardEvent.TheVariants.{Own, Tick}
 use Rattle.bfd_shard.specs.declared.entry.Entry.{Entry}
+use Rattle.bfd_shard.specs.Expired.{expired, forgotten}
 use Rattle.bfd_shard.specs.History.{events_of, last_tick, runs}
 
 -- a shard, as its callers see it; room is for how many entries more the journal's memory is there
@@ -40,8 +41,20 @@ CanHappen configs (Tick t) = Unit {0}
 abbrev pub IsHistory : List SessionConfig → List ShardEvent → Type 0
 IsHistory configs events = AllByRecursion (CanHappen configs) events
 
--- a shard between events: its journal is within its limit, and tells its history; its last tick is that of the history; and
--- each session is what its own events and the ticks in the history make of it, with sound variables
+-- nothing is left that is due by this tick
+abbrev pub NoneDue : ℕ → List Running → Type 0
+NoneDue last sessions = AllByRecursion (λ s. has_come last (due s) ≡ false) sessions
+
+-- every tick of a history, after the events before it, forgot of exactly those sessions that a packet was heard whose Detection
+-- Time had expired by it (RFC 5880 section 6.8.4), and left nothing that was due by the last tick
+pub record IsOnTime (configs : List SessionConfig) (events : List ShardEvent) : Type 0 where
+  pub exact : (before after : List ShardEvent) (t : ℕ) → events ≡ before ++ Tick t ∷ after
+      → forgotten (runs before configs) (runs (before ++ Tick t ∷ []) configs) ≡ expired configs before t
+  pub none_due : (before after : List ShardEvent) (t : ℕ) → events ≡ before ++ Tick t ∷ after
+      → NoneDue (last_tick (before ++ Tick t ∷ [])) (runs (before ++ Tick t ∷ []) configs)
+
+-- a shard between events: its journal is within its limit, and tells its history; its last tick is that of the history; each
+-- session is what its own events and the ticks in the history make of it, with sound variables; and every tick was on time
 pub record IsShard (shard : Shard) : Type 0 where
   pub few : length shard.sessions ≤ 65536
   pub full : length shard.journal ≤ shard.limit
@@ -50,6 +63,7 @@ pub record IsShard (shard : Shard) : Type 0 where
   pub early : shard.last ≤ greatest_tick
   pub whole : shard.sessions ≡ runs (events_of shard.journal) (configs_of shard.sessions)
   pub sound : AllByRecursion IsSound shard.sessions
+  pub timely : IsOnTime (configs_of shard.sessions) (events_of shard.journal)
 
 -- a shard with its timers, whose list is the due tick of each session, and with ids that find room for all of them
 pub record IsTimed (shard : Shard) (dues : List (Option ℕ)) (ids : Held) : Type 0 where
@@ -67,11 +81,12 @@ abbrev pub IsOwn : ShardEvent → Type 0
 IsOwn (Own place moment event) = Unit {0}
 IsOwn (Tick t) = ⊥
 
--- nothing is left that is due by this tick
-abbrev pub NoneDue : ℕ → List Running → Type 0
-NoneDue last sessions = AllByRecursion (λ s. has_come last (due s) ≡ false) sessions
-
 -- after a tick nothing is left that is due by the last tick; of an own event this says nothing
 abbrev pub IsOver : ℕ → ShardEvent → List Running → Type 0
 IsOver last (Own place moment event) sessions = Unit {0}
 IsOver last (Tick t) sessions = NoneDue last sessions
+
+-- a tick of a shard forgets of exactly the expired sessions that a packet was heard; of an own event this says nothing
+abbrev pub IsExact : Shard → ShardEvent → List Running → Type 0
+IsExact shard (Own place moment event) after = Unit {0}
+IsExact shard (Tick t) after = forgotten shard.sessions after ≡ expired (configs_of shard.sessions) (events_of shard.journal) t

@@ -7,10 +7,9 @@ ghost use Rattle.bfd_session.specs.Due.{due as due_tick};
 ghost use Rattle.bfd_session.specs.Kinds.{configs_of};
 ghost use Rattle.bfd_session.specs.Rows.{AreFit};
 ghost use Rattle.bfd_session.specs.Step.{IsSound, started};
-ghost use Rattle.bfd_shard.specs.Expired.{IsExact};
 ghost use Rattle.bfd_shard.specs.History.{later, moved, outcome_of};
 ghost use Rattle.bfd_shard.specs.Inside.{MayCome};
-ghost use Rattle.bfd_shard.specs.Shard.{IsShard, IsTaken, IsOwn, IsOver, CanHappen, room_for};
+ghost use Rattle.bfd_shard.specs.Shard.{IsShard, IsTaken, IsOwn, IsOver, IsExact, CanHappen, room_for};
 
 use crate::entry::{Entry, Full, ShardEvent};
 use crate::law::expiry_laws;

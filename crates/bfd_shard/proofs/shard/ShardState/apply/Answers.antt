@@ -8,25 +8,26 @@ use Rattle.bfd_session.specs.Kinds.{Running, configs_of}
 use Rattle.bfd_session.specs.Step.{IsSound}
 use Rattle.bfd_shard.specs.declared.entry.Entry.{Entry}
 use Rattle.bfd_shard.specs.History.{later, moved}
-use Rattle.bfd_shard.specs.Shard.{Shard, shard_of, IsShard, IsTimed, CanHappen}
-use Rattle.bfd_shard.specs.Expired.{IsExact}
+use Rattle.bfd_shard.specs.Shard.{Shard, shard_of, IsExact, IsOver, IsShard, IsTimed, CanHappen}
 use Rattle.bfd_shard.proofs.Expiring.{exactly}
 use Rattle.bfd_shard.proofs.Moves.{may_come}
+use Rattle.bfd_shard.proofs.OnTime.{IsLaw, on_time}
 use Rattle.bfd_shard.proofs.Runs.{shard_more, moved_long, moved_configs}
 use Rattle.bfd_shard.proofs.shard.ShardState.apply.Goals as goal
 
 -- what the event and the entry leave
-grown : (last last2 limit room room2 : ℕ) (entry : Entry) (ss ss2 : List Running) (j j2 : List Entry) (ds ds2 : List (Option ℕ)) (ids ids2 : Held)
+grown : (law : IsLaw) (last last2 limit room room2 : ℕ) (entry : Entry) (ss ss2 : List Running) (j j2 : List Entry) (ds ds2 : List (Option ℕ)) (ids ids2 : Held)
     → IsTimed (shard_of ss last j limit room) ds ids → last2 ≡ later last entry.event → last2 ≤ greatest_tick → length j ≢ limit → CanHappen (configs_of ss) entry.event
     → ss2 ≡ moved last entry.event ss → AllByRecursion IsSound ss2 → ds2 ≡ map due ss2 → j2 ≡ j ++ entry ∷ [] → room_of ids2 ≡ room_of ids
-    → IsTimed (shard_of ss2 last2 j2 limit room2) ds2 ids2
-grown last last2 limit room room2 entry ss ss2 j j2 ds ds2 ids ids2 s at early other can m sound timed ej fit =
+    → IsOver (later last entry.event) entry.event ss2 → IsTimed (shard_of ss2 last2 j2 limit room2) ds2 ids2
+grown law last last2 limit room room2 entry ss ss2 j j2 ds ds2 ids ids2 s at early other can m sound timed ej fit over =
     let full = s.shown.full in
     let fits = s.ids_fit in
     record {
       shown = subst (λ (t : ℕ). IsShard (shard_of ss2 t j2 limit room2)) (sym at)
           (subst (λ (xs : List Entry). IsShard (shard_of ss2 (later last entry.event) xs limit room2)) (sym ej)
-          (shard_more last limit room room2 entry ss ss2 j s.shown (omega arith) (omega (arith, at, early)) can m sound));
+          (shard_more last limit room room2 entry ss ss2 j s.shown (omega arith) (omega (arith, at, early)) can m sound
+          (on_time law (shard_of ss last j limit room) entry.event ss2 s.shown m over)));
       timed = timed;
       ids_fit = omega (arith, ap length m, moved_long last entry.event ss);
     }
@@ -40,11 +41,11 @@ pub invariant_of-self : goal.invariant_of-self
 invariant_of-self g c =
     let a = c.act-last.ensures in
     let inside = c.self.inside in
-    grown inside.last c.act-last.result.0 inside.limit _ _ (record { caller = c.args.caller; event = c.args.event }) inside.sessions.items c.act-last.new.sessions.items
+    grown c.expiry_laws.ensures inside.last c.act-last.result.0 inside.limit _ _ (record { caller = c.args.caller; event = c.args.event }) inside.sessions.items c.act-last.new.sessions.items
     inside.journal.items c.push_reserved.new.self.items (g.W.Timers.dues inside.timers) (g.W.Timers.dues c.act-last.new.timers) inside.ids c.act-last.new.ids
     c.self.invariant a.last a.early (search rules)
     (subst (λ (ss : List Running). CanHappen (configs_of ss) c.args.event) (sym (ap (λ (s : Shard). s.sessions) c.self.view_is)) c.requires.can)
-    a.sessions a.sound a.dues c.push_reserved.ensures.items a.ids
+    a.sessions a.sound a.dues c.push_reserved.ensures.items a.ids a.over
 
 pub returns-clause-configs : goal.returns-clause-configs
 returns-clause-configs g c =
