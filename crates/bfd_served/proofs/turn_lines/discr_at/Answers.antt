@@ -4,7 +4,7 @@ use Rattle.std.specs.Prelude.{nat_lt, slice_get}
 use Rattle.std.proofs.lemmas.Bool.Decides.{nat_tests}
 use Rattle.bfd_session.specs.Kinds.{Running, configs_of, discr_of}
 use Rattle.bfd_served.specs.Served.{discr_at}
-use Rattle.bfd_served.proofs.turns.discr_at.Goals as goal
+use Rattle.bfd_served.proofs.turn_lines.discr_at.Goals as goal
 
 found : (ss : List Running) (k : ℕ) (s : Running) → true ≡ nat_lt k (length ss) → s ≡ get_or ss k s
     → discr_at (slice_get (configs_of ss) k) ≡ discr_of s.config

@@ -5,7 +5,7 @@ use Rattle.std.proofs.lemmas.Bool.Decides.{nat_tests}
 use mathlib.Core.Logic.{dite}
 use native.Mathlib.Decide.{ℕ_discrete}
 use Rattle.bfd_engine.proofs.Sharing.{shares_none, shares_own, shares_other, shares_all}
-use Rattle.bfd_engine.proofs.dealing.deal.Goals as goal
+use Rattle.bfd_engine.proofs.dealing.deal_sessions.Goals as goal
 
 pub loop-config-init : goal.loop-config-init
 loop-config-init c =

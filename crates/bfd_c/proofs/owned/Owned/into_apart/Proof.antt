@@ -28,10 +28,10 @@ use denote.Triple.Walked.{says, Stays, stay_dropped, walk_of, ends_at, Goes-drop
 use Rattle.std_alloc.proofs.BoxSteps.Form.{D, B, word, box_typed}
 use Rattle.std_alloc.proofs.BoxSteps.Steps.{box_out, box_in}
 use Rattle.bfd_c.proofs.AsBox.{E, FromKept as From}
-use Rattle.bfd_c.specs.contracts.kept.Kept.into_apart as F
-use Rattle.bfd_c.specs.contracts.kept.Kept.into_apart.Key.{name as #self}
-use Rattle.bfd_c.proofs.kept.Kept.into_apart.Statement as stated
-use Rattle.bfd_c.proofs.kept.Kept.into_apart.Code as code
+use Rattle.bfd_c.specs.contracts.owned.Owned.into_apart as F
+use Rattle.bfd_c.specs.contracts.owned.Owned.into_apart.Key.{name as #self}
+use Rattle.bfd_c.proofs.owned.Owned.into_apart.Statement as stated
+use Rattle.bfd_c.proofs.owned.Owned.into_apart.Code as code
 
 abbrev stayed : Stays (F.ended).signature.params (F.ended).kept
 stayed = (stay_dropped From yes, tt)

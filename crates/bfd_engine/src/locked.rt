@@ -15,11 +15,11 @@ pub struct Base {
 
 /// A shard as the value of a lock: its notes are its journal, and each names the caller that brought the event.
 #[derive(Drop)]
-pub struct Kept<W: Timers> {
+pub struct Locked<W: Timers> {
     pub(crate) shard: ShardState<W>,
 }
 
-impl<W: Timers> Recorded for Kept<W> {
+impl<W: Timers> Recorded for Locked<W> {
     type Note = Entry;
 
     type Base = Base;

@@ -14,7 +14,7 @@ use Rattle.std_heap.proofs.Global.TheSendSync as handle
 use Rattle.bfd_c.specs.Owning.{kept_owns}
 use Rattle.bfd_c.specs.contracts.engine.Engine as Held
 use Rattle.bfd_c.proofs.engine.Engine.TheSendSync.{the_send as held}
-use Rattle.bfd_c.specs.contracts.kept.Kept.{the_row, the_type}
+use Rattle.bfd_c.specs.contracts.owned.Owned.{the_row, the_type}
 
 keyless : (a : Global) (p : Ptr) (h : Option (Held.the_row).Denot) → Keyless (kept_owns a p h)
 keyless a p None = tt

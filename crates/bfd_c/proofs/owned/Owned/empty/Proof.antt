@@ -33,11 +33,11 @@ use Rattle.std.proofs.alloc.Calls.{handle_tells}
 use Rattle.std_alloc.proofs.ResultValues.{and_tt}
 use Rattle.std_heap.specs.contracts.Global as Heap
 use Rattle.bfd_c.proofs.AsBox.{E}
-use Rattle.bfd_c.specs.contracts.kept.Kept as sealed
-use Rattle.bfd_c.specs.contracts.kept.Kept.empty as F
-use Rattle.bfd_c.specs.contracts.kept.Kept.empty.Key.{name as #self}
-use Rattle.bfd_c.proofs.kept.Kept.empty.Statement as stated
-use Rattle.bfd_c.proofs.kept.Kept.empty.Code as code
+use Rattle.bfd_c.specs.contracts.owned.Owned as sealed
+use Rattle.bfd_c.specs.contracts.owned.Owned.empty as F
+use Rattle.bfd_c.specs.contracts.owned.Owned.empty.Key.{name as #self}
+use Rattle.bfd_c.proofs.owned.Owned.empty.Statement as stated
+use Rattle.bfd_c.proofs.owned.Owned.empty.Code as code
 
 abbrev From : Slot 0
 From = plain (λ _. Heap.the_row)

@@ -17,33 +17,33 @@ pub struct Opaque {
 /// Nothing, or what a box of an engine owns. Only a `Handle` has one, and frees it.
 #[repr(C)]
 #[derive(Drop)]
-pub struct Kept {
+pub struct Owned {
     ptr: *mut Opaque,
     alloc: Global,
     pub ghost held: { Option Instance },
 }
 
-impl Model for Kept {
+impl Model for Owned {
     ghost also_owns = { λ k. kept_owns k.alloc k.ptr k.held };
 }
 
-impl Kept {
+impl Owned {
     /// Nothing, behind a null pointer.
-    pub(crate) fn empty(alloc: Global) -> Kept
+    pub(crate) fn empty(alloc: Global) -> Owned
         ensures { result.held ≡ None }
     {
-        Kept {
+        Owned {
             ptr: std::ptr::null_mut(),
             alloc,
         }
     }
 
     /// What a box owned that was taken apart.
-    pub(crate) fn of_apart(apart: Apart<Engine, Global>) -> Kept
+    pub(crate) fn of_apart(apart: Apart<Engine, Global>) -> Owned
         ensures { result.held ≡ Some apart.value }
     {
         let Apart { ptr, alloc } = apart;
-        Kept {
+        Owned {
             ptr: ptr as *mut Opaque,
             alloc,
         }
@@ -54,7 +54,7 @@ impl Kept {
         requires { is_some self.held ≡ true }
         ensures { Some result.value ≡ self.held }
     {
-        let Kept { ptr, alloc } = self;
+        let Owned { ptr, alloc } = self;
         Apart {
             ptr: ptr as *mut Engine,
             alloc,
@@ -63,4 +63,4 @@ impl Kept {
 }
 
 /// No part of an engine is shared with another thread, so a handle may go to one between two calls.
-unsafe impl Send for Kept {}
+unsafe impl Send for Owned {}

@@ -12,7 +12,7 @@ use Rattle.bfdd.specs.Words.{OfServing}
 use Rattle.bfdd.proofs.Served.{finished, serving_then}
 use Rattle.bfdd.proofs.Taking.{took_nothing}
 use Rattle.bfdd.proofs.Wanting.{of_all, of_answer, of_job, settled}
-use Rattle.bfdd.proofs.top.run.Goals as goal
+use Rattle.bfdd.proofs.running.run.Goals as goal
 
 -- no memory for the members of a watch
 pub returns-in-Err-clause-front : goal.returns-in-Err-clause-front

@@ -1,6 +1,6 @@
 use Rattle.std.proofs.Common.{◌≡◌, ◌<◌, ℕ, [], length, map, get_or}
 use Rattle.bfd_engine.proofs.Sharing.{Shares}
-use Rattle.bfd_engine.proofs.dealing.deal.Given as goal
+use Rattle.bfd_engine.proofs.dealing.deal_sessions.Given as goal
 
 abbrev pub invariant-loop-config : goal.invariant-loop-config
 invariant-loop-config l = record {
