@@ -1,5 +1,5 @@
 //! Eight threads on three shards, beside the journals that they leave.
-ghost use Rattle.std.specs.Prelude.{◌≡◌, ◌<◌, ◌≤◌, [], IfSome, length, map};
+ghost use Rattle.std.specs.Prelude.{◌≡◌, ◌<◌, [], IfSome, length, map};
 ghost use Rattle.std.specs.List.{All};
 ghost use Rattle.bfd_engine_use.specs.Joining.{HasOpen};
 ghost use Rattle.bfd_engine_use.specs.Ready.{IsReady, number_of};
