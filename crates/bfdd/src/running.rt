@@ -7,8 +7,9 @@ ghost use Rattle.bfd_words.specs.Grammar.{is_watch, job_of};
 ghost use Rattle.bfd_words.specs.Ranges.{IsJob};
 ghost use Rattle.bfdd.specs.Answers.{IsAnswer};
 ghost use Rattle.bfdd.specs.Outside.{ConsumesAtMost, TookFront};
-ghost use Rattle.bfdd.specs.Serving.{IsBrokenOff, IsFinished, IsTold, Tells, edges_of};
-ghost use Rattle.bfdd.specs.Status.{IsDecided, OnBadLine, UnlessWriting, WhereServed, WhereUnopened, WhereUnwritten};
+ghost use Rattle.bfdd.specs.Serving.{IsFinished, edges_of};
+ghost use Rattle.bfdd.specs.Status.{IsDecided, IsEndOf, OnBadLine, UnlessWriting, WhereUnopened, WhereUnwritten};
+ghost use Rattle.bfdd.specs.Telling.{IsBrokenOff, IsTold, Tells, TellsBytes};
 ghost use Rattle.bfdd.specs.Text.{most_bytes, complaint_line, wanted, wanted_of};
 ghost use Rattle.bfdd.specs.Words.{OfServing, is_reading, is_serving, reads, serves};
 
@@ -35,6 +36,7 @@ fn decided_answer<R: Threads + Wait + Sync, G: Gate + Sync, S: Source>(
     requires ranges { IsJob job.now }
     requires closed { serves job.now ≡ false }
     ensures answer { IfOk result (λ answer. IfSome (wanted_of job.now (S.left source.old)) (λ w. answer ≡ w)) }
+    ensures tells { IfOk result (TellsBytes job.now (S.left source.old) (S.left source.new)) }
     ensures sound { IfOk result IsAnswer }
     ensures end { IfOk result (λ answer. answer.status ≡ Status.Done → reads job.now ≡ true → IsAtEnd (S.left source.new)) }
     ensures untouched { reads job.now ≡ false → source.new ≡ source.old }
@@ -56,6 +58,7 @@ fn decided_answer<R: Threads + Wait + Sync, G: Gate + Sync, S: Source>(
 }
 
 /// What the job has to write. Ports and ticker are `serve`'s alone.
+#[tactic(auto, using(crate::proofs::Ending::closed_tells))]
 fn answer<R: Threads + Wait + Sync, G: Gate + Sync, S: Source, P: Ports, T: Ticker + Send>(
     rt: &R,
     alloc: Global,
@@ -71,8 +74,8 @@ where
     requires new { (number : ℕ) → (P.told ports.old).opened number ≡ false }
     requires clock { (T.told ticker.old).over ≡ false }
     ensures answer { IfOk result (λ answer. IfSome (wanted_of job.now (S.left source.old)) (λ w. answer ≡ w)) }
-    ensures tells { IfOk result (λ answer. OfServing (Some job.now) (λ job. Tells job (S.left source.old) (S.left source.new)
-        (edges_of (P.told ports.old) (T.told ticker.old)) (edges_of (P.told ports.new) (T.told ticker.new)) answer)) }
+    ensures tells { IfOk result (Tells job.now (S.left source.old) (S.left source.new)
+        (edges_of (P.told ports.old) (T.told ticker.old)) (edges_of (P.told ports.new) (T.told ticker.new))) }
     ensures sound { IfOk result IsAnswer }
     ensures end { IfOk result (λ answer. answer.status ≡ Status.Done → reads job.now ≡ true → IsAtEnd (S.left source.new)) }
     ensures untouched { reads job.now ≡ false → source.new ≡ source.old }
@@ -174,18 +177,22 @@ where
         → IfSome (wanted (job_of (map (λ word. string_bytes word) words.now)) (S.left source.old))
         (λ w. (result ≡ w.status) ⊎ (result ≡ Status.Memory)) }
 
-    // A script that is served has one run: its engine and its histories, one per shard, give the text that was written, and each caller's
-    // entries, its sends and its end are those of what its link or the ticker gave. The status is the finish, and shows its cause.
-    ensures served { WhereServed result (OfServing (job_of (map (λ word. string_bytes word) words.now))
+    // Whether or not the source tells what it had: each status is one of the job's, and with every status but those of want of memory
+    // and of a source that failed there is an answer of which the status and what was written are. It is what is wanted of some bytes
+    // that were read to the end of the source. A script that is served has one run: its engine and its histories, one per shard, give
+    // the text, and each caller's entries, its sends and its end are those of what its link or the ticker gave. The status is the
+    // finish, and shows its cause.
+    ensures fits { IsEndOf (job_of (map (λ word. string_bytes word) words.now)) result }
+    ensures told { result ≢ Status.Memory → result ≢ Status.ReadFault → IfSome (job_of (map (λ word. string_bytes word) words.now))
         (λ job. IsTold job (S.left source.old) (S.left source.new)
         (edges_of (P.told ports.old) (T.told ticker.old)) (edges_of (P.told ports.new) (T.told ticker.new))
-        (K.taken sink.old) (K.taken sink.new) (K.faults sink.old) (K.faults sink.new) result)) }
+        (K.taken sink.old) (K.taken sink.new) (K.faults sink.old) (K.faults sink.new) result) }
 
     // Where memory was wanting, nothing of it was written, or a front.
-    ensures broken_off { result ≡ Status.Memory → OfServing (job_of (map (λ word. string_bytes word) words.now))
-        (λ job. IsBrokenOff job (S.left source.old) (S.left source.new)
+    ensures broken_off { result ≡ Status.Memory → IsBrokenOff (job_of (map (λ word. string_bytes word) words.now))
+        (S.left source.old) (S.left source.new)
         (edges_of (P.told ports.old) (T.told ticker.old)) (edges_of (P.told ports.new) (T.told ticker.new))
-        (K.taken sink.old) (K.taken sink.new)) }
+        (K.taken sink.old) (K.taken sink.new) }
 
     // Where no script is served no link is opened and no tick is asked for, and every link that is opened is shut.
     ensures idle { is_serving (job_of (map (λ word. string_bytes word) words.now)) ≡ false
