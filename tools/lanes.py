@@ -66,17 +66,12 @@ class Spans(list):
 class Lanes:
     """All sessions in the order of their discriminators, and the drops of no session."""
 
-    def __init__(self, script, report):
+    def __init__(self, script, happenings):
         self.lanes = {discr: Lane(session) for discr, session in sorted(script.sessions.items())}
         self.strays = []
-        self.end = max((event.moment for event in script.events), default=0) / 1e6
-        self.events, self.sent = len(script.events), sum(line.word == "tx" for line in report)
-        self.dropped = sum(line.word == "drop" for line in report)
-        lines = {}
-        for line in report:
-            lines.setdefault(line.number, []).append(line)
-        for number, event in enumerate(script.events, 1):
-            self.take(script, event, lines.get(number, ()))
+        self.end, self.events, self.sent, self.dropped = 0.0, 0, 0, 0
+        for event, lines in happenings:
+            self.take(script, event, lines)
         self.end += (self.end or 1.0) * 0.02  # room for what the last event left
         for lane in self.lanes.values():
             lane.close(self.end)
@@ -84,7 +79,10 @@ class Lanes:
     def take(self, script, event, lines):
         """An event, and what the report has of it: what the sessions did, and then what came of a packet."""
         moment = event.moment / 1e6
+        self.end, self.events = max(self.end, moment), self.events + 1
         for line in lines:
+            self.sent += line.word == "tx"
+            self.dropped += line.word == "drop"
             if line.word == "state":
                 self.lanes[int(line.words[0])].change(moment, line.words[2])
             elif line.word == "tx" and int(line.words[0]) in self.lanes:  # a reflector has no lane

@@ -17,6 +17,9 @@ TALLEST = 60                       # inches, however many lanes there are
 MOST_DETAILED = 12                 # with more sessions there are lanes alone
 MOST_WITH_GAPS = 400               # with more, gaps between lanes would flicker
 BAR, BAR_HEIGHT = 0.43, 0.25       # where the bar of states begins in a lane of height 1, from above, and its height
+MOST_BARS = 100000                 # with more bars, those that are too narrow to be seen are drawn as one
+MOST_COLUMNS = 2000                # so many strokes in a lane are a surface
+LEAST_COLUMNS = 20
 LEVELS = (0.24, 0.15, 0.06)        # where the reasons of drops stand, one over the other where they would overlap
 
 
@@ -31,6 +34,46 @@ class Scale:
 
     def at(self, moment):
         return moment / self.unit
+
+    def column(self, moment, columns):
+        """The number of the column, of so many, that a moment of the picture's unit is in."""
+        return (moment - self.since) * columns // self.span
+
+
+def thinned(scale, moments):
+    """The moments inside the picture, and where they are many, the first in each column alone."""
+    inside = [at for at in map(scale.at, moments) if scale.since <= at <= scale.until]
+    if len(inside) <= MOST_COLUMNS:
+        return inside
+    first = {}
+    for at in inside:
+        first.setdefault(scale.column(at, MOST_COLUMNS), at)
+    return list(first.values())
+
+
+def joined(scale, spans, columns):
+    """The spans of a lane, each with what it is of, inside the picture and in its unit. One that begins in the column in which the one
+    before begins is drawn as a part of that; without columns each is drawn."""
+    bars, last = [], None
+    for start, end, what in spans:
+        start, end = max(scale.at(start), scale.since), min(scale.at(end), scale.until)
+        if end < start:
+            continue
+        column = scale.column(start, columns) if columns else None
+        if columns and column == last:
+            bars[-1][1] = end
+        else:
+            bars.append([start, end, what])
+        last = column
+    return bars
+
+
+def columns_of(lanes):
+    """How many columns bars of states stand in, or None where they aren't too many."""
+    every = lanes.lanes.values()
+    if sum(len(lane.states) for lane in every) <= MOST_BARS:
+        return None
+    return min(max(MOST_BARS // len(every), LEAST_COLUMNS), MOST_COLUMNS)
 
 
 def draw(lanes, title, since, until, lanes_alone=False):
@@ -52,11 +95,11 @@ def draw(lanes, title, since, until, lanes_alone=False):
 def draw_states(axes, scale, lanes, detailed):
     """The bars of all lanes, one collection a state, so that thousands of lanes are drawn in seconds."""
     boxes, gap = {state: [] for state in COLOURS}, 0.16 if len(lanes.lanes) <= MOST_WITH_GAPS else 0
+    columns = columns_of(lanes)
     for row, lane in enumerate(lanes.lanes.values()):
         low, height = (row + BAR, BAR_HEIGHT) if detailed else (row + gap / 2, 1 - gap)
-        for start, end, state in lane.states:
-            start, end = max(scale.at(start), scale.since), min(scale.at(end), scale.until)
-            if end <= start:
+        for start, end, state in joined(scale, lane.states, columns):
+            if end == start:
                 continue
             boxes[state].append(((start, low), (start, low + height), (end, low + height), (end, low)))
             if detailed and (end - start) / scale.span > 0.012 + 0.009 * len(state):
@@ -73,18 +116,31 @@ def draw_details(axes, scale, row, lane):
         marks(axes, scale, lane.echoes[0], row + BAR - 0.08, row + BAR - 0.02, ECHO)
         marks(axes, scale, lane.echoes[1], below + 0.02, below + 0.08, ECHO)
     for spans, colour, low in ((lane.polls, POLL, below + 0.16), (lane.demand, DEMAND, below + 0.22)):
-        axes.broken_barh([(scale.at(start), max(scale.at(end - start), scale.span / 600)) for start, end in spans],
+        bars = joined(scale, ((start, end, None) for start, end in spans), MOST_COLUMNS)
+        axes.broken_barh([(start, max(end - start, scale.span / 600)) for start, end, _ in bars],
                          (low, 0.045), color=colour, linewidth=0)
     draw_drops(axes, scale, row, lane.drops, True)
-    for moment, cause in lane.refusals:
-        axes.plot(scale.at(moment), below + 0.075, marker="D", color=REFUSAL, markersize=5)
-        write(axes, scale, scale.at(moment) + scale.span / 150, below + 0.08, cause, REFUSAL)
+    draw_refusals(axes, scale, below, lane.refusals)
+
+
+def draw_refusals(axes, scale, below, refusals):
+    """A rhomb for each refused command, and its cause where there is room."""
+    if not refusals:
+        return
+    marked = thinned(scale, [moment for moment, _ in refusals])
+    axes.plot(marked, [below + 0.075] * len(marked), "D", color=REFUSAL, markersize=5)
+    free = scale.since
+    for moment, cause in refusals:
+        at = scale.at(moment) + scale.span / 150
+        if free <= at <= scale.until:
+            write(axes, scale, at, below + 0.08, cause, REFUSAL)
+            free = at + scale.span * width_of(cause)
 
 
 def marks(axes, scale, moments, low, high, colour):
     """A stroke for each packet, thinner where there are many."""
     width = 1.4 if len(moments) < 150 else 0.8 if len(moments) < 800 else 0.3
-    axes.vlines([scale.at(moment) for moment in moments], low, high, color=colour, linewidth=width)
+    axes.vlines(thinned(scale, moments), low, high, color=colour, linewidth=width)
 
 
 def write(axes, scale, moment, height, label, colour):
@@ -105,8 +161,8 @@ def draw_drops(axes, scale, row, drops, detailed):
     if not detailed:
         return marks(axes, scale, [moment for moment, _ in drops], row + 0.08, row + 0.92, DROP)
     inside = [(scale.at(moment), reason) for moment, reason in drops if scale.since <= scale.at(moment) <= scale.until]
-    axes.plot([moment for moment, _ in inside], [row + BAR - 0.075] * len(inside), "x", color=DROP, markersize=6,
-              markeredgewidth=1.6)
+    crosses = thinned(scale, [moment for moment, _ in drops])
+    axes.plot(crosses, [row + BAR - 0.075] * len(crosses), "x", color=DROP, markersize=6, markeredgewidth=1.6)
     free = [scale.since] * len(LEVELS)
     for moment, reason, count in grouped(inside, scale.span / 40):
         label = reason + (f" ×{count}" if count > 1 else "")

@@ -3,7 +3,9 @@
 The journal of each shard becomes a packet file with the shard's sessions, and its report has the lines of the served text. Nothing
 here is proved.
 """
-from texts import Complaint, Line, Script, report_of, text_of
+import heapq
+
+from texts import EVENTS, Complaint, Line, Script, text_of
 
 SESSIONS = ("p2p", "sbfd", "head", "tail")
 REPORTED = ("state", "tx", "drop", "refuse", "show")
@@ -25,15 +27,14 @@ class Served:
 
     def __init__(self, text, name):
         self.name, self.shards, self.entries, self.sent, self.lost = name, [], None, None, None
-        lines = text.split("\n")
-        for place, line in enumerate(lines[:-1], 1):
+        for place, line in enumerate(lines_of(text), 1):
             try:
                 if self.entries is not None:
                     raise ValueError
                 self.take(place, line)
             except (ValueError, IndexError):
                 raise Complaint(f"{name}: line {place} is in no served text: {line[:80]}") from None
-        if self.entries is None or lines[-1]:
+        if self.entries is None or text[-1] != "\n":
             raise Complaint(f"{name} isn't a whole served text: its last line `served ..` is missing, or cut off")
 
     def take(self, place, line):
@@ -48,6 +49,14 @@ class Served:
             self.shards[-1].lines.append((place, line))
         else:
             raise ValueError
+
+
+def lines_of(text):
+    """The lines of a text one by one, since a long run's needn't all be there twice. What stands behind the last LF is none."""
+    start = 0
+    while (end := text.find("\n", start)) >= 0:
+        yield text[start:end]
+        start = end + 1
 
 
 class Live:
@@ -82,7 +91,7 @@ def packet_file(live, served, number):
 def event_line(live, served, place, event):
     """The line of an event in a packet file, where an echo packet that came back is one that comes in."""
     words = event.split(" ")
-    if words[0] in ("rx", "tick", "cmd", "show"):
+    if words[0] in EVENTS:
         return event
     try:
         _, moment, discr, sequence = words
@@ -101,21 +110,30 @@ def report_text(shard):
 
 
 def whole_run(live, served):
-    """The run as a script with all its sessions, and its report. The events of all shards are in the order of time, and those of a
-    shard in that of its journal, in which a moment that goes back counts as the last one."""
-    rows, report = [], []
-    for number, shard in enumerate(served.shards):
-        part, latest, lines = Script(packet_file(live, served, number), served.name), 0, {}
-        for line in report_of(report_text(shard), part, served.name):
-            lines.setdefault(line.number, []).append(line)
-        for at, event in enumerate(part.events, 1):
-            latest = max(latest, event.moment)
-            rows.append((latest, event, lines.get(at, ())))
-    rows.sort(key=lambda row: row[0])
-    for at, (_, _, lines) in enumerate(rows, 1):
-        report += [Line(at, line.word, line.words) for line in lines]
-    live.script.events = [event for _, event, _ in rows]
-    return live.script, report
+    """The run as a script with all its sessions, and its events with their report lines, one after another. The events of all shards
+    are in the order of time, and those of a shard in that of its journal."""
+    shards = (entries_of(live, served, shard) for shard in served.shards)
+    return live.script, ((event, lines) for _, event, lines in heapq.merge(*shards, key=lambda entry: entry[0]))
+
+
+def entries_of(live, served, shard):
+    """Each entry of a shard: its moment, where one that goes back counts as the last one, its event, and its report lines, which
+    stand right behind it."""
+    reader, latest, at = Script("", served.name), 0, 0
+    for place, _, text in shard.turns:
+        try:
+            event = reader.event_of(event_line(live, served, place, text).split(" "))
+        except (ValueError, IndexError):
+            raise Complaint(f"{served.name}: line {place} is no event of this script: {text[:80]}") from None
+        lines = []
+        while at < len(shard.lines) and shard.lines[at][0] == place + len(lines) + 1:
+            number, word, *words = shard.lines[at][1].split(" ")
+            if not live.script.may_have(word, words):
+                raise Complaint(f"{served.name}: line {shard.lines[at][0]} tells nothing of this script: {shard.lines[at][1][:80]}")
+            lines.append(Line(int(number), word, words))
+            at += 1
+        latest = max(latest, event.moment)
+        yield latest, event, lines
 
 
 def read_run(script, served):

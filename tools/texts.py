@@ -2,6 +2,7 @@
 
 Nothing here is proved. A packet file is taken as one that the program reads: only what a tool needs of a line is looked at.
 """
+import functools
 import importlib
 import ipaddress
 import os
@@ -15,6 +16,7 @@ TOP = Path(__file__).resolve().parent.parent
 STATES = ["AdminDown", "Down", "Init", "Up"]
 PORTS = {"single": 3784, "multi": 4784, "echo": 3785, "sbfd": 7784, "answer": 49152}  # an answer goes back to the initiator's port
 SOURCE_PORT = 49152
+EVENTS = ("tick", "rx", "cmd", "show")
 ECHO = bytes.fromhex("42464465")  # the first word of an echo packet
 BITS = {"P": 0x20, "F": 0x10, "C": 0x08, "A": 0x04, "D": 0x02, "M": 0x01}
 
@@ -56,6 +58,7 @@ class Packet(NamedTuple):
         return bool(self.flags & BITS[bit])
 
 
+@functools.lru_cache(maxsize=4096)  # a long run has few payloads, again and again
 def packet_of(payload):
     """The fields of a payload, or None where it is too short to have them."""
     if len(payload) < 24:
@@ -68,6 +71,7 @@ def packet_of(payload):
     return Packet(payload[0] >> 5, payload[0] & 31, STATES[payload[1] >> 6], payload[1] & 63, payload[2], *words, auth, key, seq)
 
 
+@functools.lru_cache(maxsize=1 << 16)
 def address_of(text):
     """The bytes of an address as a packet file has it, or as people write it."""
     if len(text) == 32 and ":" not in text:
@@ -143,17 +147,33 @@ class Script:
                                            address_of(fields[at + 2]), int(fields[2]) if word == "tail" else None)
         elif word == "reflector":
             self.reflectors.add(int(fields[1]))
-        elif word == "tick":
-            self.last_tick = max(self.last_tick, int(fields[1]) * 1000)
-            self.events.append(Event(word, self.last_tick, None, None, fields))
-        elif word == "rx":
-            arrival = Arrival(fields[2], int(fields[3]), address_of(fields[4]), address_of(fields[5]), int(fields[6]),
-                              bytes.fromhex(fields[7].replace("-", "")))
-            self.events.append(Event(word, self.effective(fields[1]), None, arrival, fields))
-        elif word in ("cmd", "show"):
-            self.events.append(Event(word, self.effective(fields[1]), int(fields[2]), None, fields))
+        elif word in EVENTS:
+            self.events.append(self.event_of(fields))
         elif word not in ("bfd", "auth", "key", "run", "end", ""):
             raise ValueError
+
+    def event_of(self, fields):
+        """The event of a line, which is behind those that were asked for before."""
+        word = fields[0]
+        if word == "tick":
+            self.last_tick = max(self.last_tick, int(fields[1]) * 1000)
+            return Event(word, self.last_tick, None, None, fields)
+        if word == "rx":
+            arrival = Arrival(fields[2], int(fields[3]), address_of(fields[4]), address_of(fields[5]), int(fields[6]),
+                              bytes.fromhex(fields[7].replace("-", "")))
+            return Event(word, self.effective(fields[1]), None, arrival, fields)
+        return Event(word, self.effective(fields[1]), int(fields[2]), None, fields)
+
+    def may_have(self, word, words):
+        """Whether a report may have such a line, by what a tool looks at."""
+        if word in ("drop", "refuse"):
+            return True
+        discr = int(words[0]) if words[0].isdigit() else None
+        if word == "tx":
+            known = discr in self.sessions or discr in self.reflectors
+            return known and len(words) == 2 and len(words[1]) % 2 == 0 and not words[1].strip("0123456789abcdef")
+        return discr in self.sessions and (word == "show" or word == "state" and len(words) == 4 and words[1] in STATES
+                                           and words[2] in STATES)
 
     def effective(self, moment):
         """A moment before the last tick counts as that tick's."""
@@ -200,10 +220,19 @@ def report_of(text, script, name):
                 raise Complaint(f"{name} is the report of another packet file: it has {fields[1]} events, and the file has "
                                 f"{len(script.events)}")
             return lines
-        if not fields[0].isdigit() or not 1 <= int(fields[0]) <= len(script.events) or len(fields) < 3:
+        if not fields[0].isdigit() or not 1 <= int(fields[0]) <= len(script.events) or len(fields) < 3 \
+                or not script.may_have(fields[1], fields[2:]):
             raise Complaint(f"{name}: line {at} is in no report of this packet file: {line[:80]}")
         lines.append(Line(int(fields[0]), fields[1], fields[2:]))
     raise Complaint(f"{name} isn't a whole report: its last line `done ..` is missing")
+
+
+def happenings(script, report):
+    """Each event with the lines that the report has of it."""
+    lines = {}
+    for line in report:
+        lines.setdefault(line.number, []).append(line)
+    return ((event, lines.get(number, ())) for number, event in enumerate(script.events, 1))
 
 
 def text_of(path):
@@ -238,15 +267,15 @@ def add_replay_arguments(parser):
                         help="what replays it, in place of bin/bfdd")
 
 
-def script_and_report(told):
-    """What these arguments name."""
+def script_and_happenings(told):
+    """The packet file that these arguments name, and each of its events with what a report has of it, one after another."""
     if told.served:
         from served import read_run, whole_run
         return whole_run(*read_run(told.file, told.served))
     text = text_of(told.file)
     script = Script(text, told.file)
     report = text_of(told.report) if told.report else replayed(told.program, text)
-    return script, report_of(report, script, told.report or "the report")
+    return script, happenings(script, report_of(report, script, told.report or "the report"))
 
 
 def tool_name():

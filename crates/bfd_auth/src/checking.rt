@@ -22,7 +22,7 @@ pub fn verify(keys: &Keys, seq: &SeqState, raw: &[u8]) -> Result<SeqState, Test>
 {
     match first_failing(keys, seq, raw) {
         Some(test) => Err(test),
-        None => Ok(after(keys.kind, seq, raw)),
+        None => Ok(heard(keys.kind, seq, raw)),
     }
 }
 
@@ -35,16 +35,16 @@ fn first_failing(keys: &Keys, seq: &SeqState, raw: &[u8]) -> Option<Test>
     if byte_at(raw, 24) != kind.number() {
         return Some(Test::AuthType);
     }
-    let Some(key) = named_key(keys, raw) else {
+    let Some(key) = packet_key(keys, raw) else {
         return Some(Test::AuthKey);
     };
-    if !is_long_enough(kind, key, raw) {
+    if !has_section_length(kind, key, raw) {
         return Some(Test::AuthLen);
     }
-    if !is_timely(kind, seq, raw) {
+    if !may_hear(kind, seq, raw) {
         return Some(Test::AuthSeq);
     }
-    if !shows_key(kind, key, raw) {
+    if !is_genuine(kind, key, raw) {
         return Some(Test::AuthDigest);
     }
     None
@@ -58,7 +58,7 @@ fn byte_at(raw: &[u8], place: usize) -> u8
 }
 
 // The key that the packet's Key ID names.
-fn named_key<'a>(keys: &'a Keys, raw: &[u8]) -> Option<&'a Key>
+fn packet_key<'a>(keys: &'a Keys, raw: &[u8]) -> Option<&'a Key>
     ensures value { option_copied result ≡ packet_key keys.now.list raw.now }
     ensures fits { IfSome result (λ key. IsTrue (fits_kind keys.now.kind key.now.secret)) }
 {
@@ -70,7 +70,7 @@ fn named_key<'a>(keys: &'a Keys, raw: &[u8]) -> Option<&'a Key>
 }
 
 // Whether Auth Len is what the type and the key ask for, and doesn't run past the packet.
-fn is_long_enough(kind: AuthType, key: &Key, raw: &[u8]) -> bool
+fn has_section_length(kind: AuthType, key: &Key, raw: &[u8]) -> bool
     requires { IsTrue (fits_kind kind key.now.secret) }
     ensures value { result ≡ has_section_length kind key.now raw.now }
     ensures whole { IsTrue result → is_password kind ≡ false → 32 ≤ length raw.now }
@@ -80,11 +80,11 @@ fn is_long_enough(kind: AuthType, key: &Key, raw: &[u8]) -> bool
 }
 
 // Whether the packet's sequence number may be heard.
-fn is_timely(kind: AuthType, seq: &SeqState, raw: &[u8]) -> bool
+fn may_hear(kind: AuthType, seq: &SeqState, raw: &[u8]) -> bool
     requires { is_password kind ≡ false → 32 ≤ length raw.now }
     ensures { result ≡ may_hear kind seq.now (slice_index raw.now 2) (sequence_of raw.now) }
 {
-    kind.carries_password() || !seq.known || follows(kind, seq.rcv, raw[2], sequence(raw))
+    kind.carries_password() || !seq.known || in_window(kind, seq.rcv, raw[2], sequence(raw))
 }
 
 // The packet's sequence number.
@@ -96,26 +96,26 @@ fn sequence(raw: &[u8]) -> u32
 }
 
 // Whether the sequence number may follow the last one heard.
-fn follows(kind: AuthType, last: u32, mult: u8, s: u32) -> bool
+fn in_window(kind: AuthType, last: u32, mult: u8, s: u32) -> bool
     ensures { result ≡ in_window kind last mult s }
 {
     let width = 3 * u32::from(mult);
     if has_to_rise(kind) {
-        is_within(last.wrapping_add(1), width.saturating_sub(1), s)
+        window(last.wrapping_add(1), width.saturating_sub(1), s)
     } else {
-        is_within(last, width, s)
+        window(last, width, s)
     }
 }
 
 // Whether the sequence number is one of the width + 1 numbers from `lo` on, modulo 2^32.
-fn is_within(lo: u32, width: u32, s: u32) -> bool
+fn window(lo: u32, width: u32, s: u32) -> bool
     ensures { result ≡ window lo width s }
 {
     s.wrapping_sub(lo) <= width
 }
 
 // Whether the password is the secret, or the digest the right one.
-fn shows_key(kind: AuthType, key: &Key, raw: &[u8]) -> bool
+fn is_genuine(kind: AuthType, key: &Key, raw: &[u8]) -> bool
     requires fits { IsTrue (fits_kind kind key.now.secret) }
     requires whole { IsTrue (has_section_length kind key.now raw.now) }
     ensures { result ≡ is_genuine kind key.now raw.now }
@@ -130,7 +130,7 @@ fn shows_key(kind: AuthType, key: &Key, raw: &[u8]) -> bool
 }
 
 // The state after a packet that was accepted.
-fn after(kind: AuthType, seq: &SeqState, raw: &[u8]) -> SeqState
+fn heard(kind: AuthType, seq: &SeqState, raw: &[u8]) -> SeqState
     requires { is_password kind ≡ false → 32 ≤ length raw.now }
     ensures { result ≡ heard kind seq.now (sequence_of raw.now) }
 {

@@ -9,7 +9,7 @@ use Rattle.std_heap.proofs.Global.TheLaws as heap
 use Rattle.bfd_c.specs.contracts.engine.Engine as Home
 use Rattle.bfd_c.proofs.engine.Engine.TheLaws as home
 use Rattle.bfd_c.specs.contracts.apart.Apart as Apart
-use Rattle.bfd_c.specs.contracts.kept.Kept as Kept
+use Rattle.bfd_c.specs.contracts.owned.Owned as Kept
 
 abbrev pub E : Bx
 E = record { row = Home.the_row; laws = home.the_row_laws; al = record { row = Heap.the_row; laws = heap.the_row_laws; g = ghosts; d = dict; drops = impl [] tnil dnil } }

@@ -3,13 +3,13 @@ ghost use Rattle.std.specs.Prelude.{◌≡◌, None, Some, option_map, is_some};
 
 use crate::apart::Apart;
 use crate::engine::Engine;
-use crate::kept::Kept;
+use crate::owned::Owned;
 use std::alloc::Global;
 
 /// A handle, which C keeps: closed, or open with an engine. Zeros are a closed one.
 #[repr(C)]
 pub struct Handle {
-    pub(crate) kept: Kept,
+    pub(crate) kept: Owned,
     pub(crate) is_open: bool,
     ghost fits: { is_some kept.held ≡ is_open },
 }
@@ -20,7 +20,7 @@ impl Handle {
         ensures { result.kept.held ≡ None }
     {
         Handle {
-            kept: Kept::empty(alloc),
+            kept: Owned::empty(alloc),
             is_open: false,
         }
     }
@@ -30,7 +30,7 @@ impl Handle {
         ensures { result.kept.held ≡ Some engine.value }
     {
         Handle {
-            kept: Kept::of_apart(Apart::of(engine)),
+            kept: Owned::of_apart(Apart::of(engine)),
             is_open: true,
         }
     }

@@ -2,14 +2,11 @@
 ghost use Rattle.std.specs.Prelude.{◌≡◌};
 ghost use Rattle.bfd_echo.specs.Packet as packet;
 
-use bfd_packet::{Addr, Datagram, Wire};
+use bfd_packet::{Addr, Datagram, SOURCE_PORT, Wire};
 use byteorder::{BigEndian, ByteOrder};
 
 /// What each echo packet begins with: "BFDe".
 const SIGN: u32 = 0x4246_4465;
-
-/// The source port of every session, within the range of RFC 5881 section 4.
-const SOURCE_PORT: u16 = 49152;
 
 /// The destination port of echo packets (RFC 5881 section 4).
 const ECHO_PORT: u16 = 3785;

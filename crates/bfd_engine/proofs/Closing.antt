@@ -7,7 +7,7 @@ use Rattle.bfd_turn.specs.Passes.{TableId, AllJoined}
 use Rattle.bfd_turn.specs.Plays.{AllKept}
 use Rattle.bfd_session.specs.Kinds.{configs_of}
 use Rattle.bfd_shard.specs.Shard.{Shard}
-use Rattle.bfd_engine.specs.declared.kept.Base.{Base}
+use Rattle.bfd_engine.specs.declared.locked.Base.{Base}
 use Rattle.bfd_engine.specs.Turned.{by, configs_in, limit_in}
 use Rattle.bfd_engine.specs.Engines.{Shards, Held, Knows, IsOf, AllThere, base_at}
 use Rattle.bfd_engine.specs.Calls.{seen_of, word_of, taken_of, made_of, kept_of}

@@ -11,12 +11,12 @@ use Rattle.bfd_shard.specs.contracts.entry.Entry as Entry
 use Rattle.bfd_turn.specs.contracts.lock.TurnLock as TurnLock
 use Rattle.bfd_turn.proofs.lock.TurnLock.TheSendSync as turn
 use Rattle.bfd_wheel.specs.declared.form.Timers.{Ghosts}
-use Rattle.bfd_engine.specs.contracts.kept.Base as Base
-use Rattle.bfd_engine.specs.contracts.kept.Kept as Kept
-use Rattle.bfd_engine.specs.contracts.kept.KeptRecorded.TheImpl.{ghosts}
+use Rattle.bfd_engine.specs.contracts.locked.Base as Base
+use Rattle.bfd_engine.specs.contracts.locked.Locked as Kept
+use Rattle.bfd_engine.specs.contracts.locked.LockedRecorded.TheImpl.{ghosts}
 use Rattle.bfd_engine.specs.contracts.engine.Engine.{the_row}
 use Rattle.bfd_engine.specs.contracts.engine.Engine.TheInside.{the_type}
-use Rattle.bfd_engine.proofs.kept.Kept.TheSendSync as kept
+use Rattle.bfd_engine.proofs.locked.Locked.TheSendSync as kept
 
 module _ (W : RattleType) (g : Ghosts W.Denot) (d e : Dict) where
   abbrev lock : RattleType

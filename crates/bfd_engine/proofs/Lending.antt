@@ -7,7 +7,7 @@ use Rattle.bfd_turn.specs.Passes.{TableId, IsBack, WasBusy, WasSpent, having_met
 use Rattle.bfd_turn.specs.Refusals.{IsRefused}
 use Rattle.bfd_turn.specs.declared.fault.TryFault.{TryFault}
 use Rattle.bfd_turn.specs.declared.fault.TryFault.TheVariants.{Busy as TryBusy, Spent as TrySpent}
-use Rattle.bfd_engine.specs.declared.kept.Base.{Base}
+use Rattle.bfd_engine.specs.declared.locked.Base.{Base}
 use Rattle.bfd_turn.specs.Plays.{Adds}
 use Rattle.bfd_shard.specs.declared.entry.Entry.{Entry}
 use Rattle.bfd_engine.specs.declared.holding.HoldFault.TheVariants.{Busy, Spent}

@@ -13,7 +13,7 @@ use Rattle.bfd_session.specs.Rows.{AreFit, table_of}
 use Rattle.bfd_sbfd.specs.declared.reflecting.Reflector.{Reflector}
 use Rattle.bfd_turn.specs.Passes.{TableId, opened}
 use Rattle.bfd_demux.specs.declared.row.Row.{Row}
-use Rattle.bfd_engine.specs.declared.kept.Base.{Base}
+use Rattle.bfd_engine.specs.declared.locked.Base.{Base}
 use Rattle.bfd_engine.specs.Engines.{IsCallers, Shards, Held, AllOf, IsOf, AllThere, IsEngine, share, configs_at}
 use Rattle.bfd_engine.specs.Calls.{seen_of, word_of, taken_of, made_of, kept_of}
 use Rattle.bfd_engine.specs.Opening.{IsSorted, IsNewPass, opened_base, IsNewShard, MayOpen, ArePassed, IsOpened, AreOpened}

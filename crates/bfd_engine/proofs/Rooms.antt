@@ -5,7 +5,7 @@ use Rattle.bfd_session.specs.Kinds.{Running, configs_of}
 use Rattle.bfd_shard.specs.declared.entry.ShardEvent.{ShardEvent}
 use Rattle.bfd_shard.specs.declared.entry.ShardEvent.TheVariants.{Own, Tick}
 use Rattle.bfd_shard.specs.Shard.{room_for}
-use Rattle.bfd_engine.specs.declared.kept.Base.{Base}
+use Rattle.bfd_engine.specs.declared.locked.Base.{Base}
 use Rattle.bfd_engine.specs.Turned.{configs_in, room_in}
 
 room_is : (ss : List Running) (e : ShardEvent) → room_in (configs_of ss) e ≡ room_for ss e

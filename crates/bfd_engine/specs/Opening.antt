@@ -8,7 +8,7 @@ use Rattle.bfd_demux.specs.declared.row.Row.{Row}
 use Rattle.bfd_demux.specs.Rows.{build_fault}
 use Rattle.bfd_session.specs.Rows.{AreFit}
 use Rattle.bfd_turn.specs.Passes.{TableId, opened}
-use Rattle.bfd_engine.specs.declared.kept.Base.{Base}
+use Rattle.bfd_engine.specs.declared.locked.Base.{Base}
 use Rattle.bfd_engine.specs.declared.fault.OpenFault.{OpenFault}
 use Rattle.bfd_engine.specs.declared.fault.OpenFault.TheVariants.{Build, Memory}
 use Rattle.bfd_engine.specs.Turned.{OfShard}

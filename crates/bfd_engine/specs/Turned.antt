@@ -13,7 +13,7 @@ use Rattle.bfd_shard.specs.History.{events_of, last_tick, runs, outcome_of}
 use Rattle.bfd_turn.specs.Lists.{calls}
 use Rattle.bfd_turn.specs.declared.view.Known.{Known}
 use Rattle.bfd_turn.specs.Passes.{last_word}
-use Rattle.bfd_engine.specs.declared.kept.Base.{Base}
+use Rattle.bfd_engine.specs.declared.locked.Base.{Base}
 use Rattle.bfd_engine.specs.declared.turn.TurnFault.{TurnFault}
 use Rattle.bfd_engine.specs.declared.turn.TurnFault.TheVariants.{Memory, Full, Spent}
 

@@ -7,7 +7,7 @@ ghost use Rattle.bfd_engine.specs.Engines.{IsOf, AllThere, configs_at};
 ghost use Rattle.bfd_engine.specs.Calls.{IsDone, Turns, fault_of, seen_at};
 
 use crate::fault::EngineFault;
-use crate::kept::Kept;
+use crate::locked::Locked;
 use crate::pass::EnginePass;
 use crate::turn::{TurnFault, turn_with};
 use bfd_demux::Demux;
@@ -27,7 +27,7 @@ use std::sync::ledger::Ledger;
 /// its own.
 #[derive(Drop)]
 pub struct Engine<W: Timers> {
-    pub(crate) locks: Vec<TurnLock<Kept<W>>>,
+    pub(crate) locks: Vec<TurnLock<Locked<W>>>,
     pub(crate) demux: Demux,
     pub(crate) pool: Vec<Reflector>,
     // Of each session, by place of the table.

@@ -6,7 +6,7 @@ ghost use Rattle.bfd_engine.specs.Holds.{IsHeld, HasTaken, IsKept};
 ghost use Rattle.bfd_engine.specs.Turned.{OfShard};
 
 use crate::engine::Engine;
-use crate::kept::Kept;
+use crate::locked::Locked;
 use crate::pass::EnginePass;
 use bfd_turn::{TryFault, Turn};
 use bfd_wheel::Timers;
@@ -14,7 +14,7 @@ use std::marker::Model;
 
 /// The turn of a shard, until `Engine::let_go`, which has to spend it. Meanwhile its pass has none of this shard.
 pub struct Hold<W: Timers> {
-    turn: Turn<Kept<W>>,
+    turn: Turn<Locked<W>>,
     shard: u32,
 }
 

@@ -6,7 +6,7 @@ ghost use Rattle.bfd_engine.specs.Passes.{Joined, GluesAt, EachJoined, AreClosed
 ghost use Rattle.bfd_engine.specs.Turned.{OfShard};
 
 use crate::engine::Engine;
-use crate::kept::Kept;
+use crate::locked::Locked;
 use crate::pass::EnginePass;
 use bfd_shard::ShardState;
 use bfd_wheel::Timers;
@@ -72,7 +72,7 @@ impl<W: Timers> Engine<W> {
         let Engine { locks, .. } = self;
         for lock in locks {
             let own = pass.lift(shards.len());
-            let Kept { shard } = lock.close(own);
+            let Locked { shard } = lock.close(own);
             shards.push_reserved(shard);
         }
         Ok(shards)

@@ -7,7 +7,7 @@ ghost use Rattle.bfd_engine.specs.Turned.{HasLooked, IsSame, configs_in};
 
 use crate::engine::{Engine, fault_at};
 use crate::fault::EngineFault;
-use crate::kept::{Base, Kept};
+use crate::locked::{Base, Locked};
 use crate::pass::EnginePass;
 use crate::turn::TurnFault;
 use bfd_shard::Entry;
@@ -32,7 +32,7 @@ fn copy_from(alloc: Global, journal: &[Entry], from: usize) -> Result<Vec<Entry>
 fn read_with<W: Timers, R: Wait>(
     rt: &R,
     alloc: Global,
-    lock: &TurnLock<Kept<W>>,
+    lock: &TurnLock<Locked<W>>,
     pass: Pass<Entry, Base>,
     from: usize,
 ) -> (Pass<Entry, Base>, Result<Vec<Entry>, TurnFault>)

@@ -6,10 +6,10 @@ ghost use Rattle.bfd_session.specs.Rows as rows;
 ghost use Rattle.bfd_session.specs.Rows.{AreFit};
 ghost use Rattle.bfd_engine.specs.Opening.{IsSorted, IsNewPass, IsOpenFault, IsNewShard, ArePassed, AreOpened};
 
-use crate::dealing::deal;
+use crate::dealing::deal_sessions;
 use crate::engine::Engine;
 use crate::fault::OpenFault;
-use crate::kept::{Base, Kept};
+use crate::locked::{Base, Locked};
 use crate::pass::EnginePass;
 use bfd_demux::{BuildFault, Demux};
 use bfd_sbfd::Reflector;
@@ -43,7 +43,7 @@ fn plan(alloc: Global, configs: &[SessionConfig], pool: &[Reflector]) -> Result<
 
 /// What the shards are opened as: their locks, the passes of caller 0, and how many sessions each has.
 type Opened<W> = (
-    Vec<TurnLock<Kept<W>>>,
+    Vec<TurnLock<Locked<W>>>,
     Vec<Option<Pass<Entry, Base>>>,
     Vec<usize>,
 );
@@ -53,13 +53,13 @@ fn open_shard<W: Timers>(
     alloc: Global,
     configs: Vec<SessionConfig>,
     limit: usize,
-) -> Result<(TurnLock<Kept<W>>, Pass<Entry, Base>), AllocError>
+) -> Result<(TurnLock<Locked<W>>, Pass<Entry, Base>), AllocError>
     requires few { length configs.items ≤ 65536 }
     requires fit { AreFit configs.items }
     ensures { IfOk result (λ r. IsNewShard limit configs.items r.0 r.1) }
 {
     let shard = ShardState::make(alloc, configs, limit)?;
-    TurnLock::new(alloc, Kept { shard }, 0)
+    TurnLock::new(alloc, Locked { shard }, 0)
 }
 
 /// A shard for each part.
@@ -113,7 +113,7 @@ impl<W: Timers> Engine<W> {
             return Err(OpenFault::Memory);
         };
         let known = Snapshot::of(&configs);
-        let Ok(parts) = deal(alloc, configs, shards as usize) else {
+        let Ok(parts) = deal_sessions(alloc, configs, shards as usize) else {
             return Err(OpenFault::Memory);
         };
         let Ok((locks, passes, sizes)) = open_shards(alloc, parts, limit) else {

@@ -4,7 +4,7 @@ ghost use Rattle.bfd_turn.specs.Passes.{TableId};
 ghost use Rattle.bfd_engine.specs.Engines.{AreNew, IsCallers};
 ghost use Rattle.bfd_engine.specs.Turned.{OfShard};
 
-use crate::kept::Base;
+use crate::locked::Base;
 use bfd_shard::Entry;
 use bfd_turn::Pass;
 use std::marker::Model;

@@ -5,7 +5,7 @@ ghost use Rattle.bfd_engine.specs.Engines.{IsOf, AllThere, AreNewAt};
 ghost use Rattle.bfd_engine.specs.Passes.{Parted, CutsAt};
 
 use crate::engine::Engine;
-use crate::kept::Base;
+use crate::locked::Base;
 use crate::pass::EnginePass;
 use bfd_shard::Entry;
 use bfd_turn::Pass;

@@ -3,7 +3,7 @@ ghost use Rattle.std.specs.Prelude.{◌≡◌, ◌≤◌, ◌+◌, IfOk, IfErr, 
 ghost use Rattle.bfd_shard.specs.Shard.{CanHappen, IsOwn};
 ghost use Rattle.bfd_engine.specs.Turned.{IsSame, HasTurned, HasLooked, IsCause, IsTimely, configs_in, room_in};
 
-use crate::kept::{Base, Kept};
+use crate::locked::{Base, Locked};
 use bfd_num::Steps;
 use bfd_rules::Outs;
 use bfd_session::Answer;
@@ -28,7 +28,7 @@ pub enum TurnFault {
 /// the turn is given back, after a fault too.
 pub(crate) fn turn_with<W: Timers, R: Wait, L: Ledger>(
     rt: &R,
-    lock: &TurnLock<Kept<W>>,
+    lock: &TurnLock<Locked<W>>,
     pass: Pass<Entry, Base>,
     event: ShardEvent,
     outs: &mut Outs,

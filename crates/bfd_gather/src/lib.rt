@@ -21,7 +21,7 @@ mod reporting;
 
 pub use law::{dealing_laws, telling_laws};
 pub use part::Part;
-pub use queue::{Numbered, deal};
+pub use queue::{Numbered, queue_event};
 pub use reporting::{Gathered, report};
 
 #[cfg(test)]

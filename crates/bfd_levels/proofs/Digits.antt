@@ -3,7 +3,7 @@ use Rattle.std.proofs.Common.{◌≡◌, ◌≢◌, ◌⊎◌, inl, inr, ℕ, ze
 use Rattle.std.proofs.lemmas.Bool.Decides.{nat_tests}
 use Rattle.bfd_wheel.specs.Taken.{bit}
 use Rattle.bfd_wheel.proofs.Rings.{same_or_not, under_or_not}
-use Rattle.bfd_wheel.proofs.Taking.{bit_same, bit_other}
+use Rattle.bfd_wheel.proofs.TakenIds.{bit_same, bit_other}
 use Rattle.bfd_levels.specs.Height.{height}
 use Rattle.bfd_levels.specs.Lists.{slot, place, level_of, reach}
 use Rattle.bfd_levels.specs.Moves.{GoesDown}

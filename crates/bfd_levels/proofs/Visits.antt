@@ -1,5 +1,5 @@
 -- A walk along a list that a tick reaches, visit by visit.
-use Rattle.std.proofs.Common.{◌≡◌, ◌≢◌, ◌⊎◌, inl, inr, ℕ, ◌+◌, ◌<◌, ◌≤◌, List, length, refl, sym, ◌∙◌, subst, slice_index}
+use Rattle.std.proofs.Common.{◌≡◌, ◌≢◌, ◌⊎◌, inl, inr, ℕ, ◌+◌, ◌<◌, ◌≤◌, List, length, refl, sym, ◌∙◌, subst, slice_index, arith}
 use Rattle.bfd_lanes.specs.Places.{never}
 use Rattle.bfd_wheel.specs.declared.links.Node.{Node}
 use Rattle.bfd_wheel.specs.Wheel.{next_in}
@@ -10,6 +10,12 @@ use Rattle.bfd_levels.proofs.Digits.{place_head}
 use Rattle.bfd_levels.proofs.Placing.{can_move}
 use Rattle.bfd_levels.proofs.Midway.{midway_hit, midway_miss}
 use Rattle.bfd_levels.proofs.Walks.{IsWalk, cur_from, walk_stays, walk_takes, walk_moves, walk_placed, walk_spent, walk_left}
+
+-- a visit takes no step back
+pub visit_rises : (n tick head id t : ℕ) (dues dues2 : List ℕ) (nodes nodes2 : List Node) (s s2 : ℕ) → Visit n tick head id t dues dues2 nodes nodes2 s s2 → s ≤ s2
+visit_rises n tick head id t dues dues2 nodes nodes2 s s2 (takes le is u cost) = omega arith
+visit_rises n tick head id t dues dues2 nodes nodes2 s s2 (moves above is other u cost) = omega arith
+visit_rises n tick head id t dues dues2 nodes nodes2 s s2 (stays above is same here cost) = omega arith
 
 module _ (n tick head t s s2 bound : ℕ) (from : ℕ → ℕ) (dues : List ℕ) (nodes : List Node) (cur i : ℕ) (w : IsWalk n 1026 head t s bound from (place n tick) dues nodes cur i) (near : cur < n) where
   pub walk_can_move : CanMove cur 1026 dues nodes

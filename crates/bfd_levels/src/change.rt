@@ -11,13 +11,14 @@ use bfd_num::Steps;
 use bfd_wheel::{Node, detach, link, unlink};
 use std::sync::ledger::Ledger;
 
-/// Takes the id off its list, if it is on one: at most 1 step.
+/// Takes the id off its list, if it is on one: at most 1 step, and 1 where it is.
 pub(crate) fn free<L: Ledger>(nodes: &mut [Node], dues: &mut [u64], id: u32, steps: &mut Steps<L>)
     requires id { id < length dues.old }
     requires linked { slice_index dues.old id ≢ never → IsLinked id dues.old nodes.old }
     ensures levels { (n now : ℕ) → IsLevels n now dues.old nodes.old → IsLevels n now dues.new nodes.new }
     ensures dues { dues.new ≡ slice_set dues.old id never }
     ensures cost { steps.new ≤ steps.old + 1 }
+    ensures counts { slice_index dues.old id ≢ never → steps.new ≡ steps.old + 1 }
 {
     if dues[id as usize] != NEVER {
         detach(nodes, dues, id);

@@ -31,6 +31,7 @@ fn detach_all<L: Ledger>(
         ⊎ ((slice_index dues.new j ≡ never) × (slice_index dues.old j ≤ t)) }
     ensures cost { steps.new + loads (length dues.old) (at_tick (length dues.old) now dues.new) dues.new
         ≤ steps.old + loads (length dues.old) (at_tick (length dues.old) now dues.old) dues.old }
+    ensures counts { steps.old + length ids.now ≤ steps.new }
 {
     for id in ids {
         detach(nodes, dues, *id);

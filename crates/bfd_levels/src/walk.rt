@@ -77,6 +77,7 @@ pub(crate) fn walk<L: Ledger>(
     ensures spare { waiting t dues.new ≤ out.new.spare }
     ensures cost { steps.new + loads (length dues.old) (at_midway (length dues.old) before tick (level + 1) dues.new) dues.new
         ≤ steps.old + 1 + loads (length dues.old) (at_midway (length dues.old) before tick level dues.old) dues.old }
+    ensures looks { steps.old < steps.new }
 {
     steps.tick();
     let head = head_at(dues.len() as u32, tick, level);

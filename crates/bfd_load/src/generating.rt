@@ -5,7 +5,7 @@ ghost use Rattle.bfd_script.specs.Sound.{IsScript};
 ghost use Rattle.bfd_load.specs.Load as load;
 
 use bfd_num::{Moment, Tick};
-use bfd_packet::{Addr, Arrival, AuthBytes, Control, Payload, Port, State, write};
+use bfd_packet::{Addr, Arrival, AuthBytes, Control, Payload, Port, SOURCE_PORT, State, write};
 use bfd_rules::{Config, Role};
 use bfd_script::{Line, Script};
 use bfd_session::SessionConfig;
@@ -113,7 +113,7 @@ fn arrival(alloc: Global, i: u32, before: u32) -> Result<Arrival, AllocError>
         port: Port::Single,
         iface: 1,
         src: remote(i),
-        sport: 49_152,
+        sport: SOURCE_PORT,
         dst: LOCAL,
         ttl: 255,
         payload: Payload::keep(alloc, bytes.as_slice())?,

@@ -7,7 +7,7 @@ use Rattle.bfd_rules.specs.declared.variables.Mark.{Mark}
 use Rattle.bfd_rules.specs.declared.variables.Vars.{Vars}
 use Rattle.bfd_rules.specs.Quantities.{may_send, tx_interval}
 use Rattle.bfd_rules.specs.Jitter.{pick}
-use Rattle.bfd_rules.specs.Course.{draws, one_changed, drawn}
+use Rattle.bfd_rules.specs.EventFrame.{draws, one_changed, drawn}
 use Rattle.bfd_mp.specs.Sound.{IsHeadSteady, IsHeadSound}
 
 -- a head may always send

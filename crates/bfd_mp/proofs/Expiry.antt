@@ -4,7 +4,7 @@ use Rattle.bfd_packet.specs.declared.control.State.TheVariants.{Down}
 use Rattle.bfd_num.specs.Due.{has_come}
 use Rattle.bfd_rules.specs.declared.variables.Vars.{Vars}
 use Rattle.bfd_rules.specs.Quantities.{is_up}
-use Rattle.bfd_rules.specs.Course.{Course, changes, enters}
+use Rattle.bfd_rules.specs.EventFrame.{Course, changes, enters}
 use Rattle.bfd_mp.specs.declared.config.TailConfig.{TailConfig}
 use Rattle.bfd_mp.specs.Waiting.{deadline}
 use Rattle.bfd_mp.specs.TailSettle as settling

@@ -12,7 +12,7 @@ use Rattle.bfd_rules.specs.declared.outputs.Out.{Out}
 use Rattle.bfd_rules.specs.declared.outputs.Out.TheVariants.{Changed, Sent}
 use Rattle.bfd_rules.specs.declared.variables.Vars.{Vars}
 use Rattle.bfd_rules.specs.Quantities.{same_state, is_admin_down}
-use Rattle.bfd_rules.specs.Course.{Course, changes, sends, is_untold, based, redrawn}
+use Rattle.bfd_rules.specs.EventFrame.{Course, changes, sends, is_untold, based, redrawn}
 use Rattle.bfd_mp.specs.declared.config.HeadConfig.{HeadConfig}
 use Rattle.bfd_mp.specs.declared.config.TailConfig.{TailConfig}
 use Rattle.bfd_mp.specs.Waiting.{deadline}

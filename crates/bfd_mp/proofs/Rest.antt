@@ -10,7 +10,7 @@ use Rattle.bfd_rules.specs.declared.outputs.Out.{Out}
 use Rattle.bfd_rules.specs.declared.variables.Mark.{Mark}
 use Rattle.bfd_rules.specs.declared.variables.Vars.{Vars}
 use Rattle.bfd_rules.specs.Quantities.{may_send, same_state, tx_interval}
-use Rattle.bfd_rules.specs.Course.{Course, course, begins, is_news, is_untold, draws, drawn, redrawn}
+use Rattle.bfd_rules.specs.EventFrame.{Course, course, begins, is_news, is_untold, draws, drawn, redrawn}
 use Rattle.bfd_mp.specs.declared.config.HeadConfig.{HeadConfig}
 use Rattle.bfd_mp.specs.declared.config.TailConfig.{TailConfig}
 use Rattle.bfd_mp.specs.Waiting.{deadline}

@@ -12,7 +12,7 @@ use Rattle.bfd_rules.specs.declared.commands.Cmd.{Cmd}
 use Rattle.bfd_rules.specs.declared.commands.Cmd.TheVariants.{Disable, Enable, Reset, Path, Tx, Rx, Mult, Demand, EchoEvery, Key}
 use Rattle.bfd_rules.specs.declared.variables.Vars.{Vars}
 use Rattle.bfd_rules.specs.Quantities.{is_up, is_admin_down}
-use Rattle.bfd_rules.specs.Course.{Course, changes, sends, stamped, enters, is_untold, based, redrawn}
+use Rattle.bfd_rules.specs.EventFrame.{Course, changes, sends, stamped, enters, is_untold, based, redrawn}
 use Rattle.bfd_mp.specs.declared.config.HeadConfig.{HeadConfig}
 use Rattle.bfd_mp.specs.declared.config.TailConfig.{TailConfig}
 use Rattle.bfd_mp.specs.Counting.{counted}

@@ -6,7 +6,7 @@ use Rattle.bfd_num.specs.Due.{has_come}
 use Rattle.bfd_rules.specs.declared.commands.Cmd.{Cmd}
 use Rattle.bfd_rules.specs.declared.outputs.Out.{Out}
 use Rattle.bfd_rules.specs.Quantities.{is_admin_down}
-use Rattle.bfd_rules.specs.Course.{Course}
+use Rattle.bfd_rules.specs.EventFrame.{Course}
 use Rattle.bfd_mp.specs.declared.config.TailConfig.{TailConfig}
 use Rattle.bfd_mp.specs.Waiting.{deadline}
 use Rattle.bfd_mp.specs.TailSettle as settling

@@ -7,7 +7,7 @@ use Rattle.bfd_rules.specs.declared.commands.Refusal.{Refusal}
 use Rattle.bfd_rules.specs.declared.commands.Refusal.TheVariants.{PollBusy, WrongState, OutOfRange, WrongKind}
 use Rattle.bfd_rules.specs.declared.variables.Vars.{Vars}
 use Rattle.bfd_rules.specs.Quantities.{is_up, is_admin_down}
-use Rattle.bfd_rules.specs.Course.{Course, changes, enters}
+use Rattle.bfd_rules.specs.EventFrame.{Course, changes, enters}
 use Rattle.bfd_rules.specs.Sound.{is_interval}
 use Rattle.bfd_mp.specs.declared.config.HeadConfig.{HeadConfig}
 use Rattle.bfd_mp.specs.declared.config.TailConfig.{TailConfig}

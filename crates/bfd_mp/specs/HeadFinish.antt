@@ -1,7 +1,7 @@
 -- How an event of a head ends: a change that the tails haven't been told is told, and the next due tick is drawn. A tail's
 -- event ends with nothing of the kind: it may send nothing.
 use Rattle.std.specs.Prelude.{ℕ, true, false, if◌then◌else◌}
-use Rattle.bfd_rules.specs.Course.{Course, is_untold, based, redrawn}
+use Rattle.bfd_rules.specs.EventFrame.{Course, is_untold, based, redrawn}
 use Rattle.bfd_mp.specs.declared.config.HeadConfig.{HeadConfig}
 use Rattle.bfd_mp.specs.Transmit.{transmits}
 

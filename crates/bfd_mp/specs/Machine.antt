@@ -3,7 +3,7 @@ use Rattle.std.specs.Prelude.{true, false, None}
 use Rattle.bfd_packet.specs.declared.control.State.TheVariants.{Down, Up}
 use Rattle.bfd_rules.specs.declared.variables.Poll.TheVariants.{Idle}
 use Rattle.bfd_rules.specs.declared.variables.Vars.{Vars}
-use Rattle.bfd_rules.specs.Course.{begins, drawn}
+use Rattle.bfd_rules.specs.EventFrame.{begins, drawn}
 use Rattle.bfd_mp.specs.declared.config.HeadConfig.{HeadConfig}
 use Rattle.bfd_mp.specs.declared.config.TailConfig.{TailConfig}
 use Rattle.bfd_mp.specs.Sound.{IsHeadConfig, IsHeadSteady, IsTailConfig, IsTailSound}

@@ -5,7 +5,7 @@ use Rattle.bfd_num.specs.Due.{has_come}
 use Rattle.bfd_rules.specs.declared.variables.Vars.{Vars}
 use Rattle.bfd_rules.specs.declared.variables.Mark.{Mark}
 use Rattle.bfd_rules.specs.Quantities.{tx_interval}
-use Rattle.bfd_rules.specs.Course.{begins, one_changed}
+use Rattle.bfd_rules.specs.EventFrame.{begins, one_changed}
 use Rattle.bfd_mp.specs.Sound.{IsHeadSound}
 use Rattle.bfd_mp.specs.Waiting.{deadline}
 

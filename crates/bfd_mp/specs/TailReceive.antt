@@ -10,7 +10,7 @@ use Rattle.bfd_rules.specs.declared.variables.Vars.{Vars}
 use Rattle.bfd_rules.specs.declared.verdict.Verdict.{Verdict}
 use Rattle.bfd_rules.specs.declared.verdict.Verdict.TheVariants.{Accepted, Dropped}
 use Rattle.bfd_rules.specs.Quantities.{is_admin_down}
-use Rattle.bfd_rules.specs.Course.{Course, changes, enters}
+use Rattle.bfd_rules.specs.EventFrame.{Course, changes, enters}
 use Rattle.bfd_mp.specs.declared.config.TailConfig.{TailConfig}
 
 -- the numbers of a packet that a tail keeps fit their fields, and its Detect Mult isn't 0, as those of every packet of bytes

@@ -4,7 +4,7 @@ use Rattle.bfd_packet.specs.declared.control.Control.{Control}
 use Rattle.bfd_packet.specs.declared.arrival.Datagram.{Datagram}
 use Rattle.bfd_packet.specs.Layout.{text_of}
 use Rattle.bfd_rules.specs.declared.variables.Vars.{Vars}
-use Rattle.bfd_rules.specs.Course.{Course, sends}
+use Rattle.bfd_rules.specs.EventFrame.{Course, sends}
 use Rattle.bfd_mp.specs.declared.config.HeadConfig.{HeadConfig}
 
 -- its fields, with P as the rule that sends it says: M and D are set, Your Discriminator is 0, and a Required Min RX

@@ -2,7 +2,7 @@
 ghost use Rattle.std.specs.Prelude.{◌≡◌, ◌<◌, ◌≤◌, ◌+◌, None};
 ghost use Rattle.std.specs.Result.{result_err};
 ghost use Rattle.bfd_rules.specs.declared.variables.Mark.{Mark};
-ghost use Rattle.bfd_rules.specs.Course.{course};
+ghost use Rattle.bfd_rules.specs.EventFrame.{course};
 ghost use Rattle.bfd_mp.specs.declared.config.TailConfig.{TailConfig as ConfigOf};
 ghost use Rattle.bfd_mp.specs.Sound.{IsHeadSteady, IsTailSound};
 ghost use Rattle.bfd_mp.specs.Command as commands;
@@ -10,7 +10,9 @@ ghost use Rattle.bfd_mp.specs.Command as commands;
 use crate::counting::counted;
 use crate::{HeadConfig, TailConfig};
 use bfd_packet::State;
-use bfd_rules::{Cmd, Outs, Refusal, Vars, changes, enters, is_admin_down};
+use bfd_rules::{
+    Cmd, LEAST_INTERVAL, MOST_INTERVAL, Outs, Refusal, Vars, changes, enters, is_admin_down,
+};
 
 /// A head doesn't know the command.
 fn is_wrong_for_head(cmd: &Cmd) -> bool
@@ -31,7 +33,7 @@ fn is_out_of_range(cmd: &Cmd) -> bool
     ensures { result ≡ commands.is_out_of_range cmd.now }
 {
     match *cmd {
-        Cmd::Tx(n) => !(10_000 <= n && n <= 60_000_000),
+        Cmd::Tx(n) => !(LEAST_INTERVAL <= n && n <= MOST_INTERVAL),
         Cmd::Mult(n) => !(1 <= n && n <= 255),
         _ => false,
     }

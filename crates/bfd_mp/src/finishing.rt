@@ -2,7 +2,7 @@
 ghost use Rattle.std.specs.Prelude.{◌≡◌, ◌<◌, ◌≤◌, ◌+◌, ℕ, true, false};
 ghost use Rattle.bfd_num.specs.Due.{has_come};
 ghost use Rattle.bfd_num.specs.Numbers.{moment_bound, floor_tick};
-ghost use Rattle.bfd_rules.specs.Course.{course, draws, drawn as drawn_of};
+ghost use Rattle.bfd_rules.specs.EventFrame.{course, draws, drawn as drawn_of};
 ghost use Rattle.bfd_mp.specs.Sound.{IsHeadSteady, IsHeadSound};
 ghost use Rattle.bfd_mp.specs.HeadFinish as finishing;
 ghost use Rattle.bfd_mp.specs.Over.{IsSettled};
@@ -44,7 +44,7 @@ fn extra(config: &HeadConfig, eff: u64, vars: &mut Vars, mark: &mut Mark, outs: 
 }
 
 /// Ends an event of a head at the effective moment `eff`, in microseconds.
-#[tactic(auto, unfolding(crate::specs::HeadFinish::finish, bfd_rules::specs::Course::redrawn))]
+#[tactic(auto, unfolding(crate::specs::HeadFinish::finish, bfd_rules::specs::EventFrame::redrawn))]
 pub fn finish(config: &HeadConfig, eff: u64, vars: &mut Vars, mark: Mark, outs: &mut Outs)
     requires steady { IsHeadSteady vars.old }
     requires eff { eff < moment_bound }

@@ -3,7 +3,7 @@ ghost use Rattle.std.specs.Prelude.{◌≡◌, ◌<◌, ◌≤◌, ◌+◌, ℕ}
 ghost use Rattle.std.specs.Result.{result_err};
 ghost use Rattle.std.specs.Option.{ForSome};
 ghost use Rattle.bfd_num.specs.Numbers.{moment_bound};
-ghost use Rattle.bfd_rules.specs.Course.{course, begins as begins_of, stamped as stamped_of};
+ghost use Rattle.bfd_rules.specs.EventFrame.{course, begins as begins_of, stamped as stamped_of};
 ghost use Rattle.bfd_mp.specs.Sound.{IsHeadConfig, IsHeadSteady, IsHeadSound};
 ghost use Rattle.bfd_mp.specs.HeadSettle as settling;
 ghost use Rattle.bfd_mp.specs.HeadFinish as finishing;

@@ -7,7 +7,7 @@ ghost use Rattle.bfd_rules.specs.declared.commands.Cmd.{Cmd};
 ghost use Rattle.bfd_rules.specs.declared.outputs.Out.{Out};
 ghost use Rattle.bfd_rules.specs.declared.variables.Mark.{Mark};
 ghost use Rattle.bfd_rules.specs.declared.variables.Vars.{Vars};
-ghost use Rattle.bfd_rules.specs.Course.{Course, course, begins, is_untold, drawn};
+ghost use Rattle.bfd_rules.specs.EventFrame.{Course, course, begins, is_untold, drawn};
 ghost use Rattle.bfd_mp.specs.declared.config.HeadConfig.{HeadConfig};
 ghost use Rattle.bfd_mp.specs.declared.config.TailConfig.{TailConfig};
 ghost use Rattle.bfd_mp.specs.Waiting.{deadline};

@@ -6,7 +6,7 @@ ghost use Rattle.bfd_packet.specs.Layout.{fields_of};
 ghost use Rattle.bfd_packet.specs.HeaderTests.{first_failing};
 ghost use Rattle.bfd_rules.specs.declared.variables.Mark.{Mark};
 ghost use Rattle.bfd_rules.specs.declared.outputs.Out.{Out};
-ghost use Rattle.bfd_rules.specs.Course.{course};
+ghost use Rattle.bfd_rules.specs.EventFrame.{course};
 ghost use Rattle.bfd_mp.specs.declared.config.TailConfig.{TailConfig as ConfigOf};
 ghost use Rattle.bfd_mp.specs.Sound.{IsTailSound};
 ghost use Rattle.bfd_mp.specs.TailReceive as receive;

@@ -1,7 +1,7 @@
 //! What has come due by an event of a head is done first: the periodic packet.
 ghost use Rattle.std.specs.Prelude.{◌≡◌, ◌<◌, ◌≤◌, ◌+◌, true, false};
 ghost use Rattle.bfd_num.specs.Numbers.{moment_bound};
-ghost use Rattle.bfd_rules.specs.Course.{course};
+ghost use Rattle.bfd_rules.specs.EventFrame.{course};
 ghost use Rattle.bfd_mp.specs.Sound.{IsHeadSteady};
 ghost use Rattle.bfd_mp.specs.HeadSettle as settling;
 ghost use Rattle.bfd_mp.specs.Over.{IsBegun, IsStill};

@@ -6,7 +6,7 @@ ghost use Rattle.bfd_num.specs.Numbers.{moment_bound};
 ghost use Rattle.bfd_packet.specs.declared.arrival.Port.TheVariants.{Single};
 ghost use Rattle.bfd_packet.specs.Layout.{fields_of};
 ghost use Rattle.bfd_packet.specs.HeaderTests.{first_failing};
-ghost use Rattle.bfd_rules.specs.Course.{course, begins as begins_of, stamped as stamped_of};
+ghost use Rattle.bfd_rules.specs.EventFrame.{course, begins as begins_of, stamped as stamped_of};
 ghost use Rattle.bfd_mp.specs.declared.config.TailConfig.{TailConfig as ConfigOf};
 ghost use Rattle.bfd_mp.specs.Sound.{IsTailConfig, IsTailSound};
 ghost use Rattle.bfd_mp.specs.TailSettle as settling;

@@ -1,15 +1,12 @@
 //! The control packet that a head transmits (RFC 8562 sections 5.1 and 5.13, RFC 5881 section 4).
 ghost use Rattle.std.specs.Prelude.{◌≡◌, ◌<◌, ◌≤◌, ◌+◌};
 ghost use Rattle.bfd_rules.specs.declared.variables.Mark.{Mark};
-ghost use Rattle.bfd_rules.specs.Course.{course};
+ghost use Rattle.bfd_rules.specs.EventFrame.{course};
 ghost use Rattle.bfd_mp.specs.Transmit as transmit;
 
 use crate::HeadConfig;
-use bfd_packet::{AuthBytes, Control, Datagram, write};
+use bfd_packet::{AuthBytes, Control, Datagram, SOURCE_PORT, write};
 use bfd_rules::{Outs, Vars, sends};
-
-/// The source port of every session, within the range of RFC 5881 section 4.
-const SOURCE_PORT: u16 = 49152;
 
 /// The port of control packets over a single hop (RFC 5881 section 4).
 const CONTROL_PORT: u16 = 3784;

@@ -2,7 +2,7 @@
 ghost use Rattle.std.specs.Prelude.{◌≡◌, ◌<◌, ◌-◌, ◌%◌};
 ghost use Rattle.bfd_net.specs.Hearing.{port_at, port_number, address_of, is_local_addr};
 
-use bfd_packet::{Addr, Port};
+use bfd_packet::{Addr, Port, SOURCE_PORT};
 
 /// The UDP port of a kind of port: 3784 and 3785 (RFC 5881 section 4), 4784 (RFC 5883 section 5), 7784 (RFC 7881 section 2),
 /// and 49152 for answers of a reflector, from which an initiator sends.
@@ -14,7 +14,7 @@ pub fn udp_port(port: Port) -> u16
         Port::Multi => 4784,
         Port::Echo => 3785,
         Port::Sbfd => 7784,
-        Port::Answer => 49152,
+        Port::Answer => SOURCE_PORT,
     }
 }
 

@@ -11,7 +11,7 @@ use Rattle.bfd_rules.specs.declared.variables.Poll.TheVariants.{Wanted}
 use Rattle.bfd_rules.specs.declared.variables.Vars.{Vars}
 use Rattle.bfd_rules.specs.declared.variables.Mark.{Mark}
 use Rattle.bfd_rules.specs.Quantities.{deadline, seq_deadline, detection_time, demand_here, is_idle}
-use Rattle.bfd_rules.specs.Course.{is_news}
+use Rattle.bfd_rules.specs.EventFrame.{is_news}
 use Rattle.bfd_rules.specs.Renewal.{poll_renewed, used_renewed, demand_renewed, renewed}
 use Rattle.bfd_rules.specs.Sound.{IsRenewed, IsSteady}
 use Rattle.bfd_p2p.specs.Machine.{failed}

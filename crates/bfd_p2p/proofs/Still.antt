@@ -4,7 +4,7 @@ use Rattle.bfd_packet.specs.declared.control.State.{State}
 use Rattle.bfd_packet.specs.declared.control.State.TheVariants.{AdminDown, Down, Init, Up}
 use Rattle.bfd_rules.specs.declared.variables.Vars.{Vars}
 use Rattle.bfd_rules.specs.Quantities.{same_state}
-use Rattle.bfd_rules.specs.Course.{begins, is_news}
+use Rattle.bfd_rules.specs.EventFrame.{begins, is_news}
 
 -- states that the test finds the same are the same
 pub same_state_is : (a b : State) → same_state a b ≡ true → a ≡ b

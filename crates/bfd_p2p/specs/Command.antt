@@ -10,7 +10,7 @@ use Rattle.bfd_rules.specs.declared.commands.Refusal.TheVariants.{PollBusy, Wron
 use Rattle.bfd_rules.specs.declared.variables.Poll.TheVariants.{Wanted}
 use Rattle.bfd_rules.specs.declared.variables.Vars.{Vars}
 use Rattle.bfd_rules.specs.Quantities.{is_up, is_idle, is_admin_down, demand_there}
-use Rattle.bfd_rules.specs.Course.{Course, enters}
+use Rattle.bfd_rules.specs.EventFrame.{Course, enters}
 use Rattle.bfd_rules.specs.Sound.{is_interval}
 use Rattle.bfd_p2p.specs.Frame.{moves}
 use Rattle.bfd_p2p.specs.Receive.{is_single}

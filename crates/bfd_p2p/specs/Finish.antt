@@ -1,7 +1,7 @@
 -- How an event ends: a change that the peer hasn't been told is told, and the next due tick is drawn.
 use Rattle.std.specs.Prelude.{ℕ, false, if◌then◌else◌}
 use Rattle.bfd_rules.specs.declared.config.Config.{Config}
-use Rattle.bfd_rules.specs.Course.{Course, is_untold, based, redrawn}
+use Rattle.bfd_rules.specs.EventFrame.{Course, is_untold, based, redrawn}
 use Rattle.bfd_p2p.specs.Transmit.{transmits}
 
 -- a changed state or diagnostic is told at once by one packet with P clear, unless a packet with F has told it or none

@@ -1,7 +1,7 @@
 -- How one rule changes a point-to-point session: what it makes of the variables is renewed, and a new state is told.
 use Rattle.std.specs.Prelude.{ℕ}
 use Rattle.bfd_rules.specs.declared.variables.Vars.{Vars}
-use Rattle.bfd_rules.specs.Course.{Course, changes}
+use Rattle.bfd_rules.specs.EventFrame.{Course, changes}
 use Rattle.bfd_rules.specs.Renewal.{renewed}
 
 -- a rule that leaves the state makes v of the variables

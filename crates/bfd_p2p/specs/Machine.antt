@@ -4,7 +4,7 @@ use Rattle.bfd_packet.specs.declared.control.State.TheVariants.{Down}
 use Rattle.bfd_rules.specs.declared.config.Config.{Config}
 use Rattle.bfd_rules.specs.declared.variables.Poll.TheVariants.{Idle}
 use Rattle.bfd_rules.specs.declared.variables.Vars.{Vars}
-use Rattle.bfd_rules.specs.Course.{begins, drawn, enters}
+use Rattle.bfd_rules.specs.EventFrame.{begins, drawn, enters}
 use Rattle.bfd_rules.specs.Sound.{IsConfig, IsSteady}
 
 -- the configuration and the variables of a session

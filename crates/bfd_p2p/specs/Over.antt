@@ -7,7 +7,7 @@ use Rattle.bfd_rules.specs.declared.config.Config.{Config}
 use Rattle.bfd_rules.specs.declared.variables.Vars.{Vars}
 use Rattle.bfd_rules.specs.declared.variables.Mark.{Mark}
 use Rattle.bfd_rules.specs.Quantities.{deadline, seq_deadline, may_send, tx_interval}
-use Rattle.bfd_rules.specs.Course.{begins, is_news, one_changed}
+use Rattle.bfd_rules.specs.EventFrame.{begins, is_news, one_changed}
 use Rattle.bfd_rules.specs.Sound.{IsSound}
 
 -- no deadline and no due tick has come by the limit, in microseconds

@@ -10,7 +10,7 @@ use Rattle.bfd_rules.specs.declared.variables.Poll.{Poll}
 use Rattle.bfd_rules.specs.declared.variables.Poll.TheVariants.{Idle, Wanted, Running}
 use Rattle.bfd_rules.specs.declared.variables.Vars.{Vars}
 use Rattle.bfd_rules.specs.Quantities.{deadline, seq_deadline, may_send, is_idle}
-use Rattle.bfd_rules.specs.Course.{Course, enters, tells}
+use Rattle.bfd_rules.specs.EventFrame.{Course, enters, tells}
 use Rattle.bfd_p2p.specs.Frame.{renews, moves}
 use Rattle.bfd_p2p.specs.Transmit.{transmits}
 

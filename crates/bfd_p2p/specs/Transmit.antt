@@ -11,7 +11,7 @@ use Rattle.bfd_rules.specs.declared.config.Role.TheVariants.{Single, Multi}
 use Rattle.bfd_rules.specs.declared.config.Config.{Config}
 use Rattle.bfd_rules.specs.declared.variables.Vars.{Vars}
 use Rattle.bfd_rules.specs.Quantities.{adv_tx, demand_here}
-use Rattle.bfd_rules.specs.Course.{Course, sends}
+use Rattle.bfd_rules.specs.EventFrame.{Course, sends}
 
 -- the fields of a transmitted packet, with P and F as the rule that sends it says
 abbrev pub packet_of : Config → Vars → Bool → Bool → Control

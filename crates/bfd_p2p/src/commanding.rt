@@ -4,7 +4,7 @@ ghost use Rattle.std.specs.Result.{result_err};
 ghost use Rattle.bfd_num.specs.Numbers.{moment_bound};
 ghost use Rattle.bfd_rules.specs.declared.config.Config.{Config as ConfigOf};
 ghost use Rattle.bfd_rules.specs.declared.variables.Mark.{Mark as MarkOf};
-ghost use Rattle.bfd_rules.specs.Course.{course};
+ghost use Rattle.bfd_rules.specs.EventFrame.{course};
 ghost use Rattle.bfd_rules.specs.Sound.{IsPlain, HasPeerMult, IsSteady, IsPlace};
 ghost use Rattle.bfd_rules.specs.Sound as sound;
 ghost use Rattle.bfd_p2p.specs.Command as commands;
@@ -12,14 +12,15 @@ ghost use Rattle.bfd_p2p.specs.Command as commands;
 use crate::frame::moves;
 use bfd_packet::{Keys, State};
 use bfd_rules::{
-    Cmd, Config, Outs, Poll, Refusal, Role, Vars, demand_there, enters, is_admin_down,
+    Cmd, Config, LEAST_INTERVAL, MOST_INTERVAL, Outs, Poll, Refusal, Role, Vars, demand_there,
+    enters, is_admin_down,
 };
 
 /// An interval that may be configured, in microseconds.
 fn is_interval(n: u64) -> bool
     ensures { result ≡ sound.is_interval n }
 {
-    10_000 <= n && n <= 60_000_000
+    LEAST_INTERVAL <= n && n <= MOST_INTERVAL
 }
 
 /// The place of the key with this id, among the keys of a session that has some.

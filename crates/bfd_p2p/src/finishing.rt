@@ -2,7 +2,7 @@
 ghost use Rattle.std.specs.Prelude.{◌≡◌, ◌<◌, ◌≤◌, ◌+◌, ℕ, true, false};
 ghost use Rattle.bfd_num.specs.Due.{has_come};
 ghost use Rattle.bfd_num.specs.Numbers.{moment_bound, floor_tick};
-ghost use Rattle.bfd_rules.specs.Course.{course, is_news as is_news_of};
+ghost use Rattle.bfd_rules.specs.EventFrame.{course, is_news as is_news_of};
 ghost use Rattle.bfd_rules.specs.Quantities.{deadline, seq_deadline, may_send as may_send_of};
 ghost use Rattle.bfd_rules.specs.Sound.{IsSteady, IsSound};
 ghost use Rattle.bfd_p2p.specs.Finish as finishing;
@@ -40,7 +40,7 @@ fn extra(config: &Config, eff: u64, vars: &mut Vars, mark: &mut Mark, outs: &mut
 }
 
 /// Ends an event at the effective moment `eff`, in microseconds.
-#[tactic(auto, unfolding(crate::specs::Finish::finish, bfd_rules::specs::Course::redrawn))]
+#[tactic(auto, unfolding(crate::specs::Finish::finish, bfd_rules::specs::EventFrame::redrawn))]
 pub fn finish(config: &Config, eff: u64, vars: &mut Vars, mark: Mark, outs: &mut Outs)
     requires steady { IsSteady config.now vars.old }
     requires eff { eff < moment_bound }

@@ -6,7 +6,7 @@ ghost use Rattle.bfd_rules.specs.declared.variables.Mark.{Mark};
 ghost use Rattle.bfd_rules.specs.declared.outputs.Out.{Out};
 ghost use Rattle.std.specs.Prelude.{List};
 ghost use Rattle.bfd_rules.specs.Quantities.{adv_tx, demand_here};
-ghost use Rattle.bfd_rules.specs.Course.{course};
+ghost use Rattle.bfd_rules.specs.EventFrame.{course};
 ghost use Rattle.bfd_rules.specs.Renewal.{renewed as renewed_of};
 ghost use Rattle.bfd_rules.specs.Sound.{IsPlain, IsRenewed, HasPeerMult};
 ghost use Rattle.bfd_p2p.specs.Frame as frame;

@@ -8,7 +8,7 @@ ghost use Rattle.bfd_packet.specs.HeaderTests.{first_failing};
 ghost use Rattle.bfd_rules.specs.declared.config.Config.{Config as ConfigOf};
 ghost use Rattle.bfd_rules.specs.declared.variables.Mark.{Mark as MarkOf};
 ghost use Rattle.bfd_packet.specs.Layout.{fields_of};
-ghost use Rattle.bfd_rules.specs.Course.{course, begins as begins_of, stamped as stamped_of};
+ghost use Rattle.bfd_rules.specs.EventFrame.{course, begins as begins_of, stamped as stamped_of};
 ghost use Rattle.bfd_rules.specs.Sound.{IsConfig, IsPlace, IsSteady, IsSound};
 ghost use Rattle.bfd_p2p.specs.Settle as settling;
 ghost use Rattle.bfd_p2p.specs.Receive as receive;
@@ -27,7 +27,7 @@ use crate::receiving::{accepts, fields, judged};
 use crate::settling::settle;
 use bfd_packet::{Keys, SeqState, State};
 use bfd_rules::{
-    Cmd, Config, Mark, Outs, Poll, Refusal, Vars, Verdict, begins, drawn, enters, stamped,
+    Cmd, Config, Mark, Outs, Poll, Refusal, SLOW_TX, Vars, Verdict, begins, drawn, enters, stamped,
 };
 use std::marker::Model;
 
@@ -84,7 +84,7 @@ fn initial(c: &Config) -> Vars
         mult: c.mult,
         demand: false,
         poll: Poll::Idle,
-        used_tx: c.tx.max(1_000_000),
+        used_tx: c.tx.max(SLOW_TX),
         used_rx: c.rx,
         heard: None,
         seq_heard: None,

@@ -7,7 +7,7 @@ ghost use Rattle.bfd_packet.specs.HeaderTests.{first_failing};
 ghost use Rattle.bfd_rules.specs.declared.config.Config.{Config as ConfigOf};
 ghost use Rattle.bfd_rules.specs.declared.variables.Mark.{Mark as MarkOf};
 ghost use Rattle.bfd_rules.specs.declared.outputs.Out.{Out};
-ghost use Rattle.bfd_rules.specs.Course.{course};
+ghost use Rattle.bfd_rules.specs.EventFrame.{course};
 ghost use Rattle.bfd_rules.specs.Sound.{IsPlain, HasPeerMult, IsSteady};
 ghost use Rattle.bfd_p2p.specs.Receive as receive;
 ghost use Rattle.bfd_p2p.specs.Receive.{IsSized};

@@ -7,7 +7,7 @@ ghost use Rattle.bfd_rules.specs.declared.config.Config.{Config as ConfigOf};
 ghost use Rattle.bfd_rules.specs.declared.variables.Mark.{Mark as MarkOf};
 ghost use Rattle.bfd_rules.specs.declared.outputs.Out.{Out};
 ghost use Rattle.bfd_rules.specs.Quantities.{deadline as deadline_of, seq_deadline as seq_deadline_of, may_send as may_send_of};
-ghost use Rattle.bfd_rules.specs.Course.{course, is_news};
+ghost use Rattle.bfd_rules.specs.EventFrame.{course, is_news};
 ghost use Rattle.bfd_rules.specs.Sound.{IsPlain, IsRenewed, HasPeerMult, IsSteady};
 ghost use Rattle.bfd_p2p.specs.Settle as settling;
 ghost use Rattle.bfd_p2p.specs.Over.{IsBegun, IsStill};
@@ -19,7 +19,7 @@ use bfd_packet::{SeqState, State};
 use bfd_rules::{Config, Mark, Outs, Poll, Vars, deadline, enters, may_send, seq_deadline, tells};
 
 /// The peer is forgotten, and a session in Init or Up goes Down with diagnostic 1.
-fn silenced(v: &Vars) -> Vars
+fn goes_silent(v: &Vars) -> Vars
     ensures value { result ≡ settling.goes_silent (settling.forgets_peer v.now) }
     ensures plain { (c : ConfigOf) → IsPlain c v.now → IsPlain c result }
     ensures peer { HasPeerMult v.now → HasPeerMult result }
@@ -53,7 +53,7 @@ fn detection(config: &Config, limit: u64, eff: u64, vars: &mut Vars, outs: &mut 
     ensures room { outs.new.room ≡ outs.old.room }
 {
     if has_come(limit, deadline(vars)) {
-        moves(config, eff, silenced(vars), vars, outs);
+        moves(config, eff, goes_silent(vars), vars, outs);
     }
 }
 

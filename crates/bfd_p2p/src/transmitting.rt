@@ -1,16 +1,13 @@
 //! The control packet that a session transmits (RFC 5880 section 6.8.7, RFC 5881 section 4, RFC 5883 section 5).
 ghost use Rattle.std.specs.Prelude.{◌≡◌, ◌<◌, ◌≤◌, ◌+◌, List};
 ghost use Rattle.bfd_rules.specs.declared.variables.Mark.{Mark};
-ghost use Rattle.bfd_rules.specs.Course.{course};
+ghost use Rattle.bfd_rules.specs.EventFrame.{course};
 ghost use Rattle.bfd_rules.specs.Sound.{IsPlace};
 ghost use Rattle.bfd_p2p.specs.Transmit as transmit;
 
 use bfd_auth::seal;
-use bfd_packet::{AuthBytes, Control, Datagram, Keys, SeqState, Wire, write};
+use bfd_packet::{AuthBytes, Control, Datagram, Keys, SOURCE_PORT, SeqState, Wire, write};
 use bfd_rules::{Config, Outs, Role, Vars, adv_tx, demand_here, sends};
-
-/// The source port of every session, within the range of RFC 5881 section 4.
-const SOURCE_PORT: u16 = 49152;
 
 /// The fields of a transmitted packet, with P and F as the rule that sends it says.
 fn packet_of(config: &Config, v: &Vars, poll: bool, fin: bool) -> Control

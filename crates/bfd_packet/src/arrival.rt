@@ -2,6 +2,9 @@
 
 use crate::{Payload, Wire};
 
+/// The UDP port that every packet is sent from (RFC 5881 section 4: one of 49152 to 65535, the same for all of a session).
+pub const SOURCE_PORT: u16 = 49_152;
+
 /// The kind of port that a packet arrived on.
 #[derive(Clone, Copy, Debug, PartialEq, Eq)]
 pub enum Port {

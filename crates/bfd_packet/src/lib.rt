@@ -20,7 +20,7 @@ mod reading;
 mod tests;
 mod writing;
 
-pub use arrival::{Addr, Arrival, Datagram, Port};
+pub use arrival::{Addr, Arrival, Datagram, Port, SOURCE_PORT};
 pub use buffers::{AuthBytes, Payload, Wire};
 pub use control::{Control, State};
 pub use discard::Test;

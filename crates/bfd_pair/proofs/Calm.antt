@@ -15,7 +15,7 @@ use Rattle.bfd_rules.specs.declared.outputs.Out.TheVariants.{Changed, Sent}
 use Rattle.bfd_rules.specs.declared.variables.Mark.{Mark}
 use Rattle.bfd_rules.specs.declared.variables.Vars.{Vars}
 use Rattle.bfd_rules.specs.Quantities.{is_up, same_state}
-use Rattle.bfd_rules.specs.Course.{Course, course, changes, sends, told}
+use Rattle.bfd_rules.specs.EventFrame.{Course, course, changes, sends, told}
 use Rattle.bfd_p2p.specs.Transmit.{transmits}
 use Rattle.bfd_p2p.specs.Receive as receiving
 use Rattle.bfd_echo.specs.declared.echo.Echo.{Echo}

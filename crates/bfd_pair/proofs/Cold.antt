@@ -18,7 +18,7 @@ use Rattle.bfd_rules.specs.declared.variables.Mark.{Mark}
 use Rattle.bfd_rules.specs.declared.variables.Vars.{Vars}
 use Rattle.bfd_rules.specs.declared.verdict.Verdict.TheVariants.{Accepted, Dropped}
 use Rattle.bfd_rules.specs.Quantities.{is_admin_down, is_up}
-use Rattle.bfd_rules.specs.Course.{Course, course, changes, sends, told}
+use Rattle.bfd_rules.specs.EventFrame.{Course, course, changes, sends, told}
 use Rattle.bfd_p2p.specs.Frame.{renews}
 use Rattle.bfd_p2p.specs.Transmit.{transmits, bytes_of, packet_of}
 use Rattle.bfd_p2p.specs.Receive as receiving

@@ -5,7 +5,7 @@ use Rattle.bfd_rules.specs.declared.outputs.Out.{Out}
 use Rattle.bfd_rules.specs.declared.outputs.Out.TheVariants.{Changed, Sent}
 use Rattle.bfd_rules.specs.declared.variables.Vars.{Vars}
 use Rattle.bfd_rules.specs.Quantities.{same_state}
-use Rattle.bfd_rules.specs.Course.{told}
+use Rattle.bfd_rules.specs.EventFrame.{told}
 use Rattle.bfd_pair.specs.Run.{packets_in}
 
 pub packets-append : (xs ys : List Out) → packets_in (xs ++ ys) ≡ packets_in xs ++ packets_in ys

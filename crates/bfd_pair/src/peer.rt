@@ -16,7 +16,7 @@ use crate::PairAnswer;
 use bfd_demux::{BuildFault, Demux, Row, Target};
 use bfd_num::Steps;
 use bfd_p2p::control_port;
-use bfd_packet::{Addr, Arrival, Payload, Port, Test, Wire};
+use bfd_packet::{Addr, Arrival, Payload, Port, SOURCE_PORT, Test, Wire};
 use bfd_rules::{Config, Out, Outs};
 use bfd_session::{Answer, Event, Session, SessionConfig, row_of};
 use std::alloc::{AllocError, Global};
@@ -169,7 +169,7 @@ fn arrival(alloc: Global, way: &Way, wire: &Wire) -> Result<Arrival, AllocError>
         port: way.port,
         iface: way.iface,
         src: way.remote,
-        sport: 49152,
+        sport: SOURCE_PORT,
         dst: way.local,
         ttl: 255,
         payload,

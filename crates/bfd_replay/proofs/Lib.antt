@@ -2,6 +2,6 @@ pub mod Ticks
 pub mod Searches
 pub mod Loops
 pub mod Turns
-pub mod Kept
+pub mod SameConfigs
 pub mod Stages
 pub mod Telling

@@ -3,7 +3,7 @@ use Rattle.std.proofs.Common.{◌<◌, ◌==◌, ◌||◌, Bool, true, false, No
 use Rattle.std.specs.List.{AllByRecursion}
 use Rattle.bfd_num.specs.Numbers.{greatest_tick}
 use Rattle.bfd_rules.specs.declared.outputs.Out.{Out}
-use Rattle.bfd_rules.specs.Course.{Outputs}
+use Rattle.bfd_rules.specs.EventFrame.{Outputs}
 use Rattle.bfd_sbfd.specs.declared.reflecting.Reflector.{Reflector}
 use Rattle.bfd_session.specs.declared.event.SessionConfig.{SessionConfig}
 use Rattle.bfd_session.specs.declared.event.Answer.{Answer}
@@ -18,7 +18,7 @@ use Rattle.bfd_script.specs.Sound.{AreApart, IsReflector}
 use Rattle.bfd_session.specs.Step.{started}
 use Rattle.bfd_replay.specs.World.{Turn, turned, world_of, happens}
 use Rattle.bfd_replay.specs.Stage.{IsStage, IsTable}
-use Rattle.bfd_replay.proofs.Kept.{happens_keeps, length_configs}
+use Rattle.bfd_replay.proofs.SameConfigs.{happens_keeps, length_configs}
 
 same_configs : (line : Line) (olds news : List Running) (pool : List Reflector) (last now : ℕ) (items : List Out) (answer : Answer)
     → turned news pool now items answer ≡ happens line (world_of olds pool last) → configs_of news ≡ configs_of olds

@@ -1,5 +1,5 @@
 pub mod Quantities
 pub mod Jitter
-pub mod Course
+pub mod EventFrame
 pub mod Renewal
 pub mod Sound

@@ -2,6 +2,12 @@
 
 use bfd_packet::{Addr, Keys};
 
+/// The least interval that may be configured, in microseconds.
+pub const LEAST_INTERVAL: u64 = 10_000;
+
+/// The greatest interval that may be configured, in microseconds.
+pub const MOST_INTERVAL: u64 = 60_000_000;
+
 /// Over how many hops a session runs.
 #[derive(Clone, Copy, Debug, PartialEq, Eq)]
 pub enum Role {

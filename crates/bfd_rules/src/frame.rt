@@ -5,8 +5,8 @@ ghost use Rattle.bfd_num.specs.Numbers.{moment_bound, floor_tick};
 ghost use Rattle.bfd_rules.specs.declared.variables.Mark.{Mark};
 ghost use Rattle.bfd_rules.specs.declared.config.Config.{Config};
 ghost use Rattle.bfd_rules.specs.Sound.{IsSteady};
-ghost use Rattle.bfd_rules.specs.Course.{course};
-ghost use Rattle.bfd_rules.specs.Course as frame;
+ghost use Rattle.bfd_rules.specs.EventFrame.{course};
+ghost use Rattle.bfd_rules.specs.EventFrame as frame;
 ghost use Rattle.bfd_rules.specs.Quantities.{same_state, may_send as may_send_of};
 
 use crate::{Mark, Out, Outs, Vars, may_send, pick, tx_interval};
@@ -14,7 +14,7 @@ use bfd_num::next_j;
 use bfd_packet::{Datagram, State};
 
 /// The states are the same.
-fn is_same(a: State, b: State) -> bool
+fn same_state(a: State, b: State) -> bool
     ensures { result ≡ same_state a b }
 {
     a == b
@@ -52,7 +52,7 @@ pub fn enters(state: State, diag: u8, v: Vars) -> Vars
 }
 
 /// The variables become `after`; where the state differs, that is told with the new diagnostic.
-#[tactic(auto, unfolding(crate::specs::Course::changes))]
+#[tactic(auto, unfolding(crate::specs::EventFrame::changes))]
 pub fn changes(discr: u32, after: Vars, vars: &mut Vars, outs: &mut Outs)
     requires { 0 < outs.old.spare }
     ensures vars { vars.new ≡ after }
@@ -60,7 +60,7 @@ pub fn changes(discr: u32, after: Vars, vars: &mut Vars, outs: &mut Outs)
     ensures spare { outs.old.spare ≤ outs.new.spare + 1 }
     ensures room { outs.new.room ≡ outs.old.room }
 {
-    if !is_same(vars.state, after.state) {
+    if !same_state(vars.state, after.state) {
         outs.push(Out::Changed {
             discr,
             old: vars.state,
@@ -72,7 +72,7 @@ pub fn changes(discr: u32, after: Vars, vars: &mut Vars, outs: &mut Outs)
 }
 
 /// A datagram is sent by the session of this discriminator.
-#[tactic(auto, unfolding(crate::specs::Course::sends))]
+#[tactic(auto, unfolding(crate::specs::EventFrame::sends))]
 pub fn sends(discr: u32, datagram: Datagram, outs: &mut Outs)
     requires { 0 < outs.old.spare }
     ensures course { (v : Vars) (m : Mark) → course v m outs.new.items ≡ frame.sends discr datagram (course v m outs.old.items) }
@@ -95,7 +95,7 @@ pub fn tells(v: &Vars, mark: &mut Mark)
 fn is_news(mark: &Mark, v: &Vars) -> bool
     ensures { result ≡ frame.is_news mark.now v.now }
 {
-    !(is_same(v.state, mark.state) && v.diag == mark.diag)
+    !(same_state(v.state, mark.state) && v.diag == mark.diag)
 }
 
 /// A state or diagnostic that the peer hasn't been told is to be told now: no packet with F has told it, and a packet
@@ -107,7 +107,7 @@ pub fn is_untold(active: bool, mark: &Mark, v: &Vars) -> bool
 }
 
 /// The due tick is to be drawn anew.
-fn is_to_draw(mark: &Mark, v: &Vars) -> bool
+fn draws(mark: &Mark, v: &Vars) -> bool
     ensures { result ≡ frame.draws mark.now v.now }
 {
     let one_changed = if mark.one { v.mult != 1 } else { v.mult == 1 };
@@ -116,7 +116,7 @@ fn is_to_draw(mark: &Mark, v: &Vars) -> bool
 
 /// The variables with the due tick as an event leaves it: none where periodic packets may not be sent, else as it
 /// stands, or drawn anew where a packet moved the base or what it is drawn by has changed (section 6.8.7).
-#[tactic(auto, unfolding(crate::specs::Course::drawn))]
+#[tactic(auto, unfolding(crate::specs::EventFrame::drawn))]
 pub fn drawn(active: bool, mark: &Mark, v: Vars) -> Vars
     requires base { v.base < moment_bound }
     requires interval { 10000 ≤ v.used_tx }
@@ -133,7 +133,7 @@ pub fn drawn(active: bool, mark: &Mark, v: Vars) -> Vars
     let mut v = v;
     if !may_send(active, &v) {
         v.tx_due = None;
-    } else if is_to_draw(mark, &v) {
+    } else if draws(mark, &v) {
         v.tx_due = Some(pick(v.base, tx_interval(&v), v.mult, v.j));
         v.j = next_j(v.j);
     }

@@ -19,12 +19,12 @@ mod variables;
 mod verdict;
 
 pub use commands::{Cmd, Refusal};
-pub use config::{Config, Role};
+pub use config::{Config, LEAST_INTERVAL, MOST_INTERVAL, Role};
 pub use frame::{begins, changes, drawn, enters, is_untold, sends, stamped, tells};
 pub use jitter::pick;
 pub use outputs::{Out, Outs};
 pub use quantities::{
-    adv_tx, deadline, demand_here, demand_there, detection_time, is_admin_down, may_send,
+    SLOW_TX, adv_tx, deadline, demand_here, demand_there, detection_time, is_admin_down, may_send,
     seq_deadline, tx_interval,
 };
 pub use renewal::renewed;

@@ -31,7 +31,7 @@ pub struct Outs {
 
 impl Model for Outs {
     ghost use Rattle.std.specs.Prelude.{◌-◌, ◌≤◌, vec_len, vec_capacity};
-    ghost use Rattle.bfd_rules.specs.Course.{Outputs};
+    ghost use Rattle.bfd_rules.specs.EventFrame.{Outputs};
 
     ghost Value = { Outputs };
 

@@ -9,7 +9,7 @@ use crate::{Poll, Vars};
 use bfd_packet::State;
 
 /// The least Desired Min TX Interval that is advertised outside Up, in microseconds (section 6.8.3).
-const SLOW_TX: u32 = 1_000_000;
+pub const SLOW_TX: u32 = 1_000_000;
 
 /// The state is AdminDown (section 6.8.16).
 pub fn is_admin_down(state: State) -> bool
@@ -85,7 +85,7 @@ pub fn detection_time(v: &Vars) -> u64
 }
 
 /// When the first packet of a running Poll Sequence was sent, in microseconds.
-fn poll_first(poll: Poll) -> Option<u64>
+fn poll_started(poll: Poll) -> Option<u64>
     ensures { result ≡ poll_started poll }
 {
     match poll {
@@ -104,7 +104,7 @@ pub fn deadline(v: &Vars) -> Option<u64>
 {
     if demand_here(v) {
         let wait = u64::from(v.mult) * u64::from(tx_interval(v));
-        poll_first(v.poll).map(|first| first + wait)
+        poll_started(v.poll).map(|first| first + wait)
     } else {
         let wait = detection_time(v);
         v.heard.map(|heard| heard + wait)

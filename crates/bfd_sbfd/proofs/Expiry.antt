@@ -5,7 +5,7 @@ use Rattle.bfd_num.specs.Due.{has_come}
 use Rattle.bfd_rules.specs.declared.variables.Mark.{Mark}
 use Rattle.bfd_rules.specs.declared.variables.Vars.{Vars}
 use Rattle.bfd_rules.specs.Quantities.{may_send}
-use Rattle.bfd_rules.specs.Course.{Course, changes, sends, is_untold, draws, drawn, redrawn}
+use Rattle.bfd_rules.specs.EventFrame.{Course, changes, sends, is_untold, draws, drawn, redrawn}
 use Rattle.bfd_sbfd.specs.declared.config.SeekConfig.{SeekConfig}
 use Rattle.bfd_sbfd.specs.Waiting.{deadline}
 use Rattle.bfd_sbfd.specs.Frame.{moves}

@@ -9,7 +9,7 @@ use Rattle.bfd_rules.specs.declared.commands.Cmd.{Cmd}
 use Rattle.bfd_rules.specs.declared.outputs.Out.{Out}
 use Rattle.bfd_rules.specs.declared.variables.Vars.{Vars}
 use Rattle.bfd_rules.specs.Quantities.{may_send, is_admin_down}
-use Rattle.bfd_rules.specs.Course.{Course, changes, sends, is_untold, based, redrawn}
+use Rattle.bfd_rules.specs.EventFrame.{Course, changes, sends, is_untold, based, redrawn}
 use Rattle.bfd_sbfd.specs.declared.config.SeekConfig.{SeekConfig}
 use Rattle.bfd_sbfd.specs.Waiting.{deadline}
 use Rattle.bfd_sbfd.specs.Frame.{moves}

@@ -9,7 +9,7 @@ use Rattle.bfd_num.specs.Due.{has_come}
 use Rattle.bfd_rules.specs.declared.outputs.Out.{Out}
 use Rattle.bfd_rules.specs.declared.variables.Vars.{Vars}
 use Rattle.bfd_rules.specs.Quantities.{may_send, same_state, tx_interval}
-use Rattle.bfd_rules.specs.Course.{Course, course, begins, is_news, draws, drawn, redrawn}
+use Rattle.bfd_rules.specs.EventFrame.{Course, course, begins, is_news, draws, drawn, redrawn}
 use Rattle.bfd_sbfd.specs.declared.config.SeekConfig.{SeekConfig}
 use Rattle.bfd_sbfd.specs.Waiting.{deadline}
 use Rattle.bfd_sbfd.specs.Sound.{IsSeekSound}

@@ -12,7 +12,7 @@ use Rattle.bfd_rules.specs.declared.commands.Cmd.{Cmd}
 use Rattle.bfd_rules.specs.declared.commands.Cmd.TheVariants.{Disable, Enable, Reset, Path, Tx, Rx, Mult, Demand, EchoEvery, Key}
 use Rattle.bfd_rules.specs.declared.variables.Vars.{Vars}
 use Rattle.bfd_rules.specs.Quantities.{may_send, is_admin_down}
-use Rattle.bfd_rules.specs.Course.{Course, changes, sends, stamped, is_untold, based, redrawn}
+use Rattle.bfd_rules.specs.EventFrame.{Course, changes, sends, stamped, is_untold, based, redrawn}
 use Rattle.bfd_sbfd.specs.declared.config.SeekConfig.{SeekConfig}
 use Rattle.bfd_sbfd.specs.Waiting.{deadline}
 use Rattle.bfd_sbfd.specs.Sound.{IsSeekPlain, IsSeekSteady, IsSeekSound}

@@ -7,7 +7,7 @@ use Rattle.bfd_rules.specs.declared.commands.Refusal.{Refusal}
 use Rattle.bfd_rules.specs.declared.commands.Refusal.TheVariants.{WrongState, OutOfRange, WrongKind}
 use Rattle.bfd_rules.specs.declared.variables.Vars.{Vars}
 use Rattle.bfd_rules.specs.Quantities.{is_admin_down}
-use Rattle.bfd_rules.specs.Course.{Course, enters}
+use Rattle.bfd_rules.specs.EventFrame.{Course, enters}
 use Rattle.bfd_rules.specs.Sound.{is_interval}
 use Rattle.bfd_sbfd.specs.declared.config.SeekConfig.{SeekConfig}
 use Rattle.bfd_sbfd.specs.Frame.{moves}

@@ -1,6 +1,6 @@
 -- How an event ends: a change that the reflector hasn't been told is told, and the next due tick is drawn.
 use Rattle.std.specs.Prelude.{ℕ, true, if◌then◌else◌}
-use Rattle.bfd_rules.specs.Course.{Course, is_untold, based, redrawn}
+use Rattle.bfd_rules.specs.EventFrame.{Course, is_untold, based, redrawn}
 use Rattle.bfd_sbfd.specs.declared.config.SeekConfig.{SeekConfig}
 use Rattle.bfd_sbfd.specs.Transmit.{transmits}
 

@@ -2,7 +2,7 @@
 use Rattle.std.specs.Prelude.{ℕ}
 use Rattle.bfd_rules.specs.declared.variables.Vars.{Vars}
 use Rattle.bfd_rules.specs.Quantities.{adv_tx}
-use Rattle.bfd_rules.specs.Course.{Course, changes}
+use Rattle.bfd_rules.specs.EventFrame.{Course, changes}
 
 -- without Poll Sequences the advertised interval is used at once
 abbrev pub in_use : Vars → Vars

@@ -3,7 +3,7 @@ use Rattle.std.specs.Prelude.{max, true, false, None}
 use Rattle.bfd_packet.specs.declared.control.State.TheVariants.{Down}
 use Rattle.bfd_rules.specs.declared.variables.Poll.TheVariants.{Idle}
 use Rattle.bfd_rules.specs.declared.variables.Vars.{Vars}
-use Rattle.bfd_rules.specs.Course.{begins, drawn}
+use Rattle.bfd_rules.specs.EventFrame.{begins, drawn}
 use Rattle.bfd_sbfd.specs.declared.config.SeekConfig.{SeekConfig}
 use Rattle.bfd_sbfd.specs.Sound.{IsSeekConfig, IsSeekSteady}
 

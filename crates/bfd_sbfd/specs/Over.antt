@@ -5,7 +5,7 @@ use Rattle.bfd_num.specs.Due.{has_come}
 use Rattle.bfd_rules.specs.declared.variables.Vars.{Vars}
 use Rattle.bfd_rules.specs.declared.variables.Mark.{Mark}
 use Rattle.bfd_rules.specs.Quantities.{may_send, tx_interval}
-use Rattle.bfd_rules.specs.Course.{begins, is_news, one_changed}
+use Rattle.bfd_rules.specs.EventFrame.{begins, is_news, one_changed}
 use Rattle.bfd_sbfd.specs.declared.config.SeekConfig.{SeekConfig}
 use Rattle.bfd_sbfd.specs.Sound.{IsSeekSound}
 use Rattle.bfd_sbfd.specs.Waiting.{deadline}

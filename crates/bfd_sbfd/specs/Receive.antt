@@ -10,7 +10,7 @@ use Rattle.bfd_rules.specs.declared.variables.Vars.{Vars}
 use Rattle.bfd_rules.specs.declared.verdict.Verdict.{Verdict}
 use Rattle.bfd_rules.specs.declared.verdict.Verdict.TheVariants.{Accepted, Dropped}
 use Rattle.bfd_rules.specs.Quantities.{is_admin_down}
-use Rattle.bfd_rules.specs.Course.{Course, enters}
+use Rattle.bfd_rules.specs.EventFrame.{Course, enters}
 use Rattle.bfd_sbfd.specs.declared.config.SeekConfig.{SeekConfig}
 use Rattle.bfd_sbfd.specs.Frame.{moves}
 

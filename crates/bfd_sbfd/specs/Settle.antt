@@ -6,7 +6,7 @@ use Rattle.bfd_num.specs.Numbers.{floor_tick}
 use Rattle.bfd_num.specs.Due.{has_come}
 use Rattle.bfd_rules.specs.declared.variables.Vars.{Vars}
 use Rattle.bfd_rules.specs.Quantities.{may_send}
-use Rattle.bfd_rules.specs.Course.{Course, enters, tells}
+use Rattle.bfd_rules.specs.EventFrame.{Course, enters, tells}
 use Rattle.bfd_sbfd.specs.declared.config.SeekConfig.{SeekConfig}
 use Rattle.bfd_sbfd.specs.Waiting.{deadline}
 use Rattle.bfd_sbfd.specs.Frame.{moves}

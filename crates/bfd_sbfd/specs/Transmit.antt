@@ -5,7 +5,7 @@ use Rattle.bfd_packet.specs.declared.arrival.Datagram.{Datagram}
 use Rattle.bfd_packet.specs.Layout.{text_of}
 use Rattle.bfd_rules.specs.declared.variables.Vars.{Vars}
 use Rattle.bfd_rules.specs.Quantities.{adv_tx}
-use Rattle.bfd_rules.specs.Course.{Course, sends}
+use Rattle.bfd_rules.specs.EventFrame.{Course, sends}
 use Rattle.bfd_sbfd.specs.declared.config.SeekConfig.{SeekConfig}
 
 -- its fields: D tells a reflector that the packet is for it, Your Discriminator is the one that is sought, and a Required

@@ -2,7 +2,7 @@
 ghost use Rattle.std.specs.Prelude.{◌≡◌, ◌<◌, ◌≤◌, ◌+◌, None};
 ghost use Rattle.std.specs.Result.{result_err};
 ghost use Rattle.bfd_rules.specs.declared.variables.Mark.{Mark};
-ghost use Rattle.bfd_rules.specs.Course.{course};
+ghost use Rattle.bfd_rules.specs.EventFrame.{course};
 ghost use Rattle.bfd_sbfd.specs.declared.config.SeekConfig.{SeekConfig as ConfigOf};
 ghost use Rattle.bfd_sbfd.specs.Sound.{IsSeekPlain, IsSeekSteady};
 ghost use Rattle.bfd_sbfd.specs.Command as commands;
@@ -10,7 +10,7 @@ ghost use Rattle.bfd_sbfd.specs.Command as commands;
 use crate::SeekConfig;
 use crate::frame::moves;
 use bfd_packet::State;
-use bfd_rules::{Cmd, Outs, Refusal, Vars, enters, is_admin_down};
+use bfd_rules::{Cmd, LEAST_INTERVAL, MOST_INTERVAL, Outs, Refusal, Vars, enters, is_admin_down};
 
 /// Initiators don't know the command: all but four.
 fn is_wrong_kind(cmd: &Cmd) -> bool
@@ -24,7 +24,7 @@ fn is_out_of_range(cmd: &Cmd) -> bool
     ensures { result ≡ commands.is_out_of_range cmd.now }
 {
     match *cmd {
-        Cmd::Tx(n) => !(10_000 <= n && n <= 60_000_000),
+        Cmd::Tx(n) => !(LEAST_INTERVAL <= n && n <= MOST_INTERVAL),
         Cmd::Mult(n) => !(1 <= n && n <= 255),
         _ => false,
     }

@@ -1,7 +1,7 @@
 //! How one rule that may change the state or an interval changes an initiator.
 ghost use Rattle.std.specs.Prelude.{◌≡◌, ◌<◌, ◌≤◌, ◌+◌};
 ghost use Rattle.bfd_rules.specs.declared.variables.Mark.{Mark};
-ghost use Rattle.bfd_rules.specs.Course.{course};
+ghost use Rattle.bfd_rules.specs.EventFrame.{course};
 ghost use Rattle.bfd_sbfd.specs.Frame as frame;
 ghost use Rattle.bfd_sbfd.specs.Sound.{IsSeekPlain, IsSeekSteady};
 

@@ -6,7 +6,7 @@ ghost use Rattle.bfd_num.specs.Numbers.{moment_bound};
 ghost use Rattle.bfd_packet.specs.declared.arrival.Port.TheVariants.{Answer};
 ghost use Rattle.bfd_packet.specs.Layout.{fields_of};
 ghost use Rattle.bfd_packet.specs.HeaderTests.{first_failing};
-ghost use Rattle.bfd_rules.specs.Course.{course, begins as begins_of, stamped as stamped_of};
+ghost use Rattle.bfd_rules.specs.EventFrame.{course, begins as begins_of, stamped as stamped_of};
 ghost use Rattle.bfd_sbfd.specs.declared.config.SeekConfig.{SeekConfig as ConfigOf};
 ghost use Rattle.bfd_sbfd.specs.Sound.{IsSeekConfig, IsSeekSteady, IsSeekSound};
 ghost use Rattle.bfd_sbfd.specs.Settle as settling;
@@ -22,7 +22,7 @@ use crate::finishing::finish;
 use crate::receiving::receives;
 use crate::settling::settle;
 use bfd_packet::{SeqState, State};
-use bfd_rules::{Cmd, Mark, Outs, Poll, Refusal, Vars, Verdict, begins, drawn, stamped};
+use bfd_rules::{Cmd, Mark, Outs, Poll, Refusal, SLOW_TX, Vars, Verdict, begins, drawn, stamped};
 use std::marker::Model;
 
 /// An initiator (RFC 7880 section 7.3): its configuration, and its variables, which are steady also between the parts of
@@ -65,7 +65,7 @@ fn initial(c: &SeekConfig) -> Vars
         mult: c.mult,
         demand: false,
         poll: Poll::Idle,
-        used_tx: c.tx.max(1_000_000),
+        used_tx: c.tx.max(SLOW_TX),
         used_rx: 0,
         heard: None,
         seq_heard: None,

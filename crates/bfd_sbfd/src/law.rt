@@ -6,7 +6,7 @@ ghost use Rattle.bfd_packet.specs.Layout.{fields_of};
 ghost use Rattle.bfd_rules.specs.declared.commands.Cmd.{Cmd};
 ghost use Rattle.bfd_rules.specs.declared.outputs.Out.{Out};
 ghost use Rattle.bfd_rules.specs.declared.variables.Vars.{Vars};
-ghost use Rattle.bfd_rules.specs.Course.{Course, course, begins};
+ghost use Rattle.bfd_rules.specs.EventFrame.{Course, course, begins};
 ghost use Rattle.bfd_sbfd.specs.declared.config.SeekConfig.{SeekConfig};
 ghost use Rattle.bfd_sbfd.specs.Waiting.{deadline};
 ghost use Rattle.bfd_sbfd.specs.Sound.{IsSeekSteady, IsSeekSound};

@@ -4,7 +4,7 @@ ghost use Rattle.bfd_num.specs.Numbers.{moment_bound, floor_tick as tick_of};
 ghost use Rattle.bfd_num.specs.Due as due;
 ghost use Rattle.bfd_rules.specs.declared.variables.Mark.{Mark as MarkOf};
 ghost use Rattle.bfd_rules.specs.Quantities.{may_send as may_send_of};
-ghost use Rattle.bfd_rules.specs.Course.{course, is_news};
+ghost use Rattle.bfd_rules.specs.EventFrame.{course, is_news};
 ghost use Rattle.bfd_sbfd.specs.declared.config.SeekConfig.{SeekConfig as ConfigOf};
 ghost use Rattle.bfd_sbfd.specs.Waiting.{deadline as deadline_of};
 ghost use Rattle.bfd_sbfd.specs.Sound.{IsSeekPlain, IsSeekSteady};

@@ -1,15 +1,12 @@
 //! The control packet that an initiator transmits (RFC 7880 section 7.3.2, RFC 7881 section 5.1).
 ghost use Rattle.std.specs.Prelude.{◌≡◌, ◌<◌, ◌≤◌, ◌+◌};
 ghost use Rattle.bfd_rules.specs.declared.variables.Mark.{Mark};
-ghost use Rattle.bfd_rules.specs.Course.{course};
+ghost use Rattle.bfd_rules.specs.EventFrame.{course};
 ghost use Rattle.bfd_sbfd.specs.Transmit as transmit;
 
 use crate::SeekConfig;
-use bfd_packet::{AuthBytes, Control, Datagram, write};
+use bfd_packet::{AuthBytes, Control, Datagram, SOURCE_PORT, write};
 use bfd_rules::{Outs, Vars, adv_tx, sends};
-
-/// The source port of every session, within the range of RFC 5881 section 4.
-const SOURCE_PORT: u16 = 49152;
 
 /// The reflectors' port (RFC 7881 section 2).
 pub const SBFD_PORT: u16 = 7784;

@@ -36,6 +36,7 @@ pub first : (text : List ℕ) → 0 < length text
 first [] some = absurd (omega arith)
 first (byte ∷ bytes) some = one_more (byte == 10) byte bytes (first bytes)
 
+-- what cannot be true is false
 not_true : (b : Bool) → (b ≡ true → ⊥) → b ≡ false
 not_true true never = absurd (never refl)
 not_true false never = refl

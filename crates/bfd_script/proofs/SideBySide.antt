@@ -1,5 +1,5 @@
 -- Bytes that are looked at side by side.
-use Rattle.std.proofs.Common.{◌≡◌, ℕ, zero, suc, ◌+◌, ◌*◌, ◌%◌, ◌^◌, ◌<◌, ◌≤◌, ◌&&◌, cond, Bool, true, false, List, [], ◌∷◌, length, map, replicate, take, drop, eqb, eqb-true, ltb, ltb-false, refl, ap, sym, ◌∙◌, arith}
+use Rattle.std.proofs.Common.{◌≡◌, ℕ, zero, suc, ◌%◌, ◌^◌, ◌≤◌, cond, Bool, true, false, List, [], ◌∷◌, length, map, replicate, take, drop, eqb, eqb-true, ltb, ltb-false, refl, ap, sym, ◌∙◌, arith}
 use Rattle.std.proofs.lemmas.Bool.Decides.{nat_tests}
 use Rattle.std.proofs.lemmas.List.{length-map}
 use Rattle.std.proofs.lemmas.Simd.{length-zip2, mask_l-mod}
@@ -14,10 +14,12 @@ below a b = cond (ltb a b) 255 0
 abbrev mask_of : List ℕ → List ℕ → ℕ
 mask_of xs ys = mask_l (map (top 7) (zip2 below xs ys))
 
+-- a lane that isn't set
 not_below : (t : Bool) (a b : ℕ) → ltb a b ≡ t → ◌≡◌ {A = ℕ} (cond (top 7 (cond t 255 0)) 1 0) 0 → b ≤ a
 not_below true a b e m = absurd (omega arith)
 not_below false a b e m = ltb-false _ _ e
 
+-- the same, lane by lane
 by_lanes : (xs : List ℕ) → mask_of xs (replicate (length xs) 32) ≡ 0 → mask_of (replicate (length xs) 126) xs ≡ 0 → list_all is_printable xs ≡ true
 by_lanes [] low high = refl
 by_lanes (x ∷ xs) low high =
@@ -26,6 +28,7 @@ by_lanes (x ∷ xs) low high =
     let rest = by_lanes xs (omega arith) (omega arith) in
     grind (arith, nat_tests)
 
+-- a mask of 32 lanes has 32 bits
 small : (xs ys : List ℕ) → length xs ≡ 32 → length ys ≡ 32 → mask_of xs ys % 2 ^ 64 ≡ mask_of xs ys
 small xs ys p q = mask_l-mod _ 64 (omega (arith, length-map (zip2 below xs ys) (top 7), length-zip2 below xs ys (p ∙ sym q)))
 
@@ -37,6 +40,7 @@ by_masks xs long low high =
     (ap (λ n. mask_of xs (replicate n 32)) long ∙ sym (small xs (replicate 32 32) long refl) ∙ low)
     (ap (λ n. mask_of (replicate n 126) xs) long ∙ sym (small (replicate 32 126) xs refl long) ∙ eqb-true _ _ high)
 
+-- past bytes that may stand in a line
 passed : (rest : List ℕ) (n : ℕ) → list_all is_printable (take n rest) ≡ true → list_all is_printable (drop n rest) ≡ list_all is_printable rest
 passed rest zero all = refl
 passed [] (suc n) all = refl

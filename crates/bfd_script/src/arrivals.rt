@@ -8,11 +8,8 @@ ghost use Rattle.bfd_script.specs.Sound.{IsReceived};
 use crate::fault::{LineFault, ReadFault};
 use crate::fields::number;
 use crate::values::{address, payload_read};
-use bfd_packet::{Arrival, Port};
+use bfd_packet::{Arrival, Port, SOURCE_PORT};
 use std::alloc::Global;
-
-/// The source port of every packet.
-const SOURCE_PORT: u16 = 49_152;
 
 /// The kind of port.
 pub(crate) fn port_named(field: &str) -> Result<Port, LineFault>

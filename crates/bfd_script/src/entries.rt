@@ -62,7 +62,7 @@ pub enum Entry {
 }
 
 /// A line that is its word alone.
-fn read_alone(entry: Entry, values: &[&str]) -> Result<Entry, LineFault>
+fn alone(entry: Entry, values: &[&str]) -> Result<Entry, LineFault>
     requires { IsEntry entry }
     ensures value { result ≡ alone entry (map (λ value. value.now) values.now) }
     ensures sound { IfOk result IsEntry }
@@ -81,7 +81,7 @@ fn version_by(n: u64) -> Version
 }
 
 /// `bfd VERSION`
-fn read_version(values: &[&str]) -> Result<Entry, LineFault>
+fn versioned(values: &[&str]) -> Result<Entry, LineFault>
     ensures value { result ≡ versioned (map (λ value. value.now) values.now) }
     ensures sound { IfOk result IsEntry }
 {
@@ -95,7 +95,7 @@ fn read_version(values: &[&str]) -> Result<Entry, LineFault>
 }
 
 /// `tick T`
-fn read_tick(values: &[&str]) -> Result<Entry, LineFault>
+fn ticked(values: &[&str]) -> Result<Entry, LineFault>
     ensures value { result ≡ ticked (map (λ value. value.now) values.now) }
     ensures sound { IfOk result IsEntry }
 {
@@ -110,7 +110,7 @@ fn read_tick(values: &[&str]) -> Result<Entry, LineFault>
 
 /// An `rx` line of these values.
 #[tactic(auto, unfolding(crate::specs::Entries::received_of))]
-fn received(
+fn received_of(
     alloc: Global,
     moment: &str,
     port: &str,
@@ -136,13 +136,13 @@ fn received_fields(alloc: Global, values: &[&str]) -> Result<Entry, ReadFault>
     ensures sound { IfOk result IsEntry }
 {
     match values {
-        [moment, port, iface, rest @ ..] => received(alloc, moment, port, iface, rest),
+        [moment, port, iface, rest @ ..] => received_of(alloc, moment, port, iface, rest),
         _ => Err(ReadFault::Fault(LineFault::FieldCount)),
     }
 }
 
 /// `rx MOMENT single|multi|echo|sbfd|answer IFACE SRC DST TTL HEX`
-fn read_received(alloc: Global, values: &[&str]) -> Result<Entry, ReadFault>
+fn received(alloc: Global, values: &[&str]) -> Result<Entry, ReadFault>
     ensures value { Gives (λ entry. entry) result (received (map (λ value. value.now) values.now)) }
     ensures sound { IfOk result IsEntry }
 {
@@ -154,7 +154,7 @@ fn read_received(alloc: Global, values: &[&str]) -> Result<Entry, ReadFault>
 
 /// A `cmd` line of these values, without number.
 #[tactic(auto, unfolding(crate::specs::Entries::plain_of))]
-fn plain(version: Version, moment: &str, discr: &str, verb: &str) -> Result<Entry, LineFault>
+fn plain_of(version: Version, moment: &str, discr: &str, verb: &str) -> Result<Entry, LineFault>
     ensures value { result ≡ plain_of version moment.now discr.now verb.now }
     ensures sound { IfOk result IsEntry }
 {
@@ -170,7 +170,7 @@ fn plain(version: Version, moment: &str, discr: &str, verb: &str) -> Result<Entr
 
 /// A `cmd` line of these values.
 #[tactic(auto, unfolding(crate::specs::Entries::numbered_of))]
-fn numbered(
+fn numbered_of(
     version: Version,
     moment: &str,
     discr: &str,
@@ -199,7 +199,7 @@ fn read_plain(version: Version, moment: &str, discr: &str, verb: &str) -> Result
     if !may_fit(verb_named(version, verb), false) {
         return Err(LineFault::FieldCount);
     }
-    plain(version, moment, discr, verb)
+    plain_of(version, moment, discr, verb)
 }
 
 /// A `cmd` line of these values, where the verb has a number.
@@ -216,11 +216,11 @@ fn read_numbered(
     if !may_fit(verb_named(version, verb), true) {
         return Err(LineFault::FieldCount);
     }
-    numbered(version, moment, discr, verb, n)
+    numbered_of(version, moment, discr, verb, n)
 }
 
 /// `cmd MOMENT DISCR VERB` or `cmd MOMENT DISCR VERB N`
-fn read_command(version: Version, values: &[&str]) -> Result<Entry, LineFault>
+fn commanded(version: Version, values: &[&str]) -> Result<Entry, LineFault>
     ensures value { result ≡ commanded version (map (λ value. value.now) values.now) }
     ensures sound { IfOk result IsEntry }
 {
@@ -233,7 +233,7 @@ fn read_command(version: Version, values: &[&str]) -> Result<Entry, LineFault>
 
 /// A `show` line of these values.
 #[tactic(auto, unfolding(crate::specs::Entries::shown_of))]
-fn show(moment: &str, discr: &str) -> Result<Entry, LineFault>
+fn shown_of(moment: &str, discr: &str) -> Result<Entry, LineFault>
     ensures value { result ≡ shown_of moment.now discr.now }
     ensures sound { IfOk result IsEntry }
 {
@@ -246,18 +246,24 @@ fn show(moment: &str, discr: &str) -> Result<Entry, LineFault>
 }
 
 /// `show MOMENT DISCR`
-fn read_show(values: &[&str]) -> Result<Entry, LineFault>
+fn shown(values: &[&str]) -> Result<Entry, LineFault>
     ensures value { result ≡ shown (map (λ value. value.now) values.now) }
     ensures sound { IfOk result IsEntry }
 {
     match values {
-        [moment, discr] => show(moment, discr),
+        [moment, discr] => shown_of(moment, discr),
         _ => Err(LineFault::FieldCount),
     }
 }
 
 /// An `auth` line of these values.
-fn keyed(alloc: Global, discr: &str, kind: &str, id: &str, secret: &str) -> Result<Entry, ReadFault>
+fn keyed_of(
+    alloc: Global,
+    discr: &str,
+    kind: &str,
+    id: &str,
+    secret: &str,
+) -> Result<Entry, ReadFault>
     ensures value { Gives (λ entry. entry) result (keyed_of discr.now kind.now id.now secret.now) }
     ensures sound { IfOk result IsEntry }
 {
@@ -267,18 +273,18 @@ fn keyed(alloc: Global, discr: &str, kind: &str, id: &str, secret: &str) -> Resu
 }
 
 /// `auth DISCR TYPE KEYID SECRET`
-fn read_auth(alloc: Global, values: &[&str]) -> Result<Entry, ReadFault>
+fn keyed(alloc: Global, values: &[&str]) -> Result<Entry, ReadFault>
     ensures value { Gives (λ entry. entry) result (keyed (map (λ value. value.now) values.now)) }
     ensures sound { IfOk result IsEntry }
 {
     match values {
-        [discr, kind, id, secret] => keyed(alloc, discr, kind, id, secret),
+        [discr, kind, id, secret] => keyed_of(alloc, discr, kind, id, secret),
         _ => Err(ReadFault::Fault(LineFault::FieldCount)),
     }
 }
 
 /// A `key` line of these values.
-fn added(alloc: Global, discr: &str, id: &str, secret: &str) -> Result<Entry, ReadFault>
+fn added_of(alloc: Global, discr: &str, id: &str, secret: &str) -> Result<Entry, ReadFault>
     ensures value { Gives (λ entry. entry) result (added_of discr.now id.now secret.now) }
     ensures sound { IfOk result IsEntry }
 {
@@ -288,12 +294,12 @@ fn added(alloc: Global, discr: &str, id: &str, secret: &str) -> Result<Entry, Re
 }
 
 /// `key DISCR KEYID SECRET`
-fn read_added(alloc: Global, values: &[&str]) -> Result<Entry, ReadFault>
+fn added(alloc: Global, values: &[&str]) -> Result<Entry, ReadFault>
     ensures value { Gives (λ entry. entry) result (added (map (λ value. value.now) values.now)) }
     ensures sound { IfOk result IsEntry }
 {
     match values {
-        [discr, id, secret] => added(alloc, discr, id, secret),
+        [discr, id, secret] => added_of(alloc, discr, id, secret),
         _ => Err(ReadFault::Fault(LineFault::FieldCount)),
     }
 }
@@ -309,20 +315,20 @@ fn read_values(
     ensures sound { IfOk result IsEntry }
 {
     match word {
-        Word::Bfd => Ok(read_version(values)?),
+        Word::Bfd => Ok(versioned(values)?),
         Word::P2p => Ok(Entry::Row(read_pair(values)?)),
         Word::Sbfd => Ok(Entry::Row(read_seek(values)?)),
         Word::Reflector => Ok(Entry::Reflect(read_reflector(values)?)),
         Word::Head => Ok(Entry::Row(read_head(values)?)),
         Word::Tail => Ok(Entry::Row(read_tail(values)?)),
-        Word::Auth => read_auth(alloc, values),
-        Word::Key => read_added(alloc, values),
-        Word::Run => Ok(read_alone(Entry::Run, values)?),
-        Word::Rx => read_received(alloc, values),
-        Word::Tick => Ok(read_tick(values)?),
-        Word::Cmd => Ok(read_command(version, values)?),
-        Word::Show => Ok(read_show(values)?),
-        Word::End => Ok(read_alone(Entry::End, values)?),
+        Word::Auth => keyed(alloc, values),
+        Word::Key => added(alloc, values),
+        Word::Run => Ok(alone(Entry::Run, values)?),
+        Word::Rx => received(alloc, values),
+        Word::Tick => Ok(ticked(values)?),
+        Word::Cmd => Ok(commanded(version, values)?),
+        Word::Show => Ok(shown(values)?),
+        Word::End => Ok(alone(Entry::End, values)?),
     }
 }
 

@@ -9,16 +9,11 @@ use crate::fault::LineFault;
 use crate::fields::number;
 use crate::values::address;
 use bfd_packet::Addr;
-use bfd_rules::{Config, Role};
+use bfd_rules::{Config, LEAST_INTERVAL, MOST_INTERVAL, Role};
 use bfd_session::SessionConfig;
 
 /// The values of a `p2p` line.
 const PAIR_VALUES: usize = 11;
-
-/// The least and the greatest interval, in microseconds.
-const LEAST_INTERVAL: u64 = 10_000;
-
-const MOST_INTERVAL: u64 = 60_000_000;
 
 /// Which session it is, and between which addresses.
 #[derive(Clone, Copy)]

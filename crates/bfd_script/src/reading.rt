@@ -11,15 +11,15 @@ use crate::script::Script;
 use crate::state::Reading;
 use std::alloc::Global;
 
-/// The state after one more line. `fields` is room for its fields.
+/// Takes in one more line. `fields` is room for its fields.
 fn read_step<'a>(
     alloc: Global,
     live: bool,
-    reading: Reading,
+    reading: &mut Reading,
     line: &'a [u8],
     fields: &mut Vec<&'a str>,
-) -> Result<Reading, ReadFault>
-    ensures { Gives (λ s. s) result (step live reading line.now) }
+) -> Result<(), ReadFault>
+    ensures { Gives (λ _. reading.new) result (step live reading.old line.now) }
 {
     let entry = read_line(
         alloc,
@@ -29,7 +29,7 @@ fn read_step<'a>(
         line,
         fields,
     )?;
-    reading.accept(entry)
+    reading.accept(alloc, entry)
 }
 
 /// Reads a packet file: the script that it spells, or its first faulty line with that line's first fault.
@@ -45,8 +45,8 @@ pub fn read(alloc: Global, bytes: &[u8], live: bool) -> Result<Script, ScriptFau
     let mut number = 1;
     while !rest.is_empty() {
         let (line, after) = first_line(rest);
-        match read_step(alloc, live, reading, line, &mut fields) {
-            Ok(next) => reading = next,
+        match read_step(alloc, live, &mut reading, line, &mut fields) {
+            Ok(()) => {}
             Err(ReadFault::Fault(fault)) => {
                 return Err(ScriptFault::Bad(BadLine {
                     line: number,

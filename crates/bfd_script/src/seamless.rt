@@ -7,6 +7,7 @@ ghost use Rattle.bfd_script.specs.Sound.{IsReflector, IsRow};
 use crate::fault::LineFault;
 use crate::fields::number;
 use crate::values::address;
+use bfd_rules::{LEAST_INTERVAL, MOST_INTERVAL};
 use bfd_sbfd::{Reflector, SeekConfig};
 use bfd_session::SessionConfig;
 
@@ -30,7 +31,7 @@ fn initiator(
     let iface = number(iface, 0, 65_535)? as u32;
     let local = address(local)?;
     let remote = address(remote)?;
-    let tx = number(tx, 10_000, 60_000_000)? as u32;
+    let tx = number(tx, LEAST_INTERVAL, MOST_INTERVAL)? as u32;
     let mult = number(mult, 1, 255)? as u8;
     let seed = number(seed, 0, 4_294_967_295)? as u32;
     Ok(SessionConfig::Seek(SeekConfig {
@@ -87,7 +88,7 @@ fn reflecting(discr: &str, rx: &str, mode: &str) -> Result<Reflector, LineFault>
     ensures sound { IfOk result IsReflector }
 {
     let discr = number(discr, 1, 4_294_967_295)? as u32;
-    let rx = number(rx, 10_000, 60_000_000)? as u32;
+    let rx = number(rx, LEAST_INTERVAL, MOST_INTERVAL)? as u32;
     let up = up_named(mode)?;
     Ok(Reflector { discr, rx, up })
 }

@@ -17,6 +17,7 @@ use bfd_sbfd::Reflector;
 use bfd_session::SessionConfig;
 use std::alloc::{AllocError, Global};
 use std::marker::Model;
+use std::mem;
 
 /// The most table rows of a script.
 const MOST_ROWS: usize = 65_536;
@@ -166,9 +167,9 @@ impl Reading {
     }
 
     /// One more event line: refused where the session that it names isn't there, and where there are 200,000.
-    fn with_line(self, line: Line) -> Result<Reading, ReadFault>
+    fn push(&mut self, line: Line) -> Result<(), ReadFault>
         requires { IsEvent line }
-        ensures { Gives (λ s. s) result (with_event line self) }
+        ensures { Gives (λ _. self.new) result (with_event line self.old) }
     {
         if !is_named(&line, &self.table) {
             return Err(ReadFault::Fault(LineFault::NoSuchSession));
@@ -176,13 +177,12 @@ impl Reading {
         if self.events.len() >= MOST_EVENTS {
             return Err(ReadFault::Fault(LineFault::TooMany));
         }
-        let mut events = self.events;
-        events.push(line)?;
-        Ok(Reading { events, ..self })
+        self.events.push(line)?;
+        Ok(())
     }
 
     /// The state after a line that says this, or the fault that it has because of the lines before it.
-    pub(crate) fn accept(self, entry: Entry) -> Result<Reading, ReadFault>
+    fn with(self, entry: Entry) -> Result<Reading, ReadFault>
         requires { IsEntry entry }
         ensures { Gives (λ s. s) result (accepted entry self) }
     {
@@ -193,8 +193,28 @@ impl Reading {
             Entry::Auth { discr, keys } => self.with_keys(discr, keys),
             Entry::Key { discr, key } => self.with_key(discr, key),
             Entry::Run => Ok(self.at(Place::Events)),
-            Entry::Event(line) => self.with_line(line),
+            Entry::Event(line) => {
+                let mut next = self;
+                next.push(line)?;
+                Ok(next)
+            }
             Entry::End => Ok(self.at(Place::Over)),
+        }
+    }
+
+    /// Takes in a line that says this, or tells the fault that it has because of the lines before it. An event line, which most
+    /// lines are, goes to its place without the state being moved.
+    pub(crate) fn accept(&mut self, alloc: Global, entry: Entry) -> Result<(), ReadFault>
+        requires { IsEntry entry }
+        ensures { Gives (λ _. self.new) result (accepted entry self.old) }
+    {
+        match entry {
+            Entry::Event(line) => self.push(line),
+            other => {
+                let before = mem::replace(self, Reading::new(alloc));
+                *self = before.with(other)?;
+                Ok(())
+            }
         }
     }
 

@@ -123,6 +123,17 @@ fn note(places: BTreeSet<RowKind>, kind: RowKind) -> Result<BTreeSet<RowKind>, A
     Ok(places)
 }
 
+/// Whether the set has this place. A place above all of the set's is new, as one comparison tells: sessions mostly come
+/// in the order of their addresses.
+fn is_in(places: &BTreeSet<RowKind>, kind: RowKind) -> bool
+    ensures { result ≡ contains (⟦<RowKind as Ord>⟧.cmp) places.now kind }
+{
+    match places.last() {
+        Some(last) if last.cmp(&kind).is_lt() => false,
+        _ => places.contains(&kind),
+    }
+}
+
 impl Table {
     /// A table without sessions.
     pub(crate) fn new(alloc: Global) -> Table
@@ -186,7 +197,7 @@ impl Table {
     pub(crate) fn has_place(&self, config: &SessionConfig) -> bool
         ensures { result ≡ has_place config.now self.now }
     {
-        self.places.contains(&row_of(config).kind)
+        is_in(&self.places, row_of(config).kind)
     }
 
     /// One more session, whose discriminator and selecting addresses are new. The one refusal is want of memory.

@@ -8,6 +8,7 @@ use crate::fault::LineFault;
 use crate::fields::number;
 use crate::values::address;
 use bfd_mp::{HeadConfig, TailConfig};
+use bfd_rules::{LEAST_INTERVAL, MOST_INTERVAL};
 use bfd_session::SessionConfig;
 
 /// A head of these values.
@@ -28,7 +29,7 @@ fn sender(
     let iface = number(iface, 0, 65_535)? as u32;
     let local = address(local)?;
     let group = address(group)?;
-    let tx = number(tx, 10_000, 60_000_000)? as u32;
+    let tx = number(tx, LEAST_INTERVAL, MOST_INTERVAL)? as u32;
     let mult = number(mult, 1, 255)? as u8;
     let seed = number(seed, 0, 4_294_967_295)? as u32;
     Ok(SessionConfig::Head(HeadConfig {

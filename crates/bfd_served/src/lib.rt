@@ -13,7 +13,7 @@
 
 mod serving;
 mod telling;
-mod turns;
+mod turn_lines;
 
 pub use serving::served;
 

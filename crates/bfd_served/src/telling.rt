@@ -6,7 +6,7 @@ ghost use Rattle.bfd_shard.specs.History.{events_of};
 ghost use Rattle.bfd_shard.specs.Shard.{CanHappen, IsHistory};
 ghost use Rattle.bfd_served.specs.Served.{reply_at, entry_text, entries_text, entries_sent};
 
-use crate::turns::{discr_in, tell_turn};
+use crate::turn_lines::{discr_in, tell_turn};
 use bfd_num::Steps;
 use bfd_rules::{Out, Outs};
 use bfd_script::lines;

@@ -7,7 +7,7 @@ use Rattle.bfd_rules.specs.declared.variables.Mark.{Mark}
 use Rattle.bfd_rules.specs.declared.variables.Vars.{Vars}
 use Rattle.bfd_rules.specs.Quantities.{may_send, tx_interval}
 use Rattle.bfd_rules.specs.Jitter.{pick}
-use Rattle.bfd_rules.specs.Course.{Course, sends, is_untold, based, draws, drawn, redrawn}
+use Rattle.bfd_rules.specs.EventFrame.{Course, sends, is_untold, based, draws, drawn, redrawn}
 use Rattle.bfd_p2p.specs.Transmit.{transmits}
 use Rattle.bfd_p2p.specs.Finish.{extra, finish}
 use Rattle.bfd_echo.specs.declared.echo.Echo.{Echo}

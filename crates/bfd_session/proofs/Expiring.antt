@@ -11,7 +11,7 @@ use Rattle.bfd_rules.specs.declared.variables.Vars.{Vars}
 use Rattle.bfd_rules.specs.Quantities.{deadline, seq_deadline, is_up, demand_here, may_send, tx_interval}
 use Rattle.bfd_rules.specs.Jitter.{pick}
 use Rattle.bfd_rules.specs.Renewal.{poll_again, poll_renewed, used_renewed, demand_renewed, renewed}
-use Rattle.bfd_rules.specs.Course.{Course, enters, changes, sends, draws, drawn, is_untold, redrawn}
+use Rattle.bfd_rules.specs.EventFrame.{Course, enters, changes, sends, draws, drawn, is_untold, redrawn}
 use Rattle.bfd_rules.specs.Sound as pair
 use Rattle.bfd_p2p.specs.Frame.{renews, moves}
 use Rattle.bfd_p2p.specs.Transmit.{transmits}

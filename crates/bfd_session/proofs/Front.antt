@@ -12,7 +12,7 @@ use Rattle.bfd_rules.specs.declared.variables.Vars.{Vars}
 use Rattle.bfd_num.specs.Numbers.{floor_tick}
 use Rattle.bfd_num.specs.Due.{has_come}
 use Rattle.bfd_rules.specs.Quantities.{may_send, deadline, seq_deadline, is_admin_down}
-use Rattle.bfd_rules.specs.Course.{Course, sends, is_untold, based, redrawn}
+use Rattle.bfd_rules.specs.EventFrame.{Course, sends, is_untold, based, redrawn}
 use Rattle.bfd_p2p.specs.Frame.{renews, moves}
 use Rattle.bfd_p2p.specs.Transmit.{transmits}
 use Rattle.bfd_p2p.specs.Settle as settling

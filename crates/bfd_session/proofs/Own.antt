@@ -23,7 +23,7 @@ use Rattle.bfd_rules.specs.declared.config.Config.{Config}
 use Rattle.bfd_rules.specs.declared.variables.Vars.{Vars}
 use Rattle.bfd_rules.specs.Quantities.{is_admin_down}
 use Rattle.bfd_rules.specs.Renewal.{poll_renewed, used_renewed, demand_renewed, renewed}
-use Rattle.bfd_rules.specs.Course.{Course, sends}
+use Rattle.bfd_rules.specs.EventFrame.{Course, sends}
 use Rattle.bfd_rules.specs.Sound.{IsPlain, IsPlace, HasPeerMult, IsSteady, is_interval}
 use Rattle.bfd_p2p.specs.Frame.{renews, moves}
 use Rattle.bfd_p2p.specs.Transmit.{transmits}

@@ -9,7 +9,7 @@ use Rattle.bfd_rules.specs.declared.config.Config.{Config}
 use Rattle.bfd_rules.specs.declared.outputs.Out.{Out}
 use Rattle.bfd_rules.specs.declared.variables.Vars.{Vars}
 use Rattle.bfd_rules.specs.Quantities.{deadline, seq_deadline, may_send, same_state, tx_interval}
-use Rattle.bfd_rules.specs.Course.{Course, course, begins, is_news, draws, drawn, redrawn}
+use Rattle.bfd_rules.specs.EventFrame.{Course, course, begins, is_news, draws, drawn, redrawn}
 use Rattle.bfd_rules.specs.Sound as pair
 use Rattle.bfd_p2p.specs.Settle as settling
 use Rattle.bfd_p2p.specs.Finish as finishing

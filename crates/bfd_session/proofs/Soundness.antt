@@ -15,7 +15,7 @@ use Rattle.bfd_rules.specs.declared.variables.Vars.{Vars}
 use Rattle.bfd_rules.specs.Quantities.{deadline, seq_deadline, demand_here, may_send, tx_interval, is_idle}
 use Rattle.bfd_rules.specs.Jitter.{pick}
 use Rattle.bfd_rules.specs.Renewal.{poll_again, poll_renewed, used_renewed, demand_renewed, renewed}
-use Rattle.bfd_rules.specs.Course.{Course, enters, changes, sends, draws, one_changed, drawn, is_untold, based, redrawn}
+use Rattle.bfd_rules.specs.EventFrame.{Course, enters, changes, sends, draws, one_changed, drawn, is_untold, based, redrawn}
 use Rattle.bfd_rules.specs.Sound.{IsPlain, IsRenewed, HasPeerMult, IsSteady, IsSound}
 use Rattle.bfd_p2p.specs.Frame.{renews, moves}
 use Rattle.bfd_p2p.specs.Transmit.{transmits}

@@ -5,7 +5,7 @@ use Rattle.bfd_packet.specs.declared.control.State.TheVariants.{Down}
 use Rattle.bfd_rules.specs.declared.config.Config.{Config}
 use Rattle.bfd_rules.specs.declared.variables.Mark.{Mark}
 use Rattle.bfd_rules.specs.declared.variables.Vars.{Vars}
-use Rattle.bfd_rules.specs.Course.{begins, draws, drawn}
+use Rattle.bfd_rules.specs.EventFrame.{begins, draws, drawn}
 use Rattle.bfd_rules.specs.Jitter.{pick}
 use Rattle.bfd_rules.specs.Quantities.{is_up, may_send, tx_interval}
 use Rattle.bfd_rules.specs.Sound.{IsSound}

@@ -5,7 +5,7 @@ use Rattle.bfd_num.specs.Due.{has_come}
 use Rattle.bfd_rules.specs.declared.config.Config.{Config}
 use Rattle.bfd_rules.specs.declared.variables.Vars.{Vars}
 use Rattle.bfd_rules.specs.Quantities.{is_up}
-use Rattle.bfd_rules.specs.Course.{sends}
+use Rattle.bfd_rules.specs.EventFrame.{sends}
 use Rattle.bfd_p2p.specs.Receive.{is_single}
 use Rattle.bfd_p2p.specs.Frame.{moves}
 use Rattle.bfd_p2p.specs.Machine.{failed}

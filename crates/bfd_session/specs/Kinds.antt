@@ -1,7 +1,7 @@
 -- The kinds of sessions, a session as one record, and an event of it on its way.
 use Rattle.std.specs.Prelude.{ℕ, Option, None, List, map}
 use Rattle.bfd_rules.specs.declared.variables.Vars.{Vars}
-use Rattle.bfd_rules.specs.Course.{Course}
+use Rattle.bfd_rules.specs.EventFrame.{Course}
 use Rattle.bfd_echo.specs.declared.echo.Echo.{Echo}
 use Rattle.bfd_session.specs.declared.event.SessionConfig.{SessionConfig}
 use Rattle.bfd_session.specs.declared.event.SessionConfig.TheVariants.{Pair, Seek, Head, Tail}

@@ -12,7 +12,7 @@ use Rattle.bfd_rules.specs.declared.commands.Refusal.{Refusal}
 use Rattle.bfd_rules.specs.declared.config.Config.{Config}
 use Rattle.bfd_rules.specs.declared.outputs.Out.{Out}
 use Rattle.bfd_rules.specs.declared.variables.Vars.{Vars}
-use Rattle.bfd_rules.specs.Course.{Course, course, begins, stamped}
+use Rattle.bfd_rules.specs.EventFrame.{Course, course, begins, stamped}
 use Rattle.bfd_rules.specs.Sound as pair
 use Rattle.bfd_rules.specs.declared.verdict.Verdict.{Verdict}
 use Rattle.bfd_rules.specs.declared.verdict.Verdict.TheVariants.{Accepted, Dropped as Discarded}

@@ -1,7 +1,7 @@
 //! The Echo function as a part of a point-to-point session's event (RFC 5880 sections 6.8.5, 6.8.8 and 6.8.9).
 ghost use Rattle.std.specs.Prelude.{◌≡◌, ◌<◌, ◌≤◌, ◌+◌, ℕ, None, Some, IfSome};
 ghost use Rattle.bfd_num.specs.Numbers.{moment_bound};
-ghost use Rattle.bfd_rules.specs.Course.{course};
+ghost use Rattle.bfd_rules.specs.EventFrame.{course};
 ghost use Rattle.bfd_p2p.specs.Over.{IsSettled};
 ghost use Rattle.bfd_echo.specs.Rules.{HasMoments};
 ghost use Rattle.bfd_session.specs.Echoing as echoing;

@@ -2,7 +2,7 @@
 ghost use Rattle.std.specs.Prelude.{◌≡◌, ◌<◌, ◌≤◌, ◌+◌, ◌*◌, ◌++◌, ℕ, false, IfSome};
 ghost use Rattle.bfd_num.specs.Numbers.{moment_bound};
 ghost use Rattle.bfd_num.specs.Due.{has_come};
-ghost use Rattle.bfd_rules.specs.Course.{course};
+ghost use Rattle.bfd_rules.specs.EventFrame.{course};
 ghost use Rattle.bfd_sbfd.specs.Over.{IsOver};
 ghost use Rattle.bfd_sbfd.specs.Sound.{IsSeekSound};
 ghost use Rattle.bfd_session.specs.declared.event.SessionConfig.TheVariants.{Seek};

@@ -2,7 +2,7 @@
 ghost use Rattle.std.specs.Prelude.{◌≡◌, ◌<◌, ◌≤◌, ◌+◌, ◌*◌, ◌++◌, ℕ, false, IfSome};
 ghost use Rattle.bfd_num.specs.Numbers.{moment_bound};
 ghost use Rattle.bfd_num.specs.Due.{has_come};
-ghost use Rattle.bfd_rules.specs.Course.{course};
+ghost use Rattle.bfd_rules.specs.EventFrame.{course};
 ghost use Rattle.bfd_mp.specs.Over.{IsTailOver};
 ghost use Rattle.bfd_mp.specs.Sound.{IsTailSound};
 ghost use Rattle.bfd_session.specs.declared.event.SessionConfig.TheVariants.{Tail as TailOf};

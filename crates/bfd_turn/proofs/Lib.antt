@@ -2,6 +2,6 @@ pub mod Beginnings
 pub mod Seats
 pub mod Kept
 pub mod Loads
-pub mod Taking
+pub mod TakeAndRelease
 pub mod Sharing
 pub mod Joined

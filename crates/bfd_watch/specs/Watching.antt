@@ -1,6 +1,6 @@
 -- What a client of a shard has.
 use Rattle.std.specs.Prelude.{◌≡◌, ◌+◌, ◌*◌, ◌<◌, ℕ, List, length}
-use Rattle.bfd_rules.specs.Course.{Outputs}
+use Rattle.bfd_rules.specs.EventFrame.{Outputs}
 use Rattle.bfd_session.specs.declared.event.SessionConfig.{SessionConfig}
 use Rattle.bfd_shard.specs.declared.entry.Entry.{Entry}
 use Rattle.bfd_shard.specs.Shard.{Shard}

@@ -1,6 +1,6 @@
 pub mod Rings
 pub mod Wheels
-pub mod Taking
+pub mod TakenIds
 pub mod Order
 pub mod Walk
 pub mod Swept

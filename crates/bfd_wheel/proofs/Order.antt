@@ -10,7 +10,7 @@ use Rattle.bfd_num.specs.Due.{has_come}
 use Rattle.bfd_lanes.specs.Places.{never, due_of, places, come}
 use Rattle.bfd_wheel.specs.Taken.{bit, times, waits, Took}
 use Rattle.bfd_wheel.proofs.Rings.{same_or_not, under_or_not}
-use Rattle.bfd_wheel.proofs.Taking.{bit_same, bit_other, come_of, counts_not}
+use Rattle.bfd_wheel.proofs.TakenIds.{bit_same, bit_other, come_of, counts_not}
 
 -- no number after another is below it
 Ascends : List ℕ → Type 0

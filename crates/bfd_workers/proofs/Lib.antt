@@ -1,6 +1,6 @@
 pub mod Standing
 pub mod Searches
-pub mod Kept
+pub mod SameConfigs
 pub mod Tables
 pub mod Planning
 pub mod Soles

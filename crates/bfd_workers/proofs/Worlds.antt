@@ -22,7 +22,7 @@ use Rattle.bfd_gather.proofs.Histories.{left_by, left_runs}
 use Rattle.bfd_replay.specs.World.{World, Turn, own, own_of, ticks, done, happens, outcomes, after, reflected, opened, world}
 use Rattle.bfd_replay.specs.World as worlds
 use Rattle.bfd_workers.specs.Planned.{events_of_table, happening, happening_by, happenings, reflecting}
-use Rattle.bfd_workers.proofs.Kept.{happens_keeps}
+use Rattle.bfd_workers.proofs.SameConfigs.{happens_keeps}
 
 -- what happens, to a world
 abbrev turn_of : Happening → World → Turn

@@ -25,7 +25,7 @@ mod plan;
 mod replaying;
 mod routing;
 mod running;
-mod taking;
+mod shrinking;
 #[cfg(test)]
 mod tests;
 mod working;

@@ -8,9 +8,9 @@ ghost use Rattle.bfd_gather.specs.Happenings.{told_apart};
 ghost use Rattle.bfd_workers.specs.Planned.{IsTable, IsMet, AreQueues, IsPlanned, happenings, route_is};
 
 use crate::routing::{Route, route_of};
-use crate::taking::next_of;
+use crate::shrinking::next_of;
 use bfd_demux::{BuildFault, Demux};
-use bfd_gather::{Numbered, Part, deal};
+use bfd_gather::{Numbered, Part, queue_event};
 use bfd_rules::Out;
 use bfd_sbfd::Reflector;
 use bfd_script::Line;
@@ -65,7 +65,7 @@ fn take_in(
             let out = [Out::Sent { discr, datagram }];
             apart.tell_event(number, &out, &Answer::Handled)
         }
-        Route::Happens(event) => deal(queues, number, event),
+        Route::Happens(event) => queue_event(queues, number, event),
     }
 }
 

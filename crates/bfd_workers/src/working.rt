@@ -10,7 +10,7 @@ ghost use Rattle.bfd_engine.specs.Turned.{room_in};
 ghost use Rattle.bfd_gather.specs.Pieces.{event_pieces};
 ghost use Rattle.bfd_workers.specs.Working.{AreMet, HasDoneAt, HasFinished, HasLeft, HasStopped, HasTold, HasUsed, IsElsewhere, IsIdle, IsReady, IsRefused, IsStopAt, is_tick};
 
-use crate::taking::next_of;
+use crate::shrinking::next_of;
 use bfd_edge::Gate;
 use bfd_engine::{Engine, EngineFault, EnginePass};
 use bfd_gather::{Numbered, Part};

@@ -1,4 +1,4 @@
--- What a job has to write is a text that goes with its status.
+-- What a job has to write, by the branches of `answer_to`.
 use Rattle.std.proofs.Common.{◌≡◌, ℕ, List, true, false, Option, Some, None, Result, Ok, Err, refl, subst}
 use Rattle.bfd_script.specs.declared.fault.BadLine.{BadLine as FaultyLine}
 use Rattle.bfd_script.specs.Reading.{Lists, script_of}
@@ -10,31 +10,46 @@ use Rattle.bfd_watching.specs.Members.{first_unknown, watched_of}
 use Rattle.bfd_words.specs.declared.job.Job.{Job}
 use Rattle.bfd_words.specs.declared.job.Job.TheVariants.{Replay, Serve, Load, Pair, Watch}
 use Rattle.bfdd.specs.Answers.{IsAnswer}
-use Rattle.bfdd.specs.declared.status.Status.TheVariants.{BadLine}
-use Rattle.bfdd.specs.Text.{Wanted, answer_to, complaint_line, ends, load_line, over, told, unserved, watched, watched_unless}
+use Rattle.bfdd.specs.declared.status.Status.TheVariants.{BadLine, NoMember}
+use Rattle.bfdd.specs.Text.{Wanted, answer_to, bare, complaint_line, ends, load_line, over, told, unserved, watched, watched_unless}
+use Rattle.bfdd.specs.Words.{reads, watches}
 
-of_known : (v w : Wanted) → IsAnswer v → Some v ≡ Some w → IsAnswer w
-of_known v w fact is = let same : v ≡ w = cc in subst (λ (x : Wanted). IsAnswer x) same fact
+of_known : (P : Wanted → Type 0) (v w : Wanted) → P v → Some v ≡ Some w → P w
+of_known P v w fact is = let same : v ≡ w = cc in subst P same fact
 
-over_is : (f : Lists → Wanted) → ((script : Lists) → IsAnswer (f script)) → (read : Result Lists FaultyLine) → IsAnswer (over f read)
-over_is f each (Ok script) = each script
-over_is f each (Err bad) = refl
+over_is : (P : Wanted → Type 0) (f : Lists → Wanted) → ((script : Lists) → P (f script))
+    → ((bad : FaultyLine) → P (ends (BadLine bad.line bad.fault) (complaint_line bad))) → (read : Result Lists FaultyLine) → P (over f read)
+over_is P f each complained (Ok script) = each script
+over_is P f each complained (Err bad) = complained bad
 
-unless_is : (stranger : Option ℕ) (text : List ℕ) → IsAnswer (watched_unless stranger text)
-unless_is None text = tt
-unless_is (Some discr) text = refl
+unless_is : (P : Wanted → Type 0) → ((text : List ℕ) → P (told text)) → ((discr : ℕ) → P (bare (NoMember discr)))
+    → (stranger : Option ℕ) (text : List ℕ) → P (watched_unless stranger text)
+unless_is P done strange None text = done text
+unless_is P done strange (Some discr) text = strange discr
 
-unserved_is : (read : Result Lists FaultyLine) (w : Wanted) → unserved read ≡ Some w → IsAnswer w
-unserved_is (Ok script) w is = cc
-unserved_is (Err bad) w is = of_known (ends (BadLine bad.line bad.fault) (complaint_line bad)) w refl is
+unserved_is : (P : Wanted → Type 0) → ((bad : FaultyLine) → P (ends (BadLine bad.line bad.fault) (complaint_line bad)))
+    → (read : Result Lists FaultyLine) (w : Wanted) → unserved read ≡ Some w → P w
+unserved_is P complained (Ok script) w is = cc
+unserved_is P complained (Err bad) w is = of_known P (ends (BadLine bad.line bad.fault) (complaint_line bad)) w (complained bad) is
 
+-- a fact about all that a job may have to write is one about what it has to
+pub each_answer : (job : Job) (P : Wanted → Type 0) → ((text : List ℕ) → P (told text))
+    → (reads job ≡ true → (bad : FaultyLine) → P (ends (BadLine bad.line bad.fault) (complaint_line bad)))
+    → (watches job ≡ true → (discr : ℕ) → P (bare (NoMember discr)))
+    → (bytes : List ℕ) (w : Wanted) → answer_to job bytes ≡ Some w → P w
+each_answer (Replay hands) P done complained strange bytes w is =
+    of_known P (over (λ script. told (replayed script)) (script_of false bytes)) w
+    (over_is P (λ script. told (replayed script)) (λ script. done (replayed script)) (complained refl) (script_of false bytes)) is
+each_answer (Watch need members shards) P done complained strange bytes w is =
+    of_known P (over (watched need members) (script_of false bytes)) w
+    (over_is P (watched need members) (λ script. unless_is P done (strange refl) (first_unknown members script.configs) (watched_of need members script))
+    (complained refl) (script_of false bytes)) is
+each_answer (Load sessions ticks seed hands) P done complained strange bytes w is =
+    let line = load_line sessions (totals (script sessions ticks seed)) in of_known P (told line) w (done line) is
+each_answer (Pair events seed) P done complained strange bytes w is =
+    let line = pair_line seed (schedule seed events) in of_known P (told line) w (done line) is
+each_answer (Serve hands turns ticks journal) P done complained strange bytes w is = unserved_is P (complained refl) (script_of true bytes) w is
+
+-- it is a text that goes with its status
 pub is_answer : (job : Job) (bytes : List ℕ) (w : Wanted) → answer_to job bytes ≡ Some w → IsAnswer w
-is_answer (Replay hands) bytes w is =
-    of_known (over (λ script. told (replayed script)) (script_of false bytes)) w
-    (over_is (λ script. told (replayed script)) (λ script. tt) (script_of false bytes)) is
-is_answer (Watch need members shards) bytes w is =
-    of_known (over (watched need members) (script_of false bytes)) w
-    (over_is (watched need members) (λ script. unless_is (first_unknown members script.configs) (watched_of need members script)) (script_of false bytes)) is
-is_answer (Load sessions ticks seed hands) bytes w is = of_known (told (load_line sessions (totals (script sessions ticks seed)))) w tt is
-is_answer (Pair events seed) bytes w is = of_known (told (pair_line seed (schedule seed events))) w tt is
-is_answer (Serve hands turns ticks journal) bytes w is = unserved_is (script_of true bytes) w is
+is_answer job bytes w is = each_answer job (λ (v : Wanted). IsAnswer v) (λ text. tt) (λ reading bad. refl) (λ watching discr. refl) bytes w is

@@ -1,4 +1,5 @@
 pub mod Answering
+pub mod Ending
 pub mod Served
 pub mod Taking
 pub mod Wanting

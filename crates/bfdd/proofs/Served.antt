@@ -1,5 +1,5 @@
 -- What `serve` has to tell, and the status that comes of it.
-use Rattle.std.proofs.Common.{◌≡◌, ◌⊎◌, ◌≤◌, ℕ, true, List, length, Option, Some, None, Ok, inl, inr, sym, ap, ◌∙◌, subst, arith}
+use Rattle.std.proofs.Common.{◌≡◌, ◌⊎◌, ◌≤◌, ℕ, true, List, length, Option, Some, None, Ok, inl, inr, refl, sym, ap, ◌∙◌, subst, arith}
 use Rattle.std.proofs.Math.Nat.{le-max_right}
 use Rattle.std.proofs.lemmas.List.{append-nil}
 use Rattle.std.specs.Prelude.{◌+◌, ◌-◌, ◌^◌, ◌++◌, min, IfSome}
@@ -13,9 +13,10 @@ use Rattle.bfd_words.specs.declared.job.Job.TheVariants.{Replay, Serve, Load, Pa
 use Rattle.bfdd.specs.declared.status.Status.{Status}
 use Rattle.bfdd.specs.declared.status.Status.TheVariants.{Memory}
 use Rattle.bfdd.specs.Answers.{HasText}
-use Rattle.bfdd.specs.Serving.{Comes, Edges, IsFaulty, IsFinished, IsOverlong, IsServed, Tells, status_of}
+use Rattle.bfdd.specs.Serving.{Comes, Edges, HasNoScript, HasServed, IsFaulty, IsFinished, IsOverlong, IsServed, status_of}
+use Rattle.bfdd.specs.Telling.{Tells}
 use Rattle.bfdd.specs.Text.{Wanted, most_bytes}
-use Rattle.bfdd.specs.Words.{OfServing}
+use Rattle.bfdd.specs.Words.{OfServing, serves}
 
 -- the served text goes with every finish
 pub goes_with : (end : Finish) (text : List ℕ) → HasText (status_of end) text
@@ -25,14 +26,13 @@ goes_with finish.ClockFault text = tt
 goes_with (finish.JournalFull shard) text = tt
 goes_with (finish.Turns number) text = tt
 
--- one fact after another, of a job that serves
-pub serving_then : (given : Option Job) (P Q : Job → Type 0) → OfServing given P → ((job : Job) → P job → Q job) → OfServing given Q
-serving_then None P Q fact next = tt
-serving_then (Some (Replay hands)) P Q fact next = tt
-serving_then (Some (Serve hands turns ticks journal)) P Q fact next = next (Serve hands turns ticks journal) fact
-serving_then (Some (Load sessions ticks seed hands)) P Q fact next = tt
-serving_then (Some (Pair events seed)) P Q fact next = tt
-serving_then (Some (Watch need members shards)) P Q fact next = tt
+-- a fact about a job, where it serves
+pub of_serving : (job : Job) (P : Job → Type 0) → (serves job ≡ true → P job) → OfServing (Some job) P
+of_serving (Replay hands) P fact = tt
+of_serving (Serve hands turns ticks journal) P fact = fact refl
+of_serving (Load sessions ticks seed hands) P fact = tt
+of_serving (Pair events seed) P fact = tt
+of_serving (Watch need members shards) P fact = tt
 
 -- the bytes that a source told are those that were read to its end
 read_whole : (bytes : List ℕ) (right : Option (List ℕ)) (more : List ℕ) → Consumes (Some bytes) right more → IsAtEnd right → bytes ≡ more
@@ -62,8 +62,8 @@ finished_by job script old new w result (inl is) ports (inr portless) =
     absurd (ports (port_rose old.ports.faults new.ports.faults portless.refused.0.fault))
 
 of_script : (job : Job) (bytes : List ℕ) (right : Option (List ℕ)) (old new : Edges) (w : Wanted) (result : Status)
-    → (result ≡ w.status) ⊎ (result ≡ Memory) → (Rose old.ports.faults new.ports.faults → ⊥) → Tells job (Some bytes) right old new w
-    → IsFinished job old new result bytes
+    → (result ≡ w.status) ⊎ (result ≡ Memory) → (Rose old.ports.faults new.ports.faults → ⊥)
+    → HasServed job (Some bytes) right old new w ⊎ HasNoScript (Some bytes) right old new w → IsFinished job old new result bytes
 of_script job bytes right old new w result is ports (inl served) = λ few script spelled.
     finished_by job script old new w result is ports
     (subst (λ (s : Lists). Comes job s old new w)
@@ -73,7 +73,12 @@ of_script job bytes right old new w result is ports (inr none) = λ few script s
 
 -- with an outside that doesn't fail a script is served to its finish
 pub finished : (job : Job) (left right : Option (List ℕ)) (old new : Edges) (w : Wanted) (result : Status)
-    → (result ≡ w.status) ⊎ (result ≡ Memory) → (Rose old.ports.faults new.ports.faults → ⊥) → Tells job left right old new w
+    → (result ≡ w.status) ⊎ (result ≡ Memory) → (Rose old.ports.faults new.ports.faults → ⊥) → Tells job left right old new w → serves job ≡ true
     → IfSome left (IsFinished job old new result)
-finished job None right old new w result is ports tells = tt
-finished job (Some bytes) right old new w result is ports tells = of_script job bytes right old new w result is ports tells
+finished job None right old new w result is ports tells serving = tt
+finished (Serve hands turns ticks journal) (Some bytes) right old new w result is ports tells serving =
+    of_script (Serve hands turns ticks journal) bytes right old new w result is ports tells
+finished (Replay hands) (Some bytes) right old new w result is ports tells serving = cc
+finished (Load sessions ticks seed hands) (Some bytes) right old new w result is ports tells serving = cc
+finished (Pair events seed) (Some bytes) right old new w result is ports tells serving = cc
+finished (Watch need members shards) (Some bytes) right old new w result is ports tells serving = cc

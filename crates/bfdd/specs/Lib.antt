@@ -2,5 +2,6 @@ pub mod Answers
 pub mod Outside
 pub mod Serving
 pub mod Status
+pub mod Telling
 pub mod Text
 pub mod Words

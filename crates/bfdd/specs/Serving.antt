@@ -22,8 +22,6 @@ use Rattle.bfdd.specs.declared.status.Status.{Status}
 use Rattle.bfdd.specs.declared.status.Status.TheVariants as status
 use Rattle.bfdd.specs.declared.status.Status.TheVariants.{Done, BadLine, PortFault, LinkFault, TooLarge, JournalFull, Turns, ClockFault}
 use Rattle.bfdd.specs.Answers.{IsAnswer}
-use Rattle.bfdd.specs.Outside.{TookFront}
-use Rattle.bfdd.specs.Status.{IsDecided, IsWrittenBy}
 use Rattle.bfdd.specs.Text.{Wanted, bare, complaint_line, ends, most_bytes}
 
 -- the status of a run that ended so
@@ -112,22 +110,6 @@ pub record HasServed (job : Job) (left right : Option (List ℕ)) (old new : Edg
 pub record HasNoScript (left right : Option (List ℕ)) (old new : Edges) (w : Wanted) : Type 0 where
   pub unread : IsFaulty left right w ⊎ IsOverlong left right w
   pub same : new ≡ old
-
--- what `serve` has to tell
-abbrev pub Tells : Job → Option (List ℕ) → Option (List ℕ) → Edges → Edges → Wanted → Type 0
-Tells job left right old new w = HasServed job left right old new w ⊎ HasNoScript left right old new w
-
--- a status, and what a sink took, where something was told
-pub record IsTold (job : Job) (left right : Option (List ℕ)) (old new : Edges) (taken took : Option (List ℕ)) (before now : ℕ) (status : Status) : Type 0 where
-  pub w : Wanted
-  pub served : HasServed job left right old new w
-  pub decided : IsDecided status w.status
-  pub written : IsWrittenBy status taken took before now w.text
-
--- .. where there was no memory, before anything was written or while it was
-abbrev pub IsBrokenOff : Job → Option (List ℕ) → Option (List ℕ) → Edges → Edges → Option (List ℕ) → Option (List ℕ) → Type 0
-IsBrokenOff job left right old new taken took =
-    (took ≡ taken) ⊎ ((w : Wanted) × Tells job left right old new w × TookFront taken took w.text)
 
 -- of these bytes, where they spell a script: it was served to a finish, which is the status, or there was no memory
 abbrev pub IsFinished : Job → Edges → Edges → Status → List ℕ → Type 0

@@ -1,11 +1,13 @@
 -- How a run ends.
-use Rattle.std.specs.Prelude.{◌≡◌, ◌⊎◌, ℕ, List, Option, ⊤}
+use Rattle.std.specs.Prelude.{◌≡◌, ◌⊎◌, ℕ, true, List, Option, ⊤}
 use Rattle.std.specs.Io.KnownBytes.{Appends}
 use Rattle.bfd_edge.specs.Faults.{Rose}
 use Rattle.bfd_script.specs.declared.fault.BadLine.{BadLine as FaultyLine}
+use Rattle.bfd_words.specs.declared.job.Job.{Job}
 use Rattle.bfdd.specs.declared.status.Status.{Status}
 use Rattle.bfdd.specs.declared.status.Status.TheVariants.{Done, Usage, BadLine, ReadFault, WriteFault, PortFault, LinkFault, TooLarge, JournalFull, Turns, ClockFault, Memory, NoMember}
 use Rattle.bfdd.specs.Outside.{TookFront}
+use Rattle.bfdd.specs.Words.{is_reading, is_serving, is_watching}
 
 -- the code that the program ends with
 abbrev pub code_of : Status → ℕ
@@ -27,6 +29,20 @@ code_of (NoMember discr) = 12
 abbrev pub OnBadLine : Status → (FaultyLine → Type 0) → Type 0
 OnBadLine (BadLine line fault) P = P (record { line = line; fault = fault })
 OnBadLine status P = ⊤
+
+-- a run of this job may end so: what comes of a port, a link, a history or the ticker is of a job that serves, a member that names
+-- no session of one that watches, and a fault of the source or of its text of one that reads
+abbrev pub IsEndOf : Option Job → Status → Type 0
+IsEndOf job PortFault = is_serving job ≡ true
+IsEndOf job (LinkFault number) = is_serving job ≡ true
+IsEndOf job (JournalFull shard) = is_serving job ≡ true
+IsEndOf job (Turns number) = is_serving job ≡ true
+IsEndOf job ClockFault = is_serving job ≡ true
+IsEndOf job (NoMember discr) = is_watching job ≡ true
+IsEndOf job (BadLine line fault) = is_reading job ≡ true
+IsEndOf job ReadFault = is_reading job ≡ true
+IsEndOf job TooLarge = is_reading job ≡ true
+IsEndOf job status = ⊤
 
 -- a status, where another is wanted: it is that one, but for want of memory, for a source that failed, and for a sink that
 -- failed under a text that isn't a complaint
@@ -54,17 +70,6 @@ WhereUnwritten PortFault P = P
 WhereUnwritten TooLarge P = P
 WhereUnwritten (NoMember discr) P = P
 WhereUnwritten status P = ⊤
-
--- a fact, where the status says that a script was served, or that a port couldn't be opened for it
-abbrev pub WhereServed : Status → Type 0 → Type 0
-WhereServed Done P = P
-WhereServed WriteFault P = P
-WhereServed PortFault P = P
-WhereServed (LinkFault number) P = P
-WhereServed (JournalFull shard) P = P
-WhereServed (Turns number) P = P
-WhereServed ClockFault P = P
-WhereServed status P = ⊤
 
 -- a fact, where the status comes before any port is opened
 abbrev pub WhereUnopened : Status → Type 0 → Type 0

@@ -15,6 +15,11 @@ reads (Watch need members shards) = true
 reads (Serve hands turns ticks journal) = true
 reads job = false
 
+-- the job watches a link group
+abbrev pub watches : Job → Bool
+watches (Watch need members shards) = true
+watches job = false
+
 -- a job is asked for, and it serves
 abbrev pub is_serving : Option Job → Bool
 is_serving (Some job) = serves job
@@ -24,6 +29,11 @@ is_serving None = false
 abbrev pub is_reading : Option Job → Bool
 is_reading (Some job) = reads job
 is_reading None = false
+
+-- a job is asked for, and it watches
+abbrev pub is_watching : Option Job → Bool
+is_watching (Some job) = watches job
+is_watching None = false
 
 -- a fact about the job that is asked for, where it serves
 abbrev pub OfServing : Option Job → (Job → Type 0) → Type 0

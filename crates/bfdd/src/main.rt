@@ -19,17 +19,17 @@ mod input;
 mod jobs;
 mod output;
 mod replaying;
+mod running;
 mod serving;
 mod status;
-mod top;
 
 use bfd_edge::{OpenGate, StdSink, StdSource};
 use bfd_net::{ClockTicker, UdpPorts};
+pub use running::run;
 pub use status::Status;
 use std::env;
 use std::io::ErrorKind;
 use std::process::ExitCode;
-pub use top::run;
 
 /// The words after the program's name: Memory where there is no memory for them, and Usage where they can't be had
 /// otherwise, as where one isn't UTF-8.

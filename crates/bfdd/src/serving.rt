@@ -7,7 +7,8 @@ ghost use Rattle.bfd_serving.specs.Linking.{AreShut};
 ghost use Rattle.bfd_words.specs.Ranges.{IsJob};
 ghost use Rattle.bfdd.specs.Answers.{IsAnswer};
 ghost use Rattle.bfdd.specs.Outside.{ConsumesAtMost};
-ghost use Rattle.bfdd.specs.Serving.{Comes, IsLive, IsUnread, Tells, edges_of, job_by, status_of};
+ghost use Rattle.bfdd.specs.Serving.{Comes, IsLive, IsUnread, edges_of, job_by, status_of};
+ghost use Rattle.bfdd.specs.Telling.{Tells};
 ghost use Rattle.bfdd.specs.Text.{most_bytes, wanted_of};
 
 use crate::answer::Answer;

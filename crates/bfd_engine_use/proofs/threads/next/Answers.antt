@@ -1,6 +1,6 @@
 -- One call more, and what was seen of it.
 use Rattle.std.proofs.Common.{rules, ◌≡◌, ◌++◌, ◌∷◌, [], ◌∙◌, List, refl, ap, subst}
-use Rattle.bfd_rules.specs.Course.{Outputs}
+use Rattle.bfd_rules.specs.EventFrame.{Outputs}
 use Rattle.bfd_engine.specs.Calls.{IsDone}
 use Rattle.bfd_engine_use.specs.declared.threads.Saw.{Saw}
 use Rattle.bfd_engine_use.specs.Calling.{act_of}

@@ -1,5 +1,5 @@
 use Rattle.std.proofs.Common.{length, ap, arith}
-use Rattle.bfd_wheel.proofs.Taking.{waiting-le, none_waits, left_is}
+use Rattle.bfd_wheel.proofs.TakenIds.{waiting-le, none_waits, left_is}
 use Rattle.bfd_wheel.proofs.Order.{ordered}
 use Rattle.bfd_levels.proofs.advance.take_near.Goals as goal
 

@@ -1,6 +1,6 @@
 use Rattle.std.proofs.Common.{◌≢◌, length, get_or, refl, slice_index, arith}
 use Rattle.bfd_lanes.specs.Places.{never}
-use Rattle.bfd_wheel.proofs.Taking.{ids_first, ids_rest, same_or_gone_on}
+use Rattle.bfd_wheel.proofs.TakenIds.{ids_first, ids_rest, same_or_gone_on}
 use Rattle.bfd_levels.specs.Lists.{at_tick}
 use Rattle.bfd_levels.proofs.Placing.{linked}
 use Rattle.bfd_levels.proofs.Jumps.{paid_gone}
@@ -27,4 +27,5 @@ loop-id-preserved g c =
           (let count = c.loop-id.auto.dues in omega arith) there c.detach.auto.nodes c.detach.ensures.dues c.detach.ensures.links c.tick.ensures;
       ids = ids_rest c.args.t c.loop-id.id-index (get_or c.args.ids.now c.loop-id.id-index 0) c.args.ids.now c.loop-id.dues c.detach.new.dues c.requires.t c.loop-id-test.true refl c.loop-id.invariant.ids c.detach.ensures.dues;
       same_or_gone = same_or_gone_on c.args.t (get_or c.args.ids.now c.loop-id.id-index 0) c.args.dues.now c.loop-id.dues c.detach.new.dues first.0 first.1 c.requires.t c.detach.ensures.dues c.loop-id.invariant.same_or_gone;
+      counts = (let one = c.tick.ensures in let before = c.loop-id.invariant.counts in omega arith);
     }

@@ -12,4 +12,5 @@ invariant-loop-id g l = record {
       (at_tick (length l.initial.dues) l.now l.dues) l.dues l.nodes;
   ids : (x : ℕ) → times x (drop l.id-index l.ids) ≡ waits l.t l.dues x;
   same_or_gone : (j : ℕ) → (slice_index l.dues j ≡ slice_index l.initial.dues j) ⊎ ((slice_index l.dues j ≡ never) × (slice_index l.initial.dues j ≤ l.t));
+  counts : l.initial.steps + l.id-index ≤ l.steps;
 }

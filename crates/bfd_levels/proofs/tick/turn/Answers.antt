@@ -1,5 +1,5 @@
 use Rattle.std.proofs.Common.{◌≡◌, ◌+◌, ℕ, length, refl, sym, ◌∙◌, subst, arith}
-use Rattle.bfd_wheel.proofs.Taking.{took_none, took_then}
+use Rattle.bfd_wheel.proofs.TakenIds.{took_none, took_then}
 use Rattle.bfd_levels.specs.Lists.{reach, at_tick, at_midway, loads}
 use Rattle.bfd_levels.specs.Rings.{IsPlaced}
 use Rattle.bfd_levels.proofs.Midway.{midway_down}

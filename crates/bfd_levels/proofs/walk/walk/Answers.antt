@@ -1,10 +1,10 @@
 -- The walk begins behind the head, goes on by each visit, and ends at the head or after as many nodes as there are ids.
 use Rattle.std.proofs.Common.{length, refl, ◌∙◌, ◌+◌, inl, inr, arith}
 use Rattle.bfd_wheel.specs.Wheel.{next_in}
-use Rattle.bfd_wheel.proofs.Taking.{took_none, took_then}
+use Rattle.bfd_wheel.proofs.TakenIds.{took_none, took_then}
 use Rattle.bfd_levels.specs.Lists.{place, midway, at_midway, loads}
 use Rattle.bfd_levels.proofs.Walks.{walk_begins, walk_id}
-use Rattle.bfd_levels.proofs.Visits.{walk_can_move, walk_visits, level_placed, level_spent, level_left}
+use Rattle.bfd_levels.proofs.Visits.{visit_rises, walk_can_move, walk_visits, level_placed, level_spent, level_left}
 use Rattle.bfd_levels.proofs.walk.walk.Goals as goal
 
 pub loop-init : goal.loop-init
@@ -14,6 +14,7 @@ loop-init g c = record {
   took = took_none c.args.t c.args.dues.now c.args.out.now.items;
   room = refl;
   spare = c.requires.room;
+  rises = omega arith;
 }
 
 pub visit-requires-clause-movable : goal.visit-requires-clause-movable
@@ -30,6 +31,7 @@ loop-preserved g c = record {
   took = took_then c.args.t c.args.dues.now c.loop.dues c.visit.new.dues c.args.out.now.items c.loop.out.items c.visit.new.out.items c.loop.invariant.took c.visit.ensures.took;
   room = c.visit.ensures.room ∙ c.loop.invariant.room;
   spare = c.visit.ensures.spare;
+  rises = (let before = c.loop.invariant.rises in let v = visit_rises _ _ _ _ _ _ _ _ _ _ _ c.visit.ensures.visit in omega arith);
 }
 
 pub returns-then-cur-head-clause-placed : goal.returns-then-cur-head-clause-placed

@@ -12,4 +12,5 @@ invariant-loop g l = record {
   took : Took l.t l.initial.dues l.dues l.initial.out.items l.out.items;
   room : room_of l.out ≡ room_of l.initial.out;
   spare : waiting l.t l.dues ≤ l.out.spare;
+  rises : l.initial.steps ≤ l.steps;
 }

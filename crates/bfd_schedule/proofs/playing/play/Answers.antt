@@ -1,6 +1,6 @@
 -- At the start nothing was played.
 use Rattle.std.proofs.Common.{ap}
-use Rattle.bfd_rules.specs.Course.{Outputs}
+use Rattle.bfd_rules.specs.EventFrame.{Outputs}
 use Rattle.bfd_schedule.proofs.Played.{starts}
 use Rattle.bfd_schedule.proofs.playing.play.Goals as goal
 

@@ -1,7 +1,7 @@
 -- The event is the schedule's next, and its packet and its changes to Up are counted.
 use Rattle.std.proofs.Common.{◌≡◌, ◌≤◌, ◌+◌, ◌++◌, ℕ, List, length, count_by, ap, ◌∙◌, arith}
 use Rattle.bfd_rules.specs.declared.outputs.Out.{Out}
-use Rattle.bfd_rules.specs.Course.{Outputs}
+use Rattle.bfd_rules.specs.EventFrame.{Outputs}
 use Rattle.bfd_pair.specs.Run.{Both, pair_run, turn}
 use Rattle.bfd_schedule.specs.Line.{given_in, is_rise, rises_in}
 use Rattle.bfd_schedule.proofs.Played.{plays}

@@ -5,7 +5,7 @@ use Rattle.bfd_rules.specs.declared.config.Config.{Config}
 use Rattle.bfd_rules.specs.declared.variables.Vars.{Vars}
 use Rattle.bfd_rules.specs.Quantities.{is_up}
 use Rattle.bfd_rules.specs.Renewal.{poll_renewed, used_renewed, demand_renewed, renewed}
-use Rattle.bfd_rules.specs.Course.{Course, course, changes}
+use Rattle.bfd_rules.specs.EventFrame.{Course, course, changes}
 use Rattle.bfd_p2p.specs.Frame.{moves}
 use Rattle.bfd_p2p.specs.Machine.{failed}
 use Rattle.bfd_p2p.specs.Receive.{is_single}

@@ -2,7 +2,7 @@
 use Rattle.std.proofs.Common.{sym, subst}
 use Rattle.bfd_rules.specs.declared.config.Config.{Config}
 use Rattle.bfd_rules.specs.declared.variables.Vars.{Vars}
-use Rattle.bfd_rules.specs.Course.{Course, course}
+use Rattle.bfd_rules.specs.EventFrame.{Course, course}
 use Rattle.bfd_p2p.specs.Finish.{finish}
 use Rattle.bfd_session.specs.Echoing.{IsEchoOver}
 use Rattle.bfd_session.proofs.EchoKept.{finish_keeps_echo}

@@ -1,6 +1,6 @@
 use Rattle.std.proofs.Common.{ℕ, length, ap, subst, sym, arith}
 use Rattle.bfd_wheel.specs.Wheel.{IsWheel}
-use Rattle.bfd_wheel.proofs.Taking.{waiting-le, none_waits, left_is}
+use Rattle.bfd_wheel.proofs.TakenIds.{waiting-le, none_waits, left_is}
 use Rattle.bfd_wheel.proofs.Order.{ordered}
 use Rattle.bfd_wheel.proofs.Swept.{moved_on}
 use Rattle.bfd_wheel.proofs.take.gather.Goals as goal

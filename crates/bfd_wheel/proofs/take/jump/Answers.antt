@@ -1,7 +1,7 @@
 use Rattle.std.proofs.Common.{length, map, ap, ◌∙◌, arith}
 use Rattle.bfd_lanes.specs.Places.{due_of, come}
 use Rattle.bfd_wheel.specs.Taken.{times}
-use Rattle.bfd_wheel.proofs.Taking.{above_all, left_is}
+use Rattle.bfd_wheel.proofs.TakenIds.{above_all, left_is}
 use Rattle.bfd_wheel.proofs.Order.{times_come, appended_from}
 use Rattle.bfd_wheel.proofs.Wheels.{moved}
 use Rattle.bfd_wheel.proofs.take.jump.Goals as goal

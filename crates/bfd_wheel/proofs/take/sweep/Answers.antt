@@ -1,6 +1,6 @@
 use Rattle.std.proofs.Common.{ℕ, length, subst, refl, ◌∙◌, arith}
 use Rattle.bfd_wheel.specs.Wheel.{IsWheel}
-use Rattle.bfd_wheel.proofs.Taking.{took_none, took_then}
+use Rattle.bfd_wheel.proofs.TakenIds.{took_none, took_then}
 use Rattle.bfd_wheel.proofs.Swept.{left_none, left_more, left_all}
 use Rattle.bfd_wheel.proofs.take.sweep.Goals as goal
 

@@ -1,6 +1,6 @@
 use Rattle.std.proofs.Common.{rules, ◌∷◌, ap, ◌∙◌, Some}
 use Rattle.atomic_table.specs.Table.{rest}
-use Rattle.bfd_turn.proofs.Taking.{gives_at}
+use Rattle.bfd_turn.proofs.TakeAndRelease.{gives_at}
 use Rattle.bfd_turn.proofs.lock.TurnLock.done.Goals as goal
 
 pub fetch_add-requires : goal.fetch_add-requires

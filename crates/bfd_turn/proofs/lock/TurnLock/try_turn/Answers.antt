@@ -1,6 +1,6 @@
 use Rattle.std.proofs.Common.{rules, ap, ◌∙◌, arith}
 use Rattle.bfd_turn.proofs.Loads.{looks}
-use Rattle.bfd_turn.proofs.Taking.{takes_turn}
+use Rattle.bfd_turn.proofs.TakeAndRelease.{takes_turn}
 use Rattle.bfd_turn.proofs.lock.TurnLock.try_turn.Goals as goal
 
 pub load-read-requires : goal.load-read-requires

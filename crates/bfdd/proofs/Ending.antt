@@ -1,0 +1,75 @@
+-- How a job may end.
+use Rattle.std.proofs.Common.{◌≡◌, ◌⊎◌, ℕ, true, false, List, Option, Some, inl, inr, refl, sym, subst}
+use Rattle.bfd_serving.specs.declared.finish.Finish.{Finish}
+use Rattle.bfd_serving.specs.declared.finish.Finish.TheVariants as finish
+use Rattle.bfd_script.specs.Reading.{Lists}
+use Rattle.bfd_words.specs.declared.job.Job.{Job}
+use Rattle.bfd_words.specs.declared.job.Job.TheVariants.{Replay, Serve, Load, Pair, Watch}
+use Rattle.bfdd.specs.declared.status.Status.{Status}
+use Rattle.bfdd.specs.declared.status.Status.TheVariants.{Done, Usage, BadLine, ReadFault, WriteFault, PortFault, LinkFault, TooLarge, JournalFull, Turns, ClockFault, Memory, NoMember}
+use Rattle.bfdd.specs.Serving.{Comes, Edges, IsFaulty, IsOverlong, status_of}
+use Rattle.bfdd.specs.Status.{IsDecided, IsEndOf}
+use Rattle.bfdd.specs.Telling.{Tells, TellsBytes}
+use Rattle.bfdd.specs.Text.{Wanted}
+use Rattle.bfdd.specs.Words.{reads, serves}
+use Rattle.bfdd.proofs.Answering.{each_answer}
+
+-- what the bytes alone decide
+bytes_so : (job : Job) (left right : Option (List ℕ)) (w : Wanted) → TellsBytes job left right w → IsEndOf (Some job) w.status
+bytes_so job left right w (inl known) =
+    each_answer job (λ (v : Wanted). IsEndOf (Some job) v.status) (λ text. tt) (λ reading bad. reading) (λ watching discr. watching)
+    known.bytes w known.spelled
+bytes_so job left right w (inr (reading, long)) = subst (λ (v : Wanted). IsEndOf (Some job) v.status) (sym long.nothing) reading
+
+finish_so : (job : Job) → serves job ≡ true → (end : Finish) → IsEndOf (Some job) (status_of end)
+finish_so job serving finish.Done = tt
+finish_so job serving (finish.LinkFault number) = serving
+finish_so job serving finish.ClockFault = serving
+finish_so job serving (finish.JournalFull shard) = serving
+finish_so job serving (finish.Turns number) = serving
+
+comes_so : (job : Job) (script : Lists) (old new : Edges) (w : Wanted) → serves job ≡ true → Comes job script old new w → IsEndOf (Some job) w.status
+comes_so job script old new w serving (inl served) =
+    subst (λ (status : Status). IsEndOf (Some job) status) (sym served.status) (finish_so job serving served.end)
+comes_so job script old new w serving (inr portless) = subst (λ (v : Wanted). IsEndOf (Some job) v.status) (sym portless.nothing) serving
+
+unread_so : (job : Job) (left right : Option (List ℕ)) (w : Wanted) → reads job ≡ true → IsFaulty left right w ⊎ IsOverlong left right w
+    → IsEndOf (Some job) w.status
+unread_so job left right w reading (inl faulty) = subst (λ (v : Wanted). IsEndOf (Some job) v.status) (sym faulty.complained) reading
+unread_so job left right w reading (inr long) = subst (λ (v : Wanted). IsEndOf (Some job) v.status) (sym long.nothing) reading
+
+-- what a job has to tell is told under a status of its own
+pub ends_so : (job : Job) (left right : Option (List ℕ)) (old new : Edges) (w : Wanted) → Tells job left right old new w → IsEndOf (Some job) w.status
+ends_so (Replay hands) left right old new w tells = bytes_so (Replay hands) left right w tells
+ends_so (Watch need members shards) left right old new w tells = bytes_so (Watch need members shards) left right w tells
+ends_so (Load sessions ticks seed hands) left right old new w tells = bytes_so (Load sessions ticks seed hands) left right w tells
+ends_so (Pair events seed) left right old new w tells = bytes_so (Pair events seed) left right w tells
+ends_so (Serve hands turns ticks journal) left right old new w (inl served) =
+    comes_so (Serve hands turns ticks journal) served.script old new w refl served.comes
+ends_so (Serve hands turns ticks journal) left right old new w (inr none) =
+    unread_so (Serve hands turns ticks journal) left right w refl none.unread
+
+-- and so does a run where that is decided
+pub ended : (given : Option Job) (result want : Status) → IsDecided result want → (result ≡ ReadFault → ⊥) → IsEndOf given want → IsEndOf given result
+ended given Done want is reads fact = tt
+ended given Usage want is reads fact = tt
+ended given (BadLine line fault) want is reads fact = subst (λ (status : Status). IsEndOf given status) (sym is) fact
+ended given ReadFault want is reads fact = absurd (reads refl)
+ended given WriteFault want is reads fact = tt
+ended given PortFault want is reads fact = subst (λ (status : Status). IsEndOf given status) (sym is) fact
+ended given (LinkFault number) want is reads fact = subst (λ (status : Status). IsEndOf given status) (sym is) fact
+ended given (JournalFull shard) want is reads fact = subst (λ (status : Status). IsEndOf given status) (sym is) fact
+ended given (Turns number) want is reads fact = subst (λ (status : Status). IsEndOf given status) (sym is) fact
+ended given ClockFault want is reads fact = subst (λ (status : Status). IsEndOf given status) (sym is) fact
+ended given TooLarge want is reads fact = subst (λ (status : Status). IsEndOf given status) (sym is) fact
+ended given Memory want is reads fact = tt
+ended given (NoMember discr) want is reads fact = subst (λ (status : Status). IsEndOf given status) (sym is) fact
+
+-- a job that doesn't serve tells what its bytes decide
+pub closed_tells : (job : Job) (left right : Option (List ℕ)) (old new : Edges) (w : Wanted) → serves job ≡ false → TellsBytes job left right w
+    → Tells job left right old new w
+closed_tells (Replay hands) left right old new w closed tells = tells
+closed_tells (Watch need members shards) left right old new w closed tells = tells
+closed_tells (Load sessions ticks seed hands) left right old new w closed tells = tells
+closed_tells (Pair events seed) left right old new w closed tells = tells
+closed_tells (Serve hands turns ticks journal) left right old new w closed tells = cc

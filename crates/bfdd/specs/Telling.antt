@@ -1,0 +1,41 @@
+-- What a run has to tell, whether or not its source tells what it had.
+use Rattle.std.specs.Prelude.{◌≡◌, ◌⊎◌, ◌≤◌, ℕ, true, List, length, Option, Some}
+use Rattle.std.specs.Io.KnownBytes.{Consumes, IsAtEnd}
+use Rattle.bfd_words.specs.declared.job.Job.{Job}
+use Rattle.bfd_words.specs.declared.job.Job.TheVariants.{Serve}
+use Rattle.bfdd.specs.declared.status.Status.{Status}
+use Rattle.bfdd.specs.Outside.{TookFront}
+use Rattle.bfdd.specs.Serving.{Edges, HasNoScript, HasServed, IsOverlong}
+use Rattle.bfdd.specs.Status.{IsDecided, IsWrittenBy}
+use Rattle.bfdd.specs.Text.{Wanted, answer_to, most_bytes}
+use Rattle.bfdd.specs.Words.{reads}
+
+-- there are bytes of which this is wanted; a job that reads has read them from the source, to its end
+pub record IsSpelled (job : Job) (left right : Option (List ℕ)) (w : Wanted) : Type 0 where
+  pub bytes : List ℕ
+  pub read : reads job ≡ true → Consumes left right bytes
+  pub end : reads job ≡ true → IsAtEnd right
+  pub few : length bytes ≤ most_bytes
+  pub spelled : answer_to job bytes ≡ Some w
+
+-- what a job has to tell that its bytes alone decide
+abbrev pub TellsBytes : Job → Option (List ℕ) → Option (List ℕ) → Wanted → Type 0
+TellsBytes job left right w = IsSpelled job left right w ⊎ ((reads job ≡ true) × IsOverlong left right w)
+
+-- what a job has to tell
+abbrev pub Tells : Job → Option (List ℕ) → Option (List ℕ) → Edges → Edges → Wanted → Type 0
+Tells (Serve hands turns ticks journal) left right old new w =
+    HasServed (Serve hands turns ticks journal) left right old new w ⊎ HasNoScript left right old new w
+Tells job left right old new w = TellsBytes job left right w
+
+-- a status, and what a sink took, where something was told
+pub record IsTold (job : Job) (left right : Option (List ℕ)) (old new : Edges) (taken took : Option (List ℕ)) (before now : ℕ) (status : Status) : Type 0 where
+  pub w : Wanted
+  pub tells : Tells job left right old new w
+  pub decided : IsDecided status w.status
+  pub written : IsWrittenBy status taken took before now w.text
+
+-- .. where there was no memory: before anything was written, or while it was
+abbrev pub IsBrokenOff : Option Job → Option (List ℕ) → Option (List ℕ) → Edges → Edges → Option (List ℕ) → Option (List ℕ) → Type 0
+IsBrokenOff given left right old new taken took =
+    (took ≡ taken) ⊎ ((job : Job) × (given ≡ Some job) × (w : Wanted) × Tells job left right old new w × TookFront taken took w.text)

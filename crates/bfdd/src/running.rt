@@ -1,0 +1,221 @@
+// The top call.
+ghost use Rattle.std.specs.Prelude.{◌≡◌, ◌≢◌, ◌+◌, ◌⊎◌, ℕ, IfOk, IfSome, IsErrOf, None, Some, true, false, map, string_bytes};
+ghost use Rattle.std.specs.Io.KnownBytes.{Appends, IsAtEnd};
+ghost use Rattle.bfd_edge.specs.Faults.{Rose};
+ghost use Rattle.bfd_serving.specs.Linking.{AreShut};
+ghost use Rattle.bfd_words.specs.Grammar.{is_watch, job_of};
+ghost use Rattle.bfd_words.specs.Ranges.{IsJob};
+ghost use Rattle.bfdd.specs.Answers.{IsAnswer};
+ghost use Rattle.bfdd.specs.Outside.{ConsumesAtMost, TookFront};
+ghost use Rattle.bfdd.specs.Serving.{IsFinished, edges_of};
+ghost use Rattle.bfdd.specs.Status.{IsDecided, IsEndOf, OnBadLine, UnlessWriting, WhereUnopened, WhereUnwritten};
+ghost use Rattle.bfdd.specs.Telling.{IsBrokenOff, IsTold, Tells, TellsBytes};
+ghost use Rattle.bfdd.specs.Text.{most_bytes, complaint_line, wanted, wanted_of};
+ghost use Rattle.bfdd.specs.Words.{OfServing, is_reading, is_serving, reads, serves};
+
+use crate::answer::Answer;
+use crate::input::{InputFault, bytes_for};
+use crate::jobs::answer_to;
+use crate::output::write_answer;
+use crate::serving::{Numbers, serve_answer};
+use crate::status::Status;
+use bfd_edge::{Fault, Gate, Ports, Sink, Source, Ticker};
+use bfd_words::{Job, job_of};
+use std::alloc::Global;
+use std::sync::Wait;
+use std::thread::Threads;
+
+/// What a job other than `serve` has to write, after it has read what it reads.
+fn decided_answer<R: Threads + Wait + Sync, G: Gate + Sync, S: Source>(
+    rt: &R,
+    alloc: Global,
+    job: &Job,
+    source: &mut S,
+    gate: &G,
+) -> Result<Answer, Fault>
+    requires ranges { IsJob job.now }
+    requires closed { serves job.now ≡ false }
+    ensures answer { IfOk result (λ answer. IfSome (wanted_of job.now (S.left source.old)) (λ w. answer ≡ w)) }
+    ensures tells { IfOk result (TellsBytes job.now (S.left source.old) (S.left source.new)) }
+    ensures sound { IfOk result IsAnswer }
+    ensures end { IfOk result (λ answer. answer.status ≡ Status.Done → reads job.now ≡ true → IsAtEnd (S.left source.new)) }
+    ensures untouched { reads job.now ≡ false → source.new ≡ source.old }
+    ensures failed { IsErrOf result Fault.Failed → (reads job.now ≡ true) × Rose (S.faults source.old) (S.faults source.new) }
+    ensures at_most { ConsumesAtMost (most_bytes + 1) (S.left source.old) (S.left source.new) }
+    ensures calm { IfOk result (λ answer. S.faults source.new ≡ S.faults source.old) }
+    ensures calm_memory { IsErrOf result Fault.Memory → S.faults source.new ≡ S.faults source.old }
+{
+    let bytes = match bytes_for(alloc, job, source) {
+        Ok(bytes) => bytes,
+        Err(InputFault::TooLarge) => return Ok(Answer::bare(alloc, Status::TooLarge)),
+        Err(InputFault::Failed) => return Err(Fault::Failed),
+        Err(InputFault::Memory) => return Err(Fault::Memory),
+    };
+    match answer_to(rt, alloc, job, bytes, gate) {
+        Ok(answer) => Ok(answer),
+        Err(_) => Err(Fault::Memory),
+    }
+}
+
+/// What the job has to write. Ports and ticker are `serve`'s alone.
+#[tactic(auto, using(crate::proofs::Ending::closed_tells))]
+fn answer<R: Threads + Wait + Sync, G: Gate + Sync, S: Source, P: Ports, T: Ticker + Send>(
+    rt: &R,
+    alloc: Global,
+    job: &Job,
+    source: &mut S,
+    ports: &mut P,
+    ticker: &mut T,
+    gate: &G,
+) -> Result<Answer, Fault>
+where
+    P::Link: Send,
+    requires ranges { IsJob job.now }
+    requires new { (number : ℕ) → (P.told ports.old).opened number ≡ false }
+    requires clock { (T.told ticker.old).over ≡ false }
+    ensures answer { IfOk result (λ answer. IfSome (wanted_of job.now (S.left source.old)) (λ w. answer ≡ w)) }
+    ensures tells { IfOk result (Tells job.now (S.left source.old) (S.left source.new)
+        (edges_of (P.told ports.old) (T.told ticker.old)) (edges_of (P.told ports.new) (T.told ticker.new))) }
+    ensures sound { IfOk result IsAnswer }
+    ensures end { IfOk result (λ answer. answer.status ≡ Status.Done → reads job.now ≡ true → IsAtEnd (S.left source.new)) }
+    ensures untouched { reads job.now ≡ false → source.new ≡ source.old }
+    ensures idle { serves job.now ≡ false → (ports.new ≡ ports.old) × (ticker.new ≡ ticker.old) }
+    ensures failed { IsErrOf result Fault.Failed → (reads job.now ≡ true) × Rose (S.faults source.old) (S.faults source.new) }
+    ensures unopened { IsErrOf result Fault.Failed → edges_of (P.told ports.new) (T.told ticker.new) ≡ edges_of (P.told ports.old) (T.told ticker.old) }
+    ensures shut { AreShut (P.told ports.new) }
+    ensures at_most { ConsumesAtMost (most_bytes + 1) (S.left source.old) (S.left source.new) }
+    ensures calm { IfOk result (λ answer. S.faults source.new ≡ S.faults source.old) }
+    ensures calm_memory { IsErrOf result Fault.Memory → S.faults source.new ≡ S.faults source.old }
+{
+    match job {
+        Job::Serve {
+            hands,
+            turns,
+            ticks,
+            journal,
+        } => {
+            let numbers = Numbers {
+                hands: *hands,
+                turns: *turns,
+                ticks: *ticks,
+                journal: *journal,
+            };
+            serve_answer(rt, alloc, numbers, source, ports, ticker, gate)
+        }
+        _ => decided_answer(rt, alloc, job, source, gate),
+    }
+}
+
+/// Runs the program: `words` are those after its name, what it reads comes from `source`, and what it writes goes to
+/// `sink`. Where the words ask for workers, each turn of one stands between two calls of `gate`.
+///
+/// `replay` reads a packet file to its end and writes the report of its events. `watch` reads one too, and writes what happens to
+/// a link group. `serve` reads one without packets and ticks, takes packets from links that it opens from `ports` and ticks from
+/// `ticker`, and writes what came in and what came of it; it alone opens links, and shuts them in every case. `load` and `pair` read
+/// nothing: they write a line on a script, and on two peers, that numbers make. Everything else is `Usage`.
+pub fn run<
+    R: Threads + Wait + Sync,
+    G: Gate + Sync,
+    S: Source,
+    K: Sink,
+    P: Ports,
+    T: Ticker + Send,
+>(
+    rt: &R,
+    alloc: Global,
+    words: &[String],
+    source: &mut S,
+    sink: &mut K,
+    ports: &mut P,
+    ticker: &mut T,
+    gate: &G,
+) -> Status
+where
+    P::Link: Send,
+    requires new { (number : ℕ) → (P.told ports.old).opened number ≡ false }
+    requires clock { (T.told ticker.old).over ≡ false }
+
+    // The words and the text decide: the status is the one that is wanted, or memory, the source or the sink failed.
+    ensures decided { IfSome (wanted (job_of (map (λ word. string_bytes word) words.now)) (S.left source.old))
+        (λ w. IsDecided result w.status) }
+
+    // With Done the wanted text was written and nothing else; and however the run ends, what was written is a front of it.
+    ensures done { result ≡ Status.Done → IfSome (wanted (job_of (map (λ word. string_bytes word) words.now)) (S.left source.old))
+        (λ w. Appends (K.taken sink.old) (K.taken sink.new) w.text) }
+    ensures front { IfSome (wanted (job_of (map (λ word. string_bytes word) words.now)) (S.left source.old))
+        (λ w. TookFront (K.taken sink.old) (K.taken sink.new) w.text) }
+
+    // What is read is read to its end, and only by a job that reads.
+    ensures end { result ≡ Status.Done → is_reading (job_of (map (λ word. string_bytes word) words.now)) ≡ true
+        → IsAtEnd (S.left source.new) }
+    ensures untouched { is_reading (job_of (map (λ word. string_bytes word) words.now)) ≡ false → source.new ≡ source.old }
+    ensures at_most { ConsumesAtMost (most_bytes + 1) (S.left source.old) (S.left source.new) }
+
+    // Words that ask for nothing are Usage, but that memory may be wanting for the members of a watch.
+    ensures usage { job_of (map (λ word. string_bytes word) words.now) ≡ None → (result ≡ Status.Usage)
+        ⊎ ((result ≡ Status.Memory) × (is_watch (map (λ word. string_bytes word) words.now) ≡ true)) }
+    ensures usage_alone { result ≡ Status.Usage → job_of (map (λ word. string_bytes word) words.now) ≡ None }
+
+    // A faulty line is told, or a front of that where the sink failed.
+    ensures bad_text { OnBadLine result (λ bad. Appends (K.taken sink.old) (K.taken sink.new) (complaint_line bad)
+        ⊎ (Rose (K.faults sink.old) (K.faults sink.new) × TookFront (K.taken sink.old) (K.taken sink.new) (complaint_line bad))) }
+    ensures unwritten { WhereUnwritten result (K.taken sink.new ≡ K.taken sink.old) }
+
+    ensures read_fault { result ≡ Status.ReadFault → (is_reading (job_of (map (λ word. string_bytes word) words.now)) ≡ true)
+        × Rose (S.faults source.old) (S.faults source.new) }
+    ensures write_fault { result ≡ Status.WriteFault → Rose (K.faults sink.old) (K.faults sink.new) }
+
+    // No fault is passed over: where the count of the source rose, the status is ReadFault.
+    ensures calm_source { result ≢ Status.ReadFault → S.faults source.new ≡ S.faults source.old }
+
+    // And where that of the sink rose, it is WriteFault, or BadLine where the faulty line was being told.
+    ensures calm_sink { UnlessWriting result (K.faults sink.new ≡ K.faults sink.old) }
+
+    // With an outside that doesn't fail, what is wanted comes, or memory ran out.
+    ensures complete { (is_reading (job_of (map (λ word. string_bytes word) words.now)) ≡ true
+        → ¬ Rose (S.faults source.old) (S.faults source.new)) → ¬ Rose (K.faults sink.old) (K.faults sink.new)
+        → IfSome (wanted (job_of (map (λ word. string_bytes word) words.now)) (S.left source.old))
+        (λ w. (result ≡ w.status) ⊎ (result ≡ Status.Memory)) }
+
+    // Whether or not the source tells what it had: each status is one of the job's, and with every status but those of want of memory
+    // and of a source that failed there is an answer of which the status and what was written are. It is what is wanted of some bytes
+    // that were read to the end of the source. A script that is served has one run: its engine and its histories, one per shard, give
+    // the text, and each caller's entries, its sends and its end are those of what its link or the ticker gave. The status is the
+    // finish, and shows its cause.
+    ensures fits { IsEndOf (job_of (map (λ word. string_bytes word) words.now)) result }
+    ensures told { result ≢ Status.Memory → result ≢ Status.ReadFault → IfSome (job_of (map (λ word. string_bytes word) words.now))
+        (λ job. IsTold job (S.left source.old) (S.left source.new)
+        (edges_of (P.told ports.old) (T.told ticker.old)) (edges_of (P.told ports.new) (T.told ticker.new))
+        (K.taken sink.old) (K.taken sink.new) (K.faults sink.old) (K.faults sink.new) result) }
+
+    // Where memory was wanting, nothing of it was written, or a front.
+    ensures broken_off { result ≡ Status.Memory → IsBrokenOff (job_of (map (λ word. string_bytes word) words.now))
+        (S.left source.old) (S.left source.new)
+        (edges_of (P.told ports.old) (T.told ticker.old)) (edges_of (P.told ports.new) (T.told ticker.new))
+        (K.taken sink.old) (K.taken sink.new) }
+
+    // Where no script is served no link is opened and no tick is asked for, and every link that is opened is shut.
+    ensures idle { is_serving (job_of (map (λ word. string_bytes word) words.now)) ≡ false
+        → (ports.new ≡ ports.old) × (ticker.new ≡ ticker.old) }
+    ensures unopened { WhereUnopened result
+        (edges_of (P.told ports.new) (T.told ticker.new) ≡ edges_of (P.told ports.old) (T.told ticker.old)) }
+    ensures shut { AreShut (P.told ports.new) }
+
+    // With source, sink and ports that don't fail, a script is served to its finish, which is the status, or memory ran out.
+    ensures finished { OfServing (job_of (map (λ word. string_bytes word) words.now))
+        (λ job. ¬ Rose (S.faults source.old) (S.faults source.new) → ¬ Rose (K.faults sink.old) (K.faults sink.new)
+        → ¬ Rose (P.told ports.old).faults (P.told ports.new).faults
+        → IfSome (S.left source.old) (IsFinished job
+        (edges_of (P.told ports.old) (T.told ticker.old)) (edges_of (P.told ports.new) (T.told ticker.new)) result)) }
+{
+    let job = match job_of(alloc, words) {
+        Ok(Some(job)) => job,
+        Ok(None) => return Status::Usage,
+        Err(_) => return Status::Memory,
+    };
+    match answer(rt, alloc, &job, source, ports, ticker, gate) {
+        Ok(answer) => write_answer(answer, sink),
+        Err(Fault::Failed) => Status::ReadFault,
+        Err(Fault::Memory) => Status::Memory,
+    }
+}
