@@ -37,14 +37,14 @@ use Rattle.bfd_engine.specs.Judging.{IsAnswered, packet_answer, return_answer, j
 use Rattle.bfd_engine.proofs.Reaching.{dealt_event}
 
 -- a session stands where its configuration does
-runs_there : (p : ℕ) (es : List ShardEvent) (cs : List SessionConfig) (k : ℕ) (c : SessionConfig) → slice_get cs k ≡ Some c
+pub runs_there : (p : ℕ) (es : List ShardEvent) (cs : List SessionConfig) (k : ℕ) (c : SessionConfig) → slice_get cs k ≡ Some c
     → (s : Running) × (slice_get (runs_from p es cs) k ≡ Some s)
 unfolding runs_from
 runs_there p es [] k c e = absurd (cc)
 runs_there p es (x ∷ cs) zero c e = (run p es x, refl)
 runs_there p es (x ∷ cs) (suc k) c e = runs_there (p + 1) es cs k c e
 
-own_answer : (last place moment : ℕ) (event : Event) (ss : List Running) (s : Running) → slice_get ss place ≡ Some s
+pub own_answer : (last place moment : ℕ) (event : Event) (ss : List Running) (s : Running) → slice_get ss place ≡ Some s
     → (outcome_of last (Own place moment event) ss).answer ≡ reply (effective moment last s) event s
 unfolding outcome_of
 own_answer last place moment event ss s there = ap (λ (o : Option Running). (own_outcome o moment last event).answer) there
@@ -52,7 +52,7 @@ own_answer last place moment event ss s there = ap (λ (o : Option Running). (ow
 only_own : (failing own all : Option Test) → all ≡ option_or failing own → None ≡ failing → own ≡ all
 only_own failing own all is none = sym (is ∙ ap (λ f. option_or f own) (sym none))
 
-packet_is : (engine : Shards) (arrival : Arrival) (eff : ℕ) (s : Running) → None ≡ first_table_failing (table_of engine.configs engine.pool) arrival
+pub packet_is : (engine : Shards) (arrival : Arrival) (eff : ℕ) (s : Running) → None ≡ first_table_failing (table_of engine.configs engine.pool) arrival
     → reply eff (Packet arrival) s ≡ packet_answer engine arrival eff s
 packet_is engine arrival eff s none =
     reply_first s eff arrival
@@ -60,7 +60,7 @@ packet_is engine arrival eff s none =
     (first_discarding (table_of engine.configs engine.pool) s.config (judging eff s) arrival)
     (discards_first (table_of engine.configs engine.pool) s.config (judging eff s) arrival) none)
 
-return_is : (sequence eff : ℕ) (s : Running) → reply eff (Returned sequence) s ≡ return_answer sequence eff s
+pub return_is : (sequence eff : ℕ) (s : Running) → reply eff (Returned sequence) s ≡ return_answer sequence eff s
 unfolding reply
 return_is sequence eff s = refl
 

@@ -4,5 +4,6 @@ pub mod Tables
 pub mod Dealing
 pub mod Counts
 pub mod Causes
+pub mod Entered
 pub mod Wholes
 mod NewLinks

@@ -20,6 +20,7 @@ use Rattle.bfd_serving.specs.Linking.{IsNew, IsOpenTo, AreShut}
 use Rattle.bfd_serving.specs.Runs.{history_at, told_by, HaveRun, IsOpened, AreClosedShards}
 use Rattle.bfd_serving.specs.Wholes.{HasRun}
 use Rattle.bfd_serving.proofs.Causes.{cause, completes}
+use Rattle.bfd_serving.proofs.Entered.{timely, judged}
 
 -- every link that was opened was shut
 pub all_shut : {L : Type 0} (told : L → LinkTold) (own : L) (back links : List L) (workers : ℕ) (first p q : PortsTold) → IsOpenTo workers first p → length links ≡ workers → length back ≡ length links
@@ -53,6 +54,8 @@ whole_run told own own2 links back given script orders shards workers journal li
       engine = engine;
       opened = subst (λ s. IsOpened engine s shards journal) same opened;
       closed = closed;
+      timely = timely engine states closed;
+      judged = judged engine states script.events workers limits (told_by told own links) (told_by told own2 back) c d ends lost closed all;
       text_is = text_is;
       before = told_by told own links;
       after = told_by told own2 back;

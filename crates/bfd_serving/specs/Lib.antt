@@ -1,4 +1,5 @@
 pub mod Causes
+pub mod Entered
 pub mod Finishes
 pub mod Linking
 pub mod Runs

@@ -14,12 +14,16 @@ use Rattle.bfd_serving.specs.declared.finish.Finish.{Finish}
 use Rattle.bfd_serving.specs.Finishes.{finish_from, IsPlain}
 use Rattle.bfd_serving.specs.Runs.{HaveRun, IsOpened, AreClosedShards, history_at}
 use Rattle.bfd_serving.specs.Causes.{IsCause, Completes}
+use Rattle.bfd_serving.specs.Entered.{AreTimely, AreJudged}
 
--- a run of a script: its engine, its links from their opening to their shutting, and what all did, to the text
+-- a run of a script: its engine, its links from their opening to their shutting, and what all did, to the text; each tick in a
+-- shard's history expired exactly the sessions whose Detection Time had come, and each packet in it was judged by all tests
 pub record HasRun (script : Lists) (shards workers journal : ℕ) (limits : Limits) (q : PortsTold) (c d : TickerTold) (states : List Shard) (text : List ℕ) (lost : ℕ) (finish : Finish) : Type 0 where
   pub engine : Shards
   pub opened : IsOpened engine script shards journal
   pub closed : AreClosedShards engine states
+  pub timely : AreTimely engine (history_at states)
+  pub judged : AreJudged engine (history_at states)
   pub text_is : text ≡ served (map history_of states) lost
   pub before : ℕ → LinkTold
   pub after : ℕ → LinkTold
