@@ -1,4 +1,3 @@
 pub mod Rooms
-pub mod Worked
+mod Worked
 pub mod Joins
-pub mod Following
