@@ -22,7 +22,8 @@
  * - A handle is written by the library alone. It isn't copied while it's open, and a forged one isn't used.
  * - No pointer is null, not even with length 0. It points to an object of its type, and a slice to as many bytes as its length
  *   says. No two parameters of a call overlap.
- * - Each byte of a struct that is handed in has been written, and so has what is handed out: begin with zeros.
+ * - Each byte of a slice and each field of a struct has been written before a call, whole arrays included, and of a struct for
+ *   an answer too: let it begin as {0}. Bytes between fields count for nothing, and no struct has to be cleared for the next call.
  * - malloc, realloc and free are one allocator, with blocks aligned to 16.
  * - No call comes from a signal handler, nor from the forked child of a process that has threads.
  */
@@ -94,7 +95,7 @@ typedef struct {
     uint32_t kind;  /* an enum bfdd_kind */
     uint32_t discr; /* the local discriminator, from 1 */
     uint32_t other; /* initiator: the reflector's discriminator; tail: the head's; from 1 */
-    uint32_t iface; /* the interface's number, 0 to 65,535 */
+    uint32_t iface; /* any number from 0 to 65,535 that the caller gives the interface, the one that its packets come with */
     bfdd_address local;  /* the address to send from; tail: the group */
     bfdd_address remote; /* the peer's; head: the group; tail: the head's */
     uint32_t active;  /* point-to-point: 1 active, 0 passive */
@@ -132,7 +133,7 @@ enum bfdd_port {
 typedef struct {
     uint64_t moment; /* when it came */
     uint32_t port;   /* an enum bfdd_port */
-    uint32_t iface;  /* the interface's number, 0 to 65,535 */
+    uint32_t iface;  /* the number that the caller gives the interface, 0 to 65,535: an ifindex above that has to be mapped */
     bfdd_address src, dst;
     uint16_t sport; /* the sender's UDP port */
     uint8_t ttl;    /* the IP TTL or Hop Limit with which it came */

@@ -90,6 +90,8 @@ def text_of(words):
 
 
 def main(words):
+    if words[0] in ("-h", "--help"):
+        return print(__doc__.strip())
     try:
         if len(words) == 1 and "=" not in words[0] and words[0] not in BITS:
             print(words_of(bytes.fromhex(words[0])))
