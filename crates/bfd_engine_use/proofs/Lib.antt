@@ -1,3 +1,4 @@
 pub mod Rooms
-mod Worked
+pub mod Worked
 pub mod Joins
+pub mod Following

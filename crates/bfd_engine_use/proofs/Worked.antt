@@ -15,7 +15,7 @@ use Rattle.bfd_engine_use.specs.declared.threads.Job.{Job}
 use Rattle.bfd_engine_use.specs.Ready.{IsReady, number_of}
 use Rattle.bfd_engine_use.specs.Calling.{act_of, WasMade, WereMade, HasGrown, HasWorked, HasEnded}
 
-grown_same : (k : Knows) → HasGrown k k
+pub grown_same : (k : Knows) → HasGrown k k
 grown_same k = record {
   number = refl;
   used = refl;
@@ -25,7 +25,7 @@ grown_same k = record {
   kept = λ s. refl;
 }
 
-grown_then : (k l m : Knows) → HasGrown k l → HasGrown l m → HasGrown k m
+pub grown_then : (k l m : Knows) → HasGrown k l → HasGrown l m → HasGrown k m
 grown_then k l m a b = record {
   number = b.number ∙ a.number;
   used = b.used ∙ a.used;
@@ -35,7 +35,7 @@ grown_then k l m a b = record {
   kept = λ s. b.kept s ∙ a.kept s;
 }
 
-grown_turn : (k l : Knows) (shard : ℕ) (between new : List Entry) → Turned k l shard between new → HasGrown k l
+pub grown_turn : (k l : Knows) (shard : ℕ) (between new : List Entry) → Turned k l shard between new → HasGrown k l
 grown_turn k l shard between new t = record {
   number = t.number;
   used = t.used;

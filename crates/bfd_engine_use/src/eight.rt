@@ -62,7 +62,7 @@ fn drawn(alloc: Global, j: u32, now: u64) -> Option<Call> {
 }
 
 /// So many drawn calls.
-fn calls(alloc: Global, seed: u32) -> Option<Vec<Call>> {
+pub(crate) fn calls(alloc: Global, seed: u32) -> Option<Vec<Call>> {
     let mut list = Vec::new(alloc);
     let mut j = seed;
     for count in 0u64..500 {

@@ -16,6 +16,8 @@ pub use passes::{add_job, finish};
 pub use threads::{Call, Job, Saw, at_once};
 
 #[cfg(test)]
+mod clients;
+#[cfg(test)]
 mod daemon;
 #[cfg(test)]
 mod eight;

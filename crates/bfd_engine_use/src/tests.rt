@@ -1,5 +1,5 @@
 //! Two shards' turns at once, a tick that goes back, a full journal, and a question to nobody.
-ghost use Rattle.std.specs.Prelude.{◌≡◌, ◌<◌, ◌+◌, [], IfOk, IfSome, OnErr, length};
+ghost use Rattle.std.specs.Prelude.{◌≡◌, ◌≤◌, ◌<◌, ◌+◌, [], IfOk, IfSome, OnErr, length};
 ghost use Rattle.bfd_session.specs.Step.{IsFit};
 ghost use Rattle.bfd_session.specs.Kinds.{discr_of};
 ghost use Rattle.bfd_session.specs.Rows.{AreFit};
@@ -88,7 +88,7 @@ fn tries(engine: &Plain, pass: &mut EnginePass, shard: u32) -> Result<(), HoldFa
 }
 
 /// A further pass.
-fn part(engine: &Plain, alloc: Global, first: &mut EnginePass) -> Option<EnginePass>
+pub(crate) fn part(engine: &Plain, alloc: Global, first: &mut EnginePass) -> Option<EnginePass>
     requires of { IsOf engine.now first.old.1 }
     requires there { AllThere first.old.1 }
     requires first { first.old.0 ≡ 0 }
@@ -144,7 +144,7 @@ fn each_shard_has_a_turn_of_its_own(rt: HostRuntime) -> Result<(), Fail> {
 }
 
 /// A shard's journal, as a caller reads it.
-fn journal<R: Wait>(
+pub(crate) fn journal<R: Wait>(
     rt: &R,
     alloc: Global,
     engine: &Plain,
@@ -164,8 +164,11 @@ fn journal<R: Wait>(
     }
 }
 
-/// The shard as it was opened.
-pub(crate) fn fresh(alloc: Global, shard: u32) -> Result<ShardState<PlainTimers>, AllocError> {
+/// The sessions of a shard, by place.
+pub(crate) fn configs_of(alloc: Global, shard: u32) -> Result<Vec<SessionConfig>, AllocError>
+    ensures fit { IfOk result (λ list. AreFit list.items) }
+    ensures few { IfOk result (λ list. length list.items ≤ 2) }
+{
     let mut list = Vec::new(alloc);
     match shard {
         0 => {
@@ -175,7 +178,12 @@ pub(crate) fn fresh(alloc: Global, shard: u32) -> Result<ShardState<PlainTimers>
         1 => list.push(config(2))?,
         _ => list.push(config(3))?,
     }
-    ShardState::make(alloc, list, 100_000)
+    Ok(list)
+}
+
+/// The shard as it was opened.
+pub(crate) fn fresh(alloc: Global, shard: u32) -> Result<ShardState<PlainTimers>, AllocError> {
+    ShardState::make(alloc, configs_of(alloc, shard)?, 100_000)
 }
 
 /// One entry of a journal on one thread.

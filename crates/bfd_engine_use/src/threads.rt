@@ -124,7 +124,12 @@ fn work<W: Timers, R: Wait, L: Ledger>(
 }
 
 /// The same, with a count of its own.
-fn work_alone<W: Timers, R: Wait>(rt: &R, alloc: Global, engine: &Engine<W>, job: &mut Job)
+pub(crate) fn work_alone<W: Timers, R: Wait>(
+    rt: &R,
+    alloc: Global,
+    engine: &Engine<W>,
+    job: &mut Job,
+)
     requires { IsReady engine.now job.old }
     ensures { HasEnded engine.now job.old job.new }
 {
