@@ -68,6 +68,31 @@ fn take_all(alloc: Global, client: &mut Client, list: &[Entry]) -> Option<()>
     Some(())
 }
 
+/// A client that was told what came to the shard so far.
+#[tactic(auto, using(crate::proofs::Following::grown_read, crate::proofs::Worked::grown_same))]
+fn start<W: Timers, R: Wait>(
+    rt: &R,
+    alloc: Global,
+    engine: &Engine<W>,
+    pass: &mut EnginePass,
+) -> Option<Client>
+    requires of { IsOf engine.now pass.old.1 }
+    requires there { AllThere pass.old.1 }
+    requires shards { length engine.now.locks ≡ 3 }
+    ensures of { IsOf engine.now pass.new.1 }
+    ensures there { AllThere pass.new.1 }
+    ensures grown { HasGrown pass.old pass.new }
+    ensures told { IfSome result (λ client. IsTold (seen_at pass.new 0) client.watch client.told.items) }
+{
+    let mut client = new_client(alloc)?;
+    let mut list = Vec::new(alloc);
+    match engine.journal_from(rt, alloc, pass, 0, 0, &mut list) {
+        Ok(()) => take_all(alloc, &mut client, list.as_slice())?,
+        Err(_) => return None,
+    }
+    Some(client)
+}
+
 /// A poll: what came to the shard since the last.
 #[tactic(auto, using(crate::proofs::Following::grown_read, crate::proofs::Following::seen_rest))]
 fn poll<W: Timers, R: Wait>(
@@ -132,6 +157,7 @@ fn beside<W: Timers + Send, R: Threads + Wait + Sync>(
     requires ready { All (λ (j : _). IsReady engine.now j) jobs.old }
     requires shards { length engine.now.locks ≡ 3 }
     requires told { IsTold (seen_at first.old 0) client.old.watch client.old.told.items }
+    ensures long { length jobs.new ≡ length jobs.old }
     ensures passes { HasOpen engine.now first.new (map number_of jobs.new) }
     ensures ready { All (λ (j : _). IsReady engine.now j) jobs.new }
     ensures told { IfSome result (λ _. IsTold (seen_at first.new 0) client.new.watch client.new.told.items) }
@@ -145,6 +171,7 @@ fn beside<W: Timers + Send, R: Threads + Wait + Sync>(
     { polls(rt, alloc, engine, first, client) };
     let mut worked = ||
         requires { All (λ (j : _). IsReady engine.now j) jobs.now }
+        ensures long { length jobs.exit.now ≡ length jobs.entry.now }
         ensures ready { All (λ (j : _). IsReady engine.entry.now j) jobs.exit.now }
         ensures numbers { map number_of jobs.exit.now ≡ map number_of jobs.entry.now }
     { at_once(rt, alloc, engine, jobs) };
@@ -160,15 +187,15 @@ fn history(alloc: Global, journal: &[Entry]) -> Option<Vec<Change>> {
 }
 
 /// What a client was told that polled while packets came, and once after that; and what the closed engine's journal tells.
-#[tactic(auto, using(crate::proofs::Rooms::room_enough))]
+#[tactic(auto, using(crate::proofs::Rooms::room_enough, crate::proofs::Following::open_grown))]
 fn told_beside<R: Threads + Wait + Sync>(
     rt: &R,
     alloc: Global,
 ) -> Option<(Vec<Change>, Vec<Change>)> {
     let (engine, mut first) = opened(alloc, 100_000)?;
-    let mut client = new_client(alloc)?;
     let mut jobs = Vec::new(alloc);
     add_job(alloc, &engine, &mut first, &mut jobs, calls(alloc, 1)?, 25).ok()?;
+    let mut client = start(rt, alloc, &engine, &mut first)?;
     beside(
         rt,
         alloc,
@@ -253,7 +280,6 @@ fn told_by_turns<R: Wait>(
     often: bool,
 ) -> Option<(Vec<Change>, Vec<Change>)> {
     let (engine, mut first) = opened(alloc, 100_000)?;
-    let mut client = new_client(alloc)?;
     let mut job = Job {
         pass: part(&engine, alloc, &mut first)?,
         calls: Vec::new(alloc),
@@ -261,6 +287,7 @@ fn told_by_turns<R: Wait>(
         room: 25,
         ended: Ok(()),
     };
+    let mut client = start(rt, alloc, &engine, &mut first)?;
     call_all(rt, alloc, &engine, &mut job, &mut first, &mut client, often)?;
     let entries = journal(rt, alloc, &engine, &mut first, 0)?;
     Some((client.told, history(alloc, entries.as_slice())?))
