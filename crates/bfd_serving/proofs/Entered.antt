@@ -177,9 +177,10 @@ module _ (engine : Shards) where
   history_fits : (history : List Entry) → ((n : ℕ) → AllByRecursion EntryFits (calls by n history)) → AllByRecursion EntryFits history
   history_fits [] h = tt
   history_fits (x ∷ history) h =
-      let own : (x.caller == x.caller) ≡ true = grind (arith, nat_tests) in
-      ((subst (λ b. AllByRecursion EntryFits (cond b (x ∷ calls by x.caller history) (calls by x.caller history))) own (h x.caller)).0,
-      history_fits history (λ n. all_rest EntryFits (x.caller == n) x (calls by n history) (h n)))
+      let own : (x.caller == x.caller) ≡ true = grind (arith, nat_tests) in (
+        (subst (λ b. AllByRecursion EntryFits (cond b (x ∷ calls by x.caller history) (calls by x.caller history))) own (h x.caller)).0,
+        history_fits history (λ n. all_rest EntryFits (x.caller == n) x (calls by n history) (h n)),
+      )
 
 -- every packet in the histories of a run fits
 module _ (engine : Shards) (states : List Shard) (orders : List Line) (workers : ℕ) (limits : Limits) (before after : ℕ → LinkTold) (c d : TickerTold) (ends : List End) (lost : ℕ)
@@ -222,9 +223,10 @@ module _ (engine : Shards) (states : List Shard) (orders : List Line) (workers :
       let made = closed.each number s.0 s.1 in
       let inside = within states number s.0 s.1 in
       let history : IsHistory (configs_at engine number) (events_of seen ++ Own place moment event ∷ events_of rest) =
-      subst (IsHistory (configs_at engine number)) (ap events_of s.2 ∙ split seen rest x) (subst (λ (ks : List SessionConfig). IsHistory ks (events_of s.0.journal)) made.configs made.kept.history) in
-      (let long = closed.long in omega (arith, inside, long),
-      all_at (CanHappen (configs_at engine number)) (events_of seen) (events_of rest) (Own place moment event) history)
+      subst (IsHistory (configs_at engine number)) (ap events_of s.2 ∙ split seen rest x) (subst (λ (ks : List SessionConfig). IsHistory ks (events_of s.0.journal)) made.configs made.kept.history) in (
+        let long = closed.long in omega (arith, inside, long),
+        all_at (CanHappen (configs_at engine number)) (events_of seen) (events_of rest) (Own place moment event) history,
+      )
 
   answered : (expected : ℕ → Running → Answer) (number caller place moment : ℕ) (event : Event) (seen : List Entry)
       → ((eff : ℕ) (s : Running) → reply eff event s ≡ expected eff s) → IsTaken (configs_at engine number) place event

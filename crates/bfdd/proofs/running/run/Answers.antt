@@ -70,9 +70,13 @@ returns-in-Ok-clause-told g c = λ memory source.
     let old = edges_of (g.P.Ports.told c.args.ports.now) (g.T.Ticker.told c.args.ticker.now) in
     let new = edges_of (g.P.Ports.told c.answer.new.ports) (g.T.Ticker.told c.answer.new.ticker) in
     let P : Job → Type 0 = λ job. IsTold job left right old new (g.K.Sink.taken c.args.sink.now) (g.K.Sink.taken c.write_answer.new.sink)
-        (g.K.Sink.faults c.args.sink.now) (g.K.Sink.faults c.write_answer.new.sink) c.write_answer.result in
-    let told : P c.in-Ok-Some.job = record { w = c.in-Ok.answer; tells = c.in-Ok.ensures.tells;
-        decided = c.write_answer.ensures.decided; written = c.write_answer.ensures.written } in
+    (g.K.Sink.faults c.args.sink.now) (g.K.Sink.faults c.write_answer.new.sink) c.write_answer.result in
+    let told : P c.in-Ok-Some.job = record {
+      w = c.in-Ok.answer;
+      tells = c.in-Ok.ensures.tells;
+      decided = c.write_answer.ensures.decided;
+      written = c.write_answer.ensures.written;
+    } in
     subst (λ (given : Option Job). IfSome given P) (sym (sym c.in-Ok-Some.ensures.value ∙ c.in-Ok-Some.field-0-is)) told
 
 pub returns-in-Ok-clause-finished : goal.returns-in-Ok-clause-finished
@@ -81,12 +85,12 @@ returns-in-Ok-clause-finished g c =
     let old = edges_of (g.P.Ports.told c.args.ports.now) (g.T.Ticker.told c.args.ticker.now) in
     let new = edges_of (g.P.Ports.told c.answer.new.ports) (g.T.Ticker.told c.answer.new.ticker) in
     let P : Job → Type 0 = λ job. (Rose (g.S.Source.faults c.args.source.now) (g.S.Source.faults c.answer.new.source) → ⊥)
-        → (Rose (g.K.Sink.faults c.args.sink.now) (g.K.Sink.faults c.write_answer.new.sink) → ⊥)
-        → (Rose old.ports.faults new.ports.faults → ⊥) → IfSome left (IsFinished job old new c.write_answer.result) in
+    → (Rose (g.K.Sink.faults c.args.sink.now) (g.K.Sink.faults c.write_answer.new.sink) → ⊥)
+    → (Rose old.ports.faults new.ports.faults → ⊥) → IfSome left (IsFinished job old new c.write_answer.result) in
     let done : serves c.in-Ok-Some.job ≡ true → P c.in-Ok-Some.job = λ serving. λ source_calm sink_calm ports_calm.
-        finished c.in-Ok-Some.job left right old new c.in-Ok.answer c.write_answer.result
-        (settled c.write_answer.result c.in-Ok.answer.status c.write_answer.ensures.decided c.write_answer.ensures.no_read_fault
-        (λ failed. sink_calm (c.write_answer.ensures.write_fault failed))) ports_calm c.in-Ok.ensures.tells serving in
+    finished c.in-Ok-Some.job left right old new c.in-Ok.answer c.write_answer.result
+    (settled c.write_answer.result c.in-Ok.answer.status c.write_answer.ensures.decided c.write_answer.ensures.no_read_fault
+    (λ failed. sink_calm (c.write_answer.ensures.write_fault failed))) ports_calm c.in-Ok.ensures.tells serving in
     subst (λ (given : Option Job). OfServing given P) (sym (sym c.in-Ok-Some.ensures.value ∙ c.in-Ok-Some.field-0-is))
     (of_serving c.in-Ok-Some.job P done)
 
