@@ -43,6 +43,3 @@ pub use head::Head;
 pub use law::{head_laws, tail_laws};
 pub use tail::Tail;
 pub use waiting::{deadline, wait};
-
-#[cfg(test)]
-mod tests;

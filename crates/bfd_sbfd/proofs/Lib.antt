@@ -1,7 +1,6 @@
 pub mod Still
 pub mod Drawing
 pub mod Searching
-pub mod Ladder
 pub mod Front
 pub mod Rest
 pub mod Soundness

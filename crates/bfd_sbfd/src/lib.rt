@@ -42,6 +42,3 @@ pub use initiator::Initiator;
 pub use law::initiator_laws;
 pub use reflecting::{Reflector, reflect};
 pub use waiting::{deadline, wait};
-
-#[cfg(test)]
-mod tests;

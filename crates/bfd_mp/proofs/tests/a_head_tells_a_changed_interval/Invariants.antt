@@ -1,6 +1,0 @@
--- The room for outputs stays.
-use Rattle.std.proofs.Common.{◌≤◌}
-use Rattle.bfd_mp.proofs.tests.a_head_tells_a_changed_interval.Given as goal
-
-abbrev pub invariant-loop-event : goal.invariant-loop-event
-invariant-loop-event g l = 5 ≤ l.outs.room
