@@ -1,5 +1,6 @@
 -- The words that a job begins with.
-use Rattle.std.proofs.Common.{◌≡◌, ℕ, ◌+◌, ◌-◌, ◌<◌, ◌≤◌, ◌++◌, List, [], ◌∷◌, length, map, take, drop, get_or, Option, None, Some, refl, sym, ap, ◌∙◌, arith, append_assoc, append-nil, drop-cons, suc}
+use Rattle.std.proofs.Common.{◌≡◌, ℕ, ◌+◌, ◌-◌, ◌<◌, ◌≤◌, ◌++◌, List, [], ◌∷◌, length, map, take, drop, get_or, Option, None, Some, refl, sym, ap, ◌∙◌, arith, append_assoc, append-nil, drop-cons, length-append, suc}
+use Rattle.std.proofs.lemmas.Grind.{common_steps}
 use Rattle.std.proofs.lemmas.List.{drop-map, take_rest}
 use Rattle.std.proofs.lemmas.List.Sums.{take_while-cons}
 use Rattle.std.specs.Prelude.{is_some, take_while}
@@ -47,6 +48,14 @@ module _ {S : Type 0} (f : S → List ℕ) where
       ∙ ap (λ rest. found ++ leading rest) (left-is words i word below is)
       ∙ ap (λ members. found ++ members) (lead-none member_of (f word) (map f (drop (i + 1) words)) (sym reads))
       ∙ append-nil found)
+
+  -- more members than a watch has
+  pub leading-many : (words : List S) (i : ℕ) (word : S) (member : ℕ) (found : List ℕ) → i < length words → word ≡ get_or words i word
+      → Some member ≡ member_of (f word) → leading (map f words) ≡ found ++ leading (map f (drop i words)) → 64 ≤ length found
+      → 64 < length (leading (map f words))
+  leading-many words i word member found below is reads all full =
+      let more = leading-more words i word member found below is reads all in
+      rw more (grind (arith, length-append, common_steps))
 
   pub load_of-short : (words : List S) → length words < 3 → None ≡ load_of (map f words)
   load_of-short [] short = refl

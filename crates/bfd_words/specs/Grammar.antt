@@ -90,11 +90,6 @@ abbrev pub watch_of : List (List ℕ) → Option Job
 watch_of [] = None
 watch_of (need ∷ words) = watch_by need (leading words) (drop (length (leading words)) words)
 
--- the words of `watch`, whatever follows
-abbrev pub is_watch : List (List ℕ) → Bool
-is_watch [] = false
-is_watch (word ∷ words) = bytes_eq word (codes "watch")
-
 -- the first word says which
 abbrev pub job_of : List (List ℕ) → Option Job
 job_of [] = None

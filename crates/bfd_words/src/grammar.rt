@@ -1,12 +1,12 @@
 //! The words of each job.
-ghost use Rattle.std.specs.Prelude.{◌≡◌, ◌<◌, ◌≤◌, All, IfOk, IfSome, IsErr, length, map, string_bytes, true};
-ghost use Rattle.bfd_words.specs.Grammar.{are_distinct, hands_of, is_watch, job_of, leading, load_by, load_of, pair_of, replay_of, serve_of, watch_by, watch_of};
+ghost use Rattle.std.specs.Prelude.{◌≡◌, ◌<◌, ◌≤◌, All, IfSome, None, length, map, string_bytes};
+ghost use Rattle.bfd_words.specs.Grammar.{are_distinct, hands_of, job_of, leading, load_by, load_of, pair_of, replay_of, serve_of, watch_by, watch_of};
 ghost use Rattle.bfd_words.specs.Ranges.{AreHands, IsJob};
 
 use crate::job::{Hands, Job, Members};
 use crate::number::number;
 use crate::options::{are_options, number_option, timers};
-use std::alloc::{AllocError, Global};
+use arrayvec::ArrayVec;
 
 /// Options of hands.
 const HANDS: [&str; 3] = ["--shards", "--workers", "--timers"];
@@ -105,20 +105,25 @@ fn pair(words: &[String]) -> Option<Job>
     })
 }
 
-/// The discriminators that the words begin with. The one refusal is want of memory.
-fn leading(alloc: Global, words: &[String]) -> Result<Vec<u32>, AllocError>
-    ensures members { IfOk result (λ members. members.items ≡ leading (map (λ word. string_bytes word) words.now)) }
-    ensures few { IfOk result (λ members. length members.items ≤ length words.now) }
-    ensures positive { IfOk result (λ members. All (λ member. 0 < member) members.items) }
+/// The discriminators that the words begin with, where they are 64 at most.
+fn leading(words: &[String]) -> Option<ArrayVec<u32, 64>>
+    ensures members { IfSome result (λ members. members.items ≡ leading (map (λ word. string_bytes word) words.now)) }
+    ensures few { IfSome result (λ members. length members.items ≤ 64) }
+    ensures fewer { IfSome result (λ members. length members.items ≤ length words.now) }
+    ensures positive { IfSome result (λ members. All (λ member. 0 < member) members.items) }
+    ensures many { result ≡ None → 64 < length (leading (map (λ word. string_bytes word) words.now)) }
 {
-    let mut members = Vec::new(alloc);
+    let mut members = ArrayVec::new();
     for word in words {
-        match number(word, 1, u32::MAX) {
-            Some(member) => members.push(member)?,
-            None => break,
+        let Some(member) = number(word, 1, u32::MAX) else {
+            break;
+        };
+        if members.is_full() {
+            return None;
         }
+        members.push(member);
     }
-    Ok(members)
+    Some(members)
 }
 
 /// Whether no number is there twice.
@@ -136,12 +141,13 @@ fn are_distinct(numbers: &[u32]) -> bool
 }
 
 /// A watch of these members and options.
-fn watch_by(need: &str, members: Vec<u32>, options: &[String]) -> Option<Job>
-    requires { All (λ member. 0 < member) members.items }
+fn watch_by(need: &str, members: ArrayVec<u32, 64>, options: &[String]) -> Option<Job>
+    requires few { length members.items ≤ 64 }
+    requires positive { All (λ member. 0 < member) members.items }
     ensures value { result ≡ watch_by need.now members.items (map (λ word. string_bytes word) options.now) }
     ensures range { IfSome result IsJob }
 {
-    if members.len() > 64 || !are_distinct(&members) || !are_options(&WATCH, options) {
+    if !are_distinct(members.as_slice()) || !are_options(&WATCH, options) {
         return None;
     }
     Some(Job::Watch {
@@ -151,35 +157,33 @@ fn watch_by(need: &str, members: Vec<u32>, options: &[String]) -> Option<Job>
     })
 }
 
-/// The words after `watch`. The one refusal is want of memory.
-fn watch(alloc: Global, words: &[String]) -> Result<Option<Job>, AllocError>
-    ensures value { IfOk result (λ job. job ≡ watch_of (map (λ word. string_bytes word) words.now)) }
-    ensures range { IfOk result (λ job. IfSome job IsJob) }
+/// The words after `watch`.
+fn watch(words: &[String]) -> Option<Job>
+    ensures value { result ≡ watch_of (map (λ word. string_bytes word) words.now) }
+    ensures range { IfSome result IsJob }
 {
     let [need, words @ ..] = words else {
-        return Ok(None);
+        return None;
     };
-    let members = leading(alloc, words)?;
+    let members = leading(words)?;
     let options = &words[members.len()..];
-    Ok(watch_by(need, members, options))
+    watch_by(need, members, options)
 }
 
-/// The job that the words after the program's name ask for, and nothing where they aren't in the grammar. The one refusal is
-/// want of memory, for a watch's members.
-pub fn job_of(alloc: Global, words: &[String]) -> Result<Option<Job>, AllocError>
-    ensures value { IfOk result (λ job. job ≡ job_of (map (λ word. string_bytes word) words.now)) }
-    ensures range { IfOk result (λ job. IfSome job IsJob) }
-    ensures memory { IsErr result → is_watch (map (λ word. string_bytes word) words.now) ≡ true }
+/// The job that the words after the program's name ask for, and nothing where they aren't in the grammar.
+pub fn job_of(words: &[String]) -> Option<Job>
+    ensures value { result ≡ job_of (map (λ word. string_bytes word) words.now) }
+    ensures range { IfSome result IsJob }
 {
     let [word, words @ ..] = words else {
-        return Ok(None);
+        return None;
     };
     match word.as_str() {
-        "replay" => Ok(replay(words)),
-        "serve" => Ok(serve(words)),
-        "load" => Ok(load(words)),
-        "pair" => Ok(pair(words)),
-        "watch" => watch(alloc, words),
-        _ => Ok(None),
+        "replay" => replay(words),
+        "serve" => serve(words),
+        "load" => load(words),
+        "pair" => pair(words),
+        "watch" => watch(words),
+        _ => None,
     }
 }

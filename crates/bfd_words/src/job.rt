@@ -1,6 +1,7 @@
 //! What the words ask for.
 ghost use Rattle.std.specs.Prelude.{◌≡◌};
 
+use arrayvec::ArrayVec;
 use std::marker::Model;
 
 /// Which timers the shards keep.
@@ -29,7 +30,7 @@ pub struct Hands {
 /// The local discriminators that a watch names, in the order of the words: 1 to 64, distinct, and none of them 0.
 #[derive(Drop)]
 pub struct Members {
-    items: Vec<u32>,
+    items: ArrayVec<u32, 64>,
 }
 
 impl Model for Members {
@@ -42,7 +43,7 @@ impl Model for Members {
 
 impl Members {
     /// These discriminators.
-    pub(crate) fn make(items: Vec<u32>) -> Members
+    pub(crate) fn make(items: ArrayVec<u32, 64>) -> Members
         ensures { result ≡ items.items }
     {
         Members { items }

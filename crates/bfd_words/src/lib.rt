@@ -4,8 +4,8 @@
 //! options, each a name and its value, in any order and each at most once. `specs/Grammar.antt` is the grammar, as one function
 //! on the words' bytes. This crate knows nothing of what a job does.
 //!
-//! It stands on no other crate. It promises that `job_of` answers the job that the grammar gives, exactly where it gives one,
-//! and that every number of a job is within its range (`IsJob`).
+//! It stands on no other crate of this repository. It promises that `job_of` answers the job that the grammar gives, exactly where
+//! it gives one, that every number of a job is within its range (`IsJob`), and that no memory is taken.
 #![tactic(auto)]
 
 mod grammar;

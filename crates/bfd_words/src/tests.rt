@@ -11,7 +11,7 @@ fn told(alloc: Global, line: &str) -> Result<String, AllocError> {
         words.push(String::from_str(alloc, word)?)?;
     }
     let mut text = String::new(alloc);
-    match job_of(alloc, &words)? {
+    match job_of(&words) {
         None => text.push_str("usage")?,
         Some(Job::Replay(hands)) => {
             text.push_str("replay")?;

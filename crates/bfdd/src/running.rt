@@ -3,7 +3,7 @@ ghost use Rattle.std.specs.Prelude.{◌≡◌, ◌≢◌, ◌+◌, ◌⊎◌, �
 ghost use Rattle.std.specs.Io.KnownBytes.{Appends, IsAtEnd};
 ghost use Rattle.bfd_edge.specs.Faults.{Rose};
 ghost use Rattle.bfd_serving.specs.Linking.{AreShut};
-ghost use Rattle.bfd_words.specs.Grammar.{is_watch, job_of};
+ghost use Rattle.bfd_words.specs.Grammar.{job_of};
 ghost use Rattle.bfd_words.specs.Ranges.{IsJob};
 ghost use Rattle.bfdd.specs.Answers.{IsAnswer};
 ghost use Rattle.bfdd.specs.Outside.{ConsumesAtMost, TookFront};
@@ -151,9 +151,8 @@ where
     ensures untouched { is_reading (job_of (map (λ word. string_bytes word) words.now)) ≡ false → source.new ≡ source.old }
     ensures at_most { ConsumesAtMost (most_bytes + 1) (S.left source.old) (S.left source.new) }
 
-    // Words that ask for nothing are Usage, but that memory may be wanting for the members of a watch.
-    ensures usage { job_of (map (λ word. string_bytes word) words.now) ≡ None → (result ≡ Status.Usage)
-        ⊎ ((result ≡ Status.Memory) × (is_watch (map (λ word. string_bytes word) words.now) ≡ true)) }
+    // Words that ask for nothing are Usage, and no others.
+    ensures usage { job_of (map (λ word. string_bytes word) words.now) ≡ None → result ≡ Status.Usage }
     ensures usage_alone { result ≡ Status.Usage → job_of (map (λ word. string_bytes word) words.now) ≡ None }
 
     // A faulty line is told, or a front of that where the sink failed.
@@ -208,10 +207,8 @@ where
         → IfSome (S.left source.old) (IsFinished job
         (edges_of (P.told ports.old) (T.told ticker.old)) (edges_of (P.told ports.new) (T.told ticker.new)) result)) }
 {
-    let job = match job_of(alloc, words) {
-        Ok(Some(job)) => job,
-        Ok(None) => return Status::Usage,
-        Err(_) => return Status::Memory,
+    let Some(job) = job_of(words) else {
+        return Status::Usage;
     };
     match answer(rt, alloc, &job, source, ports, ticker, gate) {
         Ok(answer) => write_answer(answer, sink),

@@ -1,4 +1,4 @@
-use Rattle.std.proofs.Common.{◌≡◌, ◌<◌, ◌++◌, All, drop, length, map, string_bytes}
+use Rattle.std.proofs.Common.{◌≡◌, ◌<◌, ◌≤◌, ◌++◌, All, drop, length, map, string_bytes}
 use Rattle.bfd_words.specs.Grammar.{leading}
 use Rattle.bfd_words.proofs.grammar.leading.Given as goal
 
@@ -7,6 +7,7 @@ abbrev pub invariant-loop-word : goal.invariant-loop-word
 invariant-loop-word l = record {
   members : leading (map (λ word. string_bytes word) l.words)
       ≡ l.members.items ++ leading (map (λ word. string_bytes word) (drop l.word-index l.words));
+  few : length l.members.items ≤ 64;
   count : length l.members.items ≡ l.word-index;
   positive : All (λ member. 0 < member) l.members.items;
 }

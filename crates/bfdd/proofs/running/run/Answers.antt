@@ -18,41 +18,37 @@ use Rattle.bfdd.proofs.Taking.{took_nothing}
 use Rattle.bfdd.proofs.Wanting.{of_all, of_answer, of_job, settled}
 use Rattle.bfdd.proofs.running.run.Goals as goal
 
--- no memory for the members of a watch
-pub returns-in-Err-clause-front : goal.returns-in-Err-clause-front
-returns-in-Err-clause-front g c = of_all _ _ (λ (w : Wanted). took_nothing (g.K.Sink.taken c.args.sink.now) w.text)
-
 -- the answer was written
 
 pub returns-in-Ok-clause-decided : goal.returns-in-Ok-clause-decided
 returns-in-Ok-clause-decided g c =
-    of_job (job_of (map (λ word. string_bytes word) c.args.words.now)) c.in-Ok-Some.job (g.S.Source.left c.args.source.now)
-    (λ (w : Wanted). IsDecided c.write_answer.result w.status) (sym c.in-Ok-Some.ensures.value ∙ c.in-Ok-Some.field-0-is)
-    (of_answer (wanted_of c.in-Ok-Some.job (g.S.Source.left c.args.source.now)) c.in-Ok.answer
+    of_job (job_of (map (λ word. string_bytes word) c.args.words.now)) c.in-Some.job (g.S.Source.left c.args.source.now)
+    (λ (w : Wanted). IsDecided c.write_answer.result w.status) (sym c.in-Some.ensures.value)
+    (of_answer (wanted_of c.in-Some.job (g.S.Source.left c.args.source.now)) c.in-Ok.answer
     (λ (w : Wanted). IsDecided c.write_answer.result w.status) c.in-Ok.ensures.answer c.write_answer.ensures.decided)
 
 pub returns-in-Ok-clause-done : goal.returns-in-Ok-clause-done
 returns-in-Ok-clause-done g c = λ done.
     let P : Wanted → Type 0 = λ w. Appends (g.K.Sink.taken c.args.sink.now) (g.K.Sink.taken c.write_answer.new.sink) w.text in
-    of_job (job_of (map (λ word. string_bytes word) c.args.words.now)) c.in-Ok-Some.job (g.S.Source.left c.args.source.now) P
-    (sym c.in-Ok-Some.ensures.value ∙ c.in-Ok-Some.field-0-is)
-    (of_answer (wanted_of c.in-Ok-Some.job (g.S.Source.left c.args.source.now)) c.in-Ok.answer P c.in-Ok.ensures.answer
+    of_job (job_of (map (λ word. string_bytes word) c.args.words.now)) c.in-Some.job (g.S.Source.left c.args.source.now) P
+    (sym c.in-Some.ensures.value)
+    (of_answer (wanted_of c.in-Some.job (g.S.Source.left c.args.source.now)) c.in-Ok.answer P c.in-Ok.ensures.answer
     (c.write_answer.ensures.done done))
 
 pub returns-in-Ok-clause-front : goal.returns-in-Ok-clause-front
 returns-in-Ok-clause-front g c =
     let P : Wanted → Type 0 = λ w. TookFront (g.K.Sink.taken c.args.sink.now) (g.K.Sink.taken c.write_answer.new.sink) w.text in
-    of_job (job_of (map (λ word. string_bytes word) c.args.words.now)) c.in-Ok-Some.job (g.S.Source.left c.args.source.now) P
-    (sym c.in-Ok-Some.ensures.value ∙ c.in-Ok-Some.field-0-is)
-    (of_answer (wanted_of c.in-Ok-Some.job (g.S.Source.left c.args.source.now)) c.in-Ok.answer P c.in-Ok.ensures.answer
+    of_job (job_of (map (λ word. string_bytes word) c.args.words.now)) c.in-Some.job (g.S.Source.left c.args.source.now) P
+    (sym c.in-Some.ensures.value)
+    (of_answer (wanted_of c.in-Some.job (g.S.Source.left c.args.source.now)) c.in-Ok.answer P c.in-Ok.ensures.answer
     c.write_answer.ensures.front)
 
 pub returns-in-Ok-clause-complete : goal.returns-in-Ok-clause-complete
 returns-in-Ok-clause-complete g c = λ source_calm sink_calm.
     let P : Wanted → Type 0 = λ w. (c.write_answer.result ≡ w.status) ⊎ (c.write_answer.result ≡ Memory) in
-    of_job (job_of (map (λ word. string_bytes word) c.args.words.now)) c.in-Ok-Some.job (g.S.Source.left c.args.source.now) P
-    (sym c.in-Ok-Some.ensures.value ∙ c.in-Ok-Some.field-0-is)
-    (of_answer (wanted_of c.in-Ok-Some.job (g.S.Source.left c.args.source.now)) c.in-Ok.answer P c.in-Ok.ensures.answer
+    of_job (job_of (map (λ word. string_bytes word) c.args.words.now)) c.in-Some.job (g.S.Source.left c.args.source.now) P
+    (sym c.in-Some.ensures.value)
+    (of_answer (wanted_of c.in-Some.job (g.S.Source.left c.args.source.now)) c.in-Ok.answer P c.in-Ok.ensures.answer
     (settled c.write_answer.result c.in-Ok.answer.status c.write_answer.ensures.decided c.write_answer.ensures.no_read_fault
     (λ failed. sink_calm (c.write_answer.ensures.write_fault failed))))
 
@@ -60,9 +56,9 @@ pub returns-in-Ok-clause-fits : goal.returns-in-Ok-clause-fits
 returns-in-Ok-clause-fits g c =
     let old = edges_of (g.P.Ports.told c.args.ports.now) (g.T.Ticker.told c.args.ticker.now) in
     let new = edges_of (g.P.Ports.told c.answer.new.ports) (g.T.Ticker.told c.answer.new.ticker) in
-    subst (λ (given : Option Job). IsEndOf given c.write_answer.result) (sym (sym c.in-Ok-Some.ensures.value ∙ c.in-Ok-Some.field-0-is))
-    (ended (Some c.in-Ok-Some.job) c.write_answer.result c.in-Ok.answer.status c.write_answer.ensures.decided c.write_answer.ensures.no_read_fault
-    (ends_so c.in-Ok-Some.job (g.S.Source.left c.args.source.now) (g.S.Source.left c.answer.new.source) old new c.in-Ok.answer c.in-Ok.ensures.tells))
+    subst (λ (given : Option Job). IsEndOf given c.write_answer.result) c.in-Some.ensures.value
+    (ended (Some c.in-Some.job) c.write_answer.result c.in-Ok.answer.status c.write_answer.ensures.decided c.write_answer.ensures.no_read_fault
+    (ends_so c.in-Some.job (g.S.Source.left c.args.source.now) (g.S.Source.left c.answer.new.source) old new c.in-Ok.answer c.in-Ok.ensures.tells))
 
 pub returns-in-Ok-clause-told : goal.returns-in-Ok-clause-told
 returns-in-Ok-clause-told g c = λ memory source.
@@ -71,13 +67,13 @@ returns-in-Ok-clause-told g c = λ memory source.
     let new = edges_of (g.P.Ports.told c.answer.new.ports) (g.T.Ticker.told c.answer.new.ticker) in
     let P : Job → Type 0 = λ job. IsTold job left right old new (g.K.Sink.taken c.args.sink.now) (g.K.Sink.taken c.write_answer.new.sink)
     (g.K.Sink.faults c.args.sink.now) (g.K.Sink.faults c.write_answer.new.sink) c.write_answer.result in
-    let told : P c.in-Ok-Some.job = record {
+    let told : P c.in-Some.job = record {
       w = c.in-Ok.answer;
       tells = c.in-Ok.ensures.tells;
       decided = c.write_answer.ensures.decided;
       written = c.write_answer.ensures.written;
     } in
-    subst (λ (given : Option Job). IfSome given P) (sym (sym c.in-Ok-Some.ensures.value ∙ c.in-Ok-Some.field-0-is)) told
+    subst (λ (given : Option Job). IfSome given P) c.in-Some.ensures.value told
 
 pub returns-in-Ok-clause-finished : goal.returns-in-Ok-clause-finished
 returns-in-Ok-clause-finished g c =
@@ -87,12 +83,12 @@ returns-in-Ok-clause-finished g c =
     let P : Job → Type 0 = λ job. (Rose (g.S.Source.faults c.args.source.now) (g.S.Source.faults c.answer.new.source) → ⊥)
     → (Rose (g.K.Sink.faults c.args.sink.now) (g.K.Sink.faults c.write_answer.new.sink) → ⊥)
     → (Rose old.ports.faults new.ports.faults → ⊥) → IfSome left (IsFinished job old new c.write_answer.result) in
-    let done : serves c.in-Ok-Some.job ≡ true → P c.in-Ok-Some.job = λ serving. λ source_calm sink_calm ports_calm.
-    finished c.in-Ok-Some.job left right old new c.in-Ok.answer c.write_answer.result
+    let done : serves c.in-Some.job ≡ true → P c.in-Some.job = λ serving. λ source_calm sink_calm ports_calm.
+    finished c.in-Some.job left right old new c.in-Ok.answer c.write_answer.result
     (settled c.write_answer.result c.in-Ok.answer.status c.write_answer.ensures.decided c.write_answer.ensures.no_read_fault
     (λ failed. sink_calm (c.write_answer.ensures.write_fault failed))) ports_calm c.in-Ok.ensures.tells serving in
-    subst (λ (given : Option Job). OfServing given P) (sym (sym c.in-Ok-Some.ensures.value ∙ c.in-Ok-Some.field-0-is))
-    (of_serving c.in-Ok-Some.job P done)
+    subst (λ (given : Option Job). OfServing given P) c.in-Some.ensures.value
+    (of_serving c.in-Some.job P done)
 
 -- the source failed
 
