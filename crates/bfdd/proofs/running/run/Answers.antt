@@ -1,5 +1,5 @@
 -- What the parts of a run promise of the job is promised of the words that ask for it.
-use Rattle.std.proofs.Common.{◌≡◌, ◌⊎◌, ◌∙◌, true, Option, Some, inr, refl, subst, sym, map, string_bytes}
+use Rattle.std.proofs.Common.{◌≡◌, ◌⊎◌, ◌∙◌, true, Option, Some, refl, subst, sym, map, string_bytes}
 use Rattle.std.specs.Prelude.{IfSome}
 use Rattle.std.specs.Io.KnownBytes.{Appends}
 use Rattle.bfd_edge.specs.Faults.{Rose}
@@ -100,11 +100,5 @@ returns-in-Err-Failed-clause-front g c = of_all _ _ (λ (w : Wanted). took_nothi
 
 -- no memory for the answer
 
-pub returns-clause-decided : goal.returns-clause-decided
-returns-clause-decided g c = of_all _ _ (λ (w : Wanted). tt)
-
-pub returns-clause-front : goal.returns-clause-front
-returns-clause-front g c = of_all _ _ (λ (w : Wanted). took_nothing (g.K.Sink.taken c.args.sink.now) w.text)
-
-pub returns-clause-complete : goal.returns-clause-complete
-returns-clause-complete g c = λ source_calm sink_calm. of_all _ _ (λ (w : Wanted). inr refl)
+pub returns-in-Err-Memory-clause-front : goal.returns-in-Err-Memory-clause-front
+returns-in-Err-Memory-clause-front g c = of_all _ _ (λ (w : Wanted). took_nothing (g.K.Sink.taken c.args.sink.now) w.text)
