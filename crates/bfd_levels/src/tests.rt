@@ -1,4 +1,4 @@
-//! Heights, the worked row with its potential and steps, and all forms of timers side by side.
+//! Heights, the worked rows, and all forms of timers side by side.
 ghost use Rattle.std.specs.Prelude.{◌≡◌, ◌+◌, ◌^◌, ◌<◌, ◌≤◌, length, [], ◌∷◌, None, Some};
 ghost use Rattle.bfd_lanes.specs.Held.{room_of};
 ghost use Rattle.bfd_levels.specs.Height.{potential_of};
@@ -122,8 +122,85 @@ fn play<W: Timers, L: Ledger>(timers: &mut W, call: Call, out: &mut Ids, steps: 
     }
 }
 
+/// Three ids over the first turns of the hashed wheel, in jumps.
+fn in_jumps<W: Timers, L: Ledger, R: Abort>(rt: &R, mut timers: W, mut out: Ids, blank: Blank)
+    requires count { length (W.dues timers) ≡ 64 }
+    requires room { 64 ≤ room_of out }
+    requires name { blank.name ≡ L.name }
+    requires parts { blank.parts ≡ L.parts }
+    requires some { 0 < blank.parts }
+{
+    let mut steps = Steps::<L>::new(blank);
+    let calls: [(Call, &[u32]); 12] = [
+        (Call::Set(0, 4095), &[]),
+        (Call::Set(1, 4096), &[]),
+        (Call::Set(2, 4097), &[]),
+        (Call::Advance(4095), &[0]),
+        (Call::Advance(4096), &[1]),
+        (Call::Set(0, 5000), &[]),
+        (Call::Set(1, 9000), &[]),
+        (Call::Advance(16384), &[0, 1, 2]),
+        (Call::Set(2, 3), &[]),
+        (Call::Advance(16384), &[2]),
+        (Call::Advance(16384), &[]),
+        (Call::Clear(1), &[]),
+    ];
+    for (call, ids) in calls {
+        play(&mut timers, call, &mut out, &mut steps);
+        assert_eq!(*rt; out.items(), ids);
+    }
+}
+
+/// The same with one advance per tick.
+fn tick_by_tick<W: Timers, L: Ledger, R: Abort>(rt: &R, mut timers: W, mut out: Ids, blank: Blank)
+    requires count { length (W.dues timers) ≡ 64 }
+    requires room { 64 ≤ room_of out }
+    requires name { blank.name ≡ L.name }
+    requires parts { blank.parts ≡ L.parts }
+    requires some { 0 < blank.parts }
+{
+    let mut steps = Steps::<L>::new(blank);
+    timers.set(0, 4095, &mut steps);
+    timers.set(1, 4096, &mut steps);
+    timers.set(2, 4097, &mut steps);
+    for t in 1..16385 {
+        play(&mut timers, Call::Advance(t), &mut out, &mut steps);
+        let taken: &[u32] = match t {
+            4095 | 5000 => &[0],
+            4096 | 9000 => &[1],
+            4097 => &[2],
+            _ => &[],
+        };
+        assert_eq!(*rt; out.items(), taken, "at {t}");
+        if t == 4096 {
+            play(&mut timers, Call::Set(0, 5000), &mut out, &mut steps);
+            play(&mut timers, Call::Set(1, 9000), &mut out, &mut steps);
+        }
+    }
+    play(&mut timers, Call::Set(2, 3), &mut out, &mut steps);
+    assert_eq!(*rt; timers.least(), Some(3));
+    play(&mut timers, Call::Advance(16384), &mut out, &mut steps);
+    assert_eq!(*rt; out.items(), [2].as_slice());
+}
+
+#[test]
+fn turns_of_the_hashed_wheel(rt: HostRuntime) {
+    let plain = PlainTimers::make(rt.alloc(), 64).expect(&rt, "memory");
+    let out = Ids::make(rt.alloc(), 64).expect(&rt, "memory");
+    in_jumps::<PlainTimers, Brand, HostRuntime>(&rt, plain, out, Blank::new(1));
+    let wheel = HashedWheel::make(rt.alloc(), 64).expect(&rt, "memory");
+    let out = Ids::make(rt.alloc(), 64).expect(&rt, "memory");
+    in_jumps::<HashedWheel, Brand, HostRuntime>(&rt, wheel, out, Blank::new(1));
+    let levels = Levels::make(rt.alloc(), 64).expect(&rt, "memory");
+    let out = Ids::make(rt.alloc(), 64).expect(&rt, "memory");
+    in_jumps::<Levels, Brand, HostRuntime>(&rt, levels, out, Blank::new(1));
+    let wheel = HashedWheel::make(rt.alloc(), 64).expect(&rt, "memory");
+    let out = Ids::make(rt.alloc(), 64).expect(&rt, "memory");
+    tick_by_tick::<HashedWheel, Brand, HostRuntime>(&rt, wheel, out, Blank::new(1));
+}
+
 /// A drawn call: mostly sets around the tick `now`, near and far, some clears, and advances by a tick, by some hundred,
-/// to the next multiple of 65,536, far, and back.
+/// to the next multiple of 65,536, by a turn of the hashed wheel and by just less, far, and back.
 fn drawn(j: u32, now: u64) -> Call {
     let id = (j >> 20) % 64;
     let number = u64::from(j >> 8) % 16384;
@@ -136,6 +213,7 @@ fn drawn(j: u32, now: u64) -> Call {
         5 => Call::Advance(now.saturating_sub(number)),
         6 => Call::Set(id, now.saturating_add(number * number)),
         7 => Call::Set(id, now.saturating_add(number * 1_000_000)),
+        8 => Call::Advance(now.saturating_add(4095 + number % 2)),
         _ => Call::Set(id, now.saturating_add(number).saturating_sub(500)),
     }
 }

@@ -21,6 +21,3 @@ pub use hashed::HashedWheel;
 pub use links::{Node, link, loops, unlink};
 pub use list::{due_at, no_dues};
 pub use plain::PlainTimers;
-
-#[cfg(test)]
-mod tests;
