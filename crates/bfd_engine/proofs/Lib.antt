@@ -18,3 +18,4 @@ pub mod Copies
 pub mod Growing
 pub mod Verdicts
 pub mod Crossing
+pub mod Ordered

@@ -10,8 +10,8 @@ ghost use Rattle.bfd_engine_use.specs.Ready.{IsReady, number_of};
 
 use crate::eight::calls;
 use crate::passes::{add_job, finish};
-use crate::tests::{Plain, configs_of, journal, opened, part};
-use crate::threads::{Call, Job, at_once, work_alone};
+use crate::tests::{configs_of, opened};
+use crate::threads::{Job, at_once};
 use bfd_engine::{Engine, EnginePass};
 use bfd_shard::Entry;
 use bfd_watch::{Change, Watch};
@@ -215,90 +215,5 @@ fn a_client_beside_a_packet_thread(rt: HostRuntime) -> Result<(), Fail> {
     let (told, wanted) = told_beside(&rt, rt.alloc()).ok_or("no memory")?;
     assert_eq!(rt; told.as_slice(), wanted.as_slice());
     assert!(rt; told.len() > 20);
-    Ok(())
-}
-
-/// A call on this thread, and a poll after it where the client looks often.
-fn call_then_poll<R: Wait>(
-    rt: &R,
-    alloc: Global,
-    engine: &Plain,
-    job: &mut Job,
-    call: Call,
-    first: &mut EnginePass,
-    client: &mut Client,
-    often: bool,
-) -> Option<()>
-    requires ready { IsReady engine.now job.old }
-    requires of { IsOf engine.now first.old.1 }
-    requires there { AllThere first.old.1 }
-    requires shards { length engine.now.locks ≡ 3 }
-    requires told { IsTold (seen_at first.old 0) client.old.watch client.old.told.items }
-    ensures ready { IfSome result (λ _. IsReady engine.now job.new) }
-    ensures of { IsOf engine.now first.new.1 }
-    ensures there { AllThere first.new.1 }
-    ensures told { IfSome result (λ _. IsTold (seen_at first.new 0) client.new.watch client.new.told.items) }
-{
-    job.calls.push(call).ok()?;
-    work_alone(rt, alloc, engine, job);
-    if often {
-        return poll(rt, alloc, engine, first, client);
-    }
-    Some(())
-}
-
-/// All calls on this thread, and a poll after the last.
-fn call_all<R: Wait>(
-    rt: &R,
-    alloc: Global,
-    engine: &Plain,
-    job: &mut Job,
-    first: &mut EnginePass,
-    client: &mut Client,
-    often: bool,
-) -> Option<()>
-    requires ready { IsReady engine.now job.old }
-    requires of { IsOf engine.now first.old.1 }
-    requires there { AllThere first.old.1 }
-    requires shards { length engine.now.locks ≡ 3 }
-    requires told { IsTold (seen_at first.old 0) client.old.watch client.old.told.items }
-    ensures of { IsOf engine.now first.new.1 }
-    ensures there { AllThere first.new.1 }
-{
-    let mut calls = calls(alloc, 1)?;
-    for count in 0..calls.len() {
-        call_then_poll(rt, alloc, engine, job, calls.pop()?, first, client, often)?;
-    }
-    poll(rt, alloc, engine, first, client)
-}
-
-/// What a client was told that polled after each call, or rarely: after the last alone; and what the journal tells.
-#[tactic(auto, using(crate::proofs::Rooms::room_enough))]
-fn told_by_turns<R: Wait>(
-    rt: &R,
-    alloc: Global,
-    often: bool,
-) -> Option<(Vec<Change>, Vec<Change>)> {
-    let (engine, mut first) = opened(alloc, 100_000)?;
-    let mut job = Job {
-        pass: part(&engine, alloc, &mut first)?,
-        calls: Vec::new(alloc),
-        saw: Vec::new(alloc),
-        room: 25,
-        ended: Ok(()),
-    };
-    let mut client = start(rt, alloc, &engine, &mut first)?;
-    call_all(rt, alloc, &engine, &mut job, &mut first, &mut client, often)?;
-    let entries = journal(rt, alloc, &engine, &mut first, 0)?;
-    Some((client.told, history(alloc, entries.as_slice())?))
-}
-
-#[test]
-fn a_client_that_looks_often_and_one_that_looks_rarely(rt: HostRuntime) -> Result<(), Fail> {
-    for often in [true, false] {
-        let (told, wanted) = told_by_turns(&rt, rt.alloc(), often).ok_or("no memory")?;
-        assert_eq!(rt; told.as_slice(), wanted.as_slice());
-        assert!(rt; told.len() > 20);
-    }
     Ok(())
 }

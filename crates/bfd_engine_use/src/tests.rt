@@ -1,4 +1,4 @@
-//! Two shards' turns at once, a tick that goes back, a full journal, and a question to nobody.
+//! Two shards' turns at once, a full journal, and a question to nobody.
 ghost use Rattle.std.specs.Prelude.{◌≡◌, ◌≤◌, ◌<◌, ◌+◌, [], IfOk, IfSome, OnErr, length};
 ghost use Rattle.bfd_session.specs.Step.{IsFit};
 ghost use Rattle.bfd_session.specs.Kinds.{discr_of};
@@ -8,7 +8,7 @@ ghost use Rattle.bfd_engine.specs.Opening.{IsNewPass, IsSorted};
 ghost use Rattle.bfd_engine_use.specs.Joining.{HasOpen};
 
 use bfd_engine::{Engine, EngineFault, EnginePass, HoldFault};
-use bfd_num::{Moment, Steps, Tick};
+use bfd_num::{Moment, Steps};
 use bfd_packet::Addr;
 use bfd_rules::{Config, Outs, Refusal, Role};
 use bfd_session::{Answer, SessionConfig};
@@ -143,27 +143,6 @@ fn each_shard_has_a_turn_of_its_own(rt: HostRuntime) -> Result<(), Fail> {
     Ok(())
 }
 
-/// A shard's journal, as a caller reads it.
-pub(crate) fn journal<R: Wait>(
-    rt: &R,
-    alloc: Global,
-    engine: &Plain,
-    pass: &mut EnginePass,
-    shard: u32,
-) -> Option<Vec<Entry>>
-    requires of { IsOf engine.now pass.old.1 }
-    requires there { AllThere pass.old.1 }
-    requires shard { shard < length engine.now.locks }
-    ensures of { IsOf engine.now pass.new.1 }
-    ensures there { AllThere pass.new.1 }
-{
-    let mut list = Vec::new(alloc);
-    match engine.journal_from(rt, alloc, pass, shard, 0, &mut list) {
-        Ok(()) => Some(list),
-        Err(_) => None,
-    }
-}
-
 /// The sessions of a shard, by place.
 pub(crate) fn configs_of(alloc: Global, shard: u32) -> Result<Vec<SessionConfig>, AllocError>
     ensures fit { IfOk result (λ list. AreFit list.items) }
@@ -202,100 +181,6 @@ pub(crate) fn play<L: Ledger>(
         Ok(()) => state.apply(caller, event, outs, steps).ok(),
         Err(_) => None,
     }
-}
-
-/// A tick of shard 0.
-#[tactic(auto, using(crate::proofs::Rooms::room_enough))]
-fn tick<R: Wait, L: Ledger>(
-    rt: &R,
-    engine: &Plain,
-    pass: &mut EnginePass,
-    t: u64,
-    outs: &mut Outs,
-    steps: &mut Steps<L>,
-) -> Option<()>
-    requires of { IsOf engine.now pass.old.1 }
-    requires there { AllThere pass.old.1 }
-    requires shards { length engine.now.locks ≡ 3 }
-    requires configs { length engine.now.configs ≡ 4 }
-    requires room { outs.old.room ≡ 25 }
-    ensures of { IsOf engine.now pass.new.1 }
-    ensures there { AllThere pass.new.1 }
-    ensures room { outs.new.room ≡ 25 }
-{
-    outs.clear();
-    let tick = Tick::new(t)?;
-    match engine.advance(rt, pass, 0, tick, outs, steps) {
-        Ok(_) => Some(()),
-        Err(_) => None,
-    }
-}
-
-/// Tick 3,002 and then tick 3 of shard 0, and a question at moment 5 to session 1.
-fn goes_back<R: Wait, L: Ledger>(
-    rt: &R,
-    engine: &Plain,
-    pass: &mut EnginePass,
-    outs: &mut Outs,
-    steps: &mut Steps<L>,
-) -> Option<()>
-    requires of { IsOf engine.now pass.old.1 }
-    requires there { AllThere pass.old.1 }
-    requires shards { length engine.now.locks ≡ 3 }
-    requires configs { length engine.now.configs ≡ 4 }
-    requires room { outs.old.room ≡ 25 }
-    ensures of { IsOf engine.now pass.new.1 }
-    ensures there { AllThere pass.new.1 }
-{
-    tick(rt, engine, pass, 3002, outs, steps)?;
-    tick(rt, engine, pass, 3, outs, steps)?;
-    outs.clear();
-    let moment = Moment::new(5)?;
-    match engine.show(rt, pass, moment, 1, outs, steps) {
-        Ok(_) => Some(()),
-        Err(_) => None,
-    }
-}
-
-/// What a journal makes of a shard on one thread: the last tick, and the moment that counted for its first session.
-fn replayed<L: Ledger>(
-    alloc: Global,
-    shard: u32,
-    list: Vec<Entry>,
-    outs: &mut Outs,
-    steps: &mut Steps<L>,
-) -> Option<(u64, u64)> {
-    let mut state = fresh(alloc, shard).ok()?;
-    for entry in list {
-        play(&mut state, entry, outs, steps)?;
-    }
-    let session = state.sessions().first()?;
-    Some((state.last().get(), session.vars().at))
-}
-
-/// How many entries the journal has after `goes_back`, and what it makes of the shard.
-fn gone_back<R: Wait, L: Ledger>(rt: &R, alloc: Global, blank: Blank) -> Option<(usize, (u64, u64))>
-    requires name { blank.name ≡ L.name }
-    requires parts { blank.parts ≡ L.parts }
-    requires some { 0 < blank.parts }
-{
-    let mut steps = Steps::<L>::new(blank);
-    let Ok(mut outs) = Outs::make(alloc, 25) else {
-        return None;
-    };
-    let (engine, mut pass) = opened(alloc, 100_000)?;
-    goes_back(rt, &engine, &mut pass, &mut outs, &mut steps)?;
-    let list = journal(rt, alloc, &engine, &mut pass, 0)?;
-    let count = list.len();
-    let seen = replayed(alloc, 0, list, &mut outs, &mut steps)?;
-    Some((count, seen))
-}
-
-#[test]
-fn a_tick_that_goes_back(rt: HostRuntime) -> Result<(), Fail> {
-    let told = gone_back::<HostRuntime, Brand>(&rt, rt.alloc(), Blank::new(1)).ok_or("no memory")?;
-    assert_eq!(rt; told, (3, (3002, 3_002_000)));
-    Ok(())
 }
 
 /// A question to a session, with room for what it puts out.

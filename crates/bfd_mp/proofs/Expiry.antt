@@ -1,10 +1,11 @@
 -- A tick forgets a tail's last packet exactly where the deadline has come by its limit.
-use Rattle.std.proofs.Common.{◌≡◌, ◌↔◌, ◌∙◌, ℕ, Bool, true, false, refl, sym, Option, None, Some, IsSome, if◌then◌else◌}
+use Rattle.std.proofs.Common.{◌≡◌, ◌↔◌, ℕ, Bool, true, false, refl, Option, None, IsSome, if◌then◌else◌}
 use Rattle.bfd_packet.specs.declared.control.State.TheVariants.{Down}
 use Rattle.bfd_num.specs.Due.{has_come}
 use Rattle.bfd_rules.specs.declared.variables.Vars.{Vars}
 use Rattle.bfd_rules.specs.Quantities.{is_up}
 use Rattle.bfd_rules.specs.EventFrame.{Course, changes, enters}
+use Rattle.bfd_rules.proofs.Heard.{exactly}
 use Rattle.bfd_mp.specs.declared.config.TailConfig.{TailConfig}
 use Rattle.bfd_mp.specs.Waiting.{deadline}
 use Rattle.bfd_mp.specs.TailSettle as settling
@@ -25,11 +26,6 @@ pub tail_heard : (c : TailConfig) (limit : ℕ) (s : Course)
 unfolding settling.settle changes
 tail_heard c limit s =
     chosen (has_come limit (deadline s.vars)) _ s s.vars.heard (silent (is_up s.vars.state) (record s.vars { heard = None }) refl) refl
-
-exactly : (b : Bool) (heard after : Option ℕ) → after ≡ (if b then None else heard) → IsSome heard → (after ≡ None) ↔ (b ≡ true)
-exactly true heard after is there = (λ _. refl, λ _. is)
-exactly false None after is there = cc
-exactly false (Some m) after is there = (λ none. let some : Some m ≡ None = sym is ∙ none in cc, λ h. cc)
 
 -- one that was there is gone exactly where the deadline has come by the limit
 pub tail_expires : (c : TailConfig) (limit : ℕ) (s : Course) → IsSome s.vars.heard

@@ -1,35 +1,16 @@
 -- What was put out before stays in front of what a head's rules put out, and changes nothing else of them.
-use Rattle.std.proofs.Common.{◌≡◌, ◌++◌, ℕ, Bool, true, false, List, refl, append_assoc, is_some, if◌then◌else◌}
-use Rattle.bfd_packet.specs.declared.arrival.Datagram.{Datagram}
+use Rattle.std.proofs.Common.{◌≡◌, ℕ, Bool, true, false, List, refl, is_some}
 use Rattle.bfd_num.specs.Numbers.{floor_tick}
 use Rattle.bfd_num.specs.Due.{has_come}
 use Rattle.bfd_rules.specs.declared.commands.Cmd.{Cmd}
 use Rattle.bfd_rules.specs.declared.outputs.Out.{Out}
-use Rattle.bfd_rules.specs.declared.variables.Vars.{Vars}
-use Rattle.bfd_rules.specs.EventFrame.{Course, changes, sends, is_untold, based, redrawn}
+use Rattle.bfd_rules.specs.EventFrame.{Course, is_untold, based, redrawn}
+use Rattle.bfd_rules.proofs.Courses.{after, either, changes-after, sends-after}
 use Rattle.bfd_mp.specs.declared.config.HeadConfig.{HeadConfig}
 use Rattle.bfd_mp.specs.Transmit.{transmits}
 use Rattle.bfd_mp.specs.HeadSettle as settling
 use Rattle.bfd_mp.specs.Command.{head_refusal, head_commanded, head_done}
 use Rattle.bfd_mp.specs.HeadFinish as finishing
-
--- the course with these outputs in front
-abbrev pub after : List Out → Course → Course
-after os s = record s { outs = os ++ s.outs }
-
--- a choice between two courses
-pub either : (os : List Out) (b : Bool) (x y x' y' : Course) → x' ≡ after os x → y' ≡ after os y
-    → (if b then x' else y') ≡ after os (if b then x else y)
-either os true x y x' y' hx hy = hx
-either os false x y x' y' hx hy = hy
-
-pub changes-after : (discr : ℕ) (v : Vars) (os : List Out) (s : Course) → changes discr v (after os s) ≡ after os (changes discr v s)
-unfolding changes
-changes-after discr v os s = rw append_assoc refl
-
-sends-after : (discr : ℕ) (datagram : Datagram) (os : List Out) (s : Course) → sends discr datagram (after os s) ≡ after os (sends discr datagram s)
-unfolding sends
-sends-after discr datagram os s = rw append_assoc refl
 
 transmits-after : (c : HeadConfig) (poll : Bool) (os : List Out) (s : Course) → transmits c poll (after os s) ≡ after os (transmits c poll s)
 unfolding transmits

@@ -1,16 +1,15 @@
 -- An event by which nothing is due, and which does nothing of its own, leaves sound variables as they are and puts
 -- nothing out.
-use Rattle.std.proofs.Common.{◌≡◌, ◌==◌, ◌&&◌, not, ℕ, Bool, true, false, refl, sym, ap, ◌∙◌, Option, None, Some, is_none, IsSome, List, if◌then◌else◌, arith}
-use Rattle.std.proofs.lemmas.Bool.Decides.{nat_tests}
-use Rattle.bfd_packet.specs.declared.control.State.{State}
-use Rattle.bfd_packet.specs.declared.control.State.TheVariants.{AdminDown, Down, Init, Up}
+use Rattle.std.proofs.Common.{◌≡◌, ◌&&◌, not, ℕ, Bool, true, false, refl, sym, ap, ◌∙◌, Option, List}
+use Rattle.std.proofs.Math.Bool.{and-false}
 use Rattle.bfd_num.specs.Numbers.{floor_tick}
 use Rattle.bfd_num.specs.Due.{has_come}
 use Rattle.bfd_rules.specs.declared.outputs.Out.{Out}
 use Rattle.bfd_rules.specs.declared.variables.Mark.{Mark}
 use Rattle.bfd_rules.specs.declared.variables.Vars.{Vars}
-use Rattle.bfd_rules.specs.Quantities.{may_send, same_state, tx_interval}
-use Rattle.bfd_rules.specs.EventFrame.{Course, course, begins, is_news, is_untold, draws, drawn, redrawn}
+use Rattle.bfd_rules.specs.Quantities.{may_send}
+use Rattle.bfd_rules.specs.EventFrame.{Course, course, begins, is_news, is_untold, drawn, redrawn}
+use Rattle.bfd_rules.proofs.Still.{no_news, drawn_stands}
 use Rattle.bfd_mp.specs.declared.config.HeadConfig.{HeadConfig}
 use Rattle.bfd_mp.specs.declared.config.TailConfig.{TailConfig}
 use Rattle.bfd_mp.specs.Waiting.{deadline}
@@ -27,37 +26,10 @@ pub head_settle_rests : (c : HeadConfig) (limit eff : ℕ) (s : Course)
 unfolding head.settle
 head_settle_rests c limit eff s due_later = rw due_later refl
 
-same_itself : (a : State) → same_state a a ≡ true
-same_itself AdminDown = refl
-same_itself Down = refl
-same_itself Init = refl
-same_itself Up = refl
-
-equal_itself : (n : ℕ) → (n == n) ≡ true
-equal_itself n = grind (arith, nat_tests)
-
-no_news : (v : Vars) → is_news (begins v) v ≡ false
-no_news v = rw (same_itself v.state, equal_itself v.diag) refl
-
-one_stands : (b : Bool) → (if b then not b else b) ≡ false
-one_stands true = refl
-one_stands false = refl
-
-some_is_not_none : (o : Option ℕ) → IsSome o → is_none o ≡ false
-some_is_not_none None h = cc
-some_is_not_none (Some x) h = refl
-
-draw_stands : (v : Vars) → IsSome v.tx_due → draws (begins v) v ≡ false
-draw_stands v there = rw (some_is_not_none v.tx_due there, equal_itself (tx_interval v), one_stands (v.mult == 1)) refl
-
-drawn_stands : (v : Vars) → IsHeadSound v → drawn true (begins v) v ≡ v
-unfolding drawn
-drawn_stands v sound = rw (may_always v sound.steady, draw_stands v sound.due) refl
-
 pub head_finish_rests : (c : HeadConfig) (eff : ℕ) (v : Vars) (os : List Out) → IsHeadSound v
     → finishing.finish c eff (course v (begins v) os) ≡ course v (begins v) os
 unfolding finishing.finish finishing.extra redrawn
-head_finish_rests c eff v os sound = rw (no_news v, drawn_stands v sound) refl
+head_finish_rests c eff v os sound = rw (no_news v, drawn_stands true v (λ _. may_always v sound.steady, λ _. sound.due)) refl
 
 pub head_rests : (c : HeadConfig) (limit eff : ℕ) (v : Vars) (os : List Out) → IsHeadSound v
     → has_come (floor_tick limit) v.tx_due ≡ false
@@ -76,12 +48,8 @@ tail_settle_rests c limit s late = rw late refl
 pub tail_may_never : (c : TailConfig) (active : Bool) (v : Vars) → IsTailSound c v → may_send active v ≡ false
 tail_may_never c active v h = rw h.silent.remote_min_rx refl
 
-never : (b : Bool) → (b && false) ≡ false
-never true = refl
-never false = refl
-
 pub tail_tells_nothing : (c : TailConfig) (active : Bool) (m : Mark) (v : Vars) → IsTailSound c v → is_untold active m v ≡ false
-tail_tells_nothing c active m v h = rw (tail_may_never c active v h) (never (is_news m v && not m.answered))
+tail_tells_nothing c active m v h = rw (tail_may_never c active v h) (and-false (is_news m v && not m.answered))
 
 pub tail_draws_nothing : (c : TailConfig) (active : Bool) (m : Mark) (v : Vars) → IsTailSound c v → drawn active m v ≡ v
 unfolding drawn

@@ -12,7 +12,7 @@ use Rattle.bfd_mp.specs.Waiting.{deadline}
 use Rattle.bfd_mp.specs.TailSettle as settling
 use Rattle.bfd_mp.specs.TailReceive as receiving
 use Rattle.bfd_mp.specs.Command.{tail_refusal, tail_commanded, tail_done}
-use Rattle.bfd_mp.proofs.HeadFront.{after, either, changes-after}
+use Rattle.bfd_rules.proofs.Courses.{after, either, changes-after}
 
 pub settle-after : (c : TailConfig) (limit : ℕ) (os : List Out) (s : Course) → settling.settle c limit (after os s) ≡ after os (settling.settle c limit s)
 unfolding settling.settle

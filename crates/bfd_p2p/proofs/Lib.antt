@@ -1,3 +1,2 @@
 pub mod Later
-pub mod Still
 pub mod Failing

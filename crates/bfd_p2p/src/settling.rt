@@ -180,7 +180,7 @@ fn periodic(
 }
 
 /// Does what has come due by the limit, at the effective moment `eff`, both in microseconds.
-#[tactic(auto, using(crate::proofs::Still::unchanged_state), unfolding(crate::specs::Settle::settle))]
+#[tactic(auto, using(bfd_rules::proofs::Still::unchanged_state), unfolding(crate::specs::Settle::settle))]
 pub fn settle(
     config: &Config,
     limit: u64,

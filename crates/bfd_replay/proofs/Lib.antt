@@ -1,5 +1,4 @@
 pub mod Ticks
-pub mod Searches
 pub mod Loops
 pub mod Turns
 pub mod SameConfigs

@@ -1,34 +1,15 @@
 -- The due tick that an event leaves keeps the variables sound.
-use Rattle.std.proofs.Common.{◌≡◌, ◌^◌, ◌-◌, ◌<◌, ◌≤◌, ◌+◌, ◌*◌, ◌/◌, ◌%◌, ◌||◌, ◌==◌, not, ℕ, Bool, true, false, refl, Option, None, Some, is_none, IsSome, IfSome, arith, if◌then◌else◌}
+use Rattle.std.proofs.Common.{◌≡◌, ◌^◌, ◌<◌, ℕ, Bool, true, false, refl, Option, None, Some, IfSome, arith, if◌then◌else◌}
 use Rattle.std.proofs.lemmas.Grind.{common_steps}
-use Rattle.std.proofs.lemmas.Bool.{or_parts}
-use Rattle.bfd_num.specs.Numbers.{moment_bound, floor_tick, ceil_tick, next_j}
+use Rattle.bfd_num.specs.Numbers.{moment_bound, next_j}
 use Rattle.bfd_rules.specs.declared.variables.Mark.{Mark}
 use Rattle.bfd_rules.specs.declared.variables.Vars.{Vars}
 use Rattle.bfd_rules.specs.Quantities.{may_send, tx_interval}
 use Rattle.bfd_rules.specs.Jitter.{pick}
-use Rattle.bfd_rules.specs.EventFrame.{draws, one_changed, drawn}
+use Rattle.bfd_rules.specs.EventFrame.{draws, drawn}
+use Rattle.bfd_rules.proofs.Drawing.{picked_below, stands_there}
 use Rattle.bfd_sbfd.specs.declared.config.SeekConfig.{SeekConfig}
 use Rattle.bfd_sbfd.specs.Sound.{IsSeekPlain, IsSeekSteady, IsSeekSound}
-
-share_most : (one : Bool) (interval : ℕ) → (if one then 9 * interval / 10 else interval) ≤ interval
-share_most true interval = omega arith
-share_most false interval = omega arith
-
--- a tick between these two lies below the bound of moments
-between_below : (base interval share j : ℕ) → base < 2 ^ 60 → interval < 2 ^ 32 → share ≤ interval
-    → let e : ℕ = (base + (3 * interval + 3) / 4 + 999) / 1000 in e + j % ((base + share) / 1000 - e + 1) < 2 ^ 60
-between_below base interval share j h few least =
-    let e : ℕ = (base + (3 * interval + 3) / 4 + 999) / 1000 in
-    let below : j % ((base + share) / 1000 - e + 1) < (base + share) / 1000 - e + 1 = omega arith in
-    omega arith
-
--- a due tick that is drawn lies below the bound of moments
-pub picked_below : (v : Vars) → tx_interval v < 2 ^ 32 → v.base < moment_bound → pick v.base (tx_interval v) v.mult v.j < moment_bound
-unfolding pick ceil_tick floor_tick
-picked_below v few base =
-    between_below v.base (tx_interval v) (if v.mult == 1 then 9 * tx_interval v / 10 else tx_interval v) v.j base few
-    (share_most (v.mult == 1) (tx_interval v))
 
 interval_few : (c : SeekConfig) (v : Vars) → IsSeekSteady c v → tx_interval v < 2 ^ 32
 interval_few c v steady = grind (arith, common_steps)
@@ -38,17 +19,6 @@ due_plain c v due j h plain = grind (arith, common_steps)
 
 due_steady : (c : SeekConfig) (v : Vars) (due : Option ℕ) (j : ℕ) → IfSome due (λ t. t < moment_bound) → IsSeekSteady c v → IsSeekSteady c (record v { tx_due = due; j = j })
 due_steady c v due j h steady = record { plain = due_plain c v due j h steady.plain; in_use = steady.in_use }
-
-is_there : (o : Option ℕ) → is_none o ≡ false → IsSome o
-is_there None h = cc
-is_there (Some x) h = refl
-
-stands_there : (m : Mark) (v : Vars) → draws m v ≡ false → IsSome v.tx_due
-stands_there m v h =
-    let outer = or_parts (m.moved || is_none v.tx_due || not (tx_interval v == m.interval)) (one_changed m v) h in
-    let middle = or_parts (m.moved || is_none v.tx_due) (not (tx_interval v == m.interval)) outer.0 in
-    let inner = or_parts m.moved (is_none v.tx_due) middle.0 in
-    is_there v.tx_due inner.1
 
 drawn_by : (c : SeekConfig) (m : Mark) (v : Vars) (may anew : Bool) → may_send true v ≡ may → draws m v ≡ anew → IsSeekSteady c v
     → IsSeekSound c (if may

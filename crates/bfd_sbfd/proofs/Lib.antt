@@ -1,4 +1,3 @@
-pub mod Still
 pub mod Drawing
 pub mod Searching
 pub mod Front

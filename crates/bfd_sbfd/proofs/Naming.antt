@@ -1,18 +1,16 @@
 -- Each output of an initiator names its discriminator: what is true of each output that does stays true of all outputs.
-use Rattle.std.proofs.Common.{◌≡◌, ◌++◌, ◌&&◌, ℕ, Bool, true, false, List, [], ◌∷◌, refl, is_some, if◌then◌else◌}
+use Rattle.std.proofs.Common.{◌≡◌, ◌&&◌, ℕ, true, List, refl, is_some}
 use Rattle.std.specs.List.{AllByRecursion}
-use Rattle.bfd_packet.specs.declared.arrival.Datagram.{Datagram}
 use Rattle.bfd_packet.specs.declared.control.Control.{Control}
-use Rattle.bfd_packet.specs.declared.control.State.{State}
 use Rattle.bfd_packet.specs.Layout.{fields_of}
 use Rattle.bfd_num.specs.Numbers.{floor_tick}
 use Rattle.bfd_num.specs.Due.{has_come}
 use Rattle.bfd_rules.specs.declared.commands.Cmd.{Cmd}
 use Rattle.bfd_rules.specs.declared.outputs.Out.{Out}
-use Rattle.bfd_rules.specs.declared.outputs.Out.TheVariants.{Changed, Sent}
 use Rattle.bfd_rules.specs.declared.variables.Vars.{Vars}
-use Rattle.bfd_rules.specs.Quantities.{may_send, same_state, is_admin_down}
-use Rattle.bfd_rules.specs.EventFrame.{Course, changes, sends, is_untold, based, redrawn}
+use Rattle.bfd_rules.specs.Quantities.{may_send, is_admin_down}
+use Rattle.bfd_rules.specs.EventFrame.{Course, is_untold, based, redrawn}
+use Rattle.bfd_rules.proofs.Courses.{OfOwn, chosen_names, changes_names, sends_names}
 use Rattle.bfd_sbfd.specs.declared.config.SeekConfig.{SeekConfig}
 use Rattle.bfd_sbfd.specs.Waiting.{deadline}
 use Rattle.bfd_sbfd.specs.Frame.{moves}
@@ -23,40 +21,18 @@ use Rattle.bfd_sbfd.specs.Command.{refusal, commanded, done}
 use Rattle.bfd_sbfd.specs.Finish as finishing
 use Rattle.bfd_sbfd.specs.Names.{named, AllNamed}
 
--- true of each output that names the discriminator
-pub record OfOwn (discr : ℕ) (P : Out → Type 0) : Type 0 where
-  pub of_changes : (old new : State) (diag : ℕ) → P (Changed discr old new diag)
-  pub of_packets : (datagram : Datagram) → P (Sent discr datagram)
-
--- one more output
-one_more : (P : Out → Type 0) (os : List Out) (o : Out) → AllByRecursion P os → P o → AllByRecursion P (os ++ o ∷ [])
-one_more P [] o h own = (own, tt)
-one_more P (x ∷ os) o h own = (h.0, one_more P os o h.1 own)
-
-none_more : (P : Out → Type 0) (os : List Out) → AllByRecursion P os → AllByRecursion P (os ++ [])
-none_more P [] h = h
-none_more P (x ∷ os) h = (h.0, none_more P os h.1)
-
-either : (P : Out → Type 0) (b : Bool) (x y : Course) → AllByRecursion P x.outs → AllByRecursion P y.outs → AllByRecursion P (if b then x else y).outs
-either P true x y hx hy = hx
-either P false x y hx hy = hy
-
-told_by : (P : Out → Type 0) (os : List Out) (o : Out) (same : Bool) → AllByRecursion P os → P o → AllByRecursion P (os ++ (if same then [] else o ∷ []))
-told_by P os o true h own = none_more P os h
-told_by P os o false h own = one_more P os o h own
-
 moves_names : (discr : ℕ) (P : Out → Type 0) (v : Vars) (s : Course) → OfOwn discr P → AllByRecursion P s.outs → AllByRecursion P (moves discr v s).outs
-unfolding moves changes
-moves_names discr P v s own h = told_by P s.outs _ (same_state s.vars.state v.state) h (own.of_changes s.vars.state v.state v.diag)
+unfolding moves
+moves_names discr P v s own h = changes_names discr P _ s own h
 
 transmits_names : (c : SeekConfig) (P : Out → Type 0) (s : Course) → OfOwn c.discr P → AllByRecursion P s.outs → AllByRecursion P (transmits c s).outs
-unfolding transmits sends
-transmits_names c P s own h = one_more P s.outs _ h (own.of_packets _)
+unfolding transmits
+transmits_names c P s own h = sends_names c.discr P _ _ own h
 
 detection_names : (c : SeekConfig) (P : Out → Type 0) (limit : ℕ) (s : Course) → OfOwn c.discr P → AllByRecursion P s.outs → AllByRecursion P (settling.detection c limit s).outs
 unfolding settling.detection
 detection_names c P limit s own h =
-    either P (has_come limit (deadline s.vars)) (moves c.discr (settling.silenced s.vars) s) s (moves_names c.discr P (settling.silenced s.vars) s own h) h
+    chosen_names P (has_come limit (deadline s.vars)) (moves c.discr (settling.silenced s.vars) s) s (moves_names c.discr P (settling.silenced s.vars) s own h) h
 
 periodic_packet_names : (c : SeekConfig) (P : Out → Type 0) (eff : ℕ) (s : Course) → OfOwn c.discr P → AllByRecursion P s.outs → AllByRecursion P (settling.periodic_packet c eff s).outs
 unfolding settling.periodic_packet
@@ -65,7 +41,7 @@ periodic_packet_names c P eff s own h = transmits_names c P s own h
 periodic_names : (c : SeekConfig) (P : Out → Type 0) (limit eff : ℕ) (s : Course) → OfOwn c.discr P → AllByRecursion P s.outs → AllByRecursion P (settling.periodic c limit eff s).outs
 unfolding settling.periodic
 periodic_names c P limit eff s own h =
-    either P (has_come (floor_tick limit) s.vars.tx_due && may_send true s.vars) (settling.periodic_packet c eff s) s (periodic_packet_names c P eff s own h) h
+    chosen_names P (has_come (floor_tick limit) s.vars.tx_due && may_send true s.vars) (settling.periodic_packet c eff s) s (periodic_packet_names c P eff s own h) h
 
 pub settle_names : (c : SeekConfig) (P : Out → Type 0) (limit eff : ℕ) (s : Course) → OfOwn c.discr P → AllByRecursion P s.outs → AllByRecursion P (settling.settle c limit eff s).outs
 unfolding settling.settle
@@ -75,22 +51,22 @@ accepted_names : (c : SeekConfig) (P : Out → Type 0) (eff : ℕ) (packet : Con
 unfolding receiving.accepted receiving.keeps_fields receiving.moves_state
 accepted_names c P eff packet s own h =
     let t : Course = receiving.keeps_fields eff packet s in
-    either P (is_admin_down t.vars.state) t (receiving.moves_state c packet t) h
+    chosen_names P (is_admin_down t.vars.state) t (receiving.moves_state c packet t) h
     (moves_names c.discr P (receiving.machine t.vars.state packet.state t.vars) t own h)
 
 pub received_names : (c : SeekConfig) (P : Out → Type 0) (eff : ℕ) (raw : List ℕ) (s : Course) → OfOwn c.discr P → AllByRecursion P s.outs → AllByRecursion P (receiving.received c eff raw s).outs
 unfolding receiving.received
 received_names c P eff raw s own h =
-    either P (fields_of raw).auth s (receiving.accepted c eff (fields_of raw) s) h (accepted_names c P eff (fields_of raw) s own h)
+    chosen_names P (fields_of raw).auth s (receiving.accepted c eff (fields_of raw) s) h (accepted_names c P eff (fields_of raw) s own h)
 
 pub commanded_names : (c : SeekConfig) (P : Out → Type 0) (cmd : Cmd) (s : Course) → OfOwn c.discr P → AllByRecursion P s.outs → AllByRecursion P (commanded c cmd s).outs
 unfolding commanded
 commanded_names c P cmd s own h =
-    either P (is_some (refusal s.vars cmd)) s (moves c.discr (done cmd s.vars) s) h (moves_names c.discr P (done cmd s.vars) s own h)
+    chosen_names P (is_some (refusal s.vars cmd)) s (moves c.discr (done cmd s.vars) s) h (moves_names c.discr P (done cmd s.vars) s own h)
 
 extra_names : (c : SeekConfig) (P : Out → Type 0) (eff : ℕ) (s : Course) → OfOwn c.discr P → AllByRecursion P s.outs → AllByRecursion P (finishing.extra c eff s).outs
 unfolding finishing.extra
-extra_names c P eff s own h = either P (is_untold true s.mark s.vars) (based eff (transmits c s)) s (transmits_names c P s own h) h
+extra_names c P eff s own h = chosen_names P (is_untold true s.mark s.vars) (based eff (transmits c s)) s (transmits_names c P s own h) h
 
 pub finish_names : (c : SeekConfig) (P : Out → Type 0) (eff : ℕ) (s : Course) → OfOwn c.discr P → AllByRecursion P s.outs → AllByRecursion P (finishing.finish c eff s).outs
 unfolding finishing.finish redrawn

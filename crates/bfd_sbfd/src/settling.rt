@@ -103,7 +103,7 @@ fn periodic(
 }
 
 /// Does what has come due by the limit, at the effective moment `eff`, both in microseconds.
-#[tactic(auto, using(crate::proofs::Still::unchanged_state), unfolding(crate::specs::Settle::settle))]
+#[tactic(auto, using(bfd_rules::proofs::Still::unchanged_state), unfolding(crate::specs::Settle::settle))]
 pub fn settle(
     config: &SeekConfig,
     limit: u64,

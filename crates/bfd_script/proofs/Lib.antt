@@ -11,3 +11,4 @@ pub mod Decoding
 pub mod Elements
 pub mod Naming
 pub mod Giving
+pub mod Faults

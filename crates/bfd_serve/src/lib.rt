@@ -19,8 +19,6 @@ mod jobs;
 mod passes;
 mod sending;
 mod serving;
-#[cfg(test)]
-mod tests;
 mod threads;
 mod timing;
 mod working;

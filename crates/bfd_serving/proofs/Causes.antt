@@ -3,6 +3,7 @@ use Rattle.std.proofs.Common.{◌≡◌, ◌≢◌, ◌⊎◌, ℕ, zero, suc, �
 use Rattle.std.specs.List.{All}
 use Rattle.std.proofs.lemmas.List.Elements.{All-head, All-tail}
 use Rattle.std.proofs.lemmas.Bool.Decides.{nat_tests}
+use Rattle.std.proofs.lemmas.Option.{slice_get_past}
 use mathlib.Core.Logic.{dite}
 use native.Mathlib.Decide.{ℕ_discrete, dec_lt}
 use Rattle.bfd_shard.specs.Shard.{Shard}
@@ -29,7 +30,7 @@ use Rattle.bfd_serving.specs.Finishes.{finish_by, finish_from, IsPlain}
 use Rattle.bfd_serving.specs.Runs.{calls_on, journal_in, history_at, no_words, HaveRun, AreClosedShards}
 use Rattle.bfd_serving.specs.Causes.{IsDone, IsAll, IsOver, IsCause, Completes}
 use Rattle.bfd_serving.proofs.Counts.{all_counted, bonus, bonus_some, gather}
-use Rattle.bfd_serving.proofs.Closings.{there_is, none_is}
+use Rattle.bfd_serving.proofs.Closings.{there_is}
 
 -- the first caller that has not ended well, if there is one
 abbrev pub AllEnded : List End → Type 0
@@ -115,7 +116,7 @@ module _ (engine : Shards) (states : List Shard) (orders : List Line) (workers :
   full_at s n long is = dite (dec_lt s (length states))
       (λ less. let x = there_is states s less in let a = closed.each s x.0 x.1 in let f = a.kept.full in let l = a.limit in let e = ap (λ o. length (journal_in o)) x.1 in
       ((let b = closed.long in omega (arith, less, b)), omega (arith, long, is, f, l, e, limit_is), is ∙ limit_is))
-      (λ far. let e = ap (λ o. length (journal_in o)) (none_is states s (omega (arith, far))) in absurd (omega (arith, e, long, is, limit_is, some)))
+      (λ far. let e = ap (λ o. length (journal_in o)) (slice_get_past states s (omega (arith, far))) in absurd (omega (arith, e, long, is, limit_is, some)))
 
   module _ (at s n : ℕ) (blamed : get_or ends at end.Ended ≡ end.Full s n) (within : at < workers + 1) (first : (j : ℕ) → j < at → get_or ends j end.Ended ≡ end.Ended) (here : s < length engine.locks) where
     no_clock : (k : ℕ) → at ≡ k → is_clock_fault run.timer_end ≡ false

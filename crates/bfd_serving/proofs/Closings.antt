@@ -1,10 +1,11 @@
 -- From what all did to the histories of the closed shards.
-use Rattle.std.proofs.Common.{◌≡◌, ◌≢◌, ℕ, zero, suc, ◌+◌, ◌*◌, ◌<◌, ◌≤◌, ◌==◌, false, List, [], ◌∷◌, length, Some, None, slice_get, get_or, slice_index_or, refl, ap, sym, ◌∙◌, subst, arith}
+use Rattle.std.proofs.Common.{◌≡◌, ◌≢◌, ℕ, zero, suc, ◌+◌, ◌*◌, ◌<◌, ◌≤◌, ◌==◌, false, List, [], ◌∷◌, length, Some, slice_get, get_or, slice_index_or, refl, ap, sym, ◌∙◌, subst, arith}
 use Rattle.std.specs.List.{All}
 use Rattle.std.proofs.lemmas.Bool.Decides.{nat_tests}
 use Rattle.std.proofs.lemmas.List.Elements.{All-same, All-cons}
 use Rattle.std.proofs.lemmas.Nat.{mul-le}
 use Rattle.std.proofs.lemmas.List.{get_or_default}
+use Rattle.std.proofs.lemmas.Option.{slice_get_past}
 use mathlib.Core.Logic.{dite}
 use native.Mathlib.Decide.{dec_lt}
 use Rattle.bfd_turn.specs.Lists.{calls, has, numbers_of}
@@ -34,12 +35,6 @@ pub there_is : {X : Type 0} (xs : List X) (i : ℕ) → i < length xs → (x : X
 there_is [] i h = absurd (omega arith)
 there_is (x ∷ xs) zero h = (x, refl)
 there_is (x ∷ xs) (suc i) h = there_is xs i (omega arith)
-
-pub none_is : {X : Type 0} (xs : List X) (i : ℕ) → length xs ≤ i → slice_get xs i ≡ None
-none_is [] zero h = refl
-none_is [] (suc i) h = refl
-none_is (x ∷ xs) zero h = absurd (omega arith)
-none_is (x ∷ xs) (suc i) h = none_is xs i (omega arith)
 
 pub read : {X : Type 0} (xs : List X) (i : ℕ) (x d : X) → slice_get xs i ≡ Some x → get_or xs i d ≡ x
 read [] zero x d e = absurd (cc e)
@@ -98,7 +93,7 @@ module _ {L : Type 0} (told : L → LinkTold) (engine : Shards) (l : Knows) (own
   history_is : (s : ℕ) → history_at states s ≡ seen_at l s
   history_is s = dite (dec_lt s (length engine.locks))
       (λ less. let a = at_shard s less in ap journal_in a.1 ∙ a.2.journal)
-      (λ far. ap journal_in (none_is states s (let b = closed.long in omega (arith, far, b))) ∙ sym (ap seen_of (none_is l.1 s (let f = of.long in omega (arith, f, far)))))
+      (λ far. ap journal_in (slice_get_past states s (let b = closed.long in omega (arith, far, b))) ∙ sym (ap seen_of (slice_get_past l.1 s (let f = of.long in omega (arith, f, far)))))
 
   histories_are : seen_at l ≡ history_at states
   histories_are i s = sym (history_is s) i
@@ -106,7 +101,7 @@ module _ {L : Type 0} (told : L → LinkTold) (engine : Shards) (l : Knows) (own
   words_small : AreSmall (word_at l)
   words_small s = let p = product (length links) limits.turns few turns_few in dite (dec_lt s (length engine.locks))
       (λ less. let a = at_shard s less in let b = a.2.word in let z = served.taken s less in omega (arith, b, z, p, ticks_few, orders_few))
-      (λ far. let x = ap word_of (none_is l.1 s (let f = of.long in omega (arith, f, far))) in omega (arith, x))
+      (λ far. let x = ap word_of (slice_get_past l.1 s (let f = of.long in omega (arith, f, far))) in omega (arith, x))
 
   timer_did : TimerDid engine served.own (history_at states) (word_at l) (told own) (told own2) c d orders limits.ticks served.timer_end served.timer_lost
   timer_did = subst (λ h. TimerDid engine served.own h (word_at l) (told own) (told own2) c d orders limits.ticks served.timer_end served.timer_lost) histories_are served.timed

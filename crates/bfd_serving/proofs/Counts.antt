@@ -1,6 +1,7 @@
 -- A history has as many entries as its callers have calls, and the calls of all callers are added up.
 use Rattle.std.proofs.Common.{◌≡◌, ◌≢◌, ℕ, zero, suc, ◌+◌, ◌<◌, ◌≤◌, ◌==◌, true, false, cond, List, [], ◌∷◌, ◌++◌, length, get_or, refl, ap, sym, ◌∙◌, subst, length-append, arith}
 use Rattle.std.proofs.lemmas.Bool.Decides.{nat_tests}
+use Rattle.std.proofs.lemmas.List.{get_or_append_left}
 use mathlib.Core.Logic.{dite}
 use native.Mathlib.Decide.{ℕ_discrete, dec_lt}
 use Rattle.bfd_turn.specs.Lists.{calls}
@@ -8,7 +9,7 @@ use Rattle.bfd_shard.specs.declared.entry.Entry.{Entry}
 use Rattle.bfd_engine.specs.Turned.{by}
 use Rattle.bfd_engine.specs.Calls.{Act}
 use Rattle.bfd_serving.specs.Runs.{calls_on, all_on}
-use Rattle.bfd_serving.proofs.Shuts.{get_front, get_last}
+use Rattle.bfd_serving.proofs.Shuts.{get_last}
 
 -- the calls of the callers 0 to n
 abbrev pub total : ℕ → List Entry → ℕ
@@ -80,6 +81,6 @@ gather s h at Q (suc n) f =
       (let a = g.1 in omega (arith, length-append g.0 (x.0 ∷ []))),
       (λ i d less. dite (ℕ_discrete i n)
           (λ is. subst (λ j. Q j (get_or (g.0 ++ x.0 ∷ []) i d)) (sym is) (subst (Q n) (sym (get_last g.0 x.0 i d (is ∙ sym g.1))) x.2))
-          (λ other. let less' : i < n = omega (arith, other) in subst (Q i) (sym (get_front g.0 (x.0 ∷ []) i d (let a = g.1 in omega arith))) (g.2 i d less'))),
+          (λ other. let less' : i < n = omega (arith, other) in subst (Q i) (sym (get_or_append_left g.0 (x.0 ∷ []) d i (let a = g.1 in omega arith))) (g.2 i d less'))),
       (let a = all_snoc s 1 g.0 x.0 in let b = ap (λ m. calls_on m s x.0) e in let c = ap (λ m. length (calls by m h)) e' in let d = x.1 in let f' = g.3 in omega arith),
     )

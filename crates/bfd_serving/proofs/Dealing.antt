@@ -2,7 +2,7 @@
 use Rattle.std.proofs.Common.{◌≡◌, ℕ, zero, suc, ◌+◌, ◌-◌, ◌<◌, ◌≤◌, List, [], ◌∷◌, ◌++◌, length, map, drop, get_or, refl, ap, sym, ◌∙◌, subst, append_assoc, append-nil, length-append, arith}
 use Rattle.std.specs.List.{AllByRecursion}
 use Rattle.std.proofs.lemmas.List.Elements.{recursion_from_All}
-use Rattle.std.proofs.lemmas.List.{drop_more, drop_all, length-map, get_or-map, same_lists, get_or_default}
+use Rattle.std.proofs.lemmas.List.{drop_more, drop_all, length-map, get_or-map, same_lists, get_or_default, get_or_append_left}
 use mathlib.Core.Logic.{dite}
 use native.Mathlib.Decide.{dec_lt}
 use Rattle.bfd_session.specs.declared.event.SessionConfig.{SessionConfig}
@@ -13,7 +13,7 @@ use Rattle.bfd_shard.specs.Shard.{Shard}
 use Rattle.bfd_engine.specs.Engines.{Shards, share}
 use Rattle.bfd_engine.proofs.Sharing.{all_share}
 use Rattle.bfd_serving.specs.Runs.{AreDealt, AreClosedShards}
-use Rattle.bfd_serving.proofs.Shuts.{get_front, get_last}
+use Rattle.bfd_serving.proofs.Shuts.{get_last}
 use Rattle.bfd_serving.proofs.Closings.{there_is, read}
 
 module _ {A : Type 0} where
@@ -62,7 +62,7 @@ pub dealt_next : (shards at : ℕ) (configs : List SessionConfig) (parts more : 
 dealt_next shards at configs parts more part is pushed old = subst (AreDealt shards (at + 1) configs) (sym pushed) (record {
   long = (let a = old.long in omega (arith, a, length-append parts (part ∷ [])));
   each = λ s h. dite (dec_lt s at)
-      (λ less. get_front parts (part ∷ []) s [] (let a = old.long in omega (arith, a, less)) ∙ old.each s less)
+      (λ less. get_or_append_left parts (part ∷ []) [] s (let a = old.long in omega (arith, a, less)) ∙ old.each s less)
       (λ last. let same : s ≡ at = omega (arith, last, h) in get_last parts part s [] (same ∙ sym old.long) ∙ (is ∙ ap (λ k. share shards k configs) (sym same)));
 })
 

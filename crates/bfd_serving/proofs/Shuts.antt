@@ -1,8 +1,9 @@
 -- One link more is opened or shut.
-use Rattle.std.proofs.Common.{◌≡◌, ◌≢◌, ℕ, zero, suc, ◌+◌, ◌<◌, ◌≤◌, ◌==◌, true, false, List, [], ◌∷◌, ◌++◌, length, get_or, Some, Ok, Err, refl, ap, sym, ◌∙◌, subst, length-append, arith}
+use Rattle.std.proofs.Common.{◌≡◌, ◌≢◌, ℕ, zero, suc, ◌+◌, ◌≤◌, ◌==◌, true, false, List, [], ◌∷◌, ◌++◌, length, get_or, Some, Ok, Err, refl, ap, sym, ◌∙◌, subst, length-append, arith}
 use Rattle.std.specs.List.{All}
 use Rattle.std.proofs.lemmas.List.Elements.{All-cons, All-get_or}
 use Rattle.std.proofs.lemmas.Bool.Decides.{nat_tests}
+use Rattle.std.proofs.lemmas.List.{get_or_append_left}
 use mathlib.Core.Logic.{dite}
 use native.Mathlib.Decide.{ℕ_discrete, dec_lt}
 use Rattle.bfd_edge.specs.Links.{LinkTold, IsNewLink}
@@ -14,11 +15,6 @@ use Rattle.bfd_serving.specs.declared.finish.Refused.TheVariants.{Memory}
 use Rattle.bfd_edge.specs.Faults.{risen}
 use Rattle.bfd_serving.specs.Finishes.{refused_by}
 use Rattle.bfd_serving.specs.Linking.{IsNew, IsOpenTo, AreUncalled, IsFaultOf, IsUnopened}
-
-pub get_front : {X : Type 0} (xs ys : List X) (i : ℕ) (d : X) → i < length xs → get_or (xs ++ ys) i d ≡ get_or xs i d
-get_front [] ys i d h = absurd (omega arith)
-get_front (x ∷ xs) ys zero d h = refl
-get_front (x ∷ xs) ys (suc i) d h = get_front xs ys i d (omega arith)
 
 pub get_last : {X : Type 0} (xs : List X) (x : X) (i : ℕ) (d : X) → i ≡ length xs → get_or (xs ++ x ∷ []) i d ≡ x
 get_last [] x zero d h = refl
@@ -43,7 +39,7 @@ pub shut_next : {L : Type 0} (told : L → LinkTold) (own : L) (p q : PortsTold)
     → (n : ℕ) → n ≤ length (ys ++ x ∷ []) → q.shut n ≡ Some (told (get_or (own ∷ (ys ++ x ∷ [])) n own))
 shut_next told own p q number ys x is number_is old n h = dite (dec_lt n (length ys + 1))
     (λ less. ap (λ (z : PortsTold). z.shut n) is ∙ (shut_else number n (told x) p (λ e. absurd (omega (arith, e, number_is, less)))
-    ∙ (old n (omega (arith, less)) ∙ ap (λ w. Some (told w)) (sym (get_front (own ∷ ys) (x ∷ []) n own (omega (arith, less)))))))
+    ∙ (old n (omega (arith, less)) ∙ ap (λ w. Some (told w)) (sym (get_or_append_left (own ∷ ys) (x ∷ []) own n (omega (arith, less)))))))
     (λ last. let at : n ≡ length (own ∷ ys) = omega (arith, last, h, length-append ys (x ∷ [])) in
     ap (λ (z : PortsTold). z.shut n) is ∙ (shut_here number n (told x) p (omega (arith, at, number_is)) ∙ ap (λ w. Some (told w)) (sym (get_last (own ∷ ys) x n own at))))
 

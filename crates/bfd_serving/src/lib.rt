@@ -21,6 +21,8 @@ mod opening;
 mod running;
 mod serving;
 #[cfg(test)]
+mod serve_tests;
+#[cfg(test)]
 mod tests;
 
 pub use finish::{Finish, Refused};

@@ -3,16 +3,15 @@ use Rattle.std.proofs.Common.{◌≡◌, ◌+◌, ◌-◌, ◌==◌, ◌||◌, �
 use Rattle.std.proofs.lemmas.Grind.{common_steps}
 use Rattle.bfd_packet.specs.declared.control.State.TheVariants.{Down, Up}
 use Rattle.bfd_packet.specs.States.{is_init_or_up}
-use Rattle.bfd_num.specs.Numbers.{floor_tick, next_j}
+use Rattle.bfd_num.specs.Numbers.{floor_tick}
 use Rattle.bfd_num.specs.Due.{has_come}
 use Rattle.bfd_rules.specs.declared.config.Config.{Config}
-use Rattle.bfd_rules.specs.declared.variables.Mark.{Mark}
 use Rattle.bfd_rules.specs.declared.variables.Vars.{Vars}
-use Rattle.bfd_rules.specs.Quantities.{deadline, seq_deadline, is_up, demand_here, may_send, tx_interval}
-use Rattle.bfd_rules.specs.Jitter.{pick}
+use Rattle.bfd_rules.specs.Quantities.{deadline, seq_deadline, is_up, demand_here, may_send}
 use Rattle.bfd_rules.specs.Renewal.{poll_again, poll_renewed, used_renewed, demand_renewed, renewed}
-use Rattle.bfd_rules.specs.EventFrame.{Course, enters, changes, sends, draws, drawn, is_untold, redrawn}
+use Rattle.bfd_rules.specs.EventFrame.{Course, enters, changes, sends, is_untold, redrawn}
 use Rattle.bfd_rules.specs.Sound as pair
+use Rattle.bfd_rules.proofs.Heard.{alike, drawn_heard}
 use Rattle.bfd_p2p.specs.Frame.{renews, moves}
 use Rattle.bfd_p2p.specs.Transmit.{transmits}
 use Rattle.bfd_p2p.specs.Settle as settling
@@ -122,17 +121,6 @@ extra_none : (c : Config) (eff : ℕ) (s : Course) → is_none (finishing.extra 
 unfolding finishing.extra transmits sends
 extra_none c eff s = either (is_none s.vars.heard) (is_untold c.active s.mark s.vars) _ s refl refl
 
-drawn_heard : (active : Bool) (m : Mark) (v : Vars) → (drawn active m v).heard ≡ v.heard
-unfolding drawn
-drawn_heard active m v = by (may_send active v) (draws m v)
-  where
-    by : (may anew : Bool) → (if may
-        then (if anew then record v { tx_due = Some (pick v.base (tx_interval v) v.mult v.j); j = next_j v.j } else v)
-        else record v { tx_due = None }).heard ≡ v.heard
-    by true true = refl
-    by true false = refl
-    by false _ = refl
-
 finish_none : (c : Config) (eff : ℕ) (s : Course) → is_none (finishing.finish c eff s).vars.heard ≡ is_none s.vars.heard
 unfolding finishing.finish redrawn
 finish_none c eff s = ap (λ (o : Option ℕ). is_none o) (drawn_heard c.active _ _) ∙ extra_none c eff s
@@ -165,10 +153,6 @@ none_by false None after is = ap (λ (o : Option ℕ). is_none o) is
 none_by false (Some m) after is = ap (λ (o : Option ℕ). is_none o) is
 
 -- a head hears nothing, and so its events forget nothing
-
-alike : (b : Bool) (x y : Course) (h : Option ℕ) → x.vars.heard ≡ h → y.vars.heard ≡ h → (if b then x else y).vars.heard ≡ h
-alike true x y h hx hy = hx
-alike false x y h hx hy = hy
 
 one_fewer_heard : (v : Vars) (none : Bool) → (if none then v else counted (v.left - 1) v).heard ≡ v.heard
 one_fewer_heard v true = refl

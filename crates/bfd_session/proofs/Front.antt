@@ -1,7 +1,6 @@
 -- What was put out before an event stays in front of what the event puts out, and changes nothing else of it; and an event
 -- of a session of another kind than a point-to-point one leaves the Echo function.
-use Rattle.std.proofs.Common.{◌≡◌, ◌++◌, ◌&&◌, ℕ, Bool, true, false, List, [], refl, sym, ap, ◌∙◌, append_assoc, append-nil, Option, None, Some, is_some, Result, Ok, Err}
-use Rattle.bfd_packet.specs.declared.arrival.Datagram.{Datagram}
+use Rattle.std.proofs.Common.{◌≡◌, ◌++◌, ◌&&◌, ℕ, Bool, true, false, List, [], refl, sym, ap, ◌∙◌, append-nil, Option, None, Some, is_some, Result, Ok, Err}
 use Rattle.bfd_packet.specs.declared.control.Control.{Control}
 use Rattle.bfd_packet.specs.declared.discard.Test.{Test}
 use Rattle.bfd_packet.specs.declared.keys.SeqState.{SeqState}
@@ -12,7 +11,8 @@ use Rattle.bfd_rules.specs.declared.variables.Vars.{Vars}
 use Rattle.bfd_num.specs.Numbers.{floor_tick}
 use Rattle.bfd_num.specs.Due.{has_come}
 use Rattle.bfd_rules.specs.Quantities.{may_send, deadline, seq_deadline, is_admin_down}
-use Rattle.bfd_rules.specs.EventFrame.{Course, sends, is_untold, based, redrawn}
+use Rattle.bfd_rules.specs.EventFrame.{Course, is_untold, based, redrawn}
+use Rattle.bfd_rules.proofs.Courses.{after, either, changes-after, sends-after}
 use Rattle.bfd_p2p.specs.Frame.{renews, moves}
 use Rattle.bfd_p2p.specs.Transmit.{transmits}
 use Rattle.bfd_p2p.specs.Settle as settling
@@ -21,7 +21,6 @@ use Rattle.bfd_p2p.specs.Command.{refusal, commanded, done}
 use Rattle.bfd_p2p.specs.Finish as finishing
 use Rattle.bfd_sbfd.proofs.Front as seek
 use Rattle.bfd_mp.proofs.HeadFront as head
-use Rattle.bfd_mp.proofs.HeadFront.{after, either, changes-after}
 use Rattle.bfd_mp.proofs.TailFront as tail
 use Rattle.bfd_echo.specs.declared.echo.Echo.{Echo}
 use Rattle.bfd_echo.specs.declared.echo.EchoResult.{EchoResult}
@@ -33,10 +32,6 @@ use Rattle.bfd_session.specs.declared.event.Event.TheVariants.{Packet, Returned,
 use Rattle.bfd_session.specs.Kinds.{Running, Flow, along}
 use Rattle.bfd_session.specs.Echoing.{settled_by, settled_running, settles_echo, echoing, turns_echo}
 use Rattle.bfd_session.specs.Step.{step, tick, settled, acted, finished, begun, step_from, stepped_flow, emits, answer_of, reply, reply_from, tick_from, ticked_flow, tick_emits}
-
-sends-after : (discr : ℕ) (datagram : Datagram) (os : List Out) (s : Course) → sends discr datagram (after os s) ≡ after os (sends discr datagram s)
-unfolding sends
-sends-after discr datagram os s = rw append_assoc refl
 
 renews-after : (eff : ℕ) (v : Vars) (os : List Out) (s : Course) → renews eff v (after os s) ≡ after os (renews eff v s)
 unfolding renews

@@ -13,3 +13,4 @@ pub mod Naming
 pub mod Own
 pub mod Expiring
 pub mod Discarding
+pub mod Searches

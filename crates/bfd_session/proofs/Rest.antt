@@ -1,16 +1,15 @@
 -- A tick by which nothing is due leaves sound variables as they are, and puts nothing out.
-use Rattle.std.proofs.Common.{◌≡◌, ◌<◌, ◌*◌, ◌==◌, ◌++◌, append-nil, ℕ, Bool, true, false, not, refl, sym, ap, ◌∙◌, Option, None, Some, is_some, is_none, IsSome, IsTrue, ◌↔◌, option_map, nat_le, List, [], if◌then◌else◌, arith}
+use Rattle.std.proofs.Common.{◌≡◌, ◌<◌, ◌*◌, ◌++◌, append-nil, ℕ, Bool, true, false, refl, ap, ◌∙◌, Option, None, Some, IsSome, IsTrue, ◌↔◌, option_map, nat_le, List, [], if◌then◌else◌, arith}
 use Rattle.std.proofs.lemmas.Bool.Decides.{nat_tests}
-use Rattle.bfd_packet.specs.declared.control.State.{State}
-use Rattle.bfd_packet.specs.declared.control.State.TheVariants.{AdminDown, Down, Init, Up}
 use Rattle.bfd_num.specs.Numbers.{floor_tick}
 use Rattle.bfd_num.specs.Due.{has_come, sooner}
 use Rattle.bfd_rules.specs.declared.config.Config.{Config}
 use Rattle.bfd_rules.specs.declared.outputs.Out.{Out}
 use Rattle.bfd_rules.specs.declared.variables.Vars.{Vars}
-use Rattle.bfd_rules.specs.Quantities.{deadline, seq_deadline, may_send, same_state, tx_interval}
-use Rattle.bfd_rules.specs.EventFrame.{Course, course, begins, is_news, draws, drawn, redrawn}
+use Rattle.bfd_rules.specs.Quantities.{deadline, seq_deadline}
+use Rattle.bfd_rules.specs.EventFrame.{Course, course, begins, redrawn}
 use Rattle.bfd_rules.specs.Sound as pair
+use Rattle.bfd_rules.proofs.Still.{no_news, drawn_stands}
 use Rattle.bfd_p2p.specs.Settle as settling
 use Rattle.bfd_p2p.specs.Finish as finishing
 use Rattle.bfd_sbfd.specs.Waiting.{deadline as seek_deadline}
@@ -37,47 +36,10 @@ settle_rests c limit eff s late seq_late due_later = rw (late, seq_late, due_lat
 
 -- the end of an event with no news and a due tick that stands
 
-same_itself : (a : State) → same_state a a ≡ true
-same_itself AdminDown = refl
-same_itself Down = refl
-same_itself Init = refl
-same_itself Up = refl
-
-equal_itself : (n : ℕ) → (n == n) ≡ true
-equal_itself n = grind (arith, nat_tests)
-
-no_news : (v : Vars) → is_news (begins v) v ≡ false
-no_news v = rw (same_itself v.state, equal_itself v.diag) refl
-
-one_stands : (b : Bool) → (if b then not b else b) ≡ false
-one_stands true = refl
-one_stands false = refl
-
-draw_stands : (v : Vars) → is_none v.tx_due ≡ false → draws (begins v) v ≡ false
-draw_stands v there = rw (there, equal_itself (tx_interval v), one_stands (v.mult == 1)) refl
-
-some_is_not_none : (o : Option ℕ) → IsSome o → is_none o ≡ false
-some_is_not_none None h = cc
-some_is_not_none (Some x) h = refl
-
-none_if_not_some : (o : Option ℕ) → is_some o ≡ false → o ≡ None
-none_if_not_some None h = refl
-none_if_not_some (Some x) h = cc
-
-not_some : (o : Option ℕ) (b : Bool) → (IsSome o ↔ IsTrue b) → b ≡ false → is_some o ≡ false
-not_some None b both h = refl
-not_some (Some x) b both h = let true_too : b ≡ true = both.0 refl in cc
-
-drawn_by : (c : Config) (v : Vars) (may : Bool) → may_send c.active v ≡ may → pair.IsSound c v → drawn c.active (begins v) v ≡ v
-unfolding drawn
-drawn_by c v true is sound = rw (is, draw_stands v (some_is_not_none v.tx_due (sound.due.1 is))) refl
-drawn_by c v false is sound =
-    rw is (ap (λ (o : Option ℕ). record v { tx_due = o }) (sym (none_if_not_some v.tx_due (not_some v.tx_due (may_send c.active v) sound.due is))))
-
 finish_rests : (c : Config) (eff : ℕ) (v : Vars) (os : List Out) → pair.IsSound c v
     → finishing.finish c eff (course v (begins v) os) ≡ course v (begins v) os
 unfolding finishing.finish finishing.extra redrawn
-finish_rests c eff v os sound = rw (no_news v, drawn_by c v (may_send c.active v) refl sound) refl
+finish_rests c eff v os sound = rw (no_news v, drawn_stands c.active v sound.due) refl
 
 -- the Echo function with nothing due
 

@@ -1,11 +1,10 @@
 -- A tick keeps a session sound.
-use Rattle.std.proofs.Common.{◌≡◌, ◌^◌, ◌-◌, ◌<◌, ◌≤◌, ◌+◌, ◌*◌, ◌/◌, ◌%◌, ◌&&◌, ◌||◌, ◌==◌, ◌↔◌, not, ℕ, Bool, true, false, refl, Option, None, Some, is_none, IsSome, IsTrue, IfSome, option_map, [], arith, rules, if◌then◌else◌}
+use Rattle.std.proofs.Common.{◌≡◌, ◌^◌, ◌<◌, ◌&&◌, ◌↔◌, ℕ, Bool, true, false, refl, Option, None, Some, IsSome, IsTrue, IfSome, option_map, [], arith, rules, if◌then◌else◌}
 use Rattle.std.proofs.lemmas.Grind.{common_steps}
-use Rattle.std.proofs.lemmas.Bool.{or_parts}
 use Rattle.bfd_packet.specs.declared.control.State.{State}
 use Rattle.bfd_packet.specs.declared.control.State.TheVariants.{Down, Up}
 use Rattle.bfd_packet.specs.declared.keys.SeqState.{SeqState}
-use Rattle.bfd_num.specs.Numbers.{moment_bound, floor_tick, ceil_tick, next_j}
+use Rattle.bfd_num.specs.Numbers.{moment_bound, floor_tick, next_j}
 use Rattle.bfd_num.specs.Due.{has_come}
 use Rattle.bfd_rules.specs.declared.config.Config.{Config}
 use Rattle.bfd_rules.specs.declared.variables.Poll.{Poll}
@@ -15,8 +14,9 @@ use Rattle.bfd_rules.specs.declared.variables.Vars.{Vars}
 use Rattle.bfd_rules.specs.Quantities.{deadline, seq_deadline, demand_here, may_send, tx_interval, is_idle}
 use Rattle.bfd_rules.specs.Jitter.{pick}
 use Rattle.bfd_rules.specs.Renewal.{poll_again, poll_renewed, used_renewed, demand_renewed, renewed}
-use Rattle.bfd_rules.specs.EventFrame.{Course, enters, changes, sends, draws, one_changed, drawn, is_untold, based, redrawn}
+use Rattle.bfd_rules.specs.EventFrame.{Course, enters, changes, sends, draws, drawn, is_untold, based, redrawn}
 use Rattle.bfd_rules.specs.Sound.{IsPlain, IsRenewed, HasPeerMult, IsSteady, IsSound}
+use Rattle.bfd_rules.proofs.Drawing.{picked_below, stands_there}
 use Rattle.bfd_p2p.specs.Frame.{renews, moves}
 use Rattle.bfd_p2p.specs.Transmit.{transmits}
 use Rattle.bfd_p2p.specs.Settle as settling
@@ -193,24 +193,6 @@ extra_steady c eff s h steady =
     choice_steady c (is_untold c.active s.mark s.vars) (based eff (transmits c false false s)) s
     (based_steady c eff _ s.vars h steady) steady
 
-share_most : (one : Bool) (interval : ℕ) → (if one then 9 * interval / 10 else interval) ≤ interval
-share_most true interval = omega arith
-share_most false interval = omega arith
-
--- a tick between these two lies below the bound of moments
-between_below : (base interval share j : ℕ) → base < 2 ^ 60 → interval < 2 ^ 32 → share ≤ interval
-    → let e : ℕ = (base + (3 * interval + 3) / 4 + 999) / 1000 in e + j % ((base + share) / 1000 - e + 1) < 2 ^ 60
-between_below base interval share j h few least =
-    let e : ℕ = (base + (3 * interval + 3) / 4 + 999) / 1000 in
-    let below : j % ((base + share) / 1000 - e + 1) < (base + share) / 1000 - e + 1 = omega arith in
-    omega arith
-
-picked_below : (v : Vars) → tx_interval v < 2 ^ 32 → v.base < moment_bound → pick v.base (tx_interval v) v.mult v.j < moment_bound
-unfolding pick ceil_tick floor_tick
-picked_below v few base =
-    between_below v.base (tx_interval v) (if v.mult == 1 then 9 * tx_interval v / 10 else tx_interval v) v.j base few
-    (share_most (v.mult == 1) (tx_interval v))
-
 interval_few : (c : Config) (v : Vars) → IsSteady c v → tx_interval v < 2 ^ 32
 interval_few c v steady = grind (arith, common_steps)
 
@@ -223,17 +205,6 @@ due_steady c v due j h steady = record {
   renewed = record { settled_tx = steady.renewed.settled_tx; tx_at_most = steady.renewed.tx_at_most; settled_rx = steady.renewed.settled_rx; rx_at_least = steady.renewed.rx_at_least };
   peer = record { heard_mult = steady.peer.heard_mult; seq_mult = steady.peer.seq_mult };
 }
-
-is_there : (o : Option ℕ) → is_none o ≡ false → IsSome o
-is_there None h = cc
-is_there (Some x) h = refl
-
-stands_there : (m : Mark) (v : Vars) → draws m v ≡ false → IsSome v.tx_due
-stands_there m v h =
-    let outer = or_parts (m.moved || is_none v.tx_due || not (tx_interval v == m.interval)) (one_changed m v) h in
-    let middle = or_parts (m.moved || is_none v.tx_due) (not (tx_interval v == m.interval)) outer.0 in
-    let inner = or_parts m.moved (is_none v.tx_due) middle.0 in
-    is_there v.tx_due inner.1
 
 drawn_by : (c : Config) (m : Mark) (v : Vars) (may anew : Bool) → may_send c.active v ≡ may → draws m v ≡ anew → IsSteady c v
     → IsSound c (if may

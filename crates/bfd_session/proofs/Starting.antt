@@ -1,9 +1,8 @@
--- A point-to-point session starts in Down, so without an Echo function.
-use Rattle.std.proofs.Common.{◌≡◌, ◌&&◌, ℕ, Bool, true, false, refl, ap, ◌∙◌, Option, None, Some, is_none, IsSome, IsTrue, ◌↔◌, if◌then◌else◌}
+-- What a session starts with: a point-to-point one is Down, so without an Echo function.
+use Rattle.std.proofs.Common.{◌≡◌, ◌&&◌, ℕ, Bool, true, false, refl, ap, ◌∙◌, Option, None, Some, IsTrue, ◌↔◌, List, [], ◌∷◌, map, if◌then◌else◌}
 use Rattle.bfd_num.specs.Numbers.{next_j}
 use Rattle.bfd_packet.specs.declared.control.State.TheVariants.{Down}
 use Rattle.bfd_rules.specs.declared.config.Config.{Config}
-use Rattle.bfd_rules.specs.declared.variables.Mark.{Mark}
 use Rattle.bfd_rules.specs.declared.variables.Vars.{Vars}
 use Rattle.bfd_rules.specs.EventFrame.{begins, draws, drawn}
 use Rattle.bfd_rules.specs.Jitter.{pick}
@@ -12,9 +11,11 @@ use Rattle.bfd_rules.specs.Sound.{IsSound}
 use Rattle.bfd_p2p.specs.Machine.{Machine, initial, made}
 use Rattle.bfd_p2p.specs.Receive.{is_single}
 use Rattle.bfd_echo.specs.Timing.{is_echo_wanted}
+use Rattle.bfd_session.specs.declared.event.SessionConfig.{SessionConfig}
 use Rattle.bfd_session.specs.Echoing.{should_echo}
 use Rattle.bfd_session.specs.Inside.{pair_of}
-use Rattle.bfd_session.specs.Step.{IsPairSound}
+use Rattle.bfd_session.specs.Step.{IsPairSound, started}
+use Rattle.bfd_session.specs.Kinds.{configs_of}
 
 -- drawing leaves the state
 drawn_by : (may draw : Bool) (v : Vars) (due : Option ℕ) (j : ℕ) → (if may then (if draw then record v { tx_due = due; j = j } else v) else record v { tx_due = None }).state ≡ v.state
@@ -49,3 +50,8 @@ starts_sound m c config vars sound = record {
       (ap (λ (k : Config). should_echo k m.vars) config ∙ (ap (λ (v : Vars). should_echo c v) vars ∙ silent c));
   moments = tt;
 }
+
+-- sessions that have started have the configurations that they were given
+pub started_configs : (cs : List SessionConfig) → configs_of (map started cs) ≡ cs
+started_configs [] = refl
+started_configs (c ∷ cs) = ap (λ xs. c ∷ xs) (started_configs cs)

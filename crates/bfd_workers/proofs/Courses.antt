@@ -1,7 +1,8 @@
 -- A worker on its way, through a queue and from shard to shard.
-use Rattle.std.proofs.Common.{◌≡◌, ◌≢◌, ◌⊎◌, inl, inr, ◌<◌, ◌≤◌, ◌+◌, ◌++◌, ◌∙◌, ◌∷◌, ℕ, zero, suc, [], List, length, map, get_or, sym, ap, subst, refl, append_assoc, append-nil, arith, length-append}
+use Rattle.std.proofs.Common.{◌≡◌, ◌≢◌, ◌⊎◌, inl, inr, ◌<◌, ◌≤◌, ◌+◌, ◌++◌, ◌∙◌, ◌∷◌, ℕ, suc, [], List, length, map, sym, ap, subst, refl, append_assoc, append-nil, arith, length-append}
 use Rattle.std.specs.Prelude.{slice_index_or}
-use Rattle.std.proofs.lemmas.List.{length-map}
+use Rattle.std.proofs.lemmas.List.{length-map, get_or_append_left}
+use Rattle.std.proofs.Math.Seq.{get_or-append_seam}
 use mathlib.Core.Logic.{dite}
 use native.Mathlib.Decide.{ℕ_discrete}
 use Rattle.bfd_engine.specs.declared.fault.EngineFault.{EngineFault}
@@ -109,16 +110,6 @@ idle_as r l m seen taken i = record { seen = seen ∙ i.seen; taken = taken ∙ 
 used_as : (r : ℕ) (queue : List Numbered) (l m : Knows) → seen_at m r ≡ seen_at l r → taken_at m r ≡ taken_at l r → HasUsed l r queue → HasUsed m r queue
 used_as r queue l m seen taken u = record { few = (let a = u.few in omega (arith, a, taken)); none = λ e. idle_as r l m seen taken (u.none e) }
 
-module _ {A : Type 0} where
-  pub at_front : (xs : List A) (x y : A) (r : ℕ) (d : A) → r < length xs → get_or (xs ++ x ∷ []) r d ≡ get_or xs r d
-  at_front [] x y r d h = absurd (omega (arith, h))
-  at_front (z ∷ xs) x y zero d h = refl
-  at_front (z ∷ xs) x y (suc r) d h = at_front xs x y r d (omega (arith, h))
-
-  pub at_last : (xs : List A) (x d : A) → get_or (xs ++ x ∷ []) (length xs) d ≡ x
-  at_last [] x d = refl
-  at_last (z ∷ xs) x d = at_last xs x d
-
 -- the first shards that have a part, or this one
 last_or_front : (r n : ℕ) → r < n + 1 → r ≢ n → r < n
 last_or_front r n h other = omega (arith, h, other)
@@ -135,9 +126,9 @@ over_more engine queues queue shard k l m parts parts2 part at is pushed o of th
       done = λ r h. dite (ℕ_discrete r shard)
           (λ same. subst (λ i. HasDoneAt engine i (slice_index_or queues i []) m (slice_index_or parts2 i [])) (sym same)
           (subst (λ q. HasDoneAt engine shard q m (slice_index_or parts2 shard [])) (sym is)
-          (subst (λ p. HasDoneAt engine shard queue m p) (sym (ap (λ ps. slice_index_or ps shard []) pushed ∙ (ap (λ i. slice_index_or (parts ++ part ∷ []) i []) at ∙ at_last parts part []))) done)))
+          (subst (λ p. HasDoneAt engine shard queue m p) (sym (ap (λ ps. slice_index_or ps shard []) pushed ∙ (ap (λ i. slice_index_or (parts ++ part ∷ []) i []) at ∙ get_or-append_seam parts part [] []))) done)))
           (λ other. (let front : r < length parts = last_or_front r (length parts) (omega (arith, h, long)) (λ e. other (e ∙ sym at)) in
-          subst (λ p. HasDoneAt engine r (slice_index_or queues r []) m p) (sym (ap (λ ps. slice_index_or ps r []) pushed ∙ at_front parts part part r [] front))
+          subst (λ p. HasDoneAt engine r (slice_index_or queues r []) m p) (sym (ap (λ ps. slice_index_or ps r []) pushed ∙ get_or_append_left parts (part ∷ []) [] r front))
           (done_as engine r (slice_index_or queues r []) l m (slice_index_or parts r []) moved.number (moved.seen r other) (moved.taken r other) (o.done r front))));
       used = λ r h. dite (ℕ_discrete r shard)
           (λ same. subst (λ i. HasUsed m i (slice_index_or queues i [])) (sym same) (subst (λ q. HasUsed m shard q) (sym is) used))

@@ -5,6 +5,7 @@ use Rattle.std.proofs.lemmas.Bool.Decides.{nat_tests}
 use Rattle.std.proofs.lemmas.List.{length-map, get_or-map}
 use Rattle.std.proofs.lemmas.Option.{slice_get-get_or, slice_get_within, get_or_from_slice_get}
 use Rattle.std.proofs.Math.Nat.{mod-lt}
+use Rattle.std.proofs.lemmas.Bool.{eq-eqb}
 use mathlib.Core.Logic.{dite}
 use native.Mathlib.Decide.{ℕ_discrete}
 use Rattle.bfd_session.specs.Step.{started}
@@ -26,18 +27,10 @@ use Rattle.bfd_workers.specs.Working.{AreMet, entries, events_in, IsReady, HasFi
 use Rattle.bfd_workers.specs.Jobs.{AllJoined, AreJobs, AreOwn, HasEnded, HasWorked, IsFresh, IsJoining, IsNewJob, Work, number_of, own_queue}
 use Rattle.bfd_workers.specs.Ends.{AreStates, AreTold, IsDoneJob, IsFine, IsState, IsTold}
 use Rattle.bfd_workers.proofs.Soles.{all_calls, front_sole, sole_of}
-
-is_same : (a b : ℕ) → a ≡ b → (a == b) ≡ true
-is_same a b h = grind (arith, nat_tests)
-
-not_same : (a b : ℕ) → a ≢ b → (a == b) ≡ false
-not_same a b h = grind (arith, nat_tests)
+use Rattle.bfd_workers.proofs.Joining.{own_away}
 
 own_here : (workers at s : ℕ) (queue : List Numbered) → s % workers ≡ at → own_queue workers at s queue ≡ queue
-own_here workers at s queue h = rw (is_same (s % workers) at h) refl
-
-own_away : (workers at s : ℕ) (queue : List Numbered) → s % workers ≢ at → own_queue workers at s queue ≡ []
-own_away workers at s queue h = rw (not_same (s % workers) at h) refl
+own_here workers at s queue h = rw (eq-eqb (s % workers) at h) refl
 
 short : (b : Bool) (queue : List Numbered) → length (if b then queue else []) ≤ length queue
 short true queue = omega arith

@@ -1,8 +1,8 @@
 -- Passes that are made for the workers, and taken in again.
-use Rattle.std.proofs.Common.{◌≡◌, ◌≢◌, ◌<◌, ◌≤◌, ◌+◌, ◌*◌, ◌%◌, ◌==◌, false, ◌++◌, ◌∙◌, ◌∷◌, ℕ, zero, suc, [], List, length, map, sym, ap, subst, refl, take, take_all, drop, append_assoc, append-nil, arith, length-append, Some}
+use Rattle.std.proofs.Common.{◌≡◌, ◌≢◌, ◌<◌, ◌≤◌, ◌+◌, ◌*◌, ◌%◌, ◌++◌, ◌∙◌, ◌∷◌, ℕ, zero, suc, [], List, length, map, sym, ap, subst, refl, take, take_all, drop, append_assoc, append-nil, arith, length-append, Some}
 use Rattle.std.specs.Prelude.{slice_get, slice_index_or}
-use Rattle.std.proofs.lemmas.Bool.Decides.{nat_tests}
 use Rattle.std.proofs.lemmas.List.{drop_all, map-append}
+use Rattle.std.proofs.lemmas.Bool.{ne_eqb}
 use mathlib.Core.Logic.{dite}
 use native.Mathlib.Decide.{ℕ_discrete}
 use Rattle.bfd_turn.specs.Lists.{Begins}
@@ -132,11 +132,9 @@ joined_more engine most k l m works w j is of there zero_is joined = record {
   each = λ s h. one_joined most k l m works w s (j.each s h) (joined s h) (is.few s h);
 }
 
-not_same : (a b : ℕ) → a ≢ b → (a == b) ≡ false
-not_same a b h = grind (arith, nat_tests)
-
-away : (workers at s : ℕ) (queue : List Numbered) → s % workers ≢ at → own_queue workers at s queue ≡ []
-away workers at s queue h = rw (not_same (s % workers) at h) refl
+-- another worker has none of this shard
+pub own_away : (workers at s : ℕ) (queue : List Numbered) → s % workers ≢ at → own_queue workers at s queue ≡ []
+own_away workers at s queue h = rw (ne_eqb (s % workers) at h) refl
 
 -- a worker's own queues of those that were left, which are those of the start where they are its own
 pub own_of_left : (workers at : ℕ) (all left own : List (List Numbered)) → length left ≡ length all → ((s : ℕ) → s % workers ≡ at → slice_index_or left s [] ≡ slice_index_or all s [])
@@ -145,7 +143,7 @@ own_of_left workers at all left own long same are = record {
   long = are.long ∙ long;
   each = λ s h. are.each s (omega (arith, h, long)) ∙ dite (ℕ_discrete (s % workers) at)
       (λ e. ap (own_queue workers at s) (same s e))
-      (λ other. away workers at s (slice_index_or left s []) other ∙ sym (away workers at s (slice_index_or all s []) other));
+      (λ other. own_away workers at s (slice_index_or left s []) other ∙ sym (own_away workers at s (slice_index_or all s []) other));
 }
 
 -- what a Vec is after its slice was changed

@@ -1,7 +1,4 @@
 pub mod Standing
-pub mod Searches
-pub mod SameConfigs
-pub mod Tables
 pub mod Planning
 pub mod Soles
 pub mod Courses

@@ -1,10 +1,10 @@
 -- Results, one more of which has parts; and parts in order.
 use Rattle.std.proofs.Common.{◌≡◌, ◌≢◌, ◌<◌, ◌≤◌, ◌+◌, ◌%◌, ◌++◌, ◌∙◌, ◌∷◌, ℕ, suc, [], List, length, map, get_or, set, get_or-set_same, get_or-set_other, refl, sym, ap, subst, arith, length-append, Some, Result, Ok}
 use Rattle.std.specs.Prelude.{slice_get, slice_index_or}
-use Rattle.std.proofs.lemmas.List.{get_or-map, map-append, map-set, length-map, length-set}
+use Rattle.std.proofs.lemmas.List.{get_or-map, map-append, map-set, length-map, length-set, get_or_append_left}
+use Rattle.std.proofs.Math.Seq.{get_or-append_seam}
 use mathlib.Core.Logic.{dite}
 use native.Mathlib.Decide.{ℕ_discrete}
-use Rattle.bfd_workers.proofs.Courses.{at_front, at_last}
 
 -- the next of the results that are left
 pub mapped_here : {A B : Type 0} (f : A → B) (xs ys zs : List A) (x : A) → xs ++ x ∷ ys ≡ zs → slice_get (map f zs) (length xs) ≡ Some (f x)
@@ -46,17 +46,17 @@ order_more shards workers shard all left after parts parts2 part o is many wide 
   wide = λ i. wide i ∙ o.wide i;
   each = λ s h. dite (ℕ_discrete s shard)
       (λ same. subst (λ i. slice_index_or parts2 i [] ≡ slice_index_or (slice_index_or all (i % workers) []) i []) (sym same)
-      (ap (λ xs. slice_index_or xs shard []) pushed ∙ (ap (λ i. slice_index_or (parts ++ part ∷ []) i []) (sym o.long) ∙ (at_last parts part [] ∙ (is ∙ o.later (shard % workers) shard (omega arith))))))
+      (ap (λ xs. slice_index_or xs shard []) pushed ∙ (ap (λ i. slice_index_or (parts ++ part ∷ []) i []) (sym o.long) ∙ (get_or-append_seam parts part [] [] ∙ (is ∙ o.later (shard % workers) shard (omega arith))))))
       (λ other. (let front : s < length parts = (let a = o.long in omega (arith, a, h, other)) in
-      ap (λ xs. slice_index_or xs s []) pushed ∙ (at_front parts part part s [] front ∙ o.each s (omega (arith, h, other)))));
+      ap (λ xs. slice_index_or xs s []) pushed ∙ (get_or_append_left parts (part ∷ []) [] s front ∙ o.each s (omega (arith, h, other)))));
   later = λ i r h. others i r (λ e. absurd (omega (arith, h, e))) ∙ o.later i r (omega (arith, h));
 }
 
 pub order_end : {P : Type 0} (parts parts2 : List (List P)) (part : List P) (s : ℕ) → parts2 ≡ parts ++ part ∷ [] → s < length parts → slice_index_or parts2 s [] ≡ slice_index_or parts s []
-order_end parts parts2 part s pushed h = ap (λ xs. slice_index_or xs s []) pushed ∙ at_front parts part part s [] h
+order_end parts parts2 part s pushed h = ap (λ xs. slice_index_or xs s []) pushed ∙ get_or_append_left parts (part ∷ []) [] s h
 
 pub order_last : {P : Type 0} (parts parts2 : List (List P)) (part : List P) (n : ℕ) → parts2 ≡ parts ++ part ∷ [] → length parts ≡ n → slice_index_or parts2 n [] ≡ part
-order_last parts parts2 part n pushed long = ap (λ xs. slice_index_or xs n []) pushed ∙ (ap (λ i. slice_index_or (parts ++ part ∷ []) i []) (sym long) ∙ at_last parts part [])
+order_last parts parts2 part n pushed long = ap (λ xs. slice_index_or xs n []) pushed ∙ (ap (λ i. slice_index_or (parts ++ part ∷ []) i []) (sym long) ∙ get_or-append_seam parts part [] [])
 
 module _ {V A : Type 0} (f : V → List (List A)) where
   -- the list that was changed in place, and the others

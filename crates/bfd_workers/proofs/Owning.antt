@@ -1,12 +1,13 @@
 -- A worker's own queues, taken out one by one.
 use Rattle.std.proofs.Common.{◌≡◌, ◌≢◌, ◌<◌, ◌≤◌, ◌+◌, ◌%◌, ◌==◌, ◌++◌, ◌∙◌, ◌∷◌, Bool, false, ℕ, [], List, length, sym, ap, refl, subst, arith, length-append}
 use Rattle.std.specs.Prelude.{slice_index_or, if◌then◌else◌}
-use Rattle.std.proofs.lemmas.Bool.Decides.{nat_tests}
+use Rattle.std.proofs.lemmas.Bool.{ne_eqb}
+use Rattle.std.proofs.Math.Seq.{get_or-append_seam}
+use Rattle.std.proofs.lemmas.List.{get_or_append_left}
 use mathlib.Core.Logic.{dite}
 use native.Mathlib.Decide.{ℕ_discrete}
 use Rattle.bfd_gather.specs.declared.queue.Numbered.{Numbered}
 use Rattle.bfd_workers.specs.Jobs.{AreOwn, own_queue}
-use Rattle.bfd_workers.proofs.Courses.{at_front, at_last}
 
 -- those of the shards up to here were taken, and these are left
 pub record InOwn (workers at shard : ℕ) (all left own : List (List Numbered)) : Type 0 where
@@ -19,9 +20,6 @@ pub record InOwn (workers at shard : ℕ) (all left own : List (List Numbered)) 
 pub own_none : (workers at : ℕ) (all own : List (List Numbered)) → own ≡ [] → InOwn workers at 0 all all own
 own_none workers at all own none = record { long = ap length none; same = refl; each = λ s h. absurd (omega (arith, h)); later = λ s h. refl; others = λ s h. refl }
 
-not_same : (a b : ℕ) → a ≢ b → (a == b) ≡ false
-not_same a b h = grind (arith, nat_tests)
-
 pub own_more : (workers at shard : ℕ) (mine : Bool) (all left after own own2 : List (List Numbered)) (taken : List Numbered) → mine ≡ (shard % workers == at)
     → taken ≡ (if mine then slice_index_or left shard [] else []) → own2 ≡ own ++ taken ∷ [] → length after ≡ length left → ((s : ℕ) → (s ≡ shard → ⊥) → slice_index_or after s [] ≡ slice_index_or left s [])
     → (mine ≡ false → after ≡ left) → InOwn workers at shard all left own → InOwn workers at (shard + 1) all after own2
@@ -30,14 +28,14 @@ own_more workers at shard mine all left after own own2 taken is took pushed long
   same = long ∙ o.same;
   each = λ s h. dite (ℕ_discrete s shard)
       (λ same. subst (λ i. slice_index_or own2 i [] ≡ own_queue workers at i (slice_index_or all i [])) (sym same)
-      (ap (λ xs. slice_index_or xs shard []) pushed ∙ (ap (λ i. slice_index_or (own ++ taken ∷ []) i []) (sym o.long) ∙ (at_last own taken [] ∙ (took
+      (ap (λ xs. slice_index_or xs shard []) pushed ∙ (ap (λ i. slice_index_or (own ++ taken ∷ []) i []) (sym o.long) ∙ (get_or-append_seam own taken [] [] ∙ (took
       ∙ (ap (λ b. if b then slice_index_or left shard [] else []) is
       ∙ ap (λ q. if (shard % workers == at) then q else []) (o.later shard (omega arith))))))))
       (λ other. (let front : s < length own = (let a = o.long in omega (arith, a, h, other)) in
-      ap (λ xs. slice_index_or xs s []) pushed ∙ (at_front own taken taken s [] front ∙ o.each s (omega (arith, h, other)))));
+      ap (λ xs. slice_index_or xs s []) pushed ∙ (get_or_append_left own (taken ∷ []) [] s front ∙ o.each s (omega (arith, h, other)))));
   later = λ s h. others s (λ e. absurd (omega (arith, h, e))) ∙ o.later s (omega (arith, h));
   others = λ s away. dite (ℕ_discrete s shard)
-      (λ same. ap (λ xs. slice_index_or xs s []) (kept (is ∙ not_same (shard % workers) at (λ e. away (ap (λ i. i % workers) same ∙ e)))) ∙ o.others s away)
+      (λ same. ap (λ xs. slice_index_or xs s []) (kept (is ∙ ne_eqb (shard % workers) at (λ e. away (ap (λ i. i % workers) same ∙ e)))) ∙ o.others s away)
       (λ other. others s other ∙ o.others s away);
 }
 

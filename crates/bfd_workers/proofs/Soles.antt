@@ -1,7 +1,7 @@
 -- What a caller has seen, where it is the only one.
-use Rattle.std.proofs.Common.{◌≡◌, ◌≢◌, ◌<◌, ◌≤◌, ◌+◌, ◌==◌, ◌++◌, ◌∙◌, ◌∷◌, true, false, ℕ, [], List, length, map, sym, ap, subst, refl, append-nil, arith, length-append}
-use Rattle.std.proofs.lemmas.Bool.Decides.{nat_tests}
+use Rattle.std.proofs.Common.{◌≡◌, ◌≢◌, ◌<◌, ◌≤◌, ◌+◌, ◌++◌, ◌∙◌, ◌∷◌, ℕ, [], List, length, map, sym, ap, subst, refl, append-nil, arith, length-append}
 use Rattle.std.proofs.lemmas.List.{length-map, map-append}
+use Rattle.std.proofs.lemmas.Bool.{eq-eqb, ne_eqb}
 use mathlib.Core.Logic.{dite}
 use native.Mathlib.Decide.{ℕ_discrete}
 use Rattle.bfd_session.specs.declared.event.SessionConfig.{SessionConfig}
@@ -29,11 +29,8 @@ back_sole : (w : ℕ) (xs ys : List Entry) → IsSole w (xs ++ ys) → IsSole w 
 back_sole w [] ys h = h
 back_sole w (x ∷ xs) ys h = back_sole w xs ys h.1
 
-is_same : (a b : ℕ) → a ≡ b → (a == b) ≡ true
-is_same a b h = grind (arith, nat_tests)
-
 pub calls_first : (n : ℕ) (x : Entry) (xs : List Entry) → by x ≡ n → calls by n (x ∷ xs) ≡ x ∷ calls by n xs
-calls_first n x xs h = rw (is_same (by x) n h) refl
+calls_first n x xs h = rw (eq-eqb (by x) n h) refl
 
 -- entries of this caller alone, of which none is its own, are none
 pub nobody : (w : ℕ) (xs : List Entry) → IsSole w xs → calls by w xs ≡ [] → xs ≡ []
@@ -44,11 +41,8 @@ pub all_calls : (w : ℕ) (xs : List Entry) → IsSole w xs → calls by w xs �
 all_calls w [] h = refl
 all_calls w (x ∷ xs) h = calls_first w x xs h.0 ∙ ap (λ ys. x ∷ ys) (all_calls w xs h.1)
 
-not_same : (a b : ℕ) → a ≢ b → (a == b) ≡ false
-not_same a b h = grind (arith, nat_tests)
-
 rest_none : (n : ℕ) (x : Entry) (xs : List Entry) → by x ≢ n → calls by n (x ∷ xs) ≡ [] → calls by n xs ≡ []
-rest_none n x xs h none = let t : calls by n (x ∷ xs) ≡ calls by n xs = rw (not_same (by x) n h) refl in sym t ∙ none
+rest_none n x xs h none = let t : calls by n (x ∷ xs) ≡ calls by n xs = rw (ne_eqb (by x) n h) refl in sym t ∙ none
 
 -- the entries of which no other caller has one
 pub sole_of : (w : ℕ) (xs : List Entry) → ((n : ℕ) → n ≢ w → calls by n xs ≡ []) → IsSole w xs

@@ -10,6 +10,7 @@ use Rattle.bfd_session.specs.declared.event.SessionConfig.{SessionConfig}
 use Rattle.bfd_session.specs.Kinds.{Running, configs_of}
 use Rattle.bfd_session.specs.Rows.{Ascends}
 use Rattle.bfd_session.specs.Step.{started}
+use Rattle.bfd_session.proofs.Starting.{started_configs}
 use Rattle.bfd_shard.specs.declared.entry.ShardEvent.TheVariants.{Own, Tick}
 use Rattle.bfd_shard.specs.Dealing.{history_of, share}
 use Rattle.bfd_shard.specs.History.{events_of, later, moved, runs}
@@ -23,12 +24,13 @@ use Rattle.bfd_engine.specs.Engines as engines
 use Rattle.bfd_engine.proofs.Reaching.{dealt_event}
 use Rattle.bfd_gather.specs.declared.queue.Numbered.{Numbered}
 use Rattle.bfd_gather.specs.Pieces.{Piece}
-use Rattle.bfd_gather.specs.Happenings.{Happening, Apart, Among, AreParts, among, in_shard, numbered, queue, told, told_apart}
+use Rattle.bfd_gather.specs.Happenings.{Happening, Apart, Among, AreParts, in_shard, numbered, queue, told, told_apart}
 use Rattle.bfd_gather.specs.Happenings as gather
 use Rattle.bfd_gather.proofs.Sharing.{share_map}
 use Rattle.bfd_gather.proofs.Histories.{queue_events, runs_share}
 use Rattle.bfd_replay.specs.World.{totals}
-use Rattle.bfd_workers.specs.Planned.{AreQueues, IsMet, IsTable, events_of_table, happening, happenings}
+use Rattle.bfd_replay.specs.Stage.{IsTable}
+use Rattle.bfd_workers.specs.Planned.{AreQueues, IsMet, events_of_table, happening, happenings}
 use Rattle.bfd_workers.specs.Working.{AreMet, entries, events_in}
 use Rattle.bfd_workers.specs.Ends.{AreStates, AreTold}
 use Rattle.bfd_workers.specs.Replayed.{HaveReplayed}
@@ -99,10 +101,6 @@ pub met_queues : (engine : Shards) (shards : ℕ) (hs : List Happening) (queues 
     → (s : ℕ) → s < length engine.locks → AreMet engine s (slice_index_or queues s [])
 met_queues engine shards hs queues locks some are met s inside =
     subst (AreMet engine s) (sym (are.each s (omega (arith, inside, locks)))) (met_in engine shards s 1 hs locks some met)
-
-started_configs : (cs : List SessionConfig) → configs_of (map started cs) ≡ cs
-started_configs [] = refl
-started_configs (c ∷ cs) = ap (λ xs. c ∷ xs) (started_configs cs)
 
 -- the parts are those of the script's events
 pub are_parts : (engine : Shards) (shards workers : ℕ) (hs : List Happening) (configs : List SessionConfig) (queues : List (List Numbered)) (all : List (List (List Piece))) (parts : List (List Piece)) (apart : List Piece)

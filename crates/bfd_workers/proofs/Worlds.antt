@@ -10,6 +10,7 @@ use Rattle.bfd_session.specs.declared.event.Event.{Event}
 use Rattle.bfd_session.specs.declared.event.SessionConfig.{SessionConfig}
 use Rattle.bfd_session.specs.Kinds.{Running, configs_of}
 use Rattle.bfd_session.specs.Step.{started}
+use Rattle.bfd_session.proofs.Starting.{started_configs}
 use Rattle.bfd_shard.specs.declared.entry.ShardEvent.{ShardEvent}
 use Rattle.bfd_shard.specs.declared.entry.ShardEvent.TheVariants.{Own, Tick}
 use Rattle.bfd_shard.specs.History.{later, moved, own_moved, own_outcome, outcome_of, runs}
@@ -22,7 +23,7 @@ use Rattle.bfd_gather.proofs.Histories.{left_by, left_runs}
 use Rattle.bfd_replay.specs.World.{World, Turn, own, own_of, ticks, done, happens, outcomes, after, reflected, opened, world}
 use Rattle.bfd_replay.specs.World as worlds
 use Rattle.bfd_workers.specs.Planned.{events_of_table, happening, happening_by, happenings, reflecting}
-use Rattle.bfd_workers.proofs.SameConfigs.{happens_keeps}
+use Rattle.bfd_replay.proofs.SameConfigs.{happens_keeps}
 
 -- what happens, to a world
 abbrev turn_of : Happening → World → Turn
@@ -96,10 +97,6 @@ after_are cs pool (line ∷ lines) w s =
     after_are cs pool lines (happens line w).world (stays_on cs pool line w s)
     ∙ (ap (λ (t : Turn). left_by t.world.last (filter_map among (happenings cs pool lines)) t.world.sessions) (turn_is cs pool line w s)
     ∙ sym (left_step (happening cs pool line) (filter_map among (happenings cs pool lines)) w))
-
-started_configs : (cs : List SessionConfig) → configs_of (map started cs) ≡ cs
-started_configs [] = refl
-started_configs (c ∷ cs) = ap (λ xs. c ∷ xs) (started_configs cs)
 
 -- what a script's events give
 pub world_is : (script : Lists) → gather.outcomes 0 (happenings script.configs script.pool script.events) (map started script.configs) ≡ world script

@@ -1,5 +1,5 @@
 -- What each line of a script is, where its sessions are dealt out to shards.
-use Rattle.std.specs.Prelude.{ℕ, ◌≡◌, ◌<◌, ◌≤◌, ◌+◌, ◌++◌, List, [], ◌∷◌, length, map, slice_get, slice_index_or, Option, None, Some, Result, Ok, Err}
+use Rattle.std.specs.Prelude.{ℕ, ◌≡◌, ◌<◌, ◌++◌, List, [], ◌∷◌, length, map, slice_get, slice_index_or, Option, None, Some, Result, Ok, Err}
 use Rattle.std.specs.List.{cons_option, filter_map}
 use Rattle.bfd_packet.specs.declared.arrival.Datagram.{Datagram}
 use Rattle.bfd_packet.specs.declared.discard.Test.{Test}
@@ -16,7 +16,6 @@ use Rattle.bfd_shard.specs.Shard.{CanHappen}
 use Rattle.bfd_script.specs.declared.entries.Line.{Line}
 use Rattle.bfd_script.specs.Doing.{Doing, Rests, Reflects, Happens, Passes, doing}
 use Rattle.bfd_script.specs.Reading.{Lists}
-use Rattle.bfd_script.specs.Sound.{AreConfigs, ArePool, AreApart}
 use Rattle.bfd_gather.specs.declared.queue.Numbered.{Numbered}
 use Rattle.bfd_gather.specs.Pieces.{Piece}
 use Rattle.bfd_gather.specs.Happenings.{Happening, Apart, Among, among, in_shard, numbered, queue, told_apart}
@@ -65,13 +64,6 @@ abbrev pub route_is : Route → Happening
 route_is (routes.Rests answer) = Apart (resting answer)
 route_is (routes.Answers discr datagram) = Apart (sending discr datagram)
 route_is (routes.Happens event) = Among event
-
--- sessions and reflectors that make a table, as those of a script do
-pub record IsTable (sessions : List SessionConfig) (reflectors : List Reflector) : Type 0 where
-  pub configs : AreConfigs sessions
-  pub pool : ArePool reflectors
-  pub apart : AreApart sessions reflectors
-  pub few : length sessions + length reflectors ≤ 65536
 
 -- the queues of so many shards, of all these events
 pub record AreQueues (shards : ℕ) (events : List Happening) (queues : List (List Numbered)) : Type 0 where

@@ -26,8 +26,6 @@ mod replaying;
 mod routing;
 mod running;
 mod shrinking;
-#[cfg(test)]
-mod tests;
 mod working;
 
 pub use replaying::{Outcome, Report, replay, reported};

@@ -5,7 +5,8 @@ ghost use Rattle.bfd_demux.specs.Rows.{build_fault};
 ghost use Rattle.bfd_sbfd.specs.Reflect.{Ascends as PoolAscends};
 ghost use Rattle.bfd_session.specs.Rows.{Ascends, table_of as table_in};
 ghost use Rattle.bfd_gather.specs.Happenings.{told_apart};
-ghost use Rattle.bfd_workers.specs.Planned.{IsTable, IsMet, AreQueues, IsPlanned, happenings, route_is};
+ghost use Rattle.bfd_replay.specs.Stage.{IsTable};
+ghost use Rattle.bfd_workers.specs.Planned.{IsMet, AreQueues, IsPlanned, happenings, route_is};
 
 use crate::routing::{Route, route_of};
 use crate::shrinking::next_of;
@@ -18,7 +19,7 @@ use bfd_session::{Answer, SessionConfig, table_of};
 use std::alloc::{AllocError, Global};
 
 /// The table of the sessions and the pool, which have no fault.
-#[tactic(auto, using(crate::proofs::Tables::no_fault))]
+#[tactic(auto, using(bfd_replay::proofs::Stages::no_fault))]
 pub(crate) fn table(
     alloc: Global,
     configs: &[SessionConfig],

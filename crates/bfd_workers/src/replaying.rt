@@ -4,7 +4,8 @@ ghost use Rattle.bfd_gather.specs.Happenings.{AreParts};
 ghost use Rattle.bfd_replay.specs.World.{replayed, totals};
 ghost use Rattle.bfd_script.specs.Sound.{IsScript};
 ghost use Rattle.bfd_session.specs.Step.{started};
-ghost use Rattle.bfd_workers.specs.Planned.{IsTable, happenings, script_of};
+ghost use Rattle.bfd_replay.specs.Stage.{IsTable};
+ghost use Rattle.bfd_workers.specs.Planned.{happenings, script_of};
 ghost use Rattle.bfd_workers.specs.Replayed.{HaveReplayed};
 
 use crate::counting::{up_all, up_at_last};

@@ -3,7 +3,7 @@ ghost use Rattle.std.specs.Prelude.{ℕ, ◌≡◌, ◌≤◌, ◌<◌, ◌+◌,
 ghost use Rattle.bfd_engine.specs.Engines.{configs_at};
 ghost use Rattle.bfd_engine.specs.Opening.{IsNewPass};
 ghost use Rattle.bfd_workers.specs.Ends.{AreStates, AreTold};
-ghost use Rattle.bfd_workers.specs.Planned.{IsTable};
+ghost use Rattle.bfd_replay.specs.Stage.{IsTable};
 ghost use Rattle.bfd_workers.specs.Working.{AreMet};
 
 use crate::finish::all_told;
@@ -21,7 +21,7 @@ use std::sync::Wait;
 use std::thread::Threads;
 
 /// An engine of the sessions and the pool, which make a table.
-#[tactic(auto, using(crate::proofs::Tables::no_fault, crate::proofs::Sorting::sorted))]
+#[tactic(auto, using(bfd_replay::proofs::Stages::no_fault, crate::proofs::Sorting::sorted))]
 pub(crate) fn opened<W: Timers>(
     alloc: Global,
     configs: Vec<SessionConfig>,

@@ -6,13 +6,13 @@ ghost use Rattle.bfd_session.specs.Rows.{AreFit};
 ghost use Rattle.bfd_engine.specs.Engines.{IsOf, AllThere};
 ghost use Rattle.bfd_engine.specs.Opening.{IsSorted, IsNewPass};
 
-use crate::{End, Limits, serve, timer};
 use bfd_edge::{Heard, MemLink, MemTicker, OpenGate};
 use bfd_engine::{Engine, EnginePass};
 use bfd_num::{Moment, Tick};
 use bfd_packet::Addr;
 use bfd_rules::{Config, Role};
 use bfd_script::Line;
+use bfd_serve::{End, Limits, serve, timer};
 use bfd_session::SessionConfig;
 use bfd_shard::{Entry, ShardEvent};
 use bfd_wheel::PlainTimers;

@@ -1,5 +1,5 @@
 -- The table of a script has no fault.
-use Rattle.std.proofs.Common.{◌==◌, ◌||◌, ◌<◌, Bool, true, false, None, ◌≡◌, List, [], ◌∷◌, refl}
+use Rattle.std.proofs.Common.{◌==◌, ◌||◌, ◌<◌, ◌≤◌, ◌+◌, Bool, true, false, None, ◌≡◌, List, [], ◌∷◌, length, refl}
 use Rattle.std.specs.List.{AllByRecursion}
 use Rattle.bfd_sbfd.specs.declared.reflecting.Reflector.{Reflector}
 use Rattle.bfd_session.specs.declared.event.SessionConfig.{SessionConfig}
@@ -8,8 +8,7 @@ use Rattle.bfd_session.specs.Rows.{table_of}
 use Rattle.bfd_session.proofs.Tables.{IsElsewhere, no_fault_with}
 use Rattle.bfd_demux.specs.Rows.{build_fault}
 use Rattle.bfd_script.specs.Rows.{has_discr}
-use Rattle.bfd_script.specs.Sound.{AreApart, IsReflector}
-use Rattle.bfd_workers.specs.Planned.{IsTable}
+use Rattle.bfd_script.specs.Sound.{AreApart, AreConfigs, ArePool, IsReflector}
 
 -- no reflector has a session's discriminator, told for the sessions
 
@@ -33,8 +32,8 @@ some_discrs : (pool : List Reflector) → AllByRecursion IsReflector pool → Al
 some_discrs [] rows = tt
 some_discrs (r ∷ pool) rows = (rows.0.discr, some_discrs pool rows.1)
 
--- the table of a script has no fault
-pub no_fault : (configs : List SessionConfig) (pool : List Reflector) → IsTable configs pool → build_fault (table_of configs pool) ≡ None
-no_fault configs pool are =
-    no_fault_with configs pool are.configs.ascends are.configs.differs are.configs.fit are.pool.ascends
-    (some_discrs pool are.pool.rows) (elsewhere configs pool are.apart) are.few
+-- the table of a script's sessions and reflectors has no fault
+pub no_fault : (configs : List SessionConfig) (pool : List Reflector) → AreConfigs configs → ArePool pool → AreApart configs pool
+    → length configs + length pool ≤ 65536 → build_fault (table_of configs pool) ≡ None
+no_fault configs pool sound climbs apart few =
+    no_fault_with configs pool sound.ascends sound.differs sound.fit climbs.ascends (some_discrs pool climbs.rows) (elsewhere configs pool apart) few

@@ -1,0 +1,58 @@
+-- What was put out before an event's rules: it stays in front of what they put out, and what is true of each output stays true.
+use Rattle.std.proofs.Common.{◌≡◌, ◌++◌, ℕ, Bool, true, false, List, [], ◌∷◌, refl, append_assoc, append-nil, sym, subst, if◌then◌else◌}
+use Rattle.std.specs.List.{AllByRecursion}
+use Rattle.bfd_packet.specs.declared.arrival.Datagram.{Datagram}
+use Rattle.bfd_packet.specs.declared.control.State.{State}
+use Rattle.bfd_rules.specs.declared.outputs.Out.{Out}
+use Rattle.bfd_rules.specs.declared.outputs.Out.TheVariants.{Changed, Sent}
+use Rattle.bfd_rules.specs.declared.variables.Vars.{Vars}
+use Rattle.bfd_rules.specs.Quantities.{same_state}
+use Rattle.bfd_rules.specs.EventFrame.{Course, changes, sends}
+
+-- the course with these outputs in front
+abbrev pub after : List Out → Course → Course
+after os s = record s { outs = os ++ s.outs }
+
+-- a choice between two courses
+pub either : (os : List Out) (b : Bool) (x y x' y' : Course) → x' ≡ after os x → y' ≡ after os y
+    → (if b then x' else y') ≡ after os (if b then x else y)
+either os true x y x' y' hx hy = hx
+either os false x y x' y' hx hy = hy
+
+-- a change of state is told behind what was put out before
+pub changes-after : (discr : ℕ) (v : Vars) (os : List Out) (s : Course) → changes discr v (after os s) ≡ after os (changes discr v s)
+unfolding changes
+changes-after discr v os s = rw append_assoc refl
+
+-- a datagram is sent behind what was put out before
+pub sends-after : (discr : ℕ) (datagram : Datagram) (os : List Out) (s : Course) → sends discr datagram (after os s) ≡ after os (sends discr datagram s)
+unfolding sends
+sends-after discr datagram os s = rw append_assoc refl
+
+-- true of each output that names the discriminator
+pub record OfOwn (discr : ℕ) (P : Out → Type 0) : Type 0 where
+  pub of_changes : (old new : State) (diag : ℕ) → P (Changed discr old new diag)
+  pub of_packets : (datagram : Datagram) → P (Sent discr datagram)
+
+one_more : (P : Out → Type 0) (os : List Out) (o : Out) → AllByRecursion P os → P o → AllByRecursion P (os ++ o ∷ [])
+one_more P [] o h own = (own, tt)
+one_more P (x ∷ os) o h own = (h.0, one_more P os o h.1 own)
+
+told_by : (P : Out → Type 0) (os : List Out) (o : Out) (same : Bool) → AllByRecursion P os → P o → AllByRecursion P (os ++ (if same then [] else o ∷ []))
+told_by P os o true h own = subst (λ l. AllByRecursion P l) (sym (append-nil os)) h
+told_by P os o false h own = one_more P os o h own
+
+-- what is true of each output of both courses is true of those of the one that is chosen
+pub chosen_names : (P : Out → Type 0) (b : Bool) (x y : Course) → AllByRecursion P x.outs → AllByRecursion P y.outs → AllByRecursion P (if b then x else y).outs
+chosen_names P true x y hx hy = hx
+chosen_names P false x y hx hy = hy
+
+-- a change of state names the discriminator, where anything is told of it
+pub changes_names : (discr : ℕ) (P : Out → Type 0) (v : Vars) (s : Course) → OfOwn discr P → AllByRecursion P s.outs → AllByRecursion P (changes discr v s).outs
+unfolding changes
+changes_names discr P v s own h = told_by P s.outs _ (same_state s.vars.state v.state) h (own.of_changes s.vars.state v.state v.diag)
+
+-- a datagram names the discriminator
+pub sends_names : (discr : ℕ) (P : Out → Type 0) (datagram : Datagram) (s : Course) → OfOwn discr P → AllByRecursion P s.outs → AllByRecursion P (sends discr datagram s).outs
+unfolding sends
+sends_names discr P datagram s own h = one_more P s.outs _ h (own.of_packets datagram)

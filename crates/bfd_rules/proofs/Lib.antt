@@ -1,0 +1,4 @@
+pub mod Still
+pub mod Drawing
+pub mod Courses
+pub mod Heard
