@@ -1,5 +1,10 @@
 -- What links and ports over UDP keep.
 use Rattle.std.specs.Prelude.{◌≡◌, ℕ, ◌+◌, nat_le, ⊤, Bool, true, Option, None, Some, List}
+use Rattle.std.specs.declared.net.socket_addr.SocketAddrV4.{SocketAddrV4}
+use Rattle.std.specs.Net.Addr.{IsIpv4OfBits, ipv4_bits}
+use Rattle.std.specs.Net.Socket.{v4_ip, v4_port}
+use Rattle.bfd_packet.specs.declared.arrival.Arrival.{Arrival}
+use Rattle.bfd_packet.specs.declared.arrival.Datagram.{Datagram}
 use Rattle.bfd_packet.specs.declared.arrival.Addr.TheVariants.{V4}
 use Rattle.bfd_packet.specs.declared.arrival.Port.{Port}
 use Rattle.bfd_edge.specs.declared.link.LinkCounts.{LinkCounts}
@@ -43,6 +48,25 @@ abbrev pub CameTo : Option (Port × ℕ) → Received → Type 0
 CameTo (Some (port, address)) (Got moment arrival) =
     (arrival.port ≡ port) × (arrival.dst ≡ V4 address) × (arrival.iface ≡ 1) × (arrival.ttl ≡ 255)
 CameTo hears received = ⊤
+
+-- a packet with this payload that came from there, to this port and address
+abbrev pub arrival_from : SocketAddrV4 → Port → ℕ → List ℕ → Arrival
+arrival_from from port address payload = record {
+  src = V4 (ipv4_bits (v4_ip from));
+  dst = V4 address;
+  payload = payload;
+  iface = 1;
+  sport = v4_port from;
+  ttl = 255;
+  port = port;
+}
+
+-- where a datagram goes: its destination address and port
+pub record IsTo (datagram : Datagram) (to : SocketAddrV4) : Type 0 where
+  pub address : ℕ
+  pub dst : datagram.dst ≡ V4 address
+  pub ip : IsIpv4OfBits (v4_ip to) address
+  pub port : v4_port to ≡ datagram.dport
 
 -- ports over UDP
 pub record UdpPortsHeld : Type 0 where

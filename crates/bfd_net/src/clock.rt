@@ -1,4 +1,8 @@
 // The machine's clock.
+ghost use Rattle.std.specs.Prelude.{◌≡◌, ◌-◌, ◌%◌, ◌<◌, ◌≤◌, MatchOption};
+ghost use Rattle.std.specs.Duration.{as_nanos};
+ghost use Rattle.bfd_num.specs.Numbers.{greatest_tick, moment_bound};
+ghost use Rattle.bfd_net.specs.Clocks.{micros_between, millis_between, nanos_between};
 
 use bfd_num::{Moment, Tick};
 use std::thread;
@@ -6,6 +10,30 @@ use std::time::{Clock, Duration, Instant};
 
 /// Nanoseconds in a millisecond.
 const MILLISECOND: u32 = 1_000_000;
+
+/// The microseconds from one reading of the clock to a later one: None exactly where they are no moment.
+fn moment_between(made: Instant, read: Instant) -> Option<Moment>
+    ensures { MatchOption result (moment_bound ≤ micros_between made read) (λ m. m ≡ micros_between made read) }
+{
+    let micros = read.duration_since(made).as_micros();
+    Moment::new(u64::try_from(micros).ok()?)
+}
+
+/// The milliseconds from one reading of the clock to a later one: None exactly where they are no tick.
+fn tick_between(made: Instant, read: Instant) -> Option<Tick>
+    ensures { MatchOption result (greatest_tick < millis_between made read) (λ t. t ≡ millis_between made read) }
+{
+    let millis = read.duration_since(made).as_millis();
+    Tick::new(u64::try_from(millis).ok()?)
+}
+
+/// How long it is from a reading of the clock to the next whole millisecond since an earlier one.
+fn rest_of_millisecond(made: Instant, read: Instant) -> Duration
+    ensures { as_nanos result ≡ 1000000 - nanos_between made read % 1000000 }
+{
+    let past = read.duration_since(made).subsec_nanos() % MILLISECOND;
+    Duration::from_nanos(u64::from(MILLISECOND - past))
+}
 
 /// The machine's clock, from the moment at which this was made. Where the clock couldn't be read then, it can't be read later.
 #[derive(Clone, Copy)]
@@ -20,24 +48,20 @@ impl<R: Clock> SinceMade<R> {
         SinceMade { rt, made }
     }
 
-    fn elapsed(&self) -> Option<Duration> {
-        self.made?.elapsed(&self.rt).ok()
+    /// A reading of the clock. None where it can't be read.
+    fn read(&self) -> Option<Instant> {
+        Instant::now(&self.rt).ok()
     }
 
     /// The microseconds since then. None where the clock can't be read.
     pub(crate) fn moment(&self) -> Option<Moment> {
-        let micros = u64::try_from(self.elapsed()?.as_micros()).ok()?;
-        Moment::new(micros)
+        moment_between(self.made?, self.read()?)
     }
 
     /// Waits for the next millisecond, and answers the milliseconds since then. None where the clock can't be read.
     pub(crate) fn next_tick(&self) -> Option<Tick> {
-        let past = self.elapsed()?.subsec_nanos() % MILLISECOND;
-        thread::sleep(
-            &self.rt,
-            Duration::from_nanos(u64::from(MILLISECOND - past)),
-        );
-        let millis = u64::try_from(self.elapsed()?.as_millis()).ok()?;
-        Tick::new(millis)
+        let made = self.made?;
+        thread::sleep(&self.rt, rest_of_millisecond(made, self.read()?));
+        tick_between(made, self.read()?)
     }
 }

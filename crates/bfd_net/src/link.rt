@@ -1,8 +1,8 @@
 // A link over a UDP socket.
-ghost use Rattle.std.specs.Prelude.{◌≡◌, ◌≢◌, ◌↔◌, ◌<◌, ◌≤◌, ◌-◌, ◌^◌, false, true, length, Some, IfOk, Err};
+ghost use Rattle.std.specs.Prelude.{◌≡◌, ◌≢◌, ◌↔◌, ◌<◌, ◌≤◌, ◌-◌, ◌^◌, false, true, length, Some, is_some, IfOk, IfSome, Err};
 ghost use Rattle.bfd_edge.specs.Links.{after_receive, after_send, no_counts};
 ghost use Rattle.bfd_net.specs.Hearing.{is_local_addr};
-ghost use Rattle.bfd_net.specs.Sockets.{link_told, is_done, quiets_after, CameTo};
+ghost use Rattle.bfd_net.specs.Sockets.{arrival_from, link_told, is_done, quiets_after, CameTo, IsTo};
 
 use crate::clock::SinceMade;
 use crate::hearing::is_local;
@@ -90,6 +90,21 @@ fn listen(socket: &UdpSocket, buf: &mut [u8]) -> io::Result<(usize, SocketAddr)>
     socket.recv_from(buf)
 }
 
+/// A packet that came from there to this port and address.
+fn came(from: &SocketAddrV4, port: Port, address: u32, payload: Payload) -> Arrival
+    ensures { result ≡ arrival_from from.now port address payload }
+{
+    Arrival {
+        port,
+        iface: 1,
+        src: Addr::V4(from.ip().to_bits()),
+        sport: from.port(),
+        dst: Addr::V4(address),
+        ttl: 255,
+        payload,
+    }
+}
+
 /// Waits for a packet to this port and address.
 fn hear<R: Clock>(
     socket: &UdpSocket,
@@ -118,18 +133,25 @@ fn hear<R: Clock>(
     match Payload::keep(alloc, &buf[..count]) {
         Ok(payload) => Received::Got {
             moment,
-            arrival: Arrival {
-                port,
-                iface: 1,
-                src: Addr::V4(from.ip().to_bits()),
-                sport: from.port(),
-                dst: Addr::V4(address),
-                ttl: 255,
-                payload,
-            },
+            arrival: came(&from, port, address, payload),
         },
         Err(_) => Received::Memory,
     }
+}
+
+/// Where a packet goes: None exactly where that isn't one of this machine's own addresses.
+fn destination(datagram: &Datagram) -> Option<SocketAddrV4>
+    ensures to { IfSome result (IsTo datagram.now) }
+    ensures local { is_some result ≡ is_local_addr datagram.now.dst }
+{
+    if !is_local(&datagram.dst) {
+        return None;
+    }
+    let Addr::V4(address) = datagram.dst else {
+        return None;
+    };
+    let ip = Ipv4Addr::from_bits(address);
+    Some(SocketAddrV4::new(ip, datagram.dport))
 }
 
 /// Sends a packet to one of this machine's own addresses.
@@ -137,13 +159,9 @@ fn put(socket: &UdpSocket, datagram: &Datagram) -> Result<(), Fault>
     ensures local { is_local_addr datagram.now.dst ≡ false → result ≡ Err Fault.Failed }
     ensures no_memory_taken { result ≢ Err Fault.Memory }
 {
-    if !is_local(&datagram.dst) {
-        return Err(Fault::Failed);
-    }
-    let Addr::V4(address) = datagram.dst else {
+    let Some(to) = destination(datagram) else {
         return Err(Fault::Failed);
     };
-    let to = SocketAddrV4::new(Ipv4Addr::from_bits(address), datagram.dport);
     let bytes = datagram.bytes.as_slice();
     match socket.send_to(bytes, to) {
         Ok(count) if count == bytes.len() => Ok(()),

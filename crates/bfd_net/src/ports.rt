@@ -1,5 +1,5 @@
 // Ports over UDP.
-ghost use Rattle.std.specs.Prelude.{◌≡◌, [], false, true, IfOk, IfSome};
+ghost use Rattle.std.specs.Prelude.{◌≡◌, ◌<◌, [], false, true, IfOk, IfSome, IsErrOf, IsNone};
 ghost use Rattle.bfd_edge.specs.Links.{IsNewLink, no_counts};
 ghost use Rattle.bfd_edge.specs.Ports.{after_open, after_shut};
 ghost use Rattle.bfd_net.specs.Hearing.{hears_of};
@@ -90,7 +90,8 @@ fn socket_of(net: &impl Net, hears: Option<(Port, u32)>) -> io::Result<UdpSocket
 impl<R: Net + Clock + Copy> UdpPorts<R> {
     /// The link of this number over a socket of its own.
     fn link(&self, number: u32) -> Option<UdpLink<R>>
-        ensures { IfSome result (λ link. link ≡ record { hears = hears_of number; quiets = 0; counts = no_counts }) }
+        ensures made { IfSome result (λ link. link ≡ record { hears = hears_of number; quiets = 0; counts = no_counts }) }
+        ensures above { 1275 < number → IsNone result }
     {
         if number > LAST_LINK {
             return None;
@@ -113,6 +114,7 @@ impl<R: Net + Clock + Copy> Ports for UdpPorts<R> {
         ensures link { IfOk result (λ link. IsNewLink (link_told link)) }
         ensures after { ports_told_of self.new ≡ after_open number result (ports_told_of self.old) }
         ensures hears { IfOk result (λ link. (link.hears ≡ hears_of number) × (link.quiets ≡ 0)) }
+        ensures above { 1275 < number → IsErrOf result Fault.Failed }
     {
         let Some(link) = self.link(number) else {
             self.faults = self.faults.saturating_add(1);

@@ -1,5 +1,5 @@
 -- What a worker and a timer did.
-use Rattle.std.specs.Prelude.{◌≡◌, ℕ, ◌+◌, ◌*◌, ◌<◌, ◌≤◌, true, false, List, [], ◌∷◌, ◌++◌, length, Result, Ok, Err}
+use Rattle.std.specs.Prelude.{◌≡◌, ℕ, ◌+◌, ◌*◌, ◌^◌, ◌<◌, ◌≤◌, true, false, List, [], ◌∷◌, ◌++◌, length, Result, Ok, Err}
 use Rattle.bfd_packet.specs.declared.arrival.Arrival.{Arrival}
 use Rattle.bfd_packet.specs.declared.arrival.Datagram.{Datagram}
 use Rattle.bfd_session.specs.declared.event.Answer.{Answer}
@@ -113,6 +113,12 @@ AreDone engine acts k l t u lost after (Err end) = IsStopped engine acts k l t u
 pub record HasRoom (engine : Shards) (room : ℕ) : Type 0 where
   pub five : 5 ≤ room
   pub each : (shard : ℕ) → shard < length engine.locks → 5 * length (configs_at engine shard) ≤ room
+
+-- a shard has so many sessions that room for five outputs of each can't be counted in 64 bits
+pub record IsTooWide (engine : Shards) : Type 0 where
+  pub shard : ℕ
+  pub there : shard < length engine.locks
+  pub wide : 2 ^ 64 ≤ 5 * length (configs_at engine shard)
 
 -- why a worker ended, and what is left out of its acts and its sends
 abbrev pub IsWorkerEnd : Shards → (ℕ → List Entry) → (ℕ → ℕ) → LinkTold → LinkTold → ℕ → List Act → List Datagram → End → Type 0

@@ -1,9 +1,9 @@
 //! The timer: one thread's loop over its ticker.
-ghost use Rattle.std.specs.Prelude.{◌≡◌, ◌<◌, ◌≤◌, ◌*◌, false, length, IfSome};
+ghost use Rattle.std.specs.Prelude.{◌≡◌, ◌<◌, ◌≤◌, ◌*◌, false, length, IfNone, IfSome};
 ghost use Rattle.bfd_engine.specs.Engines.{IsOf, AllThere, configs_at};
 ghost use Rattle.bfd_serve.specs.Orders as todo;
 ghost use Rattle.bfd_serve.specs.Orders.{due, advances, orders_acts, tick_acts};
-ghost use Rattle.bfd_serve.specs.Works.{AreDone, HasRoom};
+ghost use Rattle.bfd_serve.specs.Works.{AreDone, HasRoom, IsTooWide};
 ghost use Rattle.bfd_serve.specs.Ticks.{HasTimed, IsFinished};
 
 use crate::calling::{advance, give};
@@ -146,9 +146,10 @@ fn finish<W: Timers, L: Link, R: Wait>(
     }
 }
 
-/// Room for the outputs of any one call of the engine, if so much can be asked for.
+/// Room for the outputs of any one call of the engine, if so much can be asked for: for five outputs of each session of any shard.
 fn room_of<W: Timers>(engine: &Engine<W>) -> Option<usize>
-    ensures { IfSome result (λ room. HasRoom engine.now room) }
+    ensures room { IfSome result (λ room. HasRoom engine.now room) }
+    ensures none { IfNone result (IsTooWide engine.now) }
 {
     let mut most = 1;
     for shard in 0..engine.shards() {

@@ -1,6 +1,7 @@
 //! How a run ends.
-ghost use Rattle.std.specs.Prelude.{◌≡◌, ◌≤◌, length, IfOk};
+ghost use Rattle.std.specs.Prelude.{◌≡◌, ◌≤◌, ℕ, Some, length, slice_get, IfOk, OnErr};
 ghost use Rattle.std.specs.List.{All};
+ghost use Rattle.bfd_serve.specs.declared.ending.End.TheVariants.{Memory as OutOfMemory};
 ghost use Rattle.bfd_serving.specs.Finishes.{finish_from, IsPlain, IsUnspent};
 
 use bfd_edge::Fault;
@@ -46,12 +47,14 @@ pub(crate) fn refused_by(fault: Fault) -> Refused
     }
 }
 
-/// The finish that these ends bring, of the timer first and then of each worker. An end for want of memory brings none.
+/// The finish that these ends bring, of the timer first and then of each worker. It's refused only where one of them is for want
+/// of memory, which brings none.
 pub(crate) fn finish_of(ends: &[End]) -> Result<Finish, AllocError>
     requires unspent { All IsUnspent ends.now }
     requires few { length ends.now ≤ 65 }
     ensures value { IfOk result (λ finish. finish ≡ finish_from 0 ends.now) }
     ensures plain { IfOk result (λ finish. All IsPlain ends.now) }
+    ensures wanting { OnErr result ((number : ℕ) × (slice_get ends.now number ≡ Some OutOfMemory)) }
 {
     let mut finish = Finish::Done;
     let mut left = ends.len();
