@@ -1,63 +1,110 @@
 // The report lines of one event.
-ghost use Rattle.std.specs.Prelude.{◌≡◌, ◌≤◌, ◌++◌, ◌∷◌, [], IfOk, OnErr, OnOk, codes, decimal, length, string_bytes};
+ghost use Rattle.arrayvec.specs.ArrayVec.{array_vec_len};
+ghost use Rattle.std.specs.Prelude.{◌≡◌, ◌≤◌, ◌+◌, ◌++◌, ◌∷◌, [], IfOk, OnErr, OnOk, codes, decimal, length, string_bytes, take};
 ghost use Rattle.std.specs.List.{flat_map};
 ghost use Rattle.bfd_script.specs.Report.{answer_line, event_lines, item_line};
-ghost use Rattle.bfd_script.specs.Spelling.{hex_field, line};
+ghost use Rattle.bfd_script.specs.Spelling.{hex_field, line, state_name};
 
 use crate::names::{refusal_name, state_name};
-use bfd_packet::Test;
+use arrayvec::ArrayVec;
+use bfd_packet::{State, Test};
 use bfd_rules::{Out, Refusal};
 use bfd_session::{Answer, Shown};
 use itoa::Buffer;
 use std::alloc::{AllocError, Global};
 use std::fmt::Write;
 
-/// Room for the lines of most events.
-const USUAL_ROOM: usize = 256;
+/// The most bytes of the line of an output.
+const MOST_OF_LINE: usize = 160;
 
 /// The digits of the most bytes that are sent in one packet.
 const MOST_DIGITS: usize = 104;
 
-/// Appends a number.
-fn push_number(n: u64, text: &mut Vec<u8>) -> Result<(), AllocError>
-    ensures { OnOk result (text.new.items ≡ text.old.items ++ decimal n) }
+/// The line of an output, while it is put together.
+type Draft = ArrayVec<u8, MOST_OF_LINE>;
+
+/// Puts a word behind what the line has.
+fn put(line: &mut Draft, word: &[u8])
+    requires { array_vec_len line.old + length word.now ≤ 160 }
+    ensures text { line.new.items ≡ line.old.items ++ word.now }
+    ensures long { array_vec_len line.new ≡ array_vec_len line.old + length word.now }
 {
-    let mut digits = Buffer::new();
-    text.extend_from_slice(digits.format(n).as_bytes())
+    line.try_extend_from_slice(word).unwrap();
 }
 
-/// Appends bytes as hexadecimal digits in lower case, and `-` where there are none.
-fn push_hex(bytes: &[u8], text: &mut Vec<u8>) -> Result<(), AllocError>
-    requires { length bytes.now ≤ 52 }
-    ensures { OnOk result (text.new.items ≡ text.old.items ++ hex_field bytes.now) }
+/// Puts a number.
+fn put_number(line: &mut Draft, n: u64)
+    requires { array_vec_len line.old + 20 ≤ 160 }
+    ensures text { line.new.items ≡ line.old.items ++ decimal n }
+    ensures long { array_vec_len line.new ≤ array_vec_len line.old + 20 }
+{
+    let mut digits = Buffer::new();
+    put(line, digits.format(n).as_bytes());
+}
+
+/// Puts bytes as hexadecimal digits in lower case, and `-` where there are none.
+fn put_hex(line: &mut Draft, bytes: &[u8])
+    requires few { length bytes.now ≤ 52 }
+    requires room { array_vec_len line.old + 104 ≤ 160 }
+    ensures text { line.new.items ≡ line.old.items ++ hex_field bytes.now }
+    ensures long { array_vec_len line.new ≤ array_vec_len line.old + 104 }
 {
     if bytes.is_empty() {
-        return text.extend_from_slice(b"-");
+        return put(line, b"-");
     }
     let mut room = [0; MOST_DIGITS];
     let digits = &mut room[..2 * bytes.len()];
     match hex::encode_to_slice(bytes, digits) {
-        Ok(()) => text.extend_from_slice(digits),
+        Ok(()) => put(line, digits),
         Err(_) => unreachable!(),
     }
 }
 
-/// Appends the line of a packet that was sent.
-fn push_sent(number: u64, discr: u32, bytes: &[u8], text: &mut Vec<u8>) -> Result<(), AllocError>
-    requires { length bytes.now ≤ 52 }
-    ensures { OnOk result (text.new.items ≡ text.old.items ++ line (decimal number ∷ codes "tx" ∷ decimal discr ∷ hex_field bytes.now ∷ [])) }
+/// Puts the names of two states, with a space before each and one behind.
+fn put_states(line: &mut Draft, old: State, new: State)
+    requires { array_vec_len line.old + 21 ≤ 160 }
+    ensures text { line.new.items ≡ line.old.items ++ 32 ∷ (state_name old ++ 32 ∷ (state_name new ++ 32 ∷ [])) }
+    ensures long { array_vec_len line.new ≤ array_vec_len line.old + 21 }
 {
-    push_number(number, text)?;
-    text.extend_from_slice(b" tx ")?;
-    push_number(discr as u64, text)?;
-    text.extend_from_slice(b" ")?;
-    push_hex(bytes, text)?;
-    text.extend_from_slice(b"\n")
+    put(line, b" ");
+    put(line, state_name(old).as_bytes());
+    put(line, b" ");
+    put(line, state_name(new).as_bytes());
+    put(line, b" ");
 }
 
-/// Appends the line of one output.
-fn push_item(number: u64, out: &Out, text: &mut Vec<u8>) -> Result<(), AllocError>
-    ensures { OnOk result (text.new.items ≡ text.old.items ++ item_line number out.now) }
+/// The line of a packet that was sent.
+fn sent_line(number: u64, discr: u32, bytes: &[u8]) -> Draft
+    requires { length bytes.now ≤ 52 }
+    ensures { result.items ≡ line (decimal number ∷ codes "tx" ∷ decimal discr ∷ hex_field bytes.now ∷ []) }
+{
+    let mut line = Draft::new();
+    put_number(&mut line, number);
+    put(&mut line, b" tx ");
+    put_number(&mut line, discr as u64);
+    put(&mut line, b" ");
+    put_hex(&mut line, bytes);
+    put(&mut line, b"\n");
+    line
+}
+
+/// The line of a change of state.
+fn changed_line(number: u64, discr: u32, old: State, new: State, diag: u8) -> Draft
+    ensures { result.items ≡ line (decimal number ∷ codes "state" ∷ decimal discr ∷ state_name old ∷ state_name new ∷ decimal diag ∷ []) }
+{
+    let mut line = Draft::new();
+    put_number(&mut line, number);
+    put(&mut line, b" state ");
+    put_number(&mut line, discr as u64);
+    put_states(&mut line, old, new);
+    put_number(&mut line, diag as u64);
+    put(&mut line, b"\n");
+    line
+}
+
+/// The line of one output.
+fn line_of(number: u64, out: &Out) -> Draft
+    ensures { result.items ≡ item_line number out.now }
 {
     match out {
         Out::Changed {
@@ -65,24 +112,18 @@ fn push_item(number: u64, out: &Out, text: &mut Vec<u8>) -> Result<(), AllocErro
             old,
             new,
             diag,
-        } => {
-            let old = state_name(*old);
-            let new = state_name(*new);
-            let line = format!(in *text.allocator();
-                "{number} state {discr} {old} {new} {diag}\n"
-            )?;
-            text.extend_from_slice(line.as_bytes())
-        }
-        Out::Sent { discr, datagram } => push_sent(number, *discr, datagram.bytes.as_slice(), text),
+        } => changed_line(number, *discr, *old, *new, *diag),
+        Out::Sent { discr, datagram } => sent_line(number, *discr, datagram.bytes.as_slice()),
     }
 }
 
-/// Appends the lines of the outputs.
+/// Appends the lines of the outputs, or some of them.
 fn push_items(number: u64, outs: &[Out], text: &mut Vec<u8>) -> Result<(), AllocError>
-    ensures { OnOk result (text.new.items ≡ text.old.items ++ flat_map (item_line number) outs.now) }
+    ensures all { OnOk result (text.new.items ≡ text.old.items ++ flat_map (item_line number) outs.now) }
+    ensures front { OnErr result (take (length text.old.items) text.new.items ≡ text.old.items) }
 {
     for out in outs {
-        push_item(number, out, text)?;
+        text.extend_from_slice(line_of(number, out).as_slice())?;
     }
     Ok(())
 }
@@ -121,23 +162,26 @@ fn refused_text(alloc: Global, number: u64, refusal: Refusal) -> Result<String, 
     format!(in alloc; "{number} refuse {refusal}\n")
 }
 
-/// Appends the line of a packet that was dropped.
-fn push_dropped(number: u64, test: Test, text: &mut Vec<u8>) -> Result<(), AllocError>
-    ensures { OnOk result (text.new.items ≡ text.old.items ++ answer_line number (Answer.Dropped test)) }
+/// The line of a packet that was dropped.
+fn dropped_line(number: u64, test: Test) -> Draft
+    ensures { result.items ≡ answer_line number (Answer.Dropped test) }
 {
-    push_number(number, text)?;
-    text.extend_from_slice(b" drop ")?;
-    text.extend_from_slice(test.name().as_bytes())?;
-    text.extend_from_slice(b"\n")
+    let mut line = Draft::new();
+    put_number(&mut line, number);
+    put(&mut line, b" drop ");
+    put(&mut line, test.name().as_bytes());
+    put(&mut line, b"\n");
+    line
 }
 
 /// Appends the line of an answer, where it has one.
 fn push_answer(number: u64, answer: &Answer, text: &mut Vec<u8>) -> Result<(), AllocError>
-    ensures { OnOk result (text.new.items ≡ text.old.items ++ answer_line number answer.now) }
+    ensures all { OnOk result (text.new.items ≡ text.old.items ++ answer_line number answer.now) }
+    ensures same { OnErr result (text.new.items ≡ text.old.items) }
 {
     match answer {
         Answer::Handled | Answer::Ticked => Ok(()),
-        Answer::Dropped(test) => push_dropped(number, *test, text),
+        Answer::Dropped(test) => text.extend_from_slice(dropped_line(number, *test).as_slice()),
         Answer::Refused(refusal) => {
             let line = refused_text(*text.allocator(), number, *refusal)?;
             text.extend_from_slice(line.as_bytes())
@@ -149,20 +193,18 @@ fn push_answer(number: u64, answer: &Answer, text: &mut Vec<u8>) -> Result<(), A
     }
 }
 
-/// The lines of one event. Room for them is made once, where they are few.
-fn event_text(
-    alloc: Global,
+/// Appends the lines of one event, or some of them.
+fn push_event(
     number: u64,
     outs: &[Out],
     answer: &Answer,
-) -> Result<Vec<u8>, AllocError>
-    ensures { IfOk result (λ text. text.items ≡ event_lines number (record { items = outs.now; answer = answer.now })) }
+    text: &mut Vec<u8>,
+) -> Result<(), AllocError>
+    ensures all { OnOk result (text.new.items ≡ text.old.items ++ event_lines number (record { items = outs.now; answer = answer.now })) }
+    ensures front { OnErr result (take (length text.old.items) text.new.items ≡ text.old.items) }
 {
-    let room = if outs.is_empty() { 0 } else { USUAL_ROOM };
-    let mut text = Vec::with_capacity(alloc, room)?;
-    push_items(number, outs, &mut text)?;
-    push_answer(number, answer, &mut text)?;
-    Ok(text)
+    push_items(number, outs, text)?;
+    push_answer(number, answer, text)
 }
 
 /// Appends the report lines of the event of this number: a line `state` or `tx` for each output, in their order, and
@@ -177,6 +219,12 @@ pub fn lines(
     ensures all { OnOk result (text.new.items ≡ text.old.items ++ event_lines number (record { items = outs.now; answer = answer.now })) }
     ensures kept { OnErr result (text.new.items ≡ text.old.items) }
 {
-    let piece = event_text(*text.allocator(), number, outs, answer)?;
-    text.extend_from_slice(&piece)
+    let before = text.len();
+    match push_event(number, outs, answer, text) {
+        Ok(()) => Ok(()),
+        Err(error) => {
+            text.truncate(before);
+            Err(error)
+        }
+    }
 }

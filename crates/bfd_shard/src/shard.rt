@@ -25,6 +25,10 @@ use std::alloc::{AllocError, Global};
 use std::marker::Model;
 use std::sync::ledger::Ledger;
 
+/// For how many entries room is made at the making of a shard, where its journal takes so many: a journal that grows by and by
+/// is moved again and again, and leaves holes.
+const MOST_AT_ONCE: usize = 200_000;
+
 /// Sessions by place, with their timers, the last tick, and the journal of their events.
 #[derive(Drop)]
 pub struct ShardState<W: Timers> {
@@ -133,11 +137,12 @@ impl<W: Timers> ShardState<W> {
         let sessions = sessions_of(alloc, configs)?;
         let timers = timers_of(alloc, &sessions)?;
         let ids = Ids::make(alloc, sessions.len())?;
+        let journal = Vec::with_capacity(alloc, limit.min(MOST_AT_ONCE))?;
         Ok(ShardState {
             sessions,
             timers,
             last: 0,
-            journal: Vec::new(alloc),
+            journal,
             limit,
             ids,
         })

@@ -8,9 +8,9 @@ use Rattle.bfd_shard.proofs.shard.ShardState.make.Goals as goal
 
 pub invariant_of-result : goal.invariant_of-result
 invariant_of-result g c =
-    shard_made c.args.configs.items c.in_ok-sessions.sessions.items c.args.limit (vec_capacity c.new.result - vec_len c.new.result) c.new.result.items
+    shard_made c.args.configs.items c.in_ok-sessions.sessions.items c.args.limit (vec_capacity c.in_ok-journal.journal - vec_len c.in_ok-journal.journal) c.in_ok-journal.journal.items
     (g.W.Timers.dues c.in_ok-timers.timers) c.in_ok-ids.ids c.requires.few c.in_ok-sessions.ensures.sessions c.in_ok-sessions.ensures.sound
-    c.new.ensures.items (c.in_ok-timers.ensures ∙ ap (map due) c.deref.ensures.value)
+    c.in_ok-journal.ensures.items (c.in_ok-timers.ensures ∙ ap (map due) c.deref.ensures.value)
     (omega (arith, ap room_of c.in_ok-ids.ensures, c.len.ensures))
 
 pub returns-clause-kept : goal.returns-clause-kept
