@@ -1,16 +1,16 @@
--- Printable bytes are ASCII, so they are text.
+-- Digits are ASCII, so they are text.
 use Rattle.std.proofs.Common.{◌≡◌, ℕ, ◌<◌, true, List, [], ◌∷◌, arith, suc, zero}
 use Rattle.std.proofs.lemmas.Bool.Decides.{nat_tests}
 use Rattle.std.specs.Prelude.{slice_index}
+use Rattle.std.specs.Char.{is_ascii_digit}
 use Rattle.std.specs.List.{list_all}
 use Rattle.std.specs.Str.{IsUtf8}
 use Rattle.std.proofs.lemmas.Str.{IsUtf8-from_ascii}
-use Rattle.bfd_script.specs.Fields.{is_printable}
 
-pub printable_at : (line : List ℕ) → list_all is_printable line ≡ true → (i : ℕ) → slice_index line i < 128
-printable_at [] all i = omega arith
-printable_at (byte ∷ line) all zero = grind (arith, nat_tests)
-printable_at (byte ∷ line) all (suc i) = printable_at line (grind (arith, nat_tests)) i
+digits_at : (field : List ℕ) → list_all is_ascii_digit field ≡ true → (i : ℕ) → slice_index field i < 128
+digits_at [] all i = omega arith
+digits_at (byte ∷ field) all zero = grind (arith, nat_tests)
+digits_at (byte ∷ field) all (suc i) = digits_at field (grind (arith, nat_tests)) i
 
-pub printable_is_utf8 : (line : List ℕ) → list_all is_printable line ≡ true → IsUtf8 line
-printable_is_utf8 line all = IsUtf8-from_ascii line (printable_at line all)
+pub digits_are_utf8 : (field : List ℕ) → list_all is_ascii_digit field ≡ true → IsUtf8 field
+digits_are_utf8 field all = IsUtf8-from_ascii field (digits_at field all)

@@ -1,9 +1,8 @@
 -- The four parts of an address, cut off one after another.
 use Rattle.std.proofs.Common.{◌≡◌, ℕ, ◌+◌, ◌*◌, ◌<◌, ◌==◌, not, cond, Bool, true, false, List, [], ◌∷◌, length, Result, Ok, Err, refl, ap, ◌∙◌, sym, arith}
 use Rattle.std.proofs.lemmas.Bool.Decides.{nat_tests}
-use Rattle.std.proofs.lemmas.List.Splits.{slice_split_first}
 use Rattle.std.specs.Char.{is_ascii_digit}
-use Rattle.std.specs.List.{after_first, before_first, list_all, onto_first, position_or_len, slice_split}
+use Rattle.std.specs.List.{list_all, onto_first, slice_split}
 use Rattle.bfd_script.specs.declared.fault.LineFault.{LineFault}
 use Rattle.bfd_script.specs.declared.fault.LineFault.TheVariants.{BadAddress}
 use Rattle.bfd_script.specs.Fields.{number_in}
@@ -16,26 +15,6 @@ is_dot byte = byte == 46
 
 abbrev parts_of : List ℕ → List (List ℕ)
 parts_of field = slice_split is_dot field
-
--- ---- one cut
-
-one_part_step : (here : Bool) (byte at n : ℕ) (bytes : List ℕ) (parts : List (List ℕ)) → cond (not here) (1 + at) 0 ≡ 1 + n → (at ≡ n → parts ≡ bytes ∷ [])
-    → cond here ([] ∷ parts) (onto_first byte parts) ≡ (byte ∷ bytes) ∷ []
-one_part_step true byte at n bytes parts e known = absurd (omega (arith, e))
-one_part_step false byte at n bytes parts e known = ap (onto_first byte) (known (omega (arith, e)))
-
--- a field without a dot is its one part
-pub one_part : (field : List ℕ) → position_or_len is_dot field ≡ length field → parts_of field ≡ field ∷ []
-one_part [] e = refl
-one_part (byte ∷ bytes) e =
-    let n : length (byte ∷ bytes) ≡ 1 + length bytes = omega arith in
-    one_part_step (is_dot byte) byte (position_or_len is_dot bytes) (length bytes) bytes (parts_of bytes) (e ∙ n) (one_part bytes)
-
--- a field with a dot has a part before its first dot, and what stands behind that
-pub two_parts : (field front rest : List ℕ)
-    → (front ≡ before_first is_dot field) × (rest ≡ after_first is_dot field) × (position_or_len is_dot field < length field)
-    → parts_of field ≡ front ∷ parts_of rest
-two_parts field front rest e = slice_split_first is_dot field 0 e.2 ∙ rw (e.0, e.1) refl
 
 -- ---- the last of the four parts
 

@@ -37,7 +37,7 @@ first [] some = absurd (omega arith)
 first (byte ∷ bytes) some = one_more (byte == 10) byte bytes (first bytes)
 
 -- what cannot be true is false
-not_true : (b : Bool) → (b ≡ true → ⊥) → b ≡ false
+pub not_true : (b : Bool) → (b ≡ true → ⊥) → b ≡ false
 not_true true never = absurd (never refl)
 not_true false never = refl
 

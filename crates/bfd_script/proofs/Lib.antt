@@ -6,7 +6,10 @@ pub mod Numbered
 pub mod Inserting
 pub mod Pooling
 pub mod Kept
+pub mod Cuts
 pub mod Cutting
+pub mod Octets
+pub mod Addressed
 pub mod Decoding
 pub mod Elements
 pub mod Naming

@@ -12,15 +12,15 @@ use bfd_packet::{Arrival, Port, SOURCE_PORT};
 use std::alloc::Global;
 
 /// The kind of port.
-pub(crate) fn port_named(field: &str) -> Result<Port, LineFault>
+pub(crate) fn port_named(field: &[u8]) -> Result<Port, LineFault>
     ensures { result ≡ port_of field.now }
 {
     match field {
-        "single" => Ok(Port::Single),
-        "multi" => Ok(Port::Multi),
-        "echo" => Ok(Port::Echo),
-        "sbfd" => Ok(Port::Sbfd),
-        "answer" => Ok(Port::Answer),
+        b"single" => Ok(Port::Single),
+        b"multi" => Ok(Port::Multi),
+        b"echo" => Ok(Port::Echo),
+        b"sbfd" => Ok(Port::Sbfd),
+        b"answer" => Ok(Port::Answer),
         _ => Err(LineFault::UnknownWord),
     }
 }
@@ -31,10 +31,10 @@ fn arrival(
     alloc: Global,
     port: Port,
     iface: u32,
-    src: &str,
-    dst: &str,
-    ttl: &str,
-    payload: &str,
+    src: &[u8],
+    dst: &[u8],
+    ttl: &[u8],
+    payload: &[u8],
 ) -> Result<Arrival, ReadFault>
     requires { iface < 65536 }
     ensures value { Gives (λ a. a) result (arrival_of port iface src.now dst.now ttl.now payload.now) }
@@ -60,7 +60,7 @@ pub(crate) fn read_arrival(
     alloc: Global,
     port: Port,
     iface: u32,
-    values: &[&str],
+    values: &[&[u8]],
 ) -> Result<Arrival, ReadFault>
     requires { iface < 65536 }
     ensures value { Gives (λ a. a) result (arrival_fields port iface (map (λ value. value.now) values.now)) }

@@ -62,7 +62,7 @@ pub enum Entry {
 }
 
 /// A line that is its word alone.
-fn alone(entry: Entry, values: &[&str]) -> Result<Entry, LineFault>
+fn alone(entry: Entry, values: &[&[u8]]) -> Result<Entry, LineFault>
     requires { IsEntry entry }
     ensures value { result ≡ alone entry (map (λ value. value.now) values.now) }
     ensures sound { IfOk result IsEntry }
@@ -81,7 +81,7 @@ fn version_by(n: u64) -> Version
 }
 
 /// `bfd VERSION`
-fn versioned(values: &[&str]) -> Result<Entry, LineFault>
+fn versioned(values: &[&[u8]]) -> Result<Entry, LineFault>
     ensures value { result ≡ versioned (map (λ value. value.now) values.now) }
     ensures sound { IfOk result IsEntry }
 {
@@ -95,7 +95,7 @@ fn versioned(values: &[&str]) -> Result<Entry, LineFault>
 }
 
 /// `tick T`
-fn ticked(values: &[&str]) -> Result<Entry, LineFault>
+fn ticked(values: &[&[u8]]) -> Result<Entry, LineFault>
     ensures value { result ≡ ticked (map (λ value. value.now) values.now) }
     ensures sound { IfOk result IsEntry }
 {
@@ -112,10 +112,10 @@ fn ticked(values: &[&str]) -> Result<Entry, LineFault>
 #[tactic(auto, unfolding(crate::specs::Entries::received_of))]
 fn received_of(
     alloc: Global,
-    moment: &str,
-    port: &str,
-    iface: &str,
-    rest: &[&str],
+    moment: &[u8],
+    port: &[u8],
+    iface: &[u8],
+    rest: &[&[u8]],
 ) -> Result<Entry, ReadFault>
     ensures value { Gives (λ entry. entry) result (received_of moment.now port.now iface.now (map (λ value. value.now) rest.now)) }
     ensures sound { IfOk result IsEntry }
@@ -131,7 +131,7 @@ fn received_of(
 }
 
 /// The values of an `rx` line, of which there are seven.
-fn received_fields(alloc: Global, values: &[&str]) -> Result<Entry, ReadFault>
+fn received_fields(alloc: Global, values: &[&[u8]]) -> Result<Entry, ReadFault>
     ensures value { Gives (λ entry. entry) result (received_fields (map (λ value. value.now) values.now)) }
     ensures sound { IfOk result IsEntry }
 {
@@ -142,7 +142,7 @@ fn received_fields(alloc: Global, values: &[&str]) -> Result<Entry, ReadFault>
 }
 
 /// `rx MOMENT single|multi|echo|sbfd|answer IFACE SRC DST TTL HEX`
-fn received(alloc: Global, values: &[&str]) -> Result<Entry, ReadFault>
+fn received(alloc: Global, values: &[&[u8]]) -> Result<Entry, ReadFault>
     ensures value { Gives (λ entry. entry) result (received (map (λ value. value.now) values.now)) }
     ensures sound { IfOk result IsEntry }
 {
@@ -154,7 +154,7 @@ fn received(alloc: Global, values: &[&str]) -> Result<Entry, ReadFault>
 
 /// A `cmd` line of these values, without number.
 #[tactic(auto, unfolding(crate::specs::Entries::plain_of))]
-fn plain_of(version: Version, moment: &str, discr: &str, verb: &str) -> Result<Entry, LineFault>
+fn plain_of(version: Version, moment: &[u8], discr: &[u8], verb: &[u8]) -> Result<Entry, LineFault>
     ensures value { result ≡ plain_of version moment.now discr.now verb.now }
     ensures sound { IfOk result IsEntry }
 {
@@ -172,10 +172,10 @@ fn plain_of(version: Version, moment: &str, discr: &str, verb: &str) -> Result<E
 #[tactic(auto, unfolding(crate::specs::Entries::numbered_of))]
 fn numbered_of(
     version: Version,
-    moment: &str,
-    discr: &str,
-    verb: &str,
-    n: &str,
+    moment: &[u8],
+    discr: &[u8],
+    verb: &[u8],
+    n: &[u8],
 ) -> Result<Entry, LineFault>
     ensures value { result ≡ numbered_of version moment.now discr.now verb.now n.now }
     ensures sound { IfOk result IsEntry }
@@ -192,7 +192,12 @@ fn numbered_of(
 }
 
 /// A `cmd` line of these values, without number, where the verb has none.
-fn read_plain(version: Version, moment: &str, discr: &str, verb: &str) -> Result<Entry, LineFault>
+fn read_plain(
+    version: Version,
+    moment: &[u8],
+    discr: &[u8],
+    verb: &[u8],
+) -> Result<Entry, LineFault>
     ensures value { result ≡ (if fits (verb_of version verb.now) false then plain_of version moment.now discr.now verb.now else Err FieldCount) }
     ensures sound { IfOk result IsEntry }
 {
@@ -205,10 +210,10 @@ fn read_plain(version: Version, moment: &str, discr: &str, verb: &str) -> Result
 /// A `cmd` line of these values, where the verb has a number.
 fn read_numbered(
     version: Version,
-    moment: &str,
-    discr: &str,
-    verb: &str,
-    n: &str,
+    moment: &[u8],
+    discr: &[u8],
+    verb: &[u8],
+    n: &[u8],
 ) -> Result<Entry, LineFault>
     ensures value { result ≡ (if fits (verb_of version verb.now) true then numbered_of version moment.now discr.now verb.now n.now else Err FieldCount) }
     ensures sound { IfOk result IsEntry }
@@ -220,7 +225,7 @@ fn read_numbered(
 }
 
 /// `cmd MOMENT DISCR VERB` or `cmd MOMENT DISCR VERB N`
-fn commanded(version: Version, values: &[&str]) -> Result<Entry, LineFault>
+fn commanded(version: Version, values: &[&[u8]]) -> Result<Entry, LineFault>
     ensures value { result ≡ commanded version (map (λ value. value.now) values.now) }
     ensures sound { IfOk result IsEntry }
 {
@@ -233,7 +238,7 @@ fn commanded(version: Version, values: &[&str]) -> Result<Entry, LineFault>
 
 /// A `show` line of these values.
 #[tactic(auto, unfolding(crate::specs::Entries::shown_of))]
-fn shown_of(moment: &str, discr: &str) -> Result<Entry, LineFault>
+fn shown_of(moment: &[u8], discr: &[u8]) -> Result<Entry, LineFault>
     ensures value { result ≡ shown_of moment.now discr.now }
     ensures sound { IfOk result IsEntry }
 {
@@ -246,7 +251,7 @@ fn shown_of(moment: &str, discr: &str) -> Result<Entry, LineFault>
 }
 
 /// `show MOMENT DISCR`
-fn shown(values: &[&str]) -> Result<Entry, LineFault>
+fn shown(values: &[&[u8]]) -> Result<Entry, LineFault>
     ensures value { result ≡ shown (map (λ value. value.now) values.now) }
     ensures sound { IfOk result IsEntry }
 {
@@ -259,10 +264,10 @@ fn shown(values: &[&str]) -> Result<Entry, LineFault>
 /// An `auth` line of these values.
 fn keyed_of(
     alloc: Global,
-    discr: &str,
-    kind: &str,
-    id: &str,
-    secret: &str,
+    discr: &[u8],
+    kind: &[u8],
+    id: &[u8],
+    secret: &[u8],
 ) -> Result<Entry, ReadFault>
     ensures value { Gives (λ entry. entry) result (keyed_of discr.now kind.now id.now secret.now) }
     ensures sound { IfOk result IsEntry }
@@ -273,7 +278,7 @@ fn keyed_of(
 }
 
 /// `auth DISCR TYPE KEYID SECRET`
-fn keyed(alloc: Global, values: &[&str]) -> Result<Entry, ReadFault>
+fn keyed(alloc: Global, values: &[&[u8]]) -> Result<Entry, ReadFault>
     ensures value { Gives (λ entry. entry) result (keyed (map (λ value. value.now) values.now)) }
     ensures sound { IfOk result IsEntry }
 {
@@ -284,7 +289,7 @@ fn keyed(alloc: Global, values: &[&str]) -> Result<Entry, ReadFault>
 }
 
 /// A `key` line of these values.
-fn added_of(alloc: Global, discr: &str, id: &str, secret: &str) -> Result<Entry, ReadFault>
+fn added_of(alloc: Global, discr: &[u8], id: &[u8], secret: &[u8]) -> Result<Entry, ReadFault>
     ensures value { Gives (λ entry. entry) result (added_of discr.now id.now secret.now) }
     ensures sound { IfOk result IsEntry }
 {
@@ -294,7 +299,7 @@ fn added_of(alloc: Global, discr: &str, id: &str, secret: &str) -> Result<Entry,
 }
 
 /// `key DISCR KEYID SECRET`
-fn added(alloc: Global, values: &[&str]) -> Result<Entry, ReadFault>
+fn added(alloc: Global, values: &[&[u8]]) -> Result<Entry, ReadFault>
     ensures value { Gives (λ entry. entry) result (added (map (λ value. value.now) values.now)) }
     ensures sound { IfOk result IsEntry }
 {
@@ -309,7 +314,7 @@ fn read_values(
     alloc: Global,
     version: Version,
     word: Word,
-    values: &[&str],
+    values: &[&[u8]],
 ) -> Result<Entry, ReadFault>
     ensures value { Gives (λ entry. entry) result (valued version word (map (λ value. value.now) values.now)) }
     ensures sound { IfOk result IsEntry }
@@ -338,7 +343,7 @@ fn read_fields(
     version: Version,
     place: Place,
     live: bool,
-    fields: &[&str],
+    fields: &[&[u8]],
 ) -> Result<Entry, ReadFault>
     ensures value { Gives (λ entry. entry) result (worded version place live (map (λ field. field.now) fields.now)) }
     ensures sound { IfOk result IsEntry }
@@ -362,7 +367,7 @@ pub(crate) fn read_line<'a>(
     place: Place,
     live: bool,
     line: &'a [u8],
-    fields: &mut Vec<&'a str>,
+    fields: &mut Vec<&'a [u8]>,
 ) -> Result<Entry, ReadFault>
     ensures value { Gives (λ entry. entry) result (entry_of version place live line.now) }
     ensures sound { IfOk result IsEntry }

@@ -1,6 +1,6 @@
 // Lines, fields and numbers.
-ghost use Rattle.std.specs.Prelude.{◌≡◌, ◌==◌, ◌<◌, ◌≤◌, ◌∷◌, ◌&&◌, ◌||◌, Err, IfOk, IfSome, IsTrue, Ok, OnOk, if◌then◌else◌, length, map, nat_lt, not, slice_index, true};
-ghost use Rattle.std.specs.List.{list_all};
+ghost use Rattle.std.specs.Prelude.{◌≡◌, ◌==◌, ◌<◌, ◌≤◌, ◌∷◌, [], ◌&&◌, ◌||◌, Err, IfOk, IfSome, IsTrue, MatchOption, Ok, OnOk, if◌then◌else◌, length, map, nat_lt, not, slice_index, true};
+ghost use Rattle.std.specs.List.{list_all, position_or_len, slice_split};
 ghost use Rattle.std.specs.Char.{is_ascii_digit};
 ghost use Rattle.std.specs.Str.Parse.{digits_value};
 ghost use Rattle.bfd_script.specs.Fields.{fields_of, is_printable, lines_of, number_in, text_of};
@@ -74,9 +74,8 @@ fn is_all_printable(line: &[u8]) -> bool
     is_rest_printable(rest)
 }
 
-/// The line as text: refused where it is too long or has a byte that isn't printable.
-#[tactic(auto, using(crate::proofs::Ascii::printable_is_utf8))]
-pub(crate) fn line_text(line: &[u8]) -> Result<&str, LineFault>
+/// A line that may be looked at: refused where it is too long or has a byte that isn't printable.
+pub(crate) fn line_text(line: &[u8]) -> Result<&[u8], LineFault>
     ensures { SeesField (λ text. text.now) result (text_of line.now) }
 {
     if line.len() > MOST_LINE {
@@ -85,18 +84,72 @@ pub(crate) fn line_text(line: &[u8]) -> Result<&str, LineFault>
     if !is_all_printable(line) {
         return Err(LineFault::NotAscii);
     }
-    match str::from_utf8(line) {
-        Ok(text) => Ok(text),
-        Err(_) => unreachable!(),
+    Ok(line)
+}
+
+/// Where the first such byte of a run is, by a look at all of them side by side: the length where there is none.
+fn place_in_run(byte: u8, run: &[u8; RUN]) -> usize
+    ensures { result ≡ position_or_len (λ other. other == byte) run.now }
+{
+    let marks = u8x32::from_array(*run)
+        .simd_eq(u8x32::splat(byte))
+        .to_bitmask();
+    if marks == 0 {
+        RUN
+    } else {
+        marks.trailing_zeros() as usize
     }
 }
 
+/// Where the first such byte of a text is, if far from its front: the length where there is none.
+#[tactic(auto, using(crate::proofs::Cuts::at_place, crate::proofs::Cuts::at_end))]
+fn far_place(byte: u8, text: &[u8]) -> usize
+    ensures { result ≡ position_or_len (λ other. other == byte) text.now }
+{
+    match memchr(byte, text) {
+        Some(place) => place,
+        None => text.len(),
+    }
+}
+
+/// Where the first such byte of a text is: the length where there is none.
+fn place_of(byte: u8, text: &[u8]) -> usize
+    ensures { result ≡ position_or_len (λ other. other == byte) text.now }
+{
+    if let Some((run, _)) = text.split_first_chunk::<RUN>() {
+        let place = place_in_run(byte, run);
+        if place < RUN {
+            return place;
+        }
+    }
+    far_place(byte, text)
+}
+
+/// What stands before the first such byte of a text, and after it: None where it has none.
+pub(crate) fn cut_at(byte: u8, text: &[u8]) -> Option<(&[u8], &[u8])>
+    ensures { MatchOption result (slice_split (λ other. other == byte) text.now ≡ text.now ∷ []) (λ parts. (slice_split (λ other. other == byte) text.now ≡ parts.0.now ∷ slice_split (λ other. other == byte) parts.1.now) × (length parts.1.now < length text.now)) }
+{
+    let place = place_of(byte, text);
+    if place >= text.len() {
+        return None;
+    }
+    let (_, rest) = text.split_at(place + 1);
+    Some((&text[..place], rest))
+}
+
 /// What stands between the spaces of a line, in `fields`, whose room is used again for each line.
-pub(crate) fn split_fields<'a>(text: &'a str, fields: &mut Vec<&'a str>) -> Result<(), AllocError>
-    ensures { OnOk result (map (λ field. field.now) fields.new.items ≡ fields_of text.now) }
+#[tactic(auto, using(crate::proofs::Cuts::next_part, crate::proofs::Cuts::last_part))]
+pub(crate) fn split_fields<'a>(line: &'a [u8], fields: &mut Vec<&'a [u8]>) -> Result<(), AllocError>
+    ensures { OnOk result (map (λ field. field.now) fields.new.items ≡ fields_of line.now) }
 {
     fields.clear();
-    fields.extend(text.split(' '))
+    let mut rest = line;
+    while let Some((field, after)) = cut_at(b' ', rest) {
+        fields.push(field)?;
+        rest = after;
+    }
+    fields.push(rest)?;
+    Ok(())
 }
 
 /// Whether each byte is a decimal digit.
@@ -142,7 +195,7 @@ fn within(n: u64, least: u64, most: u64) -> Result<u64, LineFault>
 
 /// The same as `number`, by digits that it may look at twice.
 #[tactic(auto, using(crate::proofs::Decimal::too_large))]
-fn any_number(field: &str, least: u64, most: u64) -> Result<u64, LineFault>
+fn text_number(field: &str, least: u64, most: u64) -> Result<u64, LineFault>
     ensures value { result ≡ number_in least most field.now }
     ensures range { IfOk result (λ n. (least ≤ n) × (n ≤ most)) }
 {
@@ -155,14 +208,29 @@ fn any_number(field: &str, least: u64, most: u64) -> Result<u64, LineFault>
     }
 }
 
-/// A field that is a number from `least` to `most`: BadNumber where it is no number, OutOfRange where it is another one.
-pub(crate) fn number(field: &str, least: u64, most: u64) -> Result<u64, LineFault>
+/// The same as `number`, for a field that isn't surely a small number.
+#[tactic(auto, using(crate::proofs::Ascii::digits_are_utf8))]
+fn any_number(field: &[u8], least: u64, most: u64) -> Result<u64, LineFault>
     ensures value { result ≡ number_in least most field.now }
     ensures range { IfOk result (λ n. (least ≤ n) × (n ≤ most)) }
 {
-    match small_number(field.as_bytes()) {
+    if !is_all_digits(field) {
+        return Err(LineFault::BadNumber);
+    }
+    match str::from_utf8(field) {
+        Ok(text) => text_number(text, least, most),
+        Err(_) => unreachable!(),
+    }
+}
+
+/// A field that is a number from `least` to `most`: BadNumber where it is no number, OutOfRange where it is another one.
+pub(crate) fn number(field: &[u8], least: u64, most: u64) -> Result<u64, LineFault>
+    ensures value { result ≡ number_in least most field.now }
+    ensures range { IfOk result (λ n. (least ≤ n) × (n ≤ most)) }
+{
+    match small_number(field) {
         Some(n) => {
-            if !is_led(field.as_bytes()) {
+            if !is_led(field) {
                 return Err(LineFault::BadNumber);
             }
             within(n, least, most)

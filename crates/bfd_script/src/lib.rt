@@ -10,8 +10,8 @@
 //!
 //! Layers, lowest first: `fault` (what can be wrong), `words` (the versions, the words and where they may stand), `fields`
 //! (lines, fields and numbers), `values` (addresses and bytes), `pairs`, `seamless` and `trees` (the values of a table line),
-//! `secrets`, `arrivals` and `verbs` (those of keys, of a packet and of a command), `entries` (what one line says), `table` and
-//! `pool` (the sessions and the reflectors so far), `state` (what is kept from line to line), `reading` (the whole text);
+//! `secrets`, `arrivals` and `verbs` (those of keys, of a packet and of a command), `entries` (what one line says), `places`,
+//! `table` and `pool` (the sessions and the reflectors so far), `state` (what is kept from line to line), `reading` (the whole text);
 //! beside them `names` and `report`.
 //!
 //! It stands on `bfd_num`, `bfd_packet`, `bfd_rules`, `bfd_mp`, `bfd_sbfd`, `bfd_demux` and `bfd_session`, and on `byteorder`,
@@ -24,6 +24,7 @@ mod fault;
 mod fields;
 mod names;
 mod pairs;
+mod places;
 mod pool;
 mod reading;
 mod report;

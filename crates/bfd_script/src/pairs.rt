@@ -37,23 +37,23 @@ pub(crate) struct Timing {
 }
 
 /// Over how many hops.
-fn role_named(field: &str) -> Result<Role, LineFault>
+fn role_named(field: &[u8]) -> Result<Role, LineFault>
     ensures { result ≡ role_of field.now }
 {
     match field {
-        "single" => Ok(Role::Single),
-        "multi" => Ok(Role::Multi),
+        b"single" => Ok(Role::Single),
+        b"multi" => Ok(Role::Multi),
         _ => Err(LineFault::UnknownWord),
     }
 }
 
 /// Whether the session sends before it has heard the peer.
-fn active_named(field: &str) -> Result<bool, LineFault>
+fn active_named(field: &[u8]) -> Result<bool, LineFault>
     ensures { result ≡ active_of field.now }
 {
     match field {
-        "active" => Ok(true),
-        "passive" => Ok(false),
+        b"active" => Ok(true),
+        b"passive" => Ok(false),
         _ => Err(LineFault::UnknownWord),
     }
 }
@@ -69,7 +69,7 @@ fn may_echo(role: Role, every: u64) -> bool
 }
 
 /// The interval of the Echo function.
-fn echo(role: Role, field: &str) -> Result<u32, LineFault>
+fn echo(role: Role, field: &[u8]) -> Result<u32, LineFault>
     ensures value { result ≡ echo_of role field.now }
     ensures range { IfOk result (λ every. IsTrue (is_echo_interval role every)) }
 {
@@ -83,11 +83,11 @@ fn echo(role: Role, field: &str) -> Result<u32, LineFault>
 /// The first five values.
 #[tactic(auto, unfolding(crate::specs::Pairs::ends_of))]
 fn read_ends(
-    discr: &str,
-    role: &str,
-    iface: &str,
-    local: &str,
-    remote: &str,
+    discr: &[u8],
+    role: &[u8],
+    iface: &[u8],
+    local: &[u8],
+    remote: &[u8],
 ) -> Result<Ends, LineFault>
     ensures value { result ≡ ends_of discr.now role.now iface.now local.now remote.now }
     ensures range { IfOk result AreEnds }
@@ -110,12 +110,12 @@ fn read_ends(
 #[tactic(auto, unfolding(crate::specs::Pairs::timing_of))]
 fn timed(
     role: Role,
-    mode: &str,
-    tx: &str,
-    rx: &str,
-    mult: &str,
-    every: &str,
-    seed: &str,
+    mode: &[u8],
+    tx: &[u8],
+    rx: &[u8],
+    mult: &[u8],
+    every: &[u8],
+    seed: &[u8],
 ) -> Result<Timing, LineFault>
     ensures value { result ≡ timing_of role mode.now tx.now rx.now mult.now every.now seed.now }
     ensures range { IfOk result (IsTiming role) }
@@ -137,7 +137,7 @@ fn timed(
 }
 
 /// The last six of the values.
-fn read_timing(role: Role, values: &[&str]) -> Result<Timing, LineFault>
+fn read_timing(role: Role, values: &[&[u8]]) -> Result<Timing, LineFault>
     ensures value { result ≡ timing_fields role (map (λ value. value.now) values.now) }
     ensures range { IfOk result (IsTiming role) }
 {
@@ -168,7 +168,7 @@ fn config(ends: Ends, timing: Timing) -> SessionConfig
 }
 
 /// The session of the first five values and the others.
-fn pair(ends: Ends, rest: &[&str]) -> Result<SessionConfig, LineFault>
+fn pair(ends: Ends, rest: &[&[u8]]) -> Result<SessionConfig, LineFault>
     requires { AreEnds ends }
     ensures value { result ≡ pair_with ends (map (λ value. value.now) rest.now) }
     ensures sound { IfOk result (λ c. IsFit c × IsRow c) }
@@ -178,7 +178,7 @@ fn pair(ends: Ends, rest: &[&str]) -> Result<SessionConfig, LineFault>
 }
 
 /// The session of these values.
-fn pair_fields(values: &[&str]) -> Result<SessionConfig, LineFault>
+fn pair_fields(values: &[&[u8]]) -> Result<SessionConfig, LineFault>
     ensures value { result ≡ pair_fields (map (λ value. value.now) values.now) }
     ensures sound { IfOk result (λ c. IsFit c × IsRow c) }
 {
@@ -192,7 +192,7 @@ fn pair_fields(values: &[&str]) -> Result<SessionConfig, LineFault>
 }
 
 /// The session of a `p2p` line.
-pub(crate) fn read_pair(values: &[&str]) -> Result<SessionConfig, LineFault>
+pub(crate) fn read_pair(values: &[&[u8]]) -> Result<SessionConfig, LineFault>
     ensures value { result ≡ pair_of (map (λ value. value.now) values.now) }
     ensures sound { IfOk result (λ c. IsFit c × IsRow c) }
 {

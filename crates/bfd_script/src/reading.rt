@@ -17,7 +17,7 @@ fn read_step<'a>(
     live: bool,
     reading: &mut Reading,
     line: &'a [u8],
-    fields: &mut Vec<&'a str>,
+    fields: &mut Vec<&'a [u8]>,
 ) -> Result<(), ReadFault>
     ensures { Gives (λ _. reading.new) result (step live reading.old line.now) }
 {

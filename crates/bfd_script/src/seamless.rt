@@ -14,14 +14,14 @@ use bfd_session::SessionConfig;
 /// An initiator of these values.
 #[tactic(auto, unfolding(crate::specs::Seamless::initiator_of))]
 fn initiator(
-    discr: &str,
-    target: &str,
-    iface: &str,
-    local: &str,
-    remote: &str,
-    tx: &str,
-    mult: &str,
-    seed: &str,
+    discr: &[u8],
+    target: &[u8],
+    iface: &[u8],
+    local: &[u8],
+    remote: &[u8],
+    tx: &[u8],
+    mult: &[u8],
+    seed: &[u8],
 ) -> Result<SessionConfig, LineFault>
     ensures value { result ≡ lines.initiator_of discr.now target.now iface.now local.now remote.now tx.now mult.now seed.now }
     ensures sound { IfOk result (λ c. IsFit c × IsRow c) }
@@ -47,7 +47,7 @@ fn initiator(
 }
 
 /// The initiator of the first two values and the others.
-fn seek_with(discr: &str, target: &str, rest: &[&str]) -> Result<SessionConfig, LineFault>
+fn seek_with(discr: &[u8], target: &[u8], rest: &[&[u8]]) -> Result<SessionConfig, LineFault>
     ensures value { result ≡ lines.seek_with discr.now target.now (map (λ value. value.now) rest.now) }
     ensures sound { IfOk result (λ c. IsFit c × IsRow c) }
 {
@@ -60,7 +60,7 @@ fn seek_with(discr: &str, target: &str, rest: &[&str]) -> Result<SessionConfig, 
 }
 
 /// The initiator of an `sbfd` line.
-pub(crate) fn read_seek(values: &[&str]) -> Result<SessionConfig, LineFault>
+pub(crate) fn read_seek(values: &[&[u8]]) -> Result<SessionConfig, LineFault>
     ensures value { result ≡ lines.seek_of (map (λ value. value.now) values.now) }
     ensures sound { IfOk result (λ c. IsFit c × IsRow c) }
 {
@@ -71,19 +71,19 @@ pub(crate) fn read_seek(values: &[&str]) -> Result<SessionConfig, LineFault>
 }
 
 /// Whether the reflector is Up.
-fn up_named(field: &str) -> Result<bool, LineFault>
+fn up_named(field: &[u8]) -> Result<bool, LineFault>
     ensures { result ≡ lines.up_of field.now }
 {
     match field {
-        "up" => Ok(true),
-        "admin" => Ok(false),
+        b"up" => Ok(true),
+        b"admin" => Ok(false),
         _ => Err(LineFault::UnknownWord),
     }
 }
 
 /// A reflector of these values.
 #[tactic(auto, unfolding(crate::specs::Seamless::reflecting_of))]
-fn reflecting(discr: &str, rx: &str, mode: &str) -> Result<Reflector, LineFault>
+fn reflecting(discr: &[u8], rx: &[u8], mode: &[u8]) -> Result<Reflector, LineFault>
     ensures value { result ≡ lines.reflecting_of discr.now rx.now mode.now }
     ensures sound { IfOk result IsReflector }
 {
@@ -94,7 +94,7 @@ fn reflecting(discr: &str, rx: &str, mode: &str) -> Result<Reflector, LineFault>
 }
 
 /// The reflector of a `reflector` line.
-pub(crate) fn read_reflector(values: &[&str]) -> Result<Reflector, LineFault>
+pub(crate) fn read_reflector(values: &[&[u8]]) -> Result<Reflector, LineFault>
     ensures value { result ≡ lines.reflector_of (map (λ value. value.now) values.now) }
     ensures sound { IfOk result IsReflector }
 {

@@ -27,7 +27,7 @@ fn kind_by(n: u64) -> AuthType
 }
 
 /// A field that is an Auth Type.
-fn kind_read(field: &str) -> Result<AuthType, LineFault>
+fn kind_read(field: &[u8]) -> Result<AuthType, LineFault>
     ensures { result ≡ kind_of field.now }
 {
     let n = number(field, 1, 5)?;
@@ -47,7 +47,7 @@ fn fit(kind: AuthType, bytes: &[u8]) -> Result<Secret, LineFault>
 }
 
 /// A field that is a secret: bytes of a number that the type has room for.
-fn secret_read(alloc: Global, kind: AuthType, field: &str) -> Result<Secret, ReadFault>
+fn secret_read(alloc: Global, kind: AuthType, field: &[u8]) -> Result<Secret, ReadFault>
     ensures value { Gives (λ s. s) result (secret_of kind field.now) }
     ensures bytes { IfOk result (λ secret. IsBytes secret) }
     ensures fits { IfOk result (λ secret. IsTrue (fits_kind kind secret)) }
@@ -70,9 +70,9 @@ fn one(kind: AuthType, id: u8, secret: Secret) -> Keys
 #[tactic(auto, unfolding(crate::specs::Secrets::chain_of))]
 pub(crate) fn read_chain(
     alloc: Global,
-    kind: &str,
-    id: &str,
-    secret: &str,
+    kind: &[u8],
+    id: &[u8],
+    secret: &[u8],
 ) -> Result<Keys, ReadFault>
     ensures value { Gives (λ k. k) result (chain_of kind.now id.now secret.now) }
     ensures sound { IfOk result IsChain }
@@ -86,7 +86,7 @@ pub(crate) fn read_chain(
 /// The last two values of a `key` line. The type with the most room is asked of the secret here: which type the session
 /// has stands in the table.
 #[tactic(auto, unfolding(crate::specs::Secrets::key_of))]
-pub(crate) fn read_key(alloc: Global, id: &str, secret: &str) -> Result<Key, ReadFault>
+pub(crate) fn read_key(alloc: Global, id: &[u8], secret: &[u8]) -> Result<Key, ReadFault>
     ensures value { Gives (λ k. k) result (key_of id.now secret.now) }
     ensures sound { IfOk result IsKey }
 {

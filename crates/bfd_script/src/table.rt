@@ -1,6 +1,5 @@
 // The table of sessions: unique by discriminator and by selecting addresses.
 ghost use Rattle.std.specs.Prelude.{◌≡◌, ◌||◌, ◌<◌, [], false, length, IfOk, None, Some};
-ghost use Rattle.std.specs.BTreeSet.{contains};
 ghost use Rattle.bfd_demux.specs.Rows.{same_selector};
 ghost use Rattle.bfd_demux.specs.declared.row.RowKind.{RowKind as Kind};
 ghost use Rattle.bfd_session.specs.Kinds.{discr_of};
@@ -10,35 +9,36 @@ ghost use Rattle.std.specs.Option.{option_copied};
 ghost use Rattle.bfd_script.specs.Rows.{by_discr, changed, given, given_more, has_discr, has_keys, has_pair, has_place, inserted, is_pair, keyed_more, keyed_with, keys_in, keys_of, one_more};
 ghost use Rattle.bfd_script.specs.Secrets.{key_fault};
 ghost use Rattle.bfd_script.specs.Sound.{AreConfigs, IsChain, IsKey, IsRow};
+ghost use Rattle.bfd_script.specs.Tables.{among};
 
 use crate::fault::LineFault;
+use crate::places::Places;
 use crate::secrets::key_fault;
 use bfd_demux::RowKind;
 use bfd_packet::{Key, Keys};
 use bfd_session::{SessionConfig, row_of};
 use std::alloc::{AllocError, Global};
-use std::collections::{BTreeMap, BTreeSet};
+use std::collections::BTreeMap;
 use std::marker::Model;
 
 /// Sessions. Contracts see the list of them, ascending by discriminator.
 #[derive(Drop)]
 pub(crate) struct Table {
     rows: BTreeMap<u32, SessionConfig>,
-    places: BTreeSet<RowKind>,
+    places: Places,
 }
 
 impl Model for Table {
     ghost use Rattle.std.specs.Prelude.{List};
     ghost use Rattle.std.specs.BTreeMap.{values};
-    ghost use Rattle.std.specs.BTreeSet.{contains};
     ghost use Rattle.bfd_session.specs.declared.event.SessionConfig.{SessionConfig};
-    ghost use Rattle.bfd_script.specs.Tables.{IsTable};
+    ghost use Rattle.bfd_script.specs.Tables.{IsTable, among};
 
     ghost Value = { List SessionConfig };
 
     ghost view = { λ t. values t.rows };
 
-    ghost invariant = { λ t. IsTable t.rows.entries (contains (⟦<RowKind as Ord>⟧.cmp) t.places) };
+    ghost invariant = { λ t. IsTable t.rows.entries (among t.places) };
 }
 
 /// The keys of a session.
@@ -112,26 +112,13 @@ fn give_more(rows: &mut BTreeMap<u32, SessionConfig>, discr: u32, key: Key)
 
 /// The addresses of one more session, where it has some: a session without addresses is like no other.
 #[tactic(auto, using(crate::proofs::Inserting::unnoted))]
-fn note(places: BTreeSet<RowKind>, kind: RowKind) -> Result<BTreeSet<RowKind>, AllocError>
-    ensures { IfOk result (λ after. (q : Kind) → contains (⟦<RowKind as Ord>⟧.cmp) after q ≡ (same_selector q kind || contains (⟦<RowKind as Ord>⟧.cmp) places q)) }
+fn note(places: Places, kind: RowKind) -> Result<Places, AllocError>
+    ensures { IfOk result (λ after. (q : Kind) → among after q ≡ (same_selector q kind || among places q)) }
 {
     if !kind.has_addresses() {
         return Ok(places);
     }
-    let mut places = places;
-    places.insert(kind)?;
-    Ok(places)
-}
-
-/// Whether the set has this place. A place above all of the set's is new, as one comparison tells: sessions mostly come
-/// in the order of their addresses.
-fn is_in(places: &BTreeSet<RowKind>, kind: RowKind) -> bool
-    ensures { result ≡ contains (⟦<RowKind as Ord>⟧.cmp) places.now kind }
-{
-    match places.last() {
-        Some(last) if last.cmp(&kind).is_lt() => false,
-        _ => places.contains(&kind),
-    }
+    places.with(kind)
 }
 
 impl Table {
@@ -141,7 +128,7 @@ impl Table {
     {
         Table {
             rows: BTreeMap::new(alloc),
-            places: BTreeSet::new(alloc),
+            places: Places::new(alloc),
         }
     }
 
@@ -197,7 +184,7 @@ impl Table {
     pub(crate) fn has_place(&self, config: &SessionConfig) -> bool
         ensures { result ≡ has_place config.now self.now }
     {
-        is_in(&self.places, row_of(config).kind)
+        self.places.has(row_of(config).kind)
     }
 
     /// One more session, whose discriminator and selecting addresses are new. The one refusal is want of memory.

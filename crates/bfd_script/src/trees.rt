@@ -14,13 +14,13 @@ use bfd_session::SessionConfig;
 /// A head of these values.
 #[tactic(auto, unfolding(crate::specs::Trees::sender_of))]
 fn sender(
-    discr: &str,
-    iface: &str,
-    local: &str,
-    group: &str,
-    tx: &str,
-    mult: &str,
-    seed: &str,
+    discr: &[u8],
+    iface: &[u8],
+    local: &[u8],
+    group: &[u8],
+    tx: &[u8],
+    mult: &[u8],
+    seed: &[u8],
 ) -> Result<SessionConfig, LineFault>
     ensures value { result ≡ lines.sender_of discr.now iface.now local.now group.now tx.now mult.now seed.now }
     ensures sound { IfOk result (λ c. IsFit c × IsRow c) }
@@ -44,7 +44,7 @@ fn sender(
 }
 
 /// The head of a `head` line.
-pub(crate) fn read_head(values: &[&str]) -> Result<SessionConfig, LineFault>
+pub(crate) fn read_head(values: &[&[u8]]) -> Result<SessionConfig, LineFault>
     ensures value { result ≡ lines.head_of (map (λ value. value.now) values.now) }
     ensures sound { IfOk result (λ c. IsFit c × IsRow c) }
 {
@@ -59,11 +59,11 @@ pub(crate) fn read_head(values: &[&str]) -> Result<SessionConfig, LineFault>
 /// A tail of these values.
 #[tactic(auto, unfolding(crate::specs::Trees::listener_of))]
 fn listener(
-    discr: &str,
-    head: &str,
-    iface: &str,
-    group: &str,
-    source: &str,
+    discr: &[u8],
+    head: &[u8],
+    iface: &[u8],
+    group: &[u8],
+    source: &[u8],
 ) -> Result<SessionConfig, LineFault>
     ensures value { result ≡ lines.listener_of discr.now head.now iface.now group.now source.now }
     ensures sound { IfOk result (λ c. IsFit c × IsRow c) }
@@ -83,7 +83,7 @@ fn listener(
 }
 
 /// The tail of a `tail` line.
-pub(crate) fn read_tail(values: &[&str]) -> Result<SessionConfig, LineFault>
+pub(crate) fn read_tail(values: &[&[u8]]) -> Result<SessionConfig, LineFault>
     ensures value { result ≡ lines.tail_of (map (λ value. value.now) values.now) }
     ensures sound { IfOk result (λ c. IsFit c × IsRow c) }
 {

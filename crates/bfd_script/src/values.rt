@@ -1,13 +1,14 @@
 // Addresses and bytes.
-ghost use Rattle.std.specs.Prelude.{◌≡◌, ◌<◌, ◌≤◌, ◌%◌, ◌==◌, ◌∷◌, [], IfOk, MatchResult, length, take};
-ghost use Rattle.std.specs.List.{slice_split};
+ghost use Rattle.std.specs.Prelude.{◌≡◌, ◌<◌, ◌≤◌, ◌%◌, ◌^◌, ◌==◌, ◌∷◌, [], IfOk, IfSome, MatchResult, Ok, length, take};
+ghost use Rattle.std.specs.List.{before_first, slice_split};
 ghost use Rattle.hex.specs.Hex.{IsBytes};
+ghost use Rattle.bfd_packet.specs.declared.arrival.Addr.TheVariants.{V4};
 ghost use Rattle.bfd_script.specs.Gives.{Gives};
 ghost use Rattle.bfd_script.specs.declared.fault.LineFault.TheVariants.{BadAddress};
 ghost use Rattle.bfd_script.specs.Values.{IsAddress, address_of, bytes_of, dotted_of, octet_of, payload_of, quad_of};
 
 use crate::fault::{LineFault, ReadFault};
-use crate::fields::number;
+use crate::fields::{cut_at, number};
 use bfd_packet::{Addr, Payload};
 use byteorder::{BigEndian, ByteOrder};
 use hex::FromHexError;
@@ -17,7 +18,7 @@ use std::alloc::Global;
 const MOST_KEPT: usize = 256;
 
 /// One of the four numbers of an address.
-fn octet(field: &str) -> Result<u8, LineFault>
+fn octet(field: &[u8]) -> Result<u8, LineFault>
     ensures { result ≡ octet_of field.now }
 {
     match number(field, 0, 255) {
@@ -28,7 +29,7 @@ fn octet(field: &str) -> Result<u8, LineFault>
 
 /// An address of four numbers.
 #[tactic(auto, unfolding(crate::specs::Values::quad_of))]
-fn quad(a: &str, b: &str, c: &str, d: &str) -> Result<Addr, LineFault>
+fn quad(a: &[u8], b: &[u8], c: &[u8], d: &[u8]) -> Result<Addr, LineFault>
     ensures value { result ≡ quad_of a.now b.now c.now d.now }
     ensures range { IfOk result IsAddress }
 {
@@ -40,10 +41,10 @@ fn quad(a: &str, b: &str, c: &str, d: &str) -> Result<Addr, LineFault>
 }
 
 /// What stands before the first dot of a field, and after it: BadAddress where it has none.
-fn cut(field: &str) -> Result<(&str, &str), LineFault>
+fn cut(field: &[u8]) -> Result<(&[u8], &[u8]), LineFault>
     ensures { MatchResult result (λ parts. slice_split (λ byte. byte == 46) field.now ≡ parts.0.now ∷ slice_split (λ byte. byte == 46) parts.1.now) (λ fault. (fault ≡ BadAddress) × (slice_split (λ byte. byte == 46) field.now ≡ field.now ∷ [])) }
 {
-    match field.split_once('.') {
+    match cut_at(b'.', field) {
         Some((front, rest)) => Ok((front, rest)),
         None => Err(LineFault::BadAddress),
     }
@@ -51,7 +52,7 @@ fn cut(field: &str) -> Result<(&str, &str), LineFault>
 
 /// An address of what stands between the dots of a field, of which there have to be three.
 #[tactic(auto, using(crate::proofs::Cutting::four))]
-fn dotted(field: &str) -> Result<Addr, LineFault>
+fn dotted(field: &[u8]) -> Result<Addr, LineFault>
     ensures value { result ≡ dotted_of (slice_split (λ byte. byte == 46) field.now) }
     ensures range { IfOk result IsAddress }
 {
@@ -61,9 +62,80 @@ fn dotted(field: &str) -> Result<Addr, LineFault>
     quad(a, b, c, d)
 }
 
-/// A field that is an address: 32 hexadecimal digits of both cases, or four numbers 0 to 255 with dots. BadAddress where
-/// it is neither.
-pub(crate) fn address(field: &str) -> Result<Addr, LineFault>
+/// The first number of an address where it has three digits, and what stands behind its dot.
+fn part_of_three(field: &[u8]) -> Option<(u32, &[u8])>
+    ensures part { IfSome result (λ part. (octet_of (before_first (λ byte. byte == 46) field.now) ≡ Ok part.0) × (slice_split (λ byte. byte == 46) field.now ≡ before_first (λ byte. byte == 46) field.now ∷ slice_split (λ byte. byte == 46) part.1.now)) }
+    ensures range { IfSome result (λ part. part.0 < 256) }
+{
+    match field {
+        [
+            a @ b'1'..=b'2',
+            b @ b'0'..=b'9',
+            c @ b'0'..=b'9',
+            b'.',
+            rest @ ..,
+        ] => {
+            let n = (*a - b'0') as u32 * 100 + (*b - b'0') as u32 * 10 + (*c - b'0') as u32;
+            if n < 256 { Some((n, rest)) } else { None }
+        }
+        _ => None,
+    }
+}
+
+/// The same where it has two or three.
+fn part_of_two(field: &[u8]) -> Option<(u32, &[u8])>
+    ensures part { IfSome result (λ part. (octet_of (before_first (λ byte. byte == 46) field.now) ≡ Ok part.0) × (slice_split (λ byte. byte == 46) field.now ≡ before_first (λ byte. byte == 46) field.now ∷ slice_split (λ byte. byte == 46) part.1.now)) }
+    ensures range { IfSome result (λ part. part.0 < 256) }
+{
+    match field {
+        [a @ b'1'..=b'9', b @ b'0'..=b'9', b'.', rest @ ..] => {
+            Some(((*a - b'0') as u32 * 10 + (*b - b'0') as u32, rest))
+        }
+        _ => part_of_three(field),
+    }
+}
+
+/// The first number of an address and what stands behind its dot, where the number is written as it has to be.
+fn plain_part(field: &[u8]) -> Option<(u32, &[u8])>
+    ensures part { IfSome result (λ part. (octet_of (before_first (λ byte. byte == 46) field.now) ≡ Ok part.0) × (slice_split (λ byte. byte == 46) field.now ≡ before_first (λ byte. byte == 46) field.now ∷ slice_split (λ byte. byte == 46) part.1.now)) }
+    ensures range { IfSome result (λ part. part.0 < 256) }
+{
+    match field {
+        [a @ b'0'..=b'9', b'.', rest @ ..] => Some(((*a - b'0') as u32, rest)),
+        _ => part_of_two(field),
+    }
+}
+
+/// The last number of an address, where it is written as it has to be.
+fn plain_end(field: &[u8]) -> Option<u32>
+    ensures value { IfSome result (λ n. octet_of field.now ≡ Ok n) }
+    ensures range { IfSome result (λ n. n < 256) }
+{
+    match field {
+        [a @ b'0'..=b'9'] => Some((*a - b'0') as u32),
+        [a @ b'1'..=b'9', b @ b'0'..=b'9'] => { Some((*a - b'0') as u32 * 10 + (*b - b'0') as u32) }
+        [a @ b'1'..=b'2', b @ b'0'..=b'9', c @ b'0'..=b'9'] => {
+            let n = (*a - b'0') as u32 * 100 + (*b - b'0') as u32 * 10 + (*c - b'0') as u32;
+            if n < 256 { Some(n) } else { None }
+        }
+        _ => None,
+    }
+}
+
+/// The number of an address of four numbers that are written as they have to be.
+fn plain_quad(field: &[u8]) -> Option<u32>
+    ensures value { IfSome result (λ n. dotted_of (slice_split (λ byte. byte == 46) field.now) ≡ Ok (V4 n)) }
+    ensures range { IfSome result (λ n. n < 2 ^ 32) }
+{
+    let (a, rest) = plain_part(field)?;
+    let (b, rest) = plain_part(rest)?;
+    let (c, rest) = plain_part(rest)?;
+    let d = plain_end(rest)?;
+    Some(((a * 256 + b) * 256 + c) * 256 + d)
+}
+
+/// The same as `address`, by looking for digits of both kinds.
+fn any_address(field: &[u8]) -> Result<Addr, LineFault>
     ensures value { result ≡ address_of field.now }
     ensures range { IfOk result IsAddress }
 {
@@ -71,6 +143,30 @@ pub(crate) fn address(field: &str) -> Result<Addr, LineFault>
     match hex::decode_to_slice(field, &mut bytes) {
         Ok(()) => Ok(Addr::V6(BigEndian::read_u128(&bytes))),
         Err(_) => dotted(field),
+    }
+}
+
+/// An address of four numbers, of a field that is too short for 32 digits: None where they aren't written as they have to be.
+#[tactic(auto, using(crate::proofs::Octets::no_digits))]
+fn plain_address(field: &[u8]) -> Option<Addr>
+    ensures value { IfSome result (λ addr. address_of field.now ≡ Ok addr) }
+    ensures range { IfSome result IsAddress }
+{
+    if field.len() >= 32 {
+        return None;
+    }
+    Some(Addr::V4(plain_quad(field)?))
+}
+
+/// A field that is an address: 32 hexadecimal digits of both cases, or four numbers 0 to 255 with dots. BadAddress where
+/// it is neither.
+pub(crate) fn address(field: &[u8]) -> Result<Addr, LineFault>
+    ensures value { result ≡ address_of field.now }
+    ensures range { IfOk result IsAddress }
+{
+    match plain_address(field) {
+        Some(addr) => Ok(addr),
+        None => any_address(field),
     }
 }
 
@@ -86,10 +182,10 @@ fn keep(alloc: Global, bytes: &[u8]) -> Result<Payload, ReadFault>
 
 /// A field that is bytes: an even number of hexadecimal digits of both cases, or `-` for none. BadHex where it is something
 /// else.
-pub(crate) fn bytes_read(alloc: Global, field: &str) -> Result<Vec<u8>, ReadFault>
+pub(crate) fn bytes_read(alloc: Global, field: &[u8]) -> Result<Vec<u8>, ReadFault>
     ensures { Gives (λ bytes. bytes.items) result (bytes_of field.now) }
 {
-    if field == "-" {
+    if matches!(field, b"-") {
         return Ok(Vec::new(alloc));
     }
     if field.is_empty() {
@@ -104,7 +200,7 @@ pub(crate) fn bytes_read(alloc: Global, field: &str) -> Result<Vec<u8>, ReadFaul
 
 /// A field of an even number of digits, 2 to 512, that is a payload.
 #[tactic(auto, using(crate::proofs::Decoding::payload_by_room))]
-fn short_payload(alloc: Global, field: &str) -> Result<Payload, ReadFault>
+fn short_payload(alloc: Global, field: &[u8]) -> Result<Payload, ReadFault>
     requires some { 2 ≤ length field.now }
     requires few { length field.now ≤ 512 }
     requires even { length field.now % 2 ≡ 0 }
@@ -121,7 +217,7 @@ fn short_payload(alloc: Global, field: &str) -> Result<Payload, ReadFault>
 }
 
 /// A field that is a payload: bytes, of which the first 256 are kept.
-pub(crate) fn payload_read(alloc: Global, field: &str) -> Result<Payload, ReadFault>
+pub(crate) fn payload_read(alloc: Global, field: &[u8]) -> Result<Payload, ReadFault>
     ensures value { Gives (λ p. p) result (payload_of field.now) }
     ensures bytes { IfOk result (λ payload. IsBytes payload) }
     ensures short { IfOk result (λ payload. length payload ≤ 256) }

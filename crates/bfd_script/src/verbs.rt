@@ -22,20 +22,20 @@ pub enum Verb {
 }
 
 /// The verb that a field spells; `key` is one of version 2 alone.
-pub(crate) fn verb_named(version: Version, field: &str) -> Option<Verb>
+pub(crate) fn verb_named(version: Version, field: &[u8]) -> Option<Verb>
     ensures { result ≡ verb_of version field.now }
 {
     match field {
-        "disable" => Some(Verb::Disable),
-        "enable" => Some(Verb::Enable),
-        "reset" => Some(Verb::Reset),
-        "path" => Some(Verb::Path),
-        "tx" => Some(Verb::Tx),
-        "rx" => Some(Verb::Rx),
-        "mult" => Some(Verb::Mult),
-        "demand" => Some(Verb::Demand),
-        "echo" => Some(Verb::Echo),
-        "key" if version == Version::Two => Some(Verb::Key),
+        b"disable" => Some(Verb::Disable),
+        b"enable" => Some(Verb::Enable),
+        b"reset" => Some(Verb::Reset),
+        b"path" => Some(Verb::Path),
+        b"tx" => Some(Verb::Tx),
+        b"rx" => Some(Verb::Rx),
+        b"mult" => Some(Verb::Mult),
+        b"demand" => Some(Verb::Demand),
+        b"echo" => Some(Verb::Echo),
+        b"key" if version == Version::Two => Some(Verb::Key),
         _ => None,
     }
 }

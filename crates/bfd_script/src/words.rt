@@ -48,24 +48,24 @@ pub enum Place {
 }
 
 /// The word that a field spells; `key` is one of version 2 alone.
-pub(crate) fn word_named(version: Version, field: &str) -> Option<Word>
+pub(crate) fn word_named(version: Version, field: &[u8]) -> Option<Word>
     ensures { result ≡ word_of version field.now }
 {
     match field {
-        "bfd" => Some(Word::Bfd),
-        "p2p" => Some(Word::P2p),
-        "auth" => Some(Word::Auth),
-        "sbfd" => Some(Word::Sbfd),
-        "reflector" => Some(Word::Reflector),
-        "head" => Some(Word::Head),
-        "tail" => Some(Word::Tail),
-        "run" => Some(Word::Run),
-        "rx" => Some(Word::Rx),
-        "tick" => Some(Word::Tick),
-        "cmd" => Some(Word::Cmd),
-        "show" => Some(Word::Show),
-        "end" => Some(Word::End),
-        "key" if version == Version::Two => Some(Word::Key),
+        b"bfd" => Some(Word::Bfd),
+        b"p2p" => Some(Word::P2p),
+        b"auth" => Some(Word::Auth),
+        b"sbfd" => Some(Word::Sbfd),
+        b"reflector" => Some(Word::Reflector),
+        b"head" => Some(Word::Head),
+        b"tail" => Some(Word::Tail),
+        b"run" => Some(Word::Run),
+        b"rx" => Some(Word::Rx),
+        b"tick" => Some(Word::Tick),
+        b"cmd" => Some(Word::Cmd),
+        b"show" => Some(Word::Show),
+        b"end" => Some(Word::End),
+        b"key" if version == Version::Two => Some(Word::Key),
         _ => None,
     }
 }
