@@ -1,5 +1,5 @@
 //! The order of a report.
-ghost use Rattle.std.specs.Prelude.{◌≡◌, IfSome};
+ghost use Rattle.std.specs.Prelude.{◌≡◌, ◌≤◌, ◌⊎◌, ◌^◌, IfNone, IfSome};
 ghost use Rattle.bfd_gather.specs.Inside as inside;
 ghost use Rattle.bfd_gather.specs.Pieces as pieces;
 
@@ -22,9 +22,10 @@ pub(crate) struct Mark {
 }
 
 impl Mark {
-    /// The mark of a piece, or none where its text has 4 GiB or more.
+    /// The mark of a piece, or none only where its text has 4 GiB or more, or its packets are as many.
     pub(crate) fn of(key: Key, long: usize, txs: u64, drops: u64) -> Option<Mark>
-        ensures { IfSome result (λ mark. mark ≡ inside.mark key long txs drops) }
+        ensures mark { IfSome result (λ mark. mark ≡ inside.mark key long txs drops) }
+        ensures none { IfNone result ((2 ^ 32 ≤ long) ⊎ ((2 ^ 32 ≤ txs) ⊎ (2 ^ 32 ≤ drops))) }
     {
         Some(Mark {
             event: key.event,

@@ -1,5 +1,5 @@
 //! What one shard tells of its events.
-ghost use Rattle.std.specs.Prelude.{◌≡◌, ◌<◌, ◌≤◌, ◌+◌, ◌++◌, ◌∷◌, [], IfOk, IfSome, OnErr, OnOk, drop, length, map, take};
+ghost use Rattle.std.specs.Prelude.{◌≡◌, ◌<◌, ◌≤◌, ◌+◌, ◌++◌, ◌∷◌, [], ◌^◌, IfNone, IfOk, IfSome, OnErr, OnOk, drop, length, map, take};
 ghost use Rattle.bfd_script.specs.Report.{event_lines};
 ghost use Rattle.bfd_gather.specs.Pieces.{texts, whole_piece, item_piece};
 ghost use Rattle.bfd_gather.specs.Inside.{mark_of, first_key, first_text, first_txs, first_drops};
@@ -82,7 +82,8 @@ fn append_lines(text: &mut Vec<u8>, number: u64, item: &[Out]) -> Result<usize, 
 fn item_mark(number: u64, item: &[Out], long: usize) -> Option<Mark>
     requires one { length item.now ≡ 1 }
     requires long { long ≡ length (event_lines number (record { items = item.now; answer = Answer.Handled })) }
-    ensures { IfSome result (λ mark. mark ∷ [] ≡ map mark_of (map (item_piece number) item.now)) }
+    ensures mark { IfSome result (λ mark. mark ∷ [] ≡ map mark_of (map (item_piece number) item.now)) }
+    ensures none { IfNone result (2 ^ 32 ≤ long) }
 {
     let out = &item[0];
     let key = Key {
