@@ -1,4 +1,4 @@
-//! Two shards' turns at once, a full journal, and a question to nobody.
+//! Two shards' turns at once, a full journal, a question to nobody, and a session that is there twice.
 ghost use Rattle.std.specs.Prelude.{◌≡◌, ◌≤◌, ◌<◌, ◌+◌, [], IfOk, IfSome, OnErr, length};
 ghost use Rattle.bfd_session.specs.Step.{IsFit};
 ghost use Rattle.bfd_session.specs.Kinds.{discr_of};
@@ -7,7 +7,8 @@ ghost use Rattle.bfd_engine.specs.Engines.{IsOf, AllThere};
 ghost use Rattle.bfd_engine.specs.Opening.{IsNewPass, IsSorted};
 ghost use Rattle.bfd_engine_use.specs.Joining.{HasOpen};
 
-use bfd_engine::{Engine, EngineFault, EnginePass, HoldFault};
+use bfd_demux::BuildFault;
+use bfd_engine::{Engine, EngineFault, EnginePass, HoldFault, OpenFault};
 use bfd_num::{Moment, Steps};
 use bfd_packet::Addr;
 use bfd_rules::{Config, Outs, Refusal, Role};
@@ -242,5 +243,22 @@ fn a_full_journal(rt: HostRuntime) -> Result<(), Fail> {
     assert_eq!(rt; full, Err(EngineFault::Full(0, 1)));
     let refused = Answer::Refused(Refusal::UnknownSession);
     assert_eq!(rt; unknown, Ok(refused));
+    Ok(())
+}
+
+/// What a session that is there twice comes to.
+fn twice(alloc: Global) -> Result<Option<OpenFault>, AllocError> {
+    let mut list = Vec::new(alloc);
+    list.push(config(1))?;
+    list.push(config(1))?;
+    Ok(Plain::open(alloc, list, Vec::new(alloc), 3, 10).err())
+}
+
+#[test]
+fn a_session_twice(rt: HostRuntime) -> Result<(), Fail> {
+    assert_eq!(rt;
+        twice(rt.alloc())?,
+        Some(OpenFault::Build(BuildFault::SameDiscr(0, 1)))
+    );
     Ok(())
 }
