@@ -1,5 +1,5 @@
 -- One line more is planned.
-use Rattle.std.proofs.Common.{◌≡◌, ◌<◌, ◌+◌, ◌++◌, ℕ, List, [], ◌∷◌, length, sym, ap, ◌∙◌, subst, append_assoc, append-nil, arith, Option, None, Some}
+use Rattle.std.proofs.Common.{◌≡◌, ◌⊎◌, inl, inr, ◌<◌, ◌≤◌, ◌+◌, ◌++◌, ℕ, List, [], ◌∷◌, length, sym, ap, ◌∙◌, subst, append_assoc, append-nil, arith, Option, None, Some}
 use Rattle.std.specs.Prelude.{slice_index_or}
 use Rattle.std.specs.List.{AllByRecursion, cons_option}
 use Rattle.bfd_sbfd.specs.declared.reflecting.Reflector.{Reflector}
@@ -70,3 +70,13 @@ plan_end configs pool all left shards number queues apart none so_far = record {
   apart_is = sym (append-nil apart) ∙ (ap (λ ls. apart ++ told_apart number (happenings configs pool ls)) (sym none) ∙ so_far.told);
   met = so_far.met (subst (λ ls. AllByRecursion (IsMet configs) (happenings configs pool ls)) (sym none) tt);
 }
+
+at_or : (s k : ℕ) → s < k + 1 → (s ≡ k) ⊎ (s < k)
+at_or s k h = grind (arith, h)
+
+-- a bound of the first k holds of one more
+pub bound_more : (f : ℕ → ℕ) (k m n : ℕ) → ((s : ℕ) → s < k → f s ≤ m) → f k ≤ n → m ≤ n → (s : ℕ) → s < k + 1 → f s ≤ n
+bound_more f k m n all last up s h = elim (at_or s k h) [
+  | inl e ↦ subst (λ (t : ℕ). f t ≤ n) (sym e) last
+  | inr below ↦ (let a = all s below in omega (arith, a, up))
+]

@@ -47,6 +47,27 @@ fn empty_queues(alloc: Global, count: usize) -> Result<Vec<Vec<Numbered>>, Alloc
     Ok(queues)
 }
 
+/// The greater of two numbers.
+fn greater(a: usize, b: usize) -> usize
+    ensures first { a ≤ result }
+    ensures second { b ≤ result }
+    ensures least { (most : ℕ) → a ≤ most → b ≤ most → result ≤ most }
+{
+    if a < b { b } else { a }
+}
+
+/// How many events the longest queue has.
+pub(crate) fn longest(queues: &Vec<Vec<Numbered>>) -> usize
+    ensures all { (s : ℕ) → length (slice_index_or (map (λ q. q.items) queues.now.items) s []) ≤ result }
+    ensures least { (most : ℕ) → ((s : ℕ) → length (slice_index_or (map (λ q. q.items) queues.now.items) s []) ≤ most) → result ≤ most }
+{
+    let mut most = 0;
+    for shard in 0..queues.len() {
+        most = greater(most, queues[shard].len());
+    }
+    most
+}
+
 /// Takes in what the event of this number is.
 fn take_in(
     queues: &mut Vec<Vec<Numbered>>,

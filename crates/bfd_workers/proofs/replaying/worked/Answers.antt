@@ -1,5 +1,5 @@
 -- The parts and the states of the whole script.
-use Rattle.std.proofs.Common.{rules, ◌≡◌, ◌%◌, ◌∙◌, [], length, map, sym, ap, subst, arith}
+use Rattle.std.proofs.Common.{rules, ◌%◌, ◌∙◌, [], length, map, sym, ap, subst, arith}
 use Rattle.std.specs.Prelude.{slice_index_or}
 use Rattle.std.specs.List.{AllByRecursion}
 use Rattle.std.proofs.lemmas.List.{length-map}
@@ -21,9 +21,15 @@ run_all-requires-clause-room g c = λ κs within s. room_enough c.in_ok-engine.e
 
 pub run_all-requires-clause-short : goal.run_all-requires-clause-short
 run_all-requires-clause-short g c = λ κs within s.
-    (let a = short_queues c.args.shards (happenings c.args.configs.items c.args.pool.items c.args.events.items) (map (λ q. q.items) c.in_ok-queues.queues.items) s c.in_ok-queues.ensures.queues in
-    let b = c.in_ok-engine.ensures.limit in let d : c.len-count.result ≡ length c.args.events.items = search rules in
-    let e = happenings_long c.args.configs.items c.args.pool.items c.args.events.items in omega (arith, a, b, d, e))
+    (let a = c.longest-most.ensures.all s in let b = c.in_ok-engine.ensures.limit in omega (arith, a, b))
+
+pub run_all-requires-clause-small : goal.run_all-requires-clause-small
+run_all-requires-clause-small g c =
+    let few = c.requires.few in
+    let long = happenings_long c.args.configs.items c.args.pool.items c.args.events.items in
+    let a = c.longest-most.ensures.least 200000 (λ s. (let b = short_queues c.args.shards (happenings c.args.configs.items c.args.pool.items c.args.events.items)
+    (map (λ q. q.items) c.in_ok-queues.queues.items) s c.in_ok-queues.ensures.queues in omega (arith, b, few, long))) in
+    let b = c.in_ok-engine.ensures.limit in λ κs within. omega (arith, a, b)
 
 pub in_order-requires-clause-some : goal.in_order-requires-clause-some
 in_order-requires-clause-some g c =
