@@ -1,5 +1,5 @@
 -- The parts and the states of the whole script.
-use Rattle.std.proofs.Common.{rules, ◌≡◌, ◌%◌, ◌∙◌, [], length, map, sym, ap, subst, arith}
+use Rattle.std.proofs.Common.{rules, ◌%◌, ◌∙◌, [], length, map, sym, ap, subst, arith}
 use Rattle.std.specs.Prelude.{slice_index_or}
 use Rattle.std.specs.List.{AllByRecursion}
 use Rattle.std.proofs.lemmas.List.{length-map}
