@@ -19,9 +19,9 @@ mod finish;
 mod linking;
 mod opening;
 mod running;
-mod serving;
 #[cfg(test)]
 mod serve_tests;
+mod serving;
 #[cfg(test)]
 mod tests;
 
