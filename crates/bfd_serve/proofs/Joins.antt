@@ -3,6 +3,7 @@ use Rattle.std.proofs.Common.{◌≡◌, ℕ, ◌<◌, ◌≤◌, List, [], ◌�
 use Rattle.std.specs.List.{All}
 use Rattle.std.proofs.lemmas.List.Elements.{All-push, All-pop, All-nil}
 use Rattle.std.proofs.lemmas.List.Sums.{sum_by-append}
+use Rattle.std.proofs.Math.Seq.{get_or-append_seam}
 use Rattle.bfd_turn.specs.Lists.{Begins}
 use Rattle.bfd_turn.proofs.Beginnings.{begins_itself, begins_through, longer_begins}
 use Rattle.bfd_engine.specs.Engines.{Shards, Knows, IsOf, AllThere}
@@ -57,10 +58,6 @@ pub taken_in_more : (engine : Shards) (k l m o : Knows) (os : List Knows) → Ar
     → ((s : ℕ) → s < length engine.locks → Joined l o m s) → AreTakenIn engine k (os ++ o ∷ []) m
 taken_in_more engine k l m o os t of there number joined = record { of = of; there = there; number = number; joined = λ s h. joined_one k l m o os s (t.joined s h) (joined s h) }
 
-get_next : {X : Type 0} (xs ys : List X) (x : X) → get_or (xs ++ x ∷ ys) (length xs) x ≡ x
-get_next [] ys x = refl
-get_next (z ∷ zs) ys x = get_next zs ys x
-
 -- what is true of all is true of the next
 pub all_next : {X : Type 0} (P : X → Type 0) (items xs ys : List X) (x : X) → xs ++ x ∷ ys ≡ items → All P items → P x
-all_next P items xs ys x is all = subst P (get_next xs ys x) (subst (λ l. All P l) (sym is) all (length xs) x (omega (arith, length-append xs (x ∷ ys))))
+all_next P items xs ys x is all = subst P (get_or-append_seam xs x ys x) (subst (λ l. All P l) (sym is) all (length xs) x (omega (arith, length-append xs (x ∷ ys))))
