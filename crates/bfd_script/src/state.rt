@@ -210,12 +210,18 @@ impl Reading {
     {
         match entry {
             Entry::Event(line) => self.push(line),
-            other => {
-                let before = mem::replace(self, Reading::new(alloc));
-                *self = before.with(other)?;
-                Ok(())
-            }
+            other => self.renew(alloc, other),
         }
+    }
+
+    /// The same of any line, with the state moved out and in again.
+    fn renew(&mut self, alloc: Global, entry: Entry) -> Result<(), ReadFault>
+        requires { IsEntry entry }
+        ensures { Gives (λ _. self.new) result (accepted entry self.old) }
+    {
+        let before = mem::replace(self, Reading::new(alloc));
+        *self = before.with(entry)?;
+        Ok(())
     }
 
     /// The table may come, in this version.
