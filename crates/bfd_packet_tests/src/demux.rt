@@ -208,7 +208,14 @@ fn selects_nothing_by_another_table(rt: HostRuntime) -> Result<(), Fail> {
         return Err(Fail::from("no table"));
     };
     for (your, want) in [(0, Test::NoSession), (1, Test::YourUnknown)] {
-        let came = arrival(Port::Single, 1, REMOTE, LOCAL, &packet(0x40, 7, your), alloc)?;
+        let came = arrival(
+            Port::Single,
+            1,
+            REMOTE,
+            LOCAL,
+            &packet(0x40, 7, your),
+            alloc,
+        )?;
         assert!(rt; select_after(&here, &other, &came) == Err(want));
     }
     Ok(())

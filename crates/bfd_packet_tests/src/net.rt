@@ -1,6 +1,6 @@
 // Links over the machine's own addresses, and its clock.
-use bfd_net::{ClockTicker, UdpPorts, udp_port};
 use bfd_edge::{Fault, Link, Next, Ports, Received, Ticker};
+use bfd_net::{ClockTicker, UdpPorts, udp_port};
 use bfd_packet::{Addr, Datagram, Port, Wire};
 use std::net::UdpSocket;
 use std::process;

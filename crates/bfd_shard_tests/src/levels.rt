@@ -3,8 +3,8 @@ ghost use Rattle.std.specs.Prelude.{◌≡◌, ◌+◌, ◌^◌, ◌<◌, ◌≤
 ghost use Rattle.bfd_lanes.specs.Held.{room_of};
 ghost use Rattle.bfd_levels.specs.Height.{potential_of};
 
-use bfd_levels::{Levels, height};
 use bfd_lanes::Ids;
+use bfd_levels::{Levels, height};
 use bfd_num::{Steps, next_j};
 use bfd_wheel::{HashedWheel, PlainTimers, Timers};
 use std::marker::Brand;

@@ -3,9 +3,9 @@ ghost use Rattle.std.specs.Prelude.{◌≡◌, ◌<◌, ◌≤◌};
 ghost use Rattle.bfd_session.specs.declared.event.SessionConfig.TheVariants.{Pair as PairOf};
 ghost use Rattle.bfd_session.specs.Step.{IsFit};
 
-use bfd_pair::{Pair, PairAnswer, PairEvent, PairFault, Side};
 use bfd_num::{Moment, Tick};
 use bfd_packet::{Addr, State, Test};
+use bfd_pair::{Pair, PairAnswer, PairEvent, PairFault, Side};
 use bfd_rules::{Cmd, Config, Outs, Refusal, Role};
 use bfd_session::Answer;
 use std::alloc::Global;
@@ -207,7 +207,10 @@ fn dropped_and_refused(rt: HostRuntime) {
         (give(Side::Left, 752_000, 2), Answer::Handled),
         (give(Side::Right, 753_000, 2), Answer::Handled),
         (tick(900), Answer::Ticked),
-        (give(Side::Right, 901_000, 3), Answer::Dropped(Test::Version)),
+        (
+            give(Side::Right, 901_000, 3),
+            Answer::Dropped(Test::Version),
+        ),
         (
             order(Side::Right, 902_000, Cmd::Enable),
             Answer::Refused(Refusal::WrongState),

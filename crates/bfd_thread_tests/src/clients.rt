@@ -10,8 +10,8 @@ ghost use Rattle.bfd_engine_use.specs.Ready.{IsReady, number_of};
 
 use crate::eight::calls;
 use crate::engine::{configs_of, opened};
-use bfd_engine_use::{Job, add_job, at_once, finish};
 use bfd_engine::{Engine, EnginePass};
+use bfd_engine_use::{Job, add_job, at_once, finish};
 use bfd_shard::Entry;
 use bfd_watch::{Change, Watch};
 use bfd_wheel::{PlainTimers, Timers};

@@ -5,8 +5,8 @@ ghost use Rattle.bfd_engine_use.specs.Joining.{HasOpen};
 ghost use Rattle.bfd_engine_use.specs.Ready.{IsReady, number_of};
 
 use crate::engine::{Plain, fresh, opened, play};
-use bfd_engine_use::{Call, Job, Saw, add_job, at_once, finish};
 use bfd_engine::EnginePass;
+use bfd_engine_use::{Call, Job, Saw, add_job, at_once, finish};
 use bfd_num::{Moment, Steps, Tick, next_j};
 use bfd_packet::{Addr, Arrival, Payload, Port};
 use bfd_rules::{Cmd, Out, Outs};

@@ -227,12 +227,7 @@ fn reading(
 }
 
 /// A replay to a sink of which a call fails.
-fn writing(
-    text: &'static str,
-    call: u64,
-    status: Status,
-    written: &'static str,
-) -> Case<'static> {
+fn writing(text: &'static str, call: u64, status: Status, written: &'static str) -> Case<'static> {
     Case {
         sink_fails: Some(call),
         status,
