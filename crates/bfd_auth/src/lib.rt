@@ -14,8 +14,6 @@
 mod checking;
 mod digests;
 mod sealing;
-#[cfg(test)]
-mod tests;
 
 pub use bfd_packet::{AuthType, Key, KeyList, Keys, Secret, SeqState};
 pub use checking::verify;

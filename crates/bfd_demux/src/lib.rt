@@ -23,8 +23,3 @@ pub use demux::Demux;
 pub use fault::BuildFault;
 pub use row::{Row, RowKind};
 pub use target::Target;
-
-#[cfg(test)]
-mod random_tests;
-#[cfg(test)]
-mod tests;

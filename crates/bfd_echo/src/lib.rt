@@ -20,6 +20,3 @@ pub use echo::{Echo, EchoResult};
 pub use law::{due_laws, moment_laws, packet_laws, sequence_laws};
 pub use packet::echo_datagram;
 pub use timing::{echo_interval, is_echo_wanted};
-
-#[cfg(test)]
-mod tests;

@@ -40,6 +40,3 @@ pub use outside::{Sink, Source};
 pub use places::{Place, Places};
 pub use ports::Ports;
 pub use ticker::{Next, Ticker};
-
-#[cfg(test)]
-mod tests;

@@ -1,4 +1,2 @@
-pub mod Rooms
 pub mod Worked
 pub mod Joins
-pub mod Following

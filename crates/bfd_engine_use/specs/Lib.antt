@@ -1,4 +1,3 @@
 pub mod Ready
 pub mod Calling
 pub mod Joining
-pub mod Following

@@ -14,12 +14,3 @@ mod threads;
 
 pub use passes::{add_job, finish};
 pub use threads::{Call, Job, Saw, at_once};
-
-#[cfg(test)]
-mod clients;
-#[cfg(test)]
-mod daemon;
-#[cfg(test)]
-mod eight;
-#[cfg(test)]
-mod tests;

@@ -23,6 +23,3 @@ pub use law::{dealing_laws, telling_laws};
 pub use part::Part;
 pub use queue::{Numbered, queue_event};
 pub use reporting::{Gathered, report};
-
-#[cfg(test)]
-mod tests;

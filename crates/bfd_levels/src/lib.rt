@@ -18,6 +18,3 @@ mod walk;
 pub use law::call_laws;
 pub use levels::Levels;
 pub use place::height;
-
-#[cfg(test)]
-mod tests;

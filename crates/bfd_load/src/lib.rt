@@ -10,7 +10,5 @@
 #![tactic(auto)]
 
 mod generating;
-#[cfg(test)]
-mod tests;
 
 pub use generating::generate;

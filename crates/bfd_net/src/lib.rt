@@ -14,8 +14,6 @@ mod clock;
 mod hearing;
 mod link;
 mod ports;
-#[cfg(test)]
-mod tests;
 mod ticker;
 
 pub use hearing::udp_port;

@@ -10,20 +10,3 @@ pub fn next_j(j: u32) -> u32
 {
     j.wrapping_mul(1_664_525).wrapping_add(1_013_904_223)
 }
-
-#[cfg(test)]
-mod tests {
-    use super::*;
-
-    #[test]
-    fn draws(rt: HostRuntime) {
-        for (j, next) in [
-            (0, 1_013_904_223),
-            (1, 1_015_568_748),
-            (1_013_904_223, 1_196_435_762),
-            (4_294_967_295, 1_012_239_698),
-        ] {
-            assert_eq!(rt; next_j(j), next, "after {j}");
-        }
-    }
-}

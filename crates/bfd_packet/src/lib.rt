@@ -16,8 +16,6 @@ mod discard;
 mod keys;
 mod names;
 mod reading;
-#[cfg(test)]
-mod tests;
 mod writing;
 
 pub use arrival::{Addr, Arrival, Datagram, Port, SOURCE_PORT};

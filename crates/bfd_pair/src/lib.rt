@@ -18,6 +18,3 @@ mod peer;
 pub use event::{PairAnswer, PairEvent, PairFault, Side};
 pub use law::{handshake_law, up_law};
 pub use pair::Pair;
-
-#[cfg(test)]
-mod tests;

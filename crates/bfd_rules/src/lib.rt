@@ -30,6 +30,3 @@ pub use quantities::{
 pub use renewal::renewed;
 pub use variables::{Mark, Poll, Vars};
 pub use verdict::Verdict;
-
-#[cfg(test)]
-mod tests;

@@ -13,8 +13,3 @@ mod playing;
 mod schedule;
 
 pub use playing::pair_line;
-
-#[cfg(test)]
-mod every;
-#[cfg(test)]
-mod tests;

@@ -16,6 +16,3 @@ mod telling;
 mod turn_lines;
 
 pub use serving::served;
-
-#[cfg(test)]
-mod tests;

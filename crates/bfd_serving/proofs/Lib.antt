@@ -6,4 +6,3 @@ pub mod Counts
 pub mod Causes
 pub mod Entered
 pub mod Wholes
-mod NewLinks

@@ -19,11 +19,7 @@ mod finish;
 mod linking;
 mod opening;
 mod running;
-#[cfg(test)]
-mod serve_tests;
 mod serving;
-#[cfg(test)]
-mod tests;
 
 pub use finish::{Finish, Refused};
 pub use serving::{Outcome, serve_script};

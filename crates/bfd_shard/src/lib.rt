@@ -22,6 +22,3 @@ mod ticking;
 pub use entry::{Entry, Full, ShardEvent};
 pub use law::{expiry_laws, history_laws, own_laws};
 pub use shard::ShardState;
-
-#[cfg(test)]
-mod tests;

@@ -16,8 +16,6 @@ mod lock;
 mod pass;
 mod plays;
 mod recorded;
-#[cfg(test)]
-mod tests;
 mod turn;
 mod view;
 

@@ -20,6 +20,3 @@ pub use change::{Change, WatchFault};
 pub use group::{LinkGroup, Member};
 pub use law::{changes_laws, watched_laws};
 pub use watch::{Watch, changes_of};
-
-#[cfg(test)]
-mod tests;

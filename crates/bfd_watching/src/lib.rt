@@ -12,6 +12,3 @@ mod telling;
 
 pub use members::first_unknown;
 pub use telling::watched;
-
-#[cfg(test)]
-mod tests;

@@ -22,25 +22,3 @@ pub(crate) fn head_of(count: u32, now: u64, due: u64) -> u32
         count + (due % SLOTS as u64) as u32
     }
 }
-
-#[cfg(test)]
-mod tests {
-    use super::*;
-
-    #[test]
-    fn ranges(rt: HostRuntime) {
-        for (now, due, head) in [
-            (0, 0, 4106),
-            (0, 1, 11),
-            (0, 4095, 4105),
-            (0, 4096, 10),
-            (0, 4097, 11),
-            (4096, 4096, 4106),
-            (4096, 4097, 11),
-            (5000, 3, 4106),
-            (5000, 1_152_921_504_606_846_975, 4105),
-        ] {
-            assert_eq!(rt; head_of(10, now, due), head, "due {due} at {now}");
-        }
-    }
-}

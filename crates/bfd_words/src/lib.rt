@@ -15,6 +15,3 @@ mod options;
 
 pub use grammar::job_of;
 pub use job::{Form, Hands, Job, Members};
-
-#[cfg(test)]
-mod tests;

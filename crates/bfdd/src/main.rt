@@ -70,8 +70,6 @@ fn main(rt: HostRuntime) -> ExitCode {
 #[cfg(test)]
 mod meeting_tests;
 #[cfg(test)]
-mod script_tests;
-#[cfg(test)]
 mod serve_tests;
 #[cfg(test)]
 mod tests;

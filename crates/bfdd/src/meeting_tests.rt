@@ -1,15 +1,13 @@
-// Workers of a run that wait for one another, through the words.
+//! Workers of a run that wait for one another, through the words.
 ghost use Rattle.bfd_edge.specs.MemoryTicker.{told_of};
 
-use crate::serve_tests::met;
-use crate::{Status, run};
-use bfd_edge::{Gate, MemPorts, MemSink, MemSource, MemTicker, Next, Ticker};
-use std::alloc::{AllocError, Global};
-use std::sync::Wait;
+use crate::Status;
+use crate::serve_tests::PASSIVE;
+use crate::tests::{Case, Hears, calm, met};
+use bfd_edge::{Gate, MemTicker, Next, Ticker};
 use std::sync::atomic::{AtomicU64, Ordering};
 use std::test::Fail;
 use std::thread;
-use std::thread::Threads;
 
 /// Two sessions, one on each of two shards, and a tick of both.
 const TWO: &str = "bfd 1\n\
@@ -73,34 +71,6 @@ impl Ticker for MeetingTicker<'_> {
     }
 }
 
-/// A replay of the two by two workers: its status, and what it writes.
-fn replayed<R: Threads + Wait + Sync, G: Gate + Sync>(
-    rt: &R,
-    alloc: Global,
-    gate: &G,
-) -> Result<(Status, Vec<u8>), AllocError> {
-    let mut words = Vec::new(alloc);
-    for word in "replay --shards 2 --workers 2".split(' ') {
-        words.push(String::from_str(alloc, word)?)?;
-    }
-    let bytes = TWO.as_bytes().to_vec(alloc)?;
-    let mut source = MemSource::make(bytes, 100, Vec::new(alloc));
-    let mut sink = MemSink::make(alloc, 100, Vec::new(alloc));
-    let mut ports = MemPorts::make(alloc, Vec::new(alloc), Vec::new(alloc));
-    let mut ticker = MemTicker::make(Vec::new(alloc), Vec::new(alloc));
-    let status = run(
-        rt,
-        alloc,
-        &words,
-        &mut source,
-        &mut sink,
-        &mut ports,
-        &mut ticker,
-        gate,
-    );
-    Ok((status, sink.as_slice().to_vec(alloc)?))
-}
-
 /// A place where nobody has come yet.
 fn nobody_yet() -> Meeting {
     Meeting {
@@ -119,37 +89,41 @@ fn came(meeting: &Meeting) -> (u64, u64, u64) {
     )
 }
 
+/// A run of `serve` whose workers' links hear a packet each.
+fn serving(words: &'static str) -> Case<'static> {
+    let one = &[Hears::Packet(1500)];
+    Case {
+        first: one,
+        second: one,
+        ..calm(words, PASSIVE, "")
+    }
+}
+
 #[test]
-fn serving_workers_meet(rt: HostRuntime) -> Result<(), Fail> {
-    let alloc = rt.alloc();
-    let meeting = nobody_yet();
-    let mut ticker = MemTicker::make(Vec::new(alloc), Vec::new(alloc));
-    let status = met(&rt, alloc, "serve --workers 2", &mut ticker, &meeting)?;
-    assert_eq!(rt; status, Status::Done);
-    assert_eq!(rt; came(&meeting), (1, 1, 0));
+fn workers_meet(rt: HostRuntime) -> Result<(), Fail> {
+    for case in [
+        serving("serve --workers 2"),
+        calm("replay --shards 2 --workers 2", TWO, ""),
+    ] {
+        let meeting = nobody_yet();
+        let mut ticker = MemTicker::make(Vec::new(rt.alloc()), Vec::new(rt.alloc()));
+        let ended = met(&rt, rt.alloc(), &case, &mut ticker, &meeting)?;
+        assert_eq!(rt; ended.status, Status::Done);
+        assert_eq!(rt; came(&meeting), (1, 1, 0));
+    }
     Ok(())
 }
 
 #[test]
 fn worker_and_timer_meet(rt: HostRuntime) -> Result<(), Fail> {
-    let alloc = rt.alloc();
     let meeting = nobody_yet();
     let mut ticker = MeetingTicker {
         meeting: &meeting,
-        inner: MemTicker::make(Vec::new(alloc), Vec::new(alloc)),
+        inner: MemTicker::make(Vec::new(rt.alloc()), Vec::new(rt.alloc())),
     };
-    let status = met(&rt, alloc, "serve --workers 1", &mut ticker, &meeting)?;
-    assert_eq!(rt; status, Status::Done);
-    assert_eq!(rt; came(&meeting), (1, 1, 0));
-    Ok(())
-}
-
-#[test]
-fn workers_meet(rt: HostRuntime) -> Result<(), Fail> {
-    let meeting = nobody_yet();
-    let (status, written) = replayed(&rt, rt.alloc(), &meeting)?;
-    assert_eq!(rt; status, Status::Done);
-    assert_eq!(rt; written.as_slice(), "done 1 0 0\n".as_bytes());
+    let case = serving("serve --workers 1");
+    let ended = met(&rt, rt.alloc(), &case, &mut ticker, &meeting)?;
+    assert_eq!(rt; ended.status, Status::Done);
     assert_eq!(rt; came(&meeting), (1, 1, 0));
     Ok(())
 }

@@ -1,5 +1,0 @@
--- The counter is the blank's own.
-use Rattle.bfd_engine_use.proofs.tests.fills.Given as goal
-
-abbrev pub ghosts-asks_on : goal.ghosts-asks_on
-ghosts-asks_on g a = record { name = a.blank.name; parts = a.blank.parts }

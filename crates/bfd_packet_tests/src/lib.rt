@@ -1,0 +1,24 @@
+//! Tests of the calls that a packet goes through up to its session: numbers, the codec, authentication, echo packets, the table of
+//! sessions, and the links that packets come by, over memory and over UDP. One module has the tests of one crate, by its name.
+//!
+//! It stands on the crates that it tests. Nothing stands on it, and it has no code but tests.
+#![tactic(auto)]
+
+#[cfg(test)]
+mod auth;
+#[cfg(test)]
+mod demux;
+#[cfg(test)]
+mod demux_drawn;
+#[cfg(test)]
+mod echo;
+#[cfg(test)]
+mod edge;
+#[cfg(test)]
+mod net;
+#[cfg(test)]
+mod num;
+#[cfg(test)]
+mod packet;
+#[cfg(test)]
+mod rules;

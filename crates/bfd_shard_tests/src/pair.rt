@@ -1,0 +1,222 @@
+//! The handshake of two active sessions, packet by packet, two configurations that are no peers, and what two peers discard and refuse.
+ghost use Rattle.std.specs.Prelude.{◌≡◌, ◌<◌, ◌≤◌};
+ghost use Rattle.bfd_session.specs.declared.event.SessionConfig.TheVariants.{Pair as PairOf};
+ghost use Rattle.bfd_session.specs.Step.{IsFit};
+
+use bfd_num::{Moment, Tick};
+use bfd_packet::{Addr, State, Test};
+use bfd_pair::{Pair, PairAnswer, PairEvent, PairFault, Side};
+use bfd_rules::{Cmd, Config, Outs, Refusal, Role};
+use bfd_session::Answer;
+use std::alloc::Global;
+
+const FIRST: Addr = Addr::V4(0x0a00_0001);
+
+const SECOND: Addr = Addr::V4(0x0a00_0002);
+
+const THIRD: Addr = Addr::V4(0x0a00_0003);
+
+/// An active session over a single hop that asks for this interval, in microseconds.
+fn config(discr: u32, local: Addr, remote: Addr, interval: u32, seed: u32) -> Config
+    requires some { 0 < discr }
+    requires least { 10000 ≤ interval }
+    requires most { interval ≤ 60000000 }
+    ensures { IsFit (PairOf result) }
+{
+    Config {
+        discr,
+        role: Role::Single,
+        iface: 1,
+        local,
+        remote,
+        active: true,
+        tx: interval,
+        rx: interval,
+        mult: 3,
+        echo: 0,
+        seed,
+        keys: None,
+    }
+}
+
+/// Two active peers that ask for this interval.
+pub(crate) fn peers(alloc: Global, interval: u32, seed: u32) -> Result<Pair, PairFault>
+    requires least { 10000 ≤ interval }
+    requires most { interval ≤ 60000000 }
+{
+    Pair::make(
+        alloc,
+        config(1, FIRST, SECOND, interval, seed),
+        config(2, SECOND, FIRST, interval, seed),
+    )
+}
+
+fn tick(number: u64) -> Option<PairEvent> {
+    Tick::new(number).map(PairEvent::Tick)
+}
+
+fn give(to: Side, us: u64, number: u64) -> Option<PairEvent> {
+    let moment = Moment::new(us)?;
+    Some(PairEvent::Give { to, moment, number })
+}
+
+fn order(side: Side, us: u64, cmd: Cmd) -> Option<PairEvent> {
+    let moment = Moment::new(us)?;
+    Some(PairEvent::Order { side, moment, cmd })
+}
+
+/// One event, with room for its outputs; None where there is no event or no memory.
+fn play(pair: &mut Pair, event: Option<PairEvent>, outs: &mut Outs) -> Option<PairAnswer>
+    requires { 10 ≤ outs.old.room }
+    ensures { outs.new.room ≡ outs.old.room }
+{
+    let event = event?;
+    outs.clear();
+    pair.step(event, outs).ok()
+}
+
+#[test]
+fn handshake(rt: HostRuntime) {
+    let mut pair = peers(rt.alloc(), 1_000_000, 0).expect(&rt, "peers");
+    let mut outs = Outs::make(rt.alloc(), 10).expect(&rt, "memory");
+    let handled = PairAnswer::Did(Answer::Handled);
+    let ticked = PairAnswer::Did(Answer::Ticked);
+    let dropped = PairAnswer::Did(Answer::Dropped(Test::AdminDown));
+    for (event, answer, left, diag, right, from_left, from_right) in [
+        (tick(750), ticked, State::Down, 0, State::Down, 1, 1),
+        (
+            give(Side::Right, 751_000, 1),
+            handled,
+            State::Down,
+            0,
+            State::Init,
+            1,
+            2,
+        ),
+        (
+            give(Side::Left, 752_000, 2),
+            handled,
+            State::Up,
+            0,
+            State::Init,
+            2,
+            2,
+        ),
+        (
+            give(Side::Right, 753_000, 2),
+            handled,
+            State::Up,
+            0,
+            State::Up,
+            2,
+            3,
+        ),
+        (
+            give(Side::Left, 754_000, 1),
+            handled,
+            State::Down,
+            3,
+            State::Up,
+            3,
+            3,
+        ),
+        (
+            give(Side::Left, 755_000, 9),
+            PairAnswer::NoPacket(3),
+            State::Down,
+            3,
+            State::Up,
+            3,
+            3,
+        ),
+        (
+            order(Side::Right, 756_000, Cmd::Disable),
+            handled,
+            State::Down,
+            3,
+            State::AdminDown,
+            3,
+            4,
+        ),
+        (
+            give(Side::Right, 757_000, 2),
+            dropped,
+            State::Down,
+            3,
+            State::AdminDown,
+            3,
+            4,
+        ),
+        (
+            order(Side::Left, 757_500, Cmd::EchoEvery(50_000)),
+            handled,
+            State::Down,
+            3,
+            State::AdminDown,
+            3,
+            4,
+        ),
+        (
+            give(Side::Left, 758_000, 0),
+            PairAnswer::NoPacket(4),
+            State::Down,
+            3,
+            State::AdminDown,
+            3,
+            4,
+        ),
+        (tick(700), ticked, State::Down, 3, State::AdminDown, 3, 4),
+        (
+            give(Side::Left, 759_000, 4),
+            handled,
+            State::Down,
+            3,
+            State::AdminDown,
+            3,
+            4,
+        ),
+    ] {
+        let got = play(&mut pair, event, &mut outs).expect(&rt, "an answer");
+        assert_eq!(rt; got, answer);
+        assert_eq!(rt; pair.session(Side::Left).vars().state, left);
+        assert_eq!(rt; pair.session(Side::Left).vars().diag, diag);
+        assert_eq!(rt; pair.session(Side::Right).vars().state, right);
+        assert_eq!(rt; pair.sent(Side::Left).len(), from_left);
+        assert_eq!(rt; pair.sent(Side::Right).len(), from_right);
+    }
+    assert_eq!(rt; pair.past().len(), 12);
+    let alike = Pair::make(
+        rt.alloc(),
+        config(1, FIRST, SECOND, 1_000_000, 0),
+        config(2, FIRST, THIRD, 1_000_000, 0),
+    );
+    assert_eq!(rt; alike.err(), Some(PairFault::NotPeers));
+}
+
+/// An echo packet of Left is dropped by the tests on its header, where Right is given it, and Right isn't to be enabled in Up.
+#[test]
+fn dropped_and_refused(rt: HostRuntime) {
+    let mut pair = peers(rt.alloc(), 1_000_000, 0).expect(&rt, "peers");
+    let mut outs = Outs::make(rt.alloc(), 10).expect(&rt, "memory");
+    let echo = Cmd::EchoEvery(50_000);
+    for (event, answer) in [
+        (tick(750), Answer::Ticked),
+        (order(Side::Left, 750_100, echo), Answer::Handled),
+        (order(Side::Right, 750_200, echo), Answer::Handled),
+        (give(Side::Right, 751_000, 1), Answer::Handled),
+        (give(Side::Left, 752_000, 2), Answer::Handled),
+        (give(Side::Right, 753_000, 2), Answer::Handled),
+        (tick(900), Answer::Ticked),
+        (
+            give(Side::Right, 901_000, 3),
+            Answer::Dropped(Test::Version),
+        ),
+        (
+            order(Side::Right, 902_000, Cmd::Enable),
+            Answer::Refused(Refusal::WrongState),
+        ),
+    ] {
+        let got = play(&mut pair, event, &mut outs).expect(&rt, "an answer");
+        assert_eq!(rt; got, PairAnswer::Did(answer));
+    }
+}

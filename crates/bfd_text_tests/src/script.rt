@@ -1,0 +1,133 @@
+//! Live scripts, and the one spelling.
+use bfd_script::{BadLine, LineFault, ScriptFault, read};
+use bfd_spelling::write;
+use std::test::Fail;
+
+/// How many event lines a live text has, or its first faulty line.
+fn live(rt: &HostRuntime, text: &str) -> Result<usize, BadLine> {
+    match read(rt.alloc(), text.as_bytes(), true) {
+        Ok(script) => Ok(script.events.len()),
+        Err(ScriptFault::Bad(bad)) => Err(bad),
+        Err(ScriptFault::Memory) => Ok(usize::MAX),
+    }
+}
+
+#[test]
+fn live_scripts(rt: HostRuntime) -> Result<(), Fail> {
+    let bad = |line: u64, fault: LineFault| -> Result<usize, BadLine> {
+        Err(BadLine { line, fault })
+    };
+    let row = "p2p 5 single 1 192.0.2.1 192.0.2.254 passive 1000000 50000 3 0 0";
+    let cases = [
+        ("auth 5 1 6 00", "cmd 7 5 demand 2", Ok(1)),
+        ("auth 5 1 6 00", "show 7 5", Ok(1)),
+        ("auth 5 1 6 00", "tick 1", bad(5, LineFault::Order)),
+        (
+            "auth 5 1 6 00",
+            "rx 1 single 1 192.0.2.254 192.0.2.1 255 -",
+            bad(5, LineFault::Order),
+        ),
+        (
+            "auth 5 1 6 00",
+            "show 7 6",
+            bad(5, LineFault::NoSuchSession),
+        ),
+        ("auth 6 1 6 00", "tick 1", bad(3, LineFault::NoSuchSession)),
+    ];
+    for (key, event, want) in cases {
+        let text = format!(in rt.alloc(); "bfd 1\n{row}\n{key}\nrun\n{event}\nend\n")?;
+        assert_eq!(rt; live(&rt, text.as_str()), want, "{event}");
+    }
+    Ok(())
+}
+
+#[test]
+fn one_spelling(rt: HostRuntime) -> Result<(), Fail> {
+    let cases = [
+        (
+            "bfd 1\n\
+            p2p 9 multi 65535 20010DB800000000000000000000000a 20010db8000000000000000000000001 active 10000 60000000 255 0 4294967295\n\
+            p2p 5 single 1 192.0.2.1 192.0.2.254 passive 1000000 50000 3 0 0\n\
+            auth 5 4 7 0AfF\n\
+            auth 9 1 255 70617373\n\
+            run\n\
+            rx 1500 single 1 192.0.2.254 192.0.2.1 255 20C0\n\
+            tick 3002\n\
+            cmd 3002000 9 disable\n\
+            cmd 3002000 5 rx 250000\n\
+            show 3002001 5\n\
+            end",
+            "bfd 1\n\
+            p2p 5 single 1 192.0.2.1 192.0.2.254 passive 1000000 50000 3 0 0\n\
+            auth 5 4 7 0aff\n\
+            p2p 9 multi 65535 20010db800000000000000000000000a 20010db8000000000000000000000001 active 10000 60000000 255 0 4294967295\n\
+            auth 9 1 255 70617373\n\
+            run\n\
+            rx 1500 single 1 192.0.2.254 192.0.2.1 255 20c0\n\
+            tick 3002\n\
+            cmd 3002000 9 disable\n\
+            cmd 3002000 5 rx 250000\n\
+            show 3002001 5\n\
+            end\n",
+        ),
+        (
+            "bfd 2\n\
+            p2p 9 single 1 192.0.2.1 192.0.2.9 active 10000 10000 3 0 0\n\
+            auth 9 1 8 61\n\
+            p2p 5 single 1 192.0.2.1 192.0.2.5 active 10000 10000 3 0 0\n\
+            auth 5 5 8 62\n\
+            key 9 7 6A\n\
+            key 5 9 64\n\
+            key 5 7 65\n\
+            run\nend\n",
+            "bfd 2\n\
+            p2p 5 single 1 192.0.2.1 192.0.2.5 active 10000 10000 3 0 0\n\
+            auth 5 5 8 62\n\
+            key 5 9 64\n\
+            key 5 7 65\n\
+            p2p 9 single 1 192.0.2.1 192.0.2.9 active 10000 10000 3 0 0\n\
+            auth 9 1 8 61\n\
+            key 9 7 6a\n\
+            run\nend\n",
+        ),
+        (
+            "bfd 1\n\
+            reflector 900 50000 up\n\
+            tail 30 77 1 239.0.0.1 10.0.0.2\n\
+            reflector 31 60000000 admin\n\
+            head 40 1 10.0.0.1 239.0.0.1 100000 3 4294967295\n\
+            sbfd 5 900 65535 10.0.0.1 20010DB8000000000000000000000009 10000 255 0\n\
+            p2p 6 single 1 10.0.0.1 10.0.0.6 passive 1000000 1000000 3 50000 0\n\
+            run\n\
+            rx 1500 echo 1 10.0.0.1 10.0.0.1 255 42464465000000060000000000000000\n\
+            rx 1500 sbfd 1 10.0.0.9 10.0.0.1 255 -\n\
+            rx 1500 answer 1 10.0.0.9 10.0.0.1 255 -\n\
+            cmd 1500 6 echo 0\n\
+            end",
+            "bfd 1\n\
+            sbfd 5 900 65535 10.0.0.1 20010db8000000000000000000000009 10000 255 0\n\
+            p2p 6 single 1 10.0.0.1 10.0.0.6 passive 1000000 1000000 3 50000 0\n\
+            tail 30 77 1 239.0.0.1 10.0.0.2\n\
+            head 40 1 10.0.0.1 239.0.0.1 100000 3 4294967295\n\
+            reflector 31 60000000 admin\n\
+            reflector 900 50000 up\n\
+            run\n\
+            rx 1500 echo 1 10.0.0.1 10.0.0.1 255 42464465000000060000000000000000\n\
+            rx 1500 sbfd 1 10.0.0.9 10.0.0.1 255 -\n\
+            rx 1500 answer 1 10.0.0.9 10.0.0.1 255 -\n\
+            cmd 1500 6 echo 0\n\
+            end\n",
+        ),
+        ("bfd 2\nrun\nend\n", "bfd 1\nrun\nend\n"),
+    ];
+    for (text, want) in cases {
+        match read(rt.alloc(), text.as_bytes(), false) {
+            Ok(script) => {
+                let bytes = write(rt.alloc(), &script)?;
+                assert!(rt; bytes.as_slice() == want.as_bytes(), "the one spelling");
+            }
+            Err(_) => assert!(rt; false, "the text is a script"),
+        }
+    }
+    Ok(())
+}

@@ -1,0 +1,290 @@
+//! Two shards' turns at once, a full journal, calls for nobody, and a session that is there twice.
+ghost use Rattle.std.specs.Prelude.{◌≡◌, ◌≤◌, ◌<◌, ◌+◌, [], IfOk, IfSome, OnErr, length};
+ghost use Rattle.bfd_session.specs.Step.{IsFit};
+ghost use Rattle.bfd_session.specs.Kinds.{discr_of};
+ghost use Rattle.bfd_session.specs.Rows.{AreFit};
+ghost use Rattle.bfd_engine.specs.Engines.{IsOf, AllThere};
+ghost use Rattle.bfd_engine.specs.Opening.{IsNewPass, IsSorted};
+ghost use Rattle.bfd_engine_use.specs.Joining.{HasOpen};
+
+use crate::eight::packet;
+use bfd_demux::{BuildFault, Target};
+use bfd_engine::{Engine, EngineFault, EnginePass, HoldFault, OpenFault};
+use bfd_num::{Moment, Steps};
+use bfd_packet::{Addr, Arrival, Test};
+use bfd_rules::{Cmd, Config, Outs, Refusal, Role};
+use bfd_session::{Answer, SessionConfig};
+use bfd_shard::{Entry, ShardState};
+use bfd_wheel::PlainTimers;
+use std::alloc::{AllocError, Global};
+use std::marker::Brand;
+use std::sync::Wait;
+use std::sync::ledger::{Blank, Ledger};
+use std::test::Fail;
+
+pub(crate) type Plain = Engine<PlainTimers>;
+
+/// A session over a single hop, on an interface of its own.
+fn config(discr: u32) -> SessionConfig
+    requires discr { (0 < discr) × (discr < 65536) }
+    ensures fit { IsFit result }
+    ensures discr { discr_of result ≡ discr }
+{
+    SessionConfig::Pair(Config {
+        discr,
+        role: Role::Single,
+        iface: discr,
+        local: Addr::V4(0x0a00_0001),
+        remote: Addr::V4(0x0a00_0002),
+        active: true,
+        tx: 50_000,
+        rx: 50_000,
+        mult: 3,
+        echo: 0,
+        seed: discr,
+        keys: None,
+    })
+}
+
+/// The sessions 1 to 4.
+fn configs(alloc: Global) -> Result<Vec<SessionConfig>, AllocError>
+    ensures fit { IfOk result (λ list. AreFit list.items) }
+    ensures sorted { IfOk result (λ list. IsSorted list.items []) }
+    ensures long { IfOk result (λ list. length list.items ≡ 4) }
+{
+    let mut list = Vec::new(alloc);
+    list.push(config(1))?;
+    list.push(config(2))?;
+    list.push(config(3))?;
+    list.push(config(4))?;
+    Ok(list)
+}
+
+/// An engine of four sessions in three shards, whose journals take so many entries.
+#[tactic(auto, using(bfd_engine_use::proofs::Joins::open_new))]
+pub(crate) fn opened(alloc: Global, limit: usize) -> Option<(Plain, EnginePass)>
+    ensures pass { IfSome result (λ r. IsNewPass r.0 r.1) }
+    ensures passes { IfSome result (λ r. HasOpen r.0 r.1 []) }
+    ensures shards { IfSome result (λ r. length r.0.locks ≡ 3) }
+    ensures configs { IfSome result (λ r. length r.0.configs ≡ 4) }
+{
+    let list = configs(alloc).ok()?;
+    Engine::open(alloc, list, Vec::new(alloc), 3, limit).ok()
+}
+
+/// Whether this caller may have the shard's turn. One that it has is given back; refused, it may ask again.
+fn tries(engine: &Plain, pass: &mut EnginePass, shard: u32) -> Result<(), HoldFault>
+    requires of { IsOf engine.now pass.old.1 }
+    requires there { AllThere pass.old.1 }
+    requires shard { shard < length engine.now.locks }
+    ensures of { IsOf engine.now pass.new.1 }
+    ensures there { OnErr result (AllThere pass.new.1) }
+{
+    match engine.try_hold(pass, shard) {
+        Ok(hold) => {
+            engine.let_go(pass, hold);
+            Ok(())
+        }
+        Err(fault) => Err(fault),
+    }
+}
+
+/// A further pass.
+pub(crate) fn part(engine: &Plain, alloc: Global, first: &mut EnginePass) -> Option<EnginePass>
+    requires of { IsOf engine.now first.old.1 }
+    requires there { AllThere first.old.1 }
+    requires first { first.old.0 ≡ 0 }
+    requires few { first.old.2 < 64 }
+    ensures of { IsOf engine.now first.new.1 }
+    ensures there { AllThere first.new.1 }
+    ensures number { first.new.0 ≡ 0 }
+    ensures used { first.new.2 ≡ first.old.2 + 1 }
+    ensures other { IfSome result (λ other. IsOf engine.now other.1 × AllThere other.1) }
+{
+    match engine.split(alloc, first) {
+        Ok(other) => Some(other),
+        Err(_) => None,
+    }
+}
+
+/// What others are told of shards 1 and 0 while a caller has the turn of shard 0, and the second of them of shard 0 after that.
+fn told_beside(
+    engine: &Plain,
+    first: &mut EnginePass,
+    other: &mut EnginePass,
+    third: &mut EnginePass,
+) -> Option<[Result<(), HoldFault>; 3]>
+    requires first { IsOf engine.now first.old.1 × AllThere first.old.1 }
+    requires other { IsOf engine.now other.old.1 × AllThere other.old.1 }
+    requires third { IsOf engine.now third.old.1 × AllThere third.old.1 }
+    requires shards { length engine.now.locks ≡ 3 }
+{
+    let hold = engine.try_hold(first, 0).ok()?;
+    let beside = tries(engine, other, 1);
+    let same = tries(engine, third, 0);
+    engine.let_go(first, hold);
+    if same.is_ok() {
+        return None;
+    }
+    let after = tries(engine, third, 0);
+    Some([beside, same, after])
+}
+
+/// The same of a new engine.
+fn holds(alloc: Global) -> Option<[Result<(), HoldFault>; 3]> {
+    let (engine, mut first) = opened(alloc, 100_000)?;
+    let mut other = part(&engine, alloc, &mut first)?;
+    let mut third = part(&engine, alloc, &mut first)?;
+    told_beside(&engine, &mut first, &mut other, &mut third)
+}
+
+#[test]
+fn each_shard_has_a_turn_of_its_own(rt: HostRuntime) -> Result<(), Fail> {
+    let told = holds(rt.alloc()).ok_or("no memory")?;
+    assert_eq!(rt; told, [Ok(()), Err(HoldFault::Busy(1, 1)), Ok(())]);
+    Ok(())
+}
+
+/// The sessions of a shard, by place.
+pub(crate) fn configs_of(alloc: Global, shard: u32) -> Result<Vec<SessionConfig>, AllocError>
+    ensures fit { IfOk result (λ list. AreFit list.items) }
+    ensures few { IfOk result (λ list. length list.items ≤ 2) }
+{
+    let mut list = Vec::new(alloc);
+    match shard {
+        0 => {
+            list.push(config(1))?;
+            list.push(config(4))?;
+        }
+        1 => list.push(config(2))?,
+        _ => list.push(config(3))?,
+    }
+    Ok(list)
+}
+
+/// The shard as it was opened.
+pub(crate) fn fresh(alloc: Global, shard: u32) -> Result<ShardState<PlainTimers>, AllocError> {
+    ShardState::make(alloc, configs_of(alloc, shard)?, 100_000)
+}
+
+/// One entry of a journal on one thread.
+pub(crate) fn play<L: Ledger>(
+    state: &mut ShardState<PlainTimers>,
+    entry: Entry,
+    outs: &mut Outs,
+    steps: &mut Steps<L>,
+) -> Option<Answer> {
+    outs.clear();
+    let Entry { caller, event } = entry;
+    if !state.takes(&event) || outs.spare() < 5 * state.sessions().len() + 5 {
+        return None;
+    }
+    match state.prepare() {
+        Ok(()) => state.apply(caller, event, outs, steps).ok(),
+        Err(_) => None,
+    }
+}
+
+/// A question to a session, or a command for it, with room for what it puts out.
+fn asks<R: Wait, L: Ledger>(
+    rt: &R,
+    engine: &Plain,
+    pass: &mut EnginePass,
+    discr: u32,
+    cmd: Option<Cmd>,
+    outs: &mut Outs,
+    steps: &mut Steps<L>,
+) -> Option<Result<Answer, EngineFault>>
+    requires of { IsOf engine.now pass.old.1 }
+    requires there { AllThere pass.old.1 }
+    requires room { outs.old.room ≡ 5 }
+    ensures of { IsOf engine.now pass.new.1 }
+    ensures there { AllThere pass.new.1 }
+    ensures room { outs.new.room ≡ 5 }
+{
+    outs.clear();
+    let moment = Moment::new(7)?;
+    match cmd {
+        None => Some(engine.show(rt, pass, moment, discr, outs, steps)),
+        Some(cmd) => Some(engine.command(rt, pass, moment, discr, cmd, outs, steps)),
+    }
+}
+
+/// What calls of an engine with one place in each journal come to: a question, and whatever is for its session after that; a question
+/// and a command for nobody; and what a packet for nobody is discarded by.
+#[derive(Drop)]
+struct Told {
+    shown: Result<Answer, EngineFault>,
+    full: [Result<Answer, EngineFault>; 2],
+    unknown: [Result<Answer, EngineFault>; 2],
+    screened: Result<Target, Test>,
+}
+
+/// These calls.
+fn asks_on<R: Wait, L: Ledger>(
+    rt: &R,
+    engine: &Plain,
+    pass: &mut EnginePass,
+    outs: &mut Outs,
+    stray: &Arrival,
+    blank: Blank,
+) -> Option<Told>
+    requires of { IsOf engine.now pass.old.1 }
+    requires there { AllThere pass.old.1 }
+    requires room { outs.old.room ≡ 5 }
+    requires name { blank.name ≡ L.name }
+    requires parts { blank.parts ≡ L.parts }
+    requires some { 0 < blank.parts }
+{
+    let mut steps = Steps::<L>::new(blank);
+    let reset = Some(Cmd::Reset);
+    Some(Told {
+        shown: asks(rt, engine, pass, 1, None, outs, &mut steps)?,
+        full: [
+            asks(rt, engine, pass, 1, None, outs, &mut steps)?,
+            asks(rt, engine, pass, 1, reset, outs, &mut steps)?,
+        ],
+        unknown: [
+            asks(rt, engine, pass, 7, None, outs, &mut steps)?,
+            asks(rt, engine, pass, 7, reset, outs, &mut steps)?,
+        ],
+        screened: engine.screen(stray, &mut steps),
+    })
+}
+
+/// The same of a new engine.
+fn fills<R: Wait>(rt: &R, alloc: Global) -> Option<Told> {
+    let mut outs = Outs::make(alloc, 5).ok()?;
+    let stray = packet(alloc, 0x4000, 7).ok()?;
+    let (engine, mut pass) = opened(alloc, 1)?;
+    asks_on::<R, Brand>(rt, &engine, &mut pass, &mut outs, &stray, Blank::new(1))
+}
+
+#[test]
+fn a_full_journal(rt: HostRuntime) -> Result<(), Fail> {
+    let told = fills(&rt, rt.alloc()).ok_or("no memory")?;
+    assert!(rt; told.shown.is_ok());
+    let full = Err(EngineFault::Full(0, 1));
+    assert_eq!(rt; told.full, [full, full]);
+    let unknown = Ok(Answer::Refused(Refusal::UnknownSession));
+    assert_eq!(rt; told.unknown, [unknown, unknown]);
+    assert!(rt; told.screened == Err(Test::YourUnknown));
+    Ok(())
+}
+
+/// What a session that is there twice comes to.
+fn twice(alloc: Global) -> Result<Option<OpenFault>, AllocError> {
+    let mut list = Vec::new(alloc);
+    list.push(config(1))?;
+    list.push(config(1))?;
+    Ok(Plain::open(alloc, list, Vec::new(alloc), 3, 10).err())
+}
+
+#[test]
+fn a_session_twice(rt: HostRuntime) -> Result<(), Fail> {
+    assert_eq!(rt;
+        twice(rt.alloc())?,
+        Some(OpenFault::Build(BuildFault::SameDiscr(0, 1)))
+    );
+    Ok(())
+}
