@@ -24,6 +24,7 @@ use bfd_packet::{Arrival, Control, Port, Test, read};
 use byteorder::{BigEndian, ByteOrder};
 use std::alloc::{AllocError, Global};
 use std::marker::Model;
+use std::snapshot::Snapshot;
 use std::sync::ledger::Ledger;
 
 // What an echo packet begins with: "BFDe".
@@ -36,7 +37,8 @@ const MOST_ROWS: usize = 65_536;
 /// in which they were given.
 #[derive(Drop)]
 pub struct Demux {
-    rows: Vec<Row>,
+    // The rows, for clauses alone.
+    rows: Snapshot<Vec<Row>>,
     // By name: sessions, then reflectors, each in ascending order of discriminator.
     names: Vec<(Name, Option<Port>)>,
     // By kind and addresses: the discriminators of the rows that have addresses.
@@ -52,9 +54,9 @@ impl Model for Demux {
 
     ghost Value = { List Row };
 
-    ghost view = { λ demux. demux.rows.items };
+    ghost view = { λ demux. demux.rows.value.items };
 
-    ghost invariant = { λ demux. IsIndex demux.rows.items demux.names.items demux.addresses.items demux.sessions };
+    ghost invariant = { λ demux. IsIndex demux.rows.value.items demux.names.items demux.addresses.items demux.sessions };
 }
 
 impl Demux {
@@ -84,7 +86,7 @@ impl Demux {
         ensures { result ≡ [] }
     {
         Demux {
-            rows: Vec::new(alloc),
+            rows: Snapshot::of(&Vec::new(alloc)),
             names: Vec::new(alloc),
             addresses: Vec::new(alloc),
             sessions: 0,
@@ -96,14 +98,14 @@ impl Demux {
         requires { build_fault rows.now ≡ None }
         ensures { IfOk result (λ demux. demux ≡ rows.now) }
     {
+        let known = known_rows(alloc, rows)?;
         let mut names = names_of(alloc, rows)?;
         sort_by_key(&mut names);
         let mut addresses = addresses_of(alloc, rows)?;
         sort_by_key(&mut addresses);
         let sessions = count_sessions(rows);
-        let rows = Vec::from_slice(alloc, rows)?;
         Ok(Demux {
-            rows,
+            rows: known,
             names,
             addresses,
             sessions,
@@ -338,6 +340,14 @@ fn selector_of(arrival: &Arrival) -> Option<RowKind>
         Port::Multi => Some(RowKind::Multi { local, remote }),
         _ => None,
     }
+}
+
+// The rows, for clauses alone.
+fn known_rows(alloc: Global, rows: &[Row]) -> Result<Snapshot<Vec<Row>>, AllocError>
+    ensures { IfOk result (λ known. known.value.items ≡ rows.now) }
+{
+    let list = Vec::from_slice(alloc, rows)?;
+    Ok(Snapshot::of(&list))
 }
 
 // The name of each row and its port.

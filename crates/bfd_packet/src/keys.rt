@@ -44,18 +44,21 @@ impl AuthType {
     }
 }
 
-/// A password or a key: at most 20 bytes.
+/// A password or a key: at most 20 bytes, which stand first. A session has room for four, so one is kept in 21 bytes.
 #[derive(Default, Drop)]
 pub struct Secret {
-    bytes: ArrayVec<u8, 20>,
+    bytes: [u8; 20],
+    size: u8,
 }
 
 impl Model for Secret {
-    ghost use Rattle.std.specs.Prelude.{List, ℕ};
+    ghost use Rattle.std.specs.Prelude.{List, ℕ, ◌≤◌, take};
 
     ghost Value = { List ℕ };
 
-    ghost view = { λ secret. secret.bytes.items };
+    ghost view = { λ secret. take secret.size secret.bytes };
+
+    ghost invariant = { λ secret. secret.size ≤ 20 };
 }
 
 impl Secret {
@@ -66,9 +69,12 @@ impl Secret {
         requires { length bytes.now ≤ 20 }
         ensures { result ≡ bytes.now }
     {
-        let mut kept = ArrayVec::new();
-        kept.try_extend_from_slice(bytes).unwrap();
-        Secret { bytes: kept }
+        let mut kept = [0; 20];
+        kept[..bytes.len()].copy_from_slice(bytes);
+        Secret {
+            bytes: kept,
+            size: bytes.len() as u8,
+        }
     }
 
     /// The bytes, at most 20.
@@ -76,14 +82,14 @@ impl Secret {
         ensures value { result.now ≡ self.now }
         ensures few { length self.now ≤ 20 }
     {
-        self.bytes.as_slice()
+        &self.bytes[..usize::from(self.size)]
     }
 
     /// Whether it has a length that the type allows: 1 to 16 bytes, or 1 to 20 with SHA1.
     pub fn fits(&self, kind: AuthType) -> bool
         ensures { result ≡ fits_kind kind self.now }
     {
-        let size = self.bytes.len();
+        let size = usize::from(self.size);
         1 <= size && size <= kind.digest_size()
     }
 }
