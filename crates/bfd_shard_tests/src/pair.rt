@@ -1,4 +1,4 @@
-//! The handshake of two active sessions, packet by packet, two configurations that are no peers, and what two peers discard and refuse.
+//! The handshake of two active sessions, packet by packet, and two configurations that are no peers.
 ghost use Rattle.std.specs.Prelude.{◌≡◌, ◌<◌, ◌≤◌};
 ghost use Rattle.bfd_session.specs.declared.event.SessionConfig.TheVariants.{Pair as PairOf};
 ghost use Rattle.bfd_session.specs.Step.{IsFit};
@@ -82,6 +82,7 @@ fn handshake(rt: HostRuntime) {
     let handled = PairAnswer::Did(Answer::Handled);
     let ticked = PairAnswer::Did(Answer::Ticked);
     let dropped = PairAnswer::Did(Answer::Dropped(Test::AdminDown));
+    let refused = PairAnswer::Did(Answer::Refused(Refusal::WrongState));
     for (event, answer, left, diag, right, from_left, from_right) in [
         (tick(750), ticked, State::Down, 0, State::Down, 1, 1),
         (
@@ -148,6 +149,15 @@ fn handshake(rt: HostRuntime) {
             4,
         ),
         (
+            order(Side::Left, 757_200, Cmd::Enable),
+            refused,
+            State::Down,
+            3,
+            State::AdminDown,
+            3,
+            4,
+        ),
+        (
             order(Side::Left, 757_500, Cmd::EchoEvery(50_000)),
             handled,
             State::Down,
@@ -184,39 +194,11 @@ fn handshake(rt: HostRuntime) {
         assert_eq!(rt; pair.sent(Side::Left).len(), from_left);
         assert_eq!(rt; pair.sent(Side::Right).len(), from_right);
     }
-    assert_eq!(rt; pair.past().len(), 12);
+    assert_eq!(rt; pair.past().len(), 13);
     let alike = Pair::make(
         rt.alloc(),
         config(1, FIRST, SECOND, 1_000_000, 0),
         config(2, FIRST, THIRD, 1_000_000, 0),
     );
     assert_eq!(rt; alike.err(), Some(PairFault::NotPeers));
-}
-
-/// An echo packet of Left is dropped by the tests on its header, where Right is given it, and Right isn't to be enabled in Up.
-#[test]
-fn dropped_and_refused(rt: HostRuntime) {
-    let mut pair = peers(rt.alloc(), 1_000_000, 0).expect(&rt, "peers");
-    let mut outs = Outs::make(rt.alloc(), 10).expect(&rt, "memory");
-    let echo = Cmd::EchoEvery(50_000);
-    for (event, answer) in [
-        (tick(750), Answer::Ticked),
-        (order(Side::Left, 750_100, echo), Answer::Handled),
-        (order(Side::Right, 750_200, echo), Answer::Handled),
-        (give(Side::Right, 751_000, 1), Answer::Handled),
-        (give(Side::Left, 752_000, 2), Answer::Handled),
-        (give(Side::Right, 753_000, 2), Answer::Handled),
-        (tick(900), Answer::Ticked),
-        (
-            give(Side::Right, 901_000, 3),
-            Answer::Dropped(Test::Version),
-        ),
-        (
-            order(Side::Right, 902_000, Cmd::Enable),
-            Answer::Refused(Refusal::WrongState),
-        ),
-    ] {
-        let got = play(&mut pair, event, &mut outs).expect(&rt, "an answer");
-        assert_eq!(rt; got, PairAnswer::Did(answer));
-    }
 }
