@@ -3,6 +3,7 @@ pub mod Sizes
 pub mod Marks
 pub mod Scan
 pub mod Taking
+pub mod Alone
 pub mod Sharing
 pub mod Queues
 pub mod Histories

@@ -23,7 +23,7 @@ pub record Going (all : List Dealt) (parts : List (List Piece)) (before text : L
   pub sent : txs + txs_of left ≡ txs_of all
   pub dropped : drops + drops_of left ≡ drops_of all
 
-same_or_not : (a b : ℕ) → (a ≡ b) ⊎ (a ≢ b)
+pub same_or_not : (a b : ℕ) → (a ≡ b) ⊎ (a ≢ b)
 same_or_not a b = grind arith
 
 is_same : (a b : ℕ) → a ≡ b → (a == b) ≡ true

@@ -1,5 +1,5 @@
 -- What a part keeps, and how the parts' first pieces are looked at.
-use Rattle.std.specs.Prelude.{ℕ, ◌≡◌, ◌≤◌, ◌<◌, ◌+◌, false, List, [], ◌∷◌, length, take, drop, slice_index_or, sum_by, if◌then◌else◌, Option, None, Some}
+use Rattle.std.specs.Prelude.{ℕ, ◌≡◌, ◌≢◌, ◌≤◌, ◌<◌, ◌+◌, false, List, [], ◌∷◌, length, take, drop, slice_index_or, sum_by, if◌then◌else◌, Option, None, Some}
 use Rattle.std.specs.List.{AllByRecursion}
 use Rattle.bfd_gather.specs.declared.key.Key.{Key}
 use Rattle.bfd_gather.specs.declared.key.Mark.{Mark}
@@ -68,3 +68,8 @@ pub record IsLeast (parts : List (List Piece)) (s : ℕ) : Type 0 where
   pub key : Key
   pub there : first_key (slice_index_or parts s []) ≡ Some key
   pub least : (r : ℕ) (other : Key) → r < length parts → first_key (slice_index_or parts r []) ≡ Some other → precedes other key ≡ false
+
+-- no other part than s has a piece
+pub record HasAll (parts : List (List Piece)) (s : ℕ) : Type 0 where
+  pub inside : s < length parts
+  pub others : (r : ℕ) → r < length parts → r ≢ s → first_key (slice_index_or parts r []) ≡ None

@@ -1,7 +1,7 @@
 //! The parts' pieces, taken in the order of a report.
-ghost use Rattle.std.specs.Prelude.{ℕ, ◌≡◌, ◌<◌, ◌≤◌, ◌+◌, ◌++◌, [], List, None, IfNone, IfOk, IfSome, OnOk, length, slice_index_or, sum_by};
+ghost use Rattle.std.specs.Prelude.{ℕ, ◌≡◌, ◌≢◌, ◌<◌, ◌≤◌, ◌+◌, ◌++◌, [], List, None, IfNone, IfOk, IfSome, OnOk, length, slice_index_or, sum_by, true};
 ghost use Rattle.bfd_gather.specs.Spread.{Dealt, IsSpread, text_of};
-ghost use Rattle.bfd_gather.specs.Inside.{BestOf, IsLeast, first_key};
+ghost use Rattle.bfd_gather.specs.Inside.{BestOf, HasAll, IsLeast, first_key};
 ghost use Rattle.bfd_gather.specs.Inside as inside;
 
 use crate::key::Key;
@@ -59,4 +59,41 @@ pub(crate) fn gather(parts: &mut Vec<Part>, text: &mut Vec<u8>) -> Result<(u64, 
         drops += dropped;
     }
     Ok((txs, drops))
+}
+
+/// Whether no part but this one has a piece.
+fn is_sole(parts: &[Part], s: usize) -> bool
+    ensures { result ≡ true → (r : ℕ) → r < length parts.now → r ≢ s → first_key (slice_index_or parts.now r []) ≡ None }
+{
+    for r in 0..parts.len() {
+        if r != s && parts[r].first().is_some() {
+            return false;
+        }
+    }
+    true
+}
+
+/// The part that has all pieces, where one has them.
+fn sole(parts: &[Part]) -> Option<usize>
+    ensures { IfSome result (λ s. HasAll parts.now s) }
+{
+    match least(parts) {
+        Some(s) if is_sole(parts, s) => Some(s),
+        _ => None,
+    }
+}
+
+/// The same as `gather`; the text of a part that has all pieces is taken at once.
+pub(crate) fn gather_all(
+    parts: &mut Vec<Part>,
+    text: &mut Vec<u8>,
+) -> Result<(u64, u64), AllocError>
+    ensures told { (dealt : List Dealt) → IsSpread dealt parts.old.items → OnOk result (text.new.items ≡ text.old.items ++ text_of dealt) }
+    ensures txs { (dealt : List Dealt) → IsSpread dealt parts.old.items → IfOk result (λ counts. counts.0 ≡ sum_by (λ d. d.piece.txs) dealt) }
+    ensures drops { (dealt : List Dealt) → IsSpread dealt parts.old.items → IfOk result (λ counts. counts.1 ≡ sum_by (λ d. d.piece.drops) dealt) }
+{
+    match sole(parts) {
+        Some(s) => parts[s].take_all(text),
+        None => gather(parts, text),
+    }
 }

@@ -1,5 +1,6 @@
 //! What one shard tells of its events.
-ghost use Rattle.std.specs.Prelude.{◌≡◌, ◌<◌, ◌≤◌, ◌+◌, ◌++◌, ◌∷◌, [], ◌^◌, IfNone, IfOk, IfSome, OnErr, OnOk, drop, length, map, take};
+ghost use Rattle.std.specs.Prelude.{◌≡◌, ◌<◌, ◌≤◌, ◌+◌, ◌++◌, ◌∷◌, [], ◌^◌, IfNone, IfOk, IfSome, OnErr, OnOk, drop, length, map, sum_by, take};
+ghost use Rattle.std.specs.List.{AllByRecursion};
 ghost use Rattle.bfd_script.specs.Report.{event_lines};
 ghost use Rattle.bfd_gather.specs.Pieces.{texts, whole_piece, item_piece};
 ghost use Rattle.bfd_gather.specs.Inside.{mark_of, first_key, first_text, first_txs, first_drops};
@@ -155,6 +156,24 @@ fn copy(from: &[u8], at: usize, long: usize, text: &mut Vec<u8>) -> Result<(), A
     text.extend_from_slice(&from[at..at + long])
 }
 
+/// How many packets the marks from this place on say were sent, and were dropped. Each has a byte of text, so the sums fit.
+fn counts_from(marks: &[Mark], first: usize) -> (u64, u64)
+    requires inside { first ≤ length marks.now }
+    requires counts { AllByRecursion (λ m. m.txs + m.drops ≤ m.long) marks.now }
+    requires small { sum_by (λ m. m.long) (drop first marks.now) < 2 ^ 64 }
+    ensures txs { result.0 ≡ sum_by (λ m. m.txs) (drop first marks.now) }
+    ensures drops { result.1 ≡ sum_by (λ m. m.drops) (drop first marks.now) }
+{
+    let mut txs = 0u64;
+    let mut drops = 0u64;
+    for at in first..marks.len() {
+        let (sent, dropped) = marks[at].counts();
+        txs += sent;
+        drops += dropped;
+    }
+    (txs, drops)
+}
+
 impl Part {
     /// A part that tells nothing.
     pub fn new(alloc: Global) -> Part
@@ -220,5 +239,20 @@ impl Part {
         self.next += 1;
         self.at += mark.long();
         Ok(mark.counts())
+    }
+
+    /// Takes all pieces off, appends their text, and gives how many packets they tell were sent and were dropped. The one
+    /// refusal is want of memory.
+    pub(crate) fn take_all(&mut self, text: &mut Vec<u8>) -> Result<(u64, u64), AllocError>
+        ensures rest { OnOk result (self.new ≡ []) }
+        ensures text { OnOk result (text.new.items ≡ text.old.items ++ texts self.old) }
+        ensures txs { IfOk result (λ counts. counts.0 ≡ sum_by (λ p. p.txs) self.old) }
+        ensures drops { IfOk result (λ counts. counts.1 ≡ sum_by (λ p. p.drops) self.old) }
+    {
+        let counts = counts_from(&self.marks, self.next);
+        text.extend_from_slice(&self.text[self.at..])?;
+        self.next = self.marks.len();
+        self.at = self.text.len();
+        Ok(counts)
     }
 }

@@ -5,7 +5,7 @@ ghost use Rattle.bfd_script.specs.Report.{done_line};
 ghost use Rattle.bfd_script.specs.Report as script;
 ghost use Rattle.bfd_gather.specs.Happenings.{Happening, AreParts, outcomes};
 
-use crate::gathering::gather;
+use crate::gathering::gather_all;
 use crate::part::Part;
 use std::alloc::{AllocError, Global};
 
@@ -36,7 +36,7 @@ pub fn report(alloc: Global, parts: Vec<Part>, events: u64) -> Result<Gathered, 
 {
     let mut parts = parts;
     let mut text = Vec::new(alloc);
-    let (txs, drops) = gather(&mut parts, &mut text)?;
+    let (txs, drops) = gather_all(&mut parts, &mut text)?;
     let done = done_text(alloc, events, txs, drops)?;
     text.extend_from_slice(done.as_bytes())?;
     Ok(Gathered { text, txs, drops })

@@ -27,7 +27,7 @@ use crate::receiving::{accepts, fields, judged};
 use crate::settling::settle;
 use bfd_packet::{Keys, SeqState, State};
 use bfd_rules::{
-    Cmd, Config, Mark, Outs, Poll, Refusal, SLOW_TX, Vars, Verdict, begins, drawn, enters, stamped,
+    Cmd, Config, Mark, Outs, Poll, Refusal, SLOW_TX, Vars, Verdict, begins, drawn, enters,
 };
 use std::marker::Model;
 
@@ -114,13 +114,15 @@ fn made(c: &Config) -> Vars
     drawn(c.active, &mark, v)
 }
 
-/// The variables as an own event at this effective moment begins.
-fn stamps(own: Option<u64>, v: Vars) -> Vars
+/// The variables become those with which an own event at this effective moment begins.
+fn stamps(own: Option<u64>, v: &mut Vars)
     requires { ForSome own (λ eff. eff < moment_bound) }
-    ensures value { result ≡ stamped_of own v }
-    ensures steady { (c : ConfigOf) → IsSteady c v → IsSteady c result }
+    ensures value { v.new ≡ stamped_of own v.old }
+    ensures steady { (c : ConfigOf) → IsSteady c v.old → IsSteady c v.new }
 {
-    stamped(own, v)
+    if let Some(eff) = own {
+        v.at = eff;
+    }
 }
 
 impl P2p {
@@ -160,7 +162,7 @@ impl P2p {
         ensures vars { self.new.vars ≡ stamped_of own self.old.vars }
         ensures mark { result ≡ begins_of self.new.vars }
     {
-        self.vars = stamps(own, self.vars);
+        stamps(own, &mut self.vars);
         begins(&self.vars)
     }
 

@@ -1,0 +1,12 @@
+-- The marks that are left have the rest of the packets.
+use Rattle.std.proofs.Common.{◌≡◌, ◌≤◌, ◌+◌, drop}
+use Rattle.std.specs.List.{sum_by}
+use Rattle.bfd_gather.specs.declared.key.Mark.{Mark}
+use Rattle.bfd_gather.proofs.part.counts_from.Given as goal
+
+abbrev pub invariant-loop-at : goal.invariant-loop-at
+invariant-loop-at l = record {
+  sent : l.txs + sum_by (λ (m : Mark). m.txs) (drop l.at l.marks) ≡ sum_by (λ (m : Mark). m.txs) (drop l.first l.marks);
+  fell : l.drops + sum_by (λ (m : Mark). m.drops) (drop l.at l.marks) ≡ sum_by (λ (m : Mark). m.drops) (drop l.first l.marks);
+  few : l.txs + l.drops + sum_by (λ (m : Mark). m.long) (drop l.at l.marks) ≤ sum_by (λ (m : Mark). m.long) (drop l.first l.marks);
+}
