@@ -1,10 +1,12 @@
 // The report lines of one event.
 ghost use Rattle.arrayvec.specs.ArrayVec.{array_vec_len};
-ghost use Rattle.std.specs.Prelude.{◌≡◌, ◌≤◌, ◌+◌, ◌++◌, ◌∷◌, [], IfOk, OnErr, OnOk, codes, decimal, length, string_bytes, take};
+ghost use Rattle.std.specs.Prelude.{◌≡◌, ◌≤◌, ◌+◌, ◌*◌, ◌++◌, ◌∷◌, [], IfOk, OnErr, OnOk, codes, decimal, length, string_bytes, take};
+ghost use Rattle.hex.specs.Hex.{encode_lower};
 ghost use Rattle.std.specs.List.{flat_map};
 ghost use Rattle.bfd_script.specs.Report.{answer_line, event_lines, item_line};
 ghost use Rattle.bfd_script.specs.Spelling.{hex_field, line, state_name};
 
+use crate::digits::{BYTES, digits_of_run};
 use crate::names::{refusal_name, state_name};
 use arrayvec::ArrayVec;
 use bfd_packet::{State, Test};
@@ -16,9 +18,6 @@ use std::fmt::Write;
 
 /// The most bytes of the line of an output.
 const MOST_OF_LINE: usize = 160;
-
-/// The digits of the most bytes that are sent in one packet.
-const MOST_DIGITS: usize = 104;
 
 /// The line of an output, while it is put together.
 type Draft = ArrayVec<u8, MOST_OF_LINE>;
@@ -42,6 +41,21 @@ fn put_number(line: &mut Draft, n: u64)
     put(line, digits.format(n).as_bytes());
 }
 
+/// Puts the digits of bytes that are fewer than a run.
+fn put_few(line: &mut Draft, bytes: &[u8])
+    requires few { length bytes.now ≤ 7 }
+    requires room { array_vec_len line.old + 2 * length bytes.now ≤ 160 }
+    ensures text { line.new.items ≡ line.old.items ++ encode_lower bytes.now }
+    ensures long { array_vec_len line.new ≡ array_vec_len line.old + 2 * length bytes.now }
+{
+    let mut room = [0; 2 * BYTES];
+    let digits = &mut room[..2 * bytes.len()];
+    match hex::encode_to_slice(bytes, digits) {
+        Ok(()) => put(line, digits),
+        Err(_) => unreachable!(),
+    }
+}
+
 /// Puts bytes as hexadecimal digits in lower case, and `-` where there are none.
 fn put_hex(line: &mut Draft, bytes: &[u8])
     requires few { length bytes.now ≤ 52 }
@@ -52,12 +66,12 @@ fn put_hex(line: &mut Draft, bytes: &[u8])
     if bytes.is_empty() {
         return put(line, b"-");
     }
-    let mut room = [0; MOST_DIGITS];
-    let digits = &mut room[..2 * bytes.len()];
-    match hex::encode_to_slice(bytes, digits) {
-        Ok(()) => put(line, digits),
-        Err(_) => unreachable!(),
+    let mut rest = bytes;
+    while let Some((run, after)) = rest.split_first_chunk::<BYTES>() {
+        put(line, &digits_of_run(run));
+        rest = after;
     }
+    put_few(line, rest);
 }
 
 /// Puts the names of two states, with a space before each and one behind.
