@@ -1,6 +1,6 @@
 // The report lines of one event.
 ghost use Rattle.arrayvec.specs.ArrayVec.{array_vec_len};
-ghost use Rattle.std.specs.Prelude.{◌≡◌, ◌≤◌, ◌+◌, ◌*◌, ◌++◌, ◌∷◌, [], IfOk, OnErr, OnOk, codes, decimal, length, string_bytes, take};
+ghost use Rattle.std.specs.Prelude.{◌≡◌, ◌≤◌, ◌+◌, ◌*◌, ◌++◌, ◌∷◌, ℕ, [], IfOk, OnErr, OnOk, codes, decimal, length, string_bytes, take};
 ghost use Rattle.hex.specs.Hex.{encode_lower};
 ghost use Rattle.std.specs.List.{flat_map};
 ghost use Rattle.bfd_script.specs.Report.{answer_line, event_lines, item_line};
@@ -88,12 +88,13 @@ fn put_states(line: &mut Draft, old: State, new: State)
 }
 
 /// The line of a packet that was sent.
-fn sent_line(number: u64, discr: u32, bytes: &[u8]) -> Draft
-    requires { length bytes.now ≤ 52 }
-    ensures { result.items ≡ line (decimal number ∷ codes "tx" ∷ decimal discr ∷ hex_field bytes.now ∷ []) }
+fn sent_line(number: &[u8], discr: u32, bytes: &[u8]) -> Draft
+    requires short { length number.now ≤ 20 }
+    requires few { length bytes.now ≤ 52 }
+    ensures { result.items ≡ line (number.now ∷ codes "tx" ∷ decimal discr ∷ hex_field bytes.now ∷ []) }
 {
     let mut line = Draft::new();
-    put_number(&mut line, number);
+    put(&mut line, number);
     put(&mut line, b" tx ");
     put_number(&mut line, discr as u64);
     put(&mut line, b" ");
@@ -103,11 +104,12 @@ fn sent_line(number: u64, discr: u32, bytes: &[u8]) -> Draft
 }
 
 /// The line of a change of state.
-fn changed_line(number: u64, discr: u32, old: State, new: State, diag: u8) -> Draft
-    ensures { result.items ≡ line (decimal number ∷ codes "state" ∷ decimal discr ∷ state_name old ∷ state_name new ∷ decimal diag ∷ []) }
+fn changed_line(number: &[u8], discr: u32, old: State, new: State, diag: u8) -> Draft
+    requires { length number.now ≤ 20 }
+    ensures { result.items ≡ line (number.now ∷ codes "state" ∷ decimal discr ∷ state_name old ∷ state_name new ∷ decimal diag ∷ []) }
 {
     let mut line = Draft::new();
-    put_number(&mut line, number);
+    put(&mut line, number);
     put(&mut line, b" state ");
     put_number(&mut line, discr as u64);
     put_states(&mut line, old, new);
@@ -116,9 +118,10 @@ fn changed_line(number: u64, discr: u32, old: State, new: State, diag: u8) -> Dr
     line
 }
 
-/// The line of one output.
-fn line_of(number: u64, out: &Out) -> Draft
-    ensures { result.items ≡ item_line number out.now }
+/// The line of one output of the event whose number is written so.
+fn line_of(number: &[u8], out: &Out) -> Draft
+    requires { length number.now ≤ 20 }
+    ensures { (n : ℕ) → number.now ≡ decimal n → result.items ≡ item_line n out.now }
 {
     match out {
         Out::Changed {
@@ -136,8 +139,13 @@ fn push_items(number: u64, outs: &[Out], text: &mut Vec<u8>) -> Result<(), Alloc
     ensures all { OnOk result (text.new.items ≡ text.old.items ++ flat_map (item_line number) outs.now) }
     ensures front { OnErr result (take (length text.old.items) text.new.items ≡ text.old.items) }
 {
+    if outs.is_empty() {
+        return Ok(());
+    }
+    let mut digits = Buffer::new();
+    let head = digits.format(number).as_bytes();
     for out in outs {
-        text.extend_from_slice(line_of(number, out).as_slice())?;
+        text.extend_from_slice(line_of(head, out).as_slice())?;
     }
     Ok(())
 }
