@@ -11,6 +11,7 @@ pub mod Cutting
 pub mod Octets
 pub mod Addressed
 pub mod Decoding
+pub mod Nibbles
 pub mod Elements
 pub mod Naming
 pub mod Giving

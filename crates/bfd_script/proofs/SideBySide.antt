@@ -1,7 +1,8 @@
 -- Bytes that are looked at side by side.
-use Rattle.std.proofs.Common.{◌≡◌, ℕ, zero, suc, ◌%◌, ◌^◌, ◌≤◌, cond, Bool, true, false, List, [], ◌∷◌, length, map, replicate, take, drop, eqb, eqb-true, ltb, ltb-false, refl, ap, sym, ◌∙◌, arith}
+use Rattle.std.proofs.Common.{◌≡◌, ℕ, zero, suc, ◌-◌, ◌+◌, ◌<◌, ◌%◌, ◌^◌, ◌≤◌, cond, Bool, true, false, List, [], ◌∷◌, length, map, replicate, take, drop, eqb, eqb-true, ltb, ltb-false, refl, ap, sym, ◌∙◌, arith}
+use Rattle.std.proofs.lemmas.Bool.{and_parts}
 use Rattle.std.proofs.lemmas.Bool.Decides.{nat_tests}
-use Rattle.std.proofs.lemmas.List.{length-map}
+use Rattle.std.proofs.lemmas.List.{drop-drop, length-map}
 use Rattle.std.proofs.lemmas.Simd.{length-zip2, mask_l-mod}
 use Rattle.std.specs.List.{list_all}
 use Rattle.std.specs.Simd.Lanes.{mask_l, top, zip2}
@@ -52,3 +53,24 @@ passed (byte ∷ rest) (suc n) all =
 pub run_passed : (rest run after : List ℕ) (n : ℕ) → run ≡ take n rest → after ≡ drop n rest → list_all is_printable run ≡ true
     → list_all is_printable after ≡ list_all is_printable rest
 run_passed rest run after n front behind all = rw behind (passed rest n (ap (λ xs. list_all is_printable xs) (sym front) ∙ all))
+
+-- behind bytes that may stand in a line
+behind : (n : ℕ) (xs : List ℕ) → list_all is_printable xs ≡ true → list_all is_printable (drop n xs) ≡ true
+behind zero xs all = all
+behind (suc n) [] all = refl
+behind (suc n) (x ∷ xs) all = behind n xs (and_parts (is_printable x) (list_all is_printable xs) all).1
+
+-- the end of a line whose last run may stand in it
+pub end_passed : (line rest : List ℕ) → rest ≡ drop (length line - length rest) line → length rest < 32 → length rest ≤ length line
+    → list_all is_printable (drop (length line - 32) line) ≡ true → list_all is_printable rest ≡ true
+end_passed line rest is short within all =
+    let sum : length line - 32 + (length line - length rest - (length line - 32)) ≡ length line - length rest = omega arith in
+    let there = behind (length line - length rest - (length line - 32)) (drop (length line - 32) line) all in
+    ap (λ xs. list_all is_printable xs) (is ∙ ap (λ n. drop n line) (sym sum) ∙ sym (drop-drop (length line - length rest - (length line - 32)) (length line - 32) line)) ∙ there
+
+-- what is left behind one run more
+pub left_more : (line rest after : List ℕ) → rest ≡ drop (length line - length rest) line → length rest ≤ length line → after ≡ drop 32 rest → length after + 32 ≡ length rest
+    → after ≡ drop (length line - length after) line
+left_more line rest after is within e long =
+    let sum : length line - length rest + 32 ≡ length line - length after = omega arith in
+    e ∙ ap (drop 32) is ∙ drop-drop 32 (length line - length rest) line ∙ ap (λ n. drop n line) sum

@@ -1,5 +1,5 @@
 // Lines, fields and numbers.
-ghost use Rattle.std.specs.Prelude.{◌≡◌, ◌==◌, ◌<◌, ◌≤◌, ◌∷◌, [], ◌&&◌, ◌||◌, Err, IfOk, IfSome, IsTrue, MatchOption, Ok, OnOk, if◌then◌else◌, length, map, nat_lt, not, slice_index, true};
+ghost use Rattle.std.specs.Prelude.{◌≡◌, ◌-◌, ◌==◌, ◌<◌, ◌≤◌, ◌∷◌, [], ◌&&◌, ◌||◌, Err, IfOk, IfSome, IsTrue, MatchOption, Ok, OnOk, drop, if◌then◌else◌, length, map, nat_lt, not, slice_index, true};
 ghost use Rattle.std.specs.List.{list_all, position_or_len, slice_split};
 ghost use Rattle.std.specs.Char.{is_ascii_digit};
 ghost use Rattle.std.specs.Str.Parse.{digits_value};
@@ -60,6 +60,16 @@ fn is_rest_printable(line: &[u8]) -> bool
     printable
 }
 
+/// Whether each byte of the last run may stand in a line: surely so where the answer is true.
+fn is_end_printable(line: &[u8]) -> bool
+    ensures { IsTrue result → list_all is_printable (drop (length line.now - 32) line.now) ≡ true }
+{
+    match line.split_last_chunk::<RUN>() {
+        Some((_, run)) => is_run_printable(run),
+        None => false,
+    }
+}
+
 /// Whether each byte may stand in a line.
 fn is_all_printable(line: &[u8]) -> bool
     ensures { result ≡ list_all is_printable line.now }
@@ -70,6 +80,9 @@ fn is_all_printable(line: &[u8]) -> bool
             break;
         }
         rest = after;
+    }
+    if rest.len() < RUN && is_end_printable(line) {
+        return true;
     }
     is_rest_printable(rest)
 }

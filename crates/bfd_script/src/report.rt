@@ -1,10 +1,12 @@
 // The report lines of one event.
 ghost use Rattle.arrayvec.specs.ArrayVec.{array_vec_len};
-ghost use Rattle.std.specs.Prelude.{◌≡◌, ◌≤◌, ◌+◌, ◌++◌, ◌∷◌, [], IfOk, OnErr, OnOk, codes, decimal, length, string_bytes, take};
+ghost use Rattle.std.specs.Prelude.{◌≡◌, ◌≤◌, ◌+◌, ◌*◌, ◌++◌, ◌∷◌, ℕ, [], IfOk, OnErr, OnOk, codes, decimal, length, string_bytes, take};
+ghost use Rattle.hex.specs.Hex.{encode_lower};
 ghost use Rattle.std.specs.List.{flat_map};
 ghost use Rattle.bfd_script.specs.Report.{answer_line, event_lines, item_line};
 ghost use Rattle.bfd_script.specs.Spelling.{hex_field, line, state_name};
 
+use crate::digits::{BYTES, digits_of_run};
 use crate::names::{refusal_name, state_name};
 use arrayvec::ArrayVec;
 use bfd_packet::{State, Test};
@@ -16,9 +18,6 @@ use std::fmt::Write;
 
 /// The most bytes of the line of an output.
 const MOST_OF_LINE: usize = 160;
-
-/// The digits of the most bytes that are sent in one packet.
-const MOST_DIGITS: usize = 104;
 
 /// The line of an output, while it is put together.
 type Draft = ArrayVec<u8, MOST_OF_LINE>;
@@ -42,6 +41,21 @@ fn put_number(line: &mut Draft, n: u64)
     put(line, digits.format(n).as_bytes());
 }
 
+/// Puts the digits of bytes that are fewer than a run.
+fn put_few(line: &mut Draft, bytes: &[u8])
+    requires few { length bytes.now ≤ 7 }
+    requires room { array_vec_len line.old + 2 * length bytes.now ≤ 160 }
+    ensures text { line.new.items ≡ line.old.items ++ encode_lower bytes.now }
+    ensures long { array_vec_len line.new ≡ array_vec_len line.old + 2 * length bytes.now }
+{
+    let mut room = [0; 2 * BYTES];
+    let digits = &mut room[..2 * bytes.len()];
+    match hex::encode_to_slice(bytes, digits) {
+        Ok(()) => put(line, digits),
+        Err(_) => unreachable!(),
+    }
+}
+
 /// Puts bytes as hexadecimal digits in lower case, and `-` where there are none.
 fn put_hex(line: &mut Draft, bytes: &[u8])
     requires few { length bytes.now ≤ 52 }
@@ -52,12 +66,12 @@ fn put_hex(line: &mut Draft, bytes: &[u8])
     if bytes.is_empty() {
         return put(line, b"-");
     }
-    let mut room = [0; MOST_DIGITS];
-    let digits = &mut room[..2 * bytes.len()];
-    match hex::encode_to_slice(bytes, digits) {
-        Ok(()) => put(line, digits),
-        Err(_) => unreachable!(),
+    let mut rest = bytes;
+    while let Some((run, after)) = rest.split_first_chunk::<BYTES>() {
+        put(line, &digits_of_run(run));
+        rest = after;
     }
+    put_few(line, rest);
 }
 
 /// Puts the names of two states, with a space before each and one behind.
@@ -74,12 +88,13 @@ fn put_states(line: &mut Draft, old: State, new: State)
 }
 
 /// The line of a packet that was sent.
-fn sent_line(number: u64, discr: u32, bytes: &[u8]) -> Draft
-    requires { length bytes.now ≤ 52 }
-    ensures { result.items ≡ line (decimal number ∷ codes "tx" ∷ decimal discr ∷ hex_field bytes.now ∷ []) }
+fn sent_line(number: &[u8], discr: u32, bytes: &[u8]) -> Draft
+    requires short { length number.now ≤ 20 }
+    requires few { length bytes.now ≤ 52 }
+    ensures { result.items ≡ line (number.now ∷ codes "tx" ∷ decimal discr ∷ hex_field bytes.now ∷ []) }
 {
     let mut line = Draft::new();
-    put_number(&mut line, number);
+    put(&mut line, number);
     put(&mut line, b" tx ");
     put_number(&mut line, discr as u64);
     put(&mut line, b" ");
@@ -89,11 +104,12 @@ fn sent_line(number: u64, discr: u32, bytes: &[u8]) -> Draft
 }
 
 /// The line of a change of state.
-fn changed_line(number: u64, discr: u32, old: State, new: State, diag: u8) -> Draft
-    ensures { result.items ≡ line (decimal number ∷ codes "state" ∷ decimal discr ∷ state_name old ∷ state_name new ∷ decimal diag ∷ []) }
+fn changed_line(number: &[u8], discr: u32, old: State, new: State, diag: u8) -> Draft
+    requires { length number.now ≤ 20 }
+    ensures { result.items ≡ line (number.now ∷ codes "state" ∷ decimal discr ∷ state_name old ∷ state_name new ∷ decimal diag ∷ []) }
 {
     let mut line = Draft::new();
-    put_number(&mut line, number);
+    put(&mut line, number);
     put(&mut line, b" state ");
     put_number(&mut line, discr as u64);
     put_states(&mut line, old, new);
@@ -102,9 +118,10 @@ fn changed_line(number: u64, discr: u32, old: State, new: State, diag: u8) -> Dr
     line
 }
 
-/// The line of one output.
-fn line_of(number: u64, out: &Out) -> Draft
-    ensures { result.items ≡ item_line number out.now }
+/// The line of one output of the event whose number is written so.
+fn line_of(number: &[u8], out: &Out) -> Draft
+    requires { length number.now ≤ 20 }
+    ensures { (n : ℕ) → number.now ≡ decimal n → result.items ≡ item_line n out.now }
 {
     match out {
         Out::Changed {
@@ -122,8 +139,13 @@ fn push_items(number: u64, outs: &[Out], text: &mut Vec<u8>) -> Result<(), Alloc
     ensures all { OnOk result (text.new.items ≡ text.old.items ++ flat_map (item_line number) outs.now) }
     ensures front { OnErr result (take (length text.old.items) text.new.items ≡ text.old.items) }
 {
+    if outs.is_empty() {
+        return Ok(());
+    }
+    let mut digits = Buffer::new();
+    let head = digits.format(number).as_bytes();
     for out in outs {
-        text.extend_from_slice(line_of(number, out).as_slice())?;
+        text.extend_from_slice(line_of(head, out).as_slice())?;
     }
     Ok(())
 }

@@ -1,10 +1,12 @@
 // The table of sessions: unique by discriminator and by selecting addresses.
-ghost use Rattle.std.specs.Prelude.{◌≡◌, ◌||◌, ◌<◌, [], false, length, IfOk, None, Some};
+ghost use Rattle.std.specs.Prelude.{◌≡◌, ◌||◌, ◌<◌, [], false, length, IfOk, None, Some, is_some};
 ghost use Rattle.bfd_demux.specs.Rows.{same_selector};
 ghost use Rattle.bfd_demux.specs.declared.row.RowKind.{RowKind as Kind};
 ghost use Rattle.bfd_session.specs.Kinds.{discr_of};
 ghost use Rattle.bfd_session.specs.Step.{IsFit};
-ghost use Rattle.std.specs.Map.{values_of};
+ghost use Rattle.std.specs.BTreeMap.{is_at};
+ghost use Rattle.std.specs.Map.{lookup, values_of};
+ghost use Rattle.std.specs.Ordering.{nat_cmp};
 ghost use Rattle.std.specs.Option.{option_copied};
 ghost use Rattle.bfd_script.specs.Rows.{by_discr, changed, given, given_more, has_discr, has_keys, has_pair, has_place, inserted, is_pair, keyed_more, keyed_with, keys_in, keys_of, one_more};
 ghost use Rattle.bfd_script.specs.Secrets.{key_fault};
@@ -48,6 +50,16 @@ pub fn keys_in(config: &SessionConfig) -> Option<&Keys>
     match config {
         SessionConfig::Pair(pair) => pair.keys.as_ref(),
         _ => None,
+    }
+}
+
+/// Whether a session has this discriminator. One above all others is new, as one comparison tells.
+fn is_in(rows: &BTreeMap<u32, SessionConfig>, discr: u32) -> bool
+    ensures { result ≡ is_some (lookup (is_at (nat_cmp discr)) rows.now.entries) }
+{
+    match rows.last_key_value() {
+        Some((last, _)) if *last < discr => false,
+        _ => rows.contains_key(&discr),
     }
 }
 
@@ -144,7 +156,7 @@ impl Table {
     pub(crate) fn has_discr(&self, discr: u32) -> bool
         ensures { result ≡ has_discr discr self.now }
     {
-        self.rows.contains_key(&discr)
+        is_in(&self.rows, discr)
     }
 
     /// Whether the session of this discriminator is there and may have keys.

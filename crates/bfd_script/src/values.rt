@@ -7,6 +7,7 @@ ghost use Rattle.bfd_script.specs.Gives.{Gives};
 ghost use Rattle.bfd_script.specs.declared.fault.LineFault.TheVariants.{BadAddress};
 ghost use Rattle.bfd_script.specs.Values.{IsAddress, address_of, bytes_of, dotted_of, octet_of, payload_of, quad_of};
 
+use crate::digits::decode;
 use crate::fault::{LineFault, ReadFault};
 use crate::fields::{cut_at, number};
 use bfd_packet::{Addr, Payload};
@@ -135,14 +136,19 @@ fn plain_quad(field: &[u8]) -> Option<u32>
 }
 
 /// The same as `address`, by looking for digits of both kinds.
+#[tactic(auto, using(crate::proofs::Nibbles::no_sixteen))]
 fn any_address(field: &[u8]) -> Result<Addr, LineFault>
     ensures value { result ≡ address_of field.now }
     ensures range { IfOk result IsAddress }
 {
+    if field.len() != 32 {
+        return dotted(field);
+    }
     let mut bytes = [0; 16];
-    match hex::decode_to_slice(field, &mut bytes) {
-        Ok(()) => Ok(Addr::V6(BigEndian::read_u128(&bytes))),
-        Err(_) => dotted(field),
+    if decode(field, &mut bytes) {
+        Ok(Addr::V6(BigEndian::read_u128(&bytes)))
+    } else {
+        dotted(field)
     }
 }
 
@@ -210,10 +216,10 @@ fn short_payload(alloc: Global, field: &[u8]) -> Result<Payload, ReadFault>
 {
     let mut room = [0; MOST_KEPT];
     let bytes = &mut room[..field.len() / 2];
-    match hex::decode_to_slice(field, bytes) {
-        Ok(()) => keep(alloc, bytes),
-        Err(_) => Err(ReadFault::Fault(LineFault::BadHex)),
+    if !decode(field, bytes) {
+        return Err(ReadFault::Fault(LineFault::BadHex));
     }
+    keep(alloc, bytes)
 }
 
 /// A field that is a payload: bytes, of which the first 256 are kept.
