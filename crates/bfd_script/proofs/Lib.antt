@@ -8,6 +8,7 @@ pub mod Pooling
 pub mod Kept
 pub mod Cuts
 pub mod Cutting
+pub mod Marks
 pub mod Octets
 pub mod Addressed
 pub mod Decoding

@@ -1,5 +1,6 @@
 // Lines, fields and numbers.
-ghost use Rattle.std.specs.Prelude.{◌≡◌, ◌-◌, ◌==◌, ◌<◌, ◌≤◌, ◌∷◌, [], ◌&&◌, ◌||◌, Err, IfOk, IfSome, IsTrue, MatchOption, Ok, OnOk, drop, if◌then◌else◌, length, map, nat_lt, not, slice_index, true};
+ghost use Rattle.std.specs.Prelude.{◌≡◌, ◌+◌, ◌-◌, ◌++◌, ◌==◌, ◌<◌, ◌≤◌, ◌∷◌, [], ◌&&◌, ◌||◌, Err, IfOk, IfSome, IsTrue, MatchOption, Ok, OnOk, drop, if◌then◌else◌, length, map, nat_lt, not, slice_index, take, true};
+ghost use Rattle.std.specs.Simd.Lanes.{mask_l};
 ghost use Rattle.std.specs.List.{list_all, position_or_len, slice_split};
 ghost use Rattle.std.specs.Char.{is_ascii_digit};
 ghost use Rattle.std.specs.Str.Parse.{digits_value};
@@ -18,6 +19,9 @@ const MOST_LINE: usize = 4096;
 
 /// How many bytes are looked at side by side.
 const RUN: usize = 32;
+
+/// How many bytes of a line have their spaces marked.
+const FRONT: usize = 64;
 
 /// Before which a number may be multiplied by ten, and a digit added, within 64 bits.
 const MOST_BEFORE_DIGIT: u64 = 1_000_000_000_000_000_000;
@@ -150,13 +154,61 @@ pub(crate) fn cut_at(byte: u8, text: &[u8]) -> Option<(&[u8], &[u8])>
     Some((&text[..place], rest))
 }
 
+/// Where the spaces of the front of a line are: a bit for each byte, by a look at all of them side by side.
+fn marks_of(front: &[u8; FRONT]) -> u64
+    ensures { result ≡ mask_l (map (λ other. other == 32) front.now) }
+{
+    u8x64::from_array(*front)
+        .simd_eq(u8x64::splat(b' '))
+        .to_bitmask()
+}
+
+/// What stands before the first space of a text, which is among the first bytes whose spaces are marked; what stands after it; and
+/// the marks of those bytes that are left.
+fn cut_marked(text: &[u8], marked: usize, marks: u64) -> (&[u8], &[u8], u64)
+    requires some { 0 < marks }
+    requires within { marked ≤ length text.now }
+    requires few { marked ≤ 64 }
+    requires marks { marks ≡ mask_l (map (λ other. other == 32) (take marked text.now)) }
+    ensures cut { slice_split (λ other. other == 32) text.now ≡ result.0.now ∷ slice_split (λ other. other == 32) result.1.now }
+    ensures marked { length result.0.now < marked }
+    ensures long { length text.now ≡ length result.0.now + 1 + length result.1.now }
+    ensures marks { result.2 ≡ mask_l (map (λ other. other == 32) (take (marked - (length result.0.now + 1)) result.1.now)) }
+{
+    let place = marks.trailing_zeros();
+    let (front, _) = text.split_at(place as usize);
+    let (_, rest) = text.split_at(place as usize + 1);
+    (front, rest, marks >> place >> 1)
+}
+
+/// What stands between the spaces of the front of a line goes to `fields`: what is left of the line.
+#[tactic(auto, using(crate::proofs::Cuts::next_part))]
+fn split_front<'a>(line: &'a [u8], fields: &mut Vec<&'a [u8]>) -> Result<&'a [u8], AllocError>
+    ensures { IfOk result (λ rest. map (λ field. field.now) fields.new.items ++ slice_split (λ other. other == 32) rest.now ≡ map (λ field. field.now) fields.old.items ++ slice_split (λ other. other == 32) line.now) }
+{
+    let Some((front, _)) = line.split_first_chunk::<FRONT>() else {
+        return Ok(line);
+    };
+    let mut rest = line;
+    let mut marked = FRONT;
+    let mut marks = marks_of(front);
+    while marks != 0 {
+        let (field, after, others) = cut_marked(rest, marked, marks);
+        fields.push(field)?;
+        marked -= field.len() + 1;
+        rest = after;
+        marks = others;
+    }
+    Ok(rest)
+}
+
 /// What stands between the spaces of a line, in `fields`, whose room is used again for each line.
 #[tactic(auto, using(crate::proofs::Cuts::next_part, crate::proofs::Cuts::last_part))]
 pub(crate) fn split_fields<'a>(line: &'a [u8], fields: &mut Vec<&'a [u8]>) -> Result<(), AllocError>
     ensures { OnOk result (map (λ field. field.now) fields.new.items ≡ fields_of line.now) }
 {
     fields.clear();
-    let mut rest = line;
+    let mut rest = split_front(line, fields)?;
     while let Some((field, after)) = cut_at(b' ', rest) {
         fields.push(field)?;
         rest = after;

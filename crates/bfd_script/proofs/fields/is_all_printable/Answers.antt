@@ -6,7 +6,7 @@ use Rattle.bfd_script.proofs.fields.is_all_printable.Goals as goal
 pub loop-run-preserved : goal.loop-run-preserved
 loop-run-preserved c = (
   run_passed c.loop-run.rest.now c.in-Some.run'.now c.in-Some.after.now 32 c.in-Some.ensures.cases.0 c.in-Some.ensures.cases.1
-  (c.is_run_printable.ensures c.if-not-is_run_printable.false) ∙ c.loop-run.invariant.0,
+      (c.is_run_printable.ensures c.if-not-is_run_printable.false) ∙ c.loop-run.invariant.0,
   omega (arith, c.loop-run.invariant.1, c.in-Some.ensures.cases.2),
   left_more c.args.line.now c.loop-run.rest.now c.in-Some.after.now c.loop-run.invariant.2 c.loop-run.invariant.1 c.in-Some.ensures.cases.1 c.in-Some.ensures.cases.2,
 )
