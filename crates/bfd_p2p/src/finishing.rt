@@ -9,7 +9,7 @@ ghost use Rattle.bfd_p2p.specs.Finish as finishing;
 ghost use Rattle.bfd_p2p.specs.Over.{IsSettled};
 
 use crate::transmitting::transmits;
-use bfd_rules::{Config, Mark, Outs, Vars, drawn, is_untold};
+use bfd_rules::{Config, Mark, Outs, Vars, draw, is_untold};
 
 /// A changed state or diagnostic is told at once, unless a packet with F has told it or none may be sent.
 #[tactic(auto, unfolding(crate::specs::Finish::extra))]
@@ -29,12 +29,8 @@ fn extra(config: &Config, eff: u64, vars: &mut Vars, mark: &mut Mark, outs: &mut
     ensures room { outs.new.room ≡ outs.old.room }
 {
     if is_untold(config.active, mark, vars) {
-        let seq = transmits(config, false, false, vars, outs);
-        *vars = Vars {
-            seq,
-            base: eff,
-            ..*vars
-        };
+        vars.seq = transmits(config, false, false, vars, outs);
+        vars.base = eff;
         mark.moved = true;
     }
 }
@@ -58,5 +54,5 @@ pub fn finish(config: &Config, eff: u64, vars: &mut Vars, mark: Mark, outs: &mut
 {
     let mut mark = mark;
     extra(config, eff, vars, &mut mark, outs);
-    *vars = drawn(config.active, &mark, *vars);
+    draw(config.active, &mark, vars);
 }

@@ -11,7 +11,7 @@ ghost use Rattle.bfd_rules.specs.Renewal.{renewed as renewed_of};
 ghost use Rattle.bfd_rules.specs.Sound.{IsPlain, IsRenewed, HasPeerMult};
 ghost use Rattle.bfd_p2p.specs.Frame as frame;
 
-use bfd_rules::{Config, Outs, Vars, changes, renewed};
+use bfd_rules::{Config, Outs, Vars, changes, renew};
 
 /// A rule that leaves the state makes `after` of the variables.
 #[tactic(auto, unfolding(crate::specs::Frame::renews))]
@@ -28,7 +28,9 @@ pub fn renews(config: &Config, eff: u64, after: Vars, vars: &mut Vars)
     ensures course { (m : Mark) (os : List Out) → course vars.new m os ≡ frame.renews eff after (course vars.old m os) }
 {
     let _ = config.discr;
-    *vars = renewed(eff, vars, after);
+    let mut after = after;
+    renew(eff, vars, &mut after);
+    *vars = after;
 }
 
 /// A rule that may change the state makes `after` of the variables.
@@ -49,6 +51,7 @@ pub fn moves(config: &Config, eff: u64, after: Vars, vars: &mut Vars, outs: &mut
     ensures spare { outs.old.spare ≤ outs.new.spare + 1 }
     ensures room { outs.new.room ≡ outs.old.room }
 {
-    let after = renewed(eff, vars, after);
+    let mut after = after;
+    renew(eff, vars, &mut after);
     changes(config.discr, after, vars, outs);
 }

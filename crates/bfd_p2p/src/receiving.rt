@@ -1,11 +1,12 @@
 //! The reception of a control packet after settling (RFC 5880 section 6.8.6).
-ghost use Rattle.std.specs.Prelude.{◌≡◌, ◌≢◌, ◌<◌, ◌≤◌, ◌+◌, ◌^◌, false, None, IsSome, List, length, find};
+ghost use Rattle.std.specs.Prelude.{◌≡◌, ◌≢◌, ◌<◌, ◌≤◌, ◌+◌, ◌^◌, false, true, None, IsSome, List, length, find};
 ghost use Rattle.bfd_num.specs.Numbers.{moment_bound};
 ghost use Rattle.bfd_packet.specs.declared.control.Control.{Control as ControlOf};
 ghost use Rattle.bfd_packet.specs.Layout.{fields_of};
 ghost use Rattle.bfd_packet.specs.HeaderTests.{first_failing};
 ghost use Rattle.bfd_rules.specs.declared.config.Config.{Config as ConfigOf};
 ghost use Rattle.bfd_rules.specs.declared.variables.Mark.{Mark as MarkOf};
+ghost use Rattle.bfd_rules.specs.declared.variables.Vars.{Vars as VarsOf};
 ghost use Rattle.bfd_rules.specs.declared.outputs.Out.{Out};
 ghost use Rattle.bfd_rules.specs.EventFrame.{course};
 ghost use Rattle.bfd_rules.specs.Sound.{IsPlain, HasPeerMult, IsSteady};
@@ -190,8 +191,20 @@ fn machine(received: State, v: &Vars) -> Vars
     }
 }
 
-/// The state machine takes the received state.
-#[tactic(auto, unfolding(crate::specs::Receive::moves_state))]
+/// Whether the state machine leaves this state where it receives that one.
+fn stands(state: State, received: State) -> bool
+    ensures { result ≡ true → (v : VarsOf) → receive.machine state received v ≡ v }
+{
+    match state {
+        State::Down => !matches!(received, State::Down | State::Init),
+        State::Init => matches!(received, State::Down),
+        State::Up => !matches!(received, State::AdminDown | State::Down),
+        State::AdminDown => true,
+    }
+}
+
+/// The state machine takes the received state. Where it leaves the state there is nothing to renew, and nothing to tell.
+#[tactic(auto, using(crate::proofs::Idle::moves_none), unfolding(crate::specs::Receive::moves_state))]
 fn moves_state(config: &Config, eff: u64, packet: &Control, vars: &mut Vars, outs: &mut Outs)
     requires steady { IsSteady config.now vars.old }
     requires eff { eff < moment_bound }
@@ -203,6 +216,9 @@ fn moves_state(config: &Config, eff: u64, packet: &Control, vars: &mut Vars, out
     ensures spare { outs.old.spare ≤ outs.new.spare + 1 }
     ensures room { outs.new.room ≡ outs.old.room }
 {
+    if stands(vars.state, packet.state) {
+        return;
+    }
     let after = machine(packet.state, vars);
     moves(config, eff, after, vars, outs);
 }

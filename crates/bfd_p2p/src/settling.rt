@@ -9,6 +9,7 @@ ghost use Rattle.bfd_rules.specs.declared.outputs.Out.{Out};
 ghost use Rattle.bfd_rules.specs.Quantities.{deadline as deadline_of, seq_deadline as seq_deadline_of, may_send as may_send_of};
 ghost use Rattle.bfd_rules.specs.EventFrame.{course, is_news};
 ghost use Rattle.bfd_rules.specs.Sound.{IsPlain, IsRenewed, HasPeerMult, IsSteady};
+ghost use Rattle.bfd_p2p.specs.Frame.{renews as renews_of};
 ghost use Rattle.bfd_p2p.specs.Settle as settling;
 ghost use Rattle.bfd_p2p.specs.Over.{IsBegun, IsStill};
 
@@ -100,25 +101,24 @@ fn poll_sent(eff: u64, poll: Poll) -> Poll
     }
 }
 
-/// What a periodic packet makes of the variables.
-#[tactic(auto, using(crate::proofs::Later::wait_later))]
-fn told(eff: u64, seq: SeqState, v: &Vars) -> Vars
+/// What a periodic packet makes of the variables. It leaves nothing to renew.
+#[tactic(auto, using(crate::proofs::Later::wait_later, crate::proofs::Idle::renews_told))]
+fn told(eff: u64, seq: SeqState, v: &mut Vars)
     requires eff { eff < moment_bound }
-    requires mult { 0 < v.now.mult }
-    requires interval { 10000 ≤ v.now.used_tx }
-    ensures value { result ≡ record v.now { seq = seq; poll = settling.poll_sent eff v.now.poll; base = eff } }
-    ensures plain { (c : ConfigOf) → IsPlain c v.now → IsPlain c result }
-    ensures renewed { IsRenewed v.now → IsRenewed result }
-    ensures peer { HasPeerMult v.now → HasPeerMult result }
-    ensures late { (limit : ℕ) → limit ≤ eff → due.has_come limit (deadline_of v.now) ≡ false → due.has_come limit (deadline_of result) ≡ false }
-    ensures seq_same { seq_deadline_of result ≡ seq_deadline_of v.now }
+    requires mult { 0 < v.old.mult }
+    requires interval { 10000 ≤ v.old.used_tx }
+    ensures value { v.new ≡ record v.old { seq = seq; poll = settling.poll_sent eff v.old.poll; base = eff } }
+    ensures plain { (c : ConfigOf) → IsPlain c v.old → IsPlain c v.new }
+    ensures renewed { IsRenewed v.old → IsRenewed v.new }
+    ensures peer { HasPeerMult v.old → HasPeerMult v.new }
+    ensures late { (limit : ℕ) → limit ≤ eff → due.has_come limit (deadline_of v.old) ≡ false → due.has_come limit (deadline_of v.new) ≡ false }
+    ensures seq_same { seq_deadline_of v.new ≡ seq_deadline_of v.old }
+    ensures course { (m : MarkOf) (os : List Out) → IsRenewed v.old → course v.new m os
+        ≡ renews_of eff (record v.old { seq = seq; poll = settling.poll_sent eff v.old.poll; base = eff }) (course v.old m os) }
 {
-    Vars {
-        seq,
-        poll: poll_sent(eff, v.poll),
-        base: eff,
-        ..*v
-    }
+    v.seq = seq;
+    v.poll = poll_sent(eff, v.poll);
+    v.base = eff;
 }
 
 /// A periodic packet, with P while a Poll Sequence is on (sections 6.5 and 6.8.7).
@@ -141,9 +141,8 @@ fn periodic_packet(config: &Config, eff: u64, vars: &mut Vars, mark: &mut Mark, 
 {
     let poll = !matches!(vars.poll, Poll::Idle);
     let seq = transmits(config, poll, false, vars, outs);
-    let after = told(eff, seq, vars);
     tells(vars, mark);
-    renews(config, eff, after, vars);
+    told(eff, seq, vars);
 }
 
 /// Periodic: a periodic packet is due (section 6.8.7).

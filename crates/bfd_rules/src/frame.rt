@@ -114,9 +114,31 @@ fn draws(mark: &Mark, v: &Vars) -> bool
     mark.moved || v.tx_due.is_none() || tx_interval(v) != mark.interval || one_changed
 }
 
-/// The variables with the due tick as an event leaves it: none where periodic packets may not be sent, else as it
-/// stands, or drawn anew where a packet moved the base or what it is drawn by has changed (section 6.8.7).
+/// Leaves the due tick as an event does: none where periodic packets may not be sent, else as it stands, or drawn
+/// anew where a packet moved the base or what it is drawn by has changed (section 6.8.7).
 #[tactic(auto, unfolding(crate::specs::EventFrame::drawn))]
+pub fn draw(active: bool, mark: &Mark, v: &mut Vars)
+    requires base { v.old.base < moment_bound }
+    requires interval { 10000 ≤ v.old.used_tx }
+    requires mult { 0 < v.old.mult }
+    requires due { IfSome v.old.tx_due (λ t. t < moment_bound) }
+    ensures value { v.new ≡ frame.drawn active mark.now v.old }
+    ensures due { IsSome v.new.tx_due ↔ IsTrue (may_send_of active v.new) }
+    ensures steady { (c : Config) → IsSteady c v.old → IsSteady c v.new }
+    ensures rest { v.new ≡ record v.old { tx_due = v.new.tx_due; j = v.new.j } }
+    ensures silent { may_send_of active v.old ≡ false → v.new.tx_due ≡ None }
+    ensures kept { frame.draws mark.now v.old ≡ false → may_send_of active v.old ≡ true → v.new.tx_due ≡ v.old.tx_due }
+    ensures later { (m : ℕ) → m ≤ v.old.base → frame.draws mark.now v.old ≡ true → has_come (floor_tick m) v.new.tx_due ≡ false }
+{
+    if !may_send(active, v) {
+        v.tx_due = None;
+    } else if draws(mark, v) {
+        v.tx_due = Some(pick(v.base, tx_interval(v), v.mult, v.j));
+        v.j = next_j(v.j);
+    }
+}
+
+/// The variables with the due tick as an event leaves it.
 pub fn drawn(active: bool, mark: &Mark, v: Vars) -> Vars
     requires base { v.base < moment_bound }
     requires interval { 10000 ≤ v.used_tx }
@@ -131,11 +153,6 @@ pub fn drawn(active: bool, mark: &Mark, v: Vars) -> Vars
     ensures later { (m : ℕ) → m ≤ v.base → frame.draws mark.now v ≡ true → has_come (floor_tick m) result.tx_due ≡ false }
 {
     let mut v = v;
-    if !may_send(active, &v) {
-        v.tx_due = None;
-    } else if draws(mark, &v) {
-        v.tx_due = Some(pick(v.base, tx_interval(&v), v.mult, v.j));
-        v.j = next_j(v.j);
-    }
+    draw(active, mark, &mut v);
     v
 }

@@ -20,13 +20,13 @@ mod verdict;
 
 pub use commands::{Cmd, Refusal};
 pub use config::{Config, LEAST_INTERVAL, MOST_INTERVAL, Role};
-pub use frame::{begins, changes, drawn, enters, is_untold, sends, stamped, tells};
+pub use frame::{begins, changes, draw, drawn, enters, is_untold, sends, stamped, tells};
 pub use jitter::pick;
 pub use outputs::{Out, Outs};
 pub use quantities::{
     SLOW_TX, adv_tx, deadline, demand_here, demand_there, detection_time, is_admin_down, may_send,
     seq_deadline, tx_interval,
 };
-pub use renewal::renewed;
+pub use renewal::{renew, renewed};
 pub use variables::{Mark, Poll, Vars};
 pub use verdict::Verdict;

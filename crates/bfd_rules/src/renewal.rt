@@ -73,10 +73,26 @@ fn demand_renewed(eff: u64, before: &Vars, v: &mut Vars)
     }
 }
 
-/// The variables `v` that a rule made of the variables `before`, renewed at the effective moment `eff`, in
+/// Renews the variables `v` that a rule made of the variables `before`, at the effective moment `eff`, in
 /// microseconds: a changed interval wants a Poll Sequence (sections 6.5 and 6.8.3), the intervals in use follow, and
 /// where Demand mode begins or ends here the poll or the Detection Time begins anew (section 6.6).
 #[tactic(auto, unfolding(crate::specs::Renewal::renewed))]
+pub fn renew(eff: u64, before: &Vars, v: &mut Vars)
+    requires { eff < moment_bound }
+    ensures value { v.new ≡ renewal.renewed eff before.now v.old }
+    ensures state { v.new.state ≡ v.old.state }
+    ensures heard { is_some v.new.heard ≡ is_some v.old.heard }
+    ensures plain { (c : Config) → IsPlain c v.old → IsPlain c v.new }
+    ensures renewed { IsRenewed v.new }
+    ensures peer { HasPeerMult v.old → HasPeerMult v.new }
+    ensures idle { IsRenewed v.old → adv_of v.old ≡ adv_of before.now → v.old.rx ≡ before.now.rx → demand_of v.old ≡ demand_of before.now → v.new ≡ v.old }
+{
+    poll_renewed(before, v);
+    used_renewed(v);
+    demand_renewed(eff, before, v);
+}
+
+/// The variables `v` that a rule made of the variables `before`, renewed.
 pub fn renewed(eff: u64, before: &Vars, v: Vars) -> Vars
     requires { eff < moment_bound }
     ensures value { result ≡ renewal.renewed eff before.now v }
@@ -88,8 +104,6 @@ pub fn renewed(eff: u64, before: &Vars, v: Vars) -> Vars
     ensures idle { IsRenewed v → adv_of v ≡ adv_of before.now → v.rx ≡ before.now.rx → demand_of v ≡ demand_of before.now → result ≡ v }
 {
     let mut v = v;
-    poll_renewed(before, &mut v);
-    used_renewed(&mut v);
-    demand_renewed(eff, before, &mut v);
+    renew(eff, before, &mut v);
     v
 }
