@@ -7,7 +7,7 @@ use Rattle.std.specs.List.{position_from}
 use Rattle.std.specs.Option.{option_map, option_or}
 use Rattle.std.specs.Ordering.{nat_cmp, is_eq, ordering_then}
 use Rattle.std.specs.declared.cmp.Ordering.{Ordering}
-use Rattle.std.specs.declared.cmp.Ordering.TheVariants.{Less, Equal, Greater}
+use Rattle.std.specs.declared.cmp.Ordering.TheVariants.{Equal}
 use Rattle.bfd_packet.specs.declared.arrival.Addr.{Addr}
 use Rattle.bfd_packet.specs.declared.arrival.Addr.TheVariants.{V4, V6}
 use Rattle.bfd_packet.specs.contracts.arrival.AddrOrd.TheImpl as addrs
@@ -18,6 +18,7 @@ use Rattle.bfd_demux.specs.declared.row.RowKind.TheVariants.{Single, Multi, Seek
 use Rattle.bfd_demux.specs.contracts.row.RowKindOrd.TheImpl as kinds
 use Rattle.bfd_demux.specs.contracts.row.RowKindOrd.TheImpl.Laws.{total-law}
 use Rattle.std.specs.Cmp.{eq_by_cmp_equiv}
+use Rattle.std.proofs.lemmas.Bool.{and_parts, eqb-true}
 use Rattle.bfd_demux.specs.Rows.{repeat_after, same_selector, has_addresses}
 
 -- one more element at the end is found where none before it is
@@ -78,9 +79,8 @@ discrs_more rows i d old new lt were are none q =
     ∙ sym (position_from-take (λ row. q == row.discr) rows i d lt)
 
 then_level : (a b : Ordering) (p q : Bool) → is_eq a ≡ p → is_eq b ≡ q → is_eq (ordering_then a b) ≡ (p && q)
-then_level Less b p q e f = rw (← e) refl
 then_level Equal b p q e f = rw (← e) f
-then_level Greater b p q e f = rw (← e) refl
+then_level a b p q e f = rw (← e) refl
 
 pub and_assoc : (p q r : Bool) → (p && (q && r)) ≡ ((p && q) && r)
 and_assoc true q r = refl
@@ -89,9 +89,8 @@ and_assoc false q r = refl
 -- two addresses compare Equal where one is the other
 pub addr_level : (a b : Addr) → is_eq (addrs.ghosts.cmp a b) ≡ same_addr a b
 addr_level (V4 a) (V4 b) = nat_level a b
-addr_level (V4 a) (V6 b) = refl
-addr_level (V6 a) (V4 b) = refl
 addr_level (V6 a) (V6 b) = nat_level a b
+addr_level a b = refl
 
 -- two kinds of which one has addresses compare Equal where a packet can't tell them apart
 pub selector_level : (a b : RowKind) → has_addresses a ≡ true → is_eq (kinds.ghosts.cmp a b) ≡ same_selector a b
@@ -114,33 +113,26 @@ same_addr_is (V4 a) (V4 b) e = ap V4 (grind (arith, nat_tests))
 same_addr_is (V6 a) (V6 b) e = ap V6 (grind (arith, nat_tests))
 same_addr_is a b e = cc
 
-pub both_true : (p q : Bool) → (p && q) ≡ true → (p ≡ true) × (q ≡ true)
-both_true true q e = (refl, e)
-both_true false q e = cc
-
-pub number_is : (a b : ℕ) → (a == b) ≡ true → a ≡ b
-number_is a b e = grind (arith, nat_tests)
-
 -- kinds that a packet can't tell apart are equal
 pub same_selector_is : (a b : RowKind) → same_selector a b ≡ true → a ≡ b
 same_selector_is (Single i l r) (Single i' l' r') e =
-    let outer = both_true ((i == i') && same_addr l l') (same_addr r r') e in
-    let inner = both_true (i == i') (same_addr l l') outer.0 in
-    let a = number_is i i' inner.0 in
+    let outer = and_parts ((i == i') && same_addr l l') (same_addr r r') e in
+    let inner = and_parts (i == i') (same_addr l l') outer.0 in
+    let a = eqb-true i i' inner.0 in
     let b = same_addr_is l l' inner.1 in
     let c = same_addr_is r r' outer.1 in
     cc
 same_selector_is (Multi l r) (Multi l' r') e =
-    let outer = both_true (same_addr l l') (same_addr r r') e in
+    let outer = and_parts (same_addr l l') (same_addr r r') e in
     let a = same_addr_is l l' outer.0 in
     let b = same_addr_is r r' outer.1 in
     cc
 same_selector_is (Tail d i g s) (Tail d' i' g' s') e =
-    let outer = both_true ((d == d') && (i == i') && same_addr g g') (same_addr s s') e in
-    let inner = both_true ((d == d') && (i == i')) (same_addr g g') outer.0 in
-    let first = both_true (d == d') (i == i') inner.0 in
-    let a = number_is d d' first.0 in
-    let b = number_is i i' first.1 in
+    let outer = and_parts ((d == d') && (i == i') && same_addr g g') (same_addr s s') e in
+    let inner = and_parts ((d == d') && (i == i')) (same_addr g g') outer.0 in
+    let first = and_parts (d == d') (i == i') inner.0 in
+    let a = eqb-true d d' first.0 in
+    let b = eqb-true i i' first.1 in
     let c = same_addr_is g g' inner.1 in
     let f = same_addr_is s s' outer.1 in
     cc

@@ -1,9 +1,9 @@
 -- Where each key comes once, no row is like an earlier one.
-use Rattle.std.proofs.Common.{◌≡◌, ◌≤◌, ℕ, ◌+◌, Bool, true, false, cond, ◌==◌, ◌&&◌, List, [], ◌∷◌, ◌++◌, refl, sym, ◌∙◌, ap, arith, None, append_assoc, inl, inr, ◌⊎◌}
-use Rattle.std.proofs.lemmas.Bool.Decides.{nat_tests}
+use Rattle.std.proofs.Common.{◌≡◌, ◌≤◌, ℕ, ◌+◌, Bool, true, false, cond, ◌&&◌, List, [], ◌∷◌, ◌++◌, refl, sym, ◌∙◌, ap, arith, None, append_assoc, inl, inr, ◌⊎◌}
 use Rattle.std.specs.List.{filter, position_from}
 use Rattle.std.specs.Ordering.{nat_cmp, is_eq}
 use Rattle.std.specs.Cmp.{tied_itself}
+use Rattle.std.proofs.lemmas.Bool.{eq-eqb}
 use Rattle.bfd_demux.specs.declared.row.Row.{Row}
 use Rattle.bfd_demux.specs.declared.row.RowKind.{RowKind}
 use Rattle.bfd_demux.specs.contracts.row.RowKindOrd.TheImpl as kind_order
@@ -46,12 +46,9 @@ apart_after same alike earlier (row ∷ rows) once =
       | inr never ↦ position_from-none (same row) never 0 earlier
     ]
 
-itself : (n : ℕ) → (n == n) ≡ true
-itself n = grind (arith, nat_tests)
-
 -- rows whose discriminators each come once
 pub discrs_apart : (rows : List Row) → HasKeysOnce nat_cmp (discrs_of rows) → first_repeat same_discr rows ≡ None
-discrs_apart rows once = apart_after same_discr (λ row. inl (itself row.discr)) [] rows (λ row.
+discrs_apart rows once = apart_after same_discr (λ row. inl (eq-eqb row.discr row.discr refl)) [] rows (λ row.
     let mapped = how_many-map (λ (entry : ℕ × Unit {0}). is_eq (nat_cmp entry.0 row.discr)) (λ (other : Row). (other.discr, tt)) rows in
     let less = how_many_weaker (same_discr row) (λ other. is_eq (nat_cmp other.discr row.discr)) (λ other e. nat_level_back other.discr row.discr ∙ e) rows in
     let most = once row.discr in

@@ -97,8 +97,7 @@ module _ {K : Type 0} {cmp : K → K → Ordering} (order : IsTotalOrder cmp) wh
 
 less_of : (r : Ordering) → is_lt r ≡ true → r ≡ Less
 less_of Less e = refl
-less_of Equal e = cc
-less_of Greater e = cc
+less_of r e = cc
 
 -- a permutation has each key once where the list has
 pub keys_once-IsPermutation : {K V : Type 0} (cmp : K → K → Ordering) (xs ys : List (K × V)) → IsPermutation xs ys → HasKeysOnce cmp xs → HasKeysOnce cmp ys

@@ -1,5 +1,5 @@
 -- What a lookup in a sorted table says of the rows.
-use Rattle.std.proofs.Common.{◌≡◌, ◌<◌, ◌≤◌, ℕ, ◌+◌, Bool, true, false, cond, not, ◌==◌, ◌&&◌, ◌||◌, nat_lt, List, [], ◌∷◌, length, map, get_or, refl, sym, ◌∙◌, ap, arith, inl, inr, ◌⊎◌, Option, Some, None, suc, zero}
+use Rattle.std.proofs.Common.{◌≡◌, ◌<◌, ◌≤◌, ℕ, ◌+◌, Bool, true, false, cond, not, ◌==◌, ◌&&◌, ◌||◌, nat_lt, List, [], ◌∷◌, length, map, get_or, refl, sym, ◌∙◌, ap, arith, inl, inr, Option, Some, None, suc, zero}
 use Rattle.std.proofs.Math.Nat.{eq-or-lt_of_le}
 use Rattle.std.proofs.lemmas.Bool.Decides.{nat_tests}
 use Rattle.std.proofs.lemmas.List.Sorted.{list_any-IsPermutation, length_permutation}
@@ -12,6 +12,8 @@ use Rattle.std.specs.Ordering.{nat_cmp, is_eq, is_lt}
 use Rattle.std.specs.Cmp.{IsTotalOrder, alike_right}
 use Rattle.std.specs.declared.cmp.Ordering.{Ordering}
 use Rattle.std.specs.declared.cmp.Ordering.TheVariants.{Less}
+use Rattle.std.proofs.Math.Bool.{and-false, and-true, or-false}
+use Rattle.std.proofs.lemmas.Bool.{cases_eq, and_parts, eqb-true}
 use Rattle.bfd_packet.specs.declared.arrival.Port.{Port}
 use Rattle.bfd_packet.specs.declared.arrival.Port.TheVariants.{Single as SinglePort, Multi as MultiPort, Echo as EchoPort, Sbfd as SbfdPort, Answer as AnswerPort}
 use Rattle.bfd_demux.specs.declared.row.Row.{Row}
@@ -28,7 +30,7 @@ use Rattle.bfd_demux.specs.Index.{IsIndex, names_of, addresses_of, name_of, name
 use Rattle.bfd_demux.specs.Table.{how_many, IsAscending, IsPlaceOf}
 use Rattle.bfd_demux.specs.Selection.{is_of_kind, has_discr, knows, is_session, session_index, reflector_index, only, the_one}
 use Rattle.bfd_demux.specs.Parts.{index_on}
-use Rattle.bfd_demux.proofs.AlikeRows.{and_assoc, nat_level, selector_level_back, unaddressed_back, both_true, number_is}
+use Rattle.bfd_demux.proofs.AlikeRows.{and_assoc, nat_level, selector_level_back, unaddressed_back}
 use Rattle.bfd_demux.proofs.Ascending.{how_many-cons, how_many-IsPermutation, none_passes, le_or_lt, turned}
 use Rattle.bfd_demux.proofs.Once.{how_many-map, how_many_weaker, discr_once, kind_once, sound_rows}
 
@@ -36,17 +38,6 @@ use Rattle.bfd_demux.proofs.Once.{how_many-map, how_many_weaker, discr_once, kin
 
 not_equal_above : (m k : ℕ) → m ≤ k → (k ≡ m → ⊥) → m < k
 not_equal_above m k le other = elim (eq-or-lt_of_le le) [ inl same ↦ absurd (other (sym same)) | inr lt ↦ lt ]
-
-same_or_other : (k m : ℕ) → (k ≡ m) ⊎ (k ≡ m → ⊥)
-same_or_other k m = elim (le_or_lt k m) [ inl le ↦ elim (eq-or-lt_of_le le) [ inl same ↦ inl same | inr lt ↦ inr (λ e. absurd (omega arith)) ] | inr gt ↦ inr (λ e. absurd (omega arith)) ]
-
-and_false : (b : Bool) → (b && false) ≡ false
-and_false true = refl
-and_false false = refl
-
-and_true : (b : Bool) → (b && true) ≡ b
-and_true true = refl
-and_true false = refl
 
 -- ---- lists
 
@@ -122,10 +113,6 @@ the_one_first test row rows is none = rw (is, none) refl
 the_one_later : (test : Row → Bool) (row : Row) (rows : List Row) → test row ≡ false → the_one test (row ∷ rows) ≡ the_one test rows
 the_one_later test row rows is = rw is refl
 
-or_false : (b : Bool) → (b || false) ≡ b
-or_false true = refl
-or_false false = refl
-
 one_more_of : (test also : Row → Bool) (row : Row) (rows : List Row) → how_many test (row ∷ rows) ≤ 1 → list_any (λ other. test other && also other) (row ∷ rows) ≡ true →
     (how_many test rows ≤ 1 → list_any (λ other. test other && also other) rows ≡ true → (other : Row) × IsTheOne test also rows other) →
     (other : Row) × IsTheOne test also (row ∷ rows) other
@@ -135,8 +122,8 @@ one_more_of test also row rows few some rest = go (test row) refl
     go true is =
         let counted : how_many test (row ∷ rows) ≡ 1 + how_many test rows = how_many-cons test row rows ∙ rw is refl in
         let none = none_of_zero test rows (omega arith) in
-        let none_both = list_any_stronger test (λ other. test other && also other) (λ other e. (both_true (test other) (also other) e).0) rows none in
-        let passes : also row ≡ true = sym (or_false (also row)) ∙ (rw (is, none_both) at some) in
+        let none_both = list_any_stronger test (λ other. test other && also other) (λ other e. (and_parts (test other) (also other) e).0) rows none in
+        let passes : also row ≡ true = sym (or-false (also row)) ∙ (rw (is, none_both) at some) in
         (row, record { one = the_one_first test row rows is (filter_none test rows none); passes = is; also_passes = passes })
     go false is =
         let counted : how_many test (row ∷ rows) ≡ how_many test rows = how_many-cons test row rows ∙ rw is (omega arith) in
@@ -182,8 +169,8 @@ module _ {K V : Type 0} {cmp : K → K → Ordering} (order : IsTotalOrder cmp) 
       go : (b : Bool) → also (get_or entries place d) ≡ b → list_any (λ (entry : K × V). is_eq (cmp entry.0 key) && also entry) entries ≡ b
       go true is = list_any_at (λ (entry : K × V). is_eq (cmp entry.0 key) && also entry) entries place d at.within (rw (at.level d, is) refl)
       go false is = none_passes (λ (entry : K × V). is_eq (cmp entry.0 key) && also entry) entries (λ k e lt.
-          elim (same_or_other k place) [
-            | inl same ↦ rw (same, at_default entries place e d at.within, is) (and_false _)
+          elim (cases_eq k place) [
+            | inl same ↦ rw (same, at_default entries place e d at.within, is) (and-false _)
             | inr other ↦ rw (unique_at entries key place up at k e lt other) refl
           ])
 
@@ -211,12 +198,12 @@ nat_lower a b = grind (arith, nat_tests)
 -- a row has the name and is heard on the port where it is of the port's kind and has the discriminator
 name_test_in : (port : Port) (kind : RowKind) (discr other : ℕ) →
     (is_eq (name_order.ghosts.cmp (name_in kind discr) (name_on port other)) && is_heard port (heard_on kind)) ≡ (is_of_kind port kind && (discr == other))
-name_test_in SinglePort (Single _ _ _) discr other = and_true (is_eq (nat_cmp discr other)) ∙ nat_level discr other
-name_test_in EchoPort (Single _ _ _) discr other = and_true (is_eq (nat_cmp discr other)) ∙ nat_level discr other
-name_test_in MultiPort (Multi _ _) discr other = and_true (is_eq (nat_cmp discr other)) ∙ nat_level discr other
-name_test_in AnswerPort Seek discr other = and_true (is_eq (nat_cmp discr other)) ∙ nat_level discr other
-name_test_in SbfdPort Reflect discr other = and_true (is_eq (nat_cmp discr other)) ∙ nat_level discr other
-name_test_in port kind discr other = and_false (is_eq (name_order.ghosts.cmp (name_in kind discr) (name_on port other)))
+name_test_in SinglePort (Single _ _ _) discr other = and-true (is_eq (nat_cmp discr other)) ∙ nat_level discr other
+name_test_in EchoPort (Single _ _ _) discr other = and-true (is_eq (nat_cmp discr other)) ∙ nat_level discr other
+name_test_in MultiPort (Multi _ _) discr other = and-true (is_eq (nat_cmp discr other)) ∙ nat_level discr other
+name_test_in AnswerPort Seek discr other = and-true (is_eq (nat_cmp discr other)) ∙ nat_level discr other
+name_test_in SbfdPort Reflect discr other = and-true (is_eq (nat_cmp discr other)) ∙ nat_level discr other
+name_test_in port kind discr other = and-false (is_eq (name_order.ghosts.cmp (name_in kind discr) (name_on port other)))
 
 name_test : (port : Port) (other : ℕ) (row : Row) →
     (is_eq (name_order.ghosts.cmp (name_of row) (name_on port other)) && is_heard port (heard_on row.kind)) ≡ has_discr port other row
@@ -260,7 +247,7 @@ module _ {rows : List Row} {names : List (Name × Option Port)} {addresses : Lis
   -- one row at most is of the port's kind and has the discriminator
   one_named : (port : Port) (discr : ℕ) → how_many (has_discr port discr) rows ≤ 1
   one_named port discr =
-      let less = how_many_weaker (has_discr port discr) (λ row. row.discr == discr) (λ row e. (both_true (is_of_kind port row.kind) (row.discr == discr) e).1) rows in
+      let less = how_many_weaker (has_discr port discr) (λ row. row.discr == discr) (λ row e. (and_parts (is_of_kind port row.kind) (row.discr == discr) e).1) rows in
       let once = discr_once rows index.sound discr in
       omega arith
 
@@ -276,7 +263,7 @@ module _ {rows : List Row} {names : List (Name × Option Port)} {addresses : Lis
   pub name_unknown : (port : Port) (discr : ℕ) → list_any (λ (entry : Name × Option Port). is_eq (name_order.ghosts.cmp entry.0 (name_on port discr))) names ≡ false → false ≡ knows rows port discr
   name_unknown port discr none =
       sym (list_any_stronger (λ (row : Row). is_eq (name_order.ghosts.cmp (name_of row) (name_on port discr))) (has_discr port discr)
-      (λ row e. (both_true (is_eq (name_order.ghosts.cmp (name_of row) (name_on port discr))) (is_heard port (heard_on row.kind)) (name_test port discr row ∙ e)).0)
+      (λ row e. (and_parts (is_eq (name_order.ghosts.cmp (name_of row) (name_on port discr))) (is_heard port (heard_on row.kind)) (name_test port discr row ∙ e)).0)
       rows (sym (any_name (λ entry. is_eq (name_order.ghosts.cmp entry.0 (name_on port discr)))) ∙ none))
 
   -- a session's place among the names is its index
@@ -320,8 +307,8 @@ module _ {rows : List Row} {names : List (Name × Option Port)} {addresses : Lis
   -- one is, and the index that the port gives it is that of the discriminator
   pub some_named : (port : Port) (discr : ℕ) → true ≡ knows rows port discr → option_map (λ (row : Row). index_on port rows row.discr) (the_one (has_discr port discr) rows) ≡ Some (index_on port rows discr)
   some_named port discr some =
-      let found = one_of (has_discr port discr) (λ row. true) rows (one_named port discr) (list_any_agree _ _ (λ row. and_true (has_discr port discr row)) rows ∙ sym some) in
-      let same = number_is found.0.discr discr (both_true (is_of_kind port found.0.kind) (found.0.discr == discr) found.1.passes).1 in
+      let found = one_of (has_discr port discr) (λ row. true) rows (one_named port discr) (list_any_agree _ _ (λ row. and-true (has_discr port discr row)) rows ∙ sym some) in
+      let same = eqb-true found.0.discr discr (and_parts (is_of_kind port found.0.kind) (found.0.discr == discr) found.1.passes).1 in
       ap (option_map (λ (row : Row). index_on port rows row.discr)) found.1.one ∙ ap (λ n. Some (index_on port rows n)) same
 
   -- ---- the addresses of rows
@@ -364,14 +351,14 @@ module _ {rows : List Row} {names : List (Name × Option Port)} {addresses : Lis
       true ≡ list_any (λ row. same_selector kind row.kind) rows
   address_named kind place d with_addresses at =
       sym (list_any_weaker (λ (row : Row). same_selector kind row.kind && (row.discr == (get_or addresses place d).1)) (λ row. same_selector kind row.kind)
-      (λ row e. (both_true (same_selector kind row.kind) (row.discr == (get_or addresses place d).1) e).0) rows (address_known kind place d with_addresses at))
+      (λ row e. (and_parts (same_selector kind row.kind) (row.discr == (get_or addresses place d).1) e).0) rows (address_known kind place d with_addresses at))
 
   -- and the discriminator is that of the one row that has them
   pub address_index : (kind : RowKind) (place : ℕ) (d : RowKind × ℕ) → has_addresses kind ≡ true → IsPlaceOf kind_order.ghosts.cmp addresses kind place →
       option_map (λ (row : Row). session_index rows row.discr) (the_one (λ row. same_selector kind row.kind) rows) ≡ Some (session_index rows (get_or addresses place d).1)
   address_index kind place d with_addresses at =
       let found = one_of (λ row. same_selector kind row.kind) (λ row. row.discr == (get_or addresses place d).1) rows (kind_once rows index.sound kind) (address_known kind place d with_addresses at) in
-      let same = number_is found.0.discr (get_or addresses place d).1 found.1.also_passes in
+      let same = eqb-true found.0.discr (get_or addresses place d).1 found.1.also_passes in
       ap (option_map (λ (row : Row). session_index rows row.discr)) found.1.one ∙ ap (λ n. Some (session_index rows n)) same
 
   -- which is that of a session
@@ -382,7 +369,7 @@ module _ {rows : List Row} {names : List (Name × Option Port)} {addresses : Lis
       let missing = list_any_stronger (λ (row : Row). is_eq (name_order.ghosts.cmp (name_of row) (Session (get_or addresses place d).1)))
       (λ row. same_selector kind row.kind && (row.discr == (get_or addresses place d).1))
       (λ row e.
-      let parts = both_true (same_selector kind row.kind) (row.discr == (get_or addresses place d).1) e in
+      let parts = and_parts (same_selector kind row.kind) (row.discr == (get_or addresses place d).1) e in
       session_level kind row.kind row.discr (get_or addresses place d).1 parts.0 ∙ parts.1)
       rows (sym (any_name (λ entry. is_eq (name_order.ghosts.cmp entry.0 (Session (get_or addresses place d).1)))) ∙ none) in
       cc

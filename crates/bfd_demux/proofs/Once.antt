@@ -5,6 +5,7 @@ use Rattle.std.proofs.lemmas.Bool.Decides.{nat_tests}
 use Rattle.std.specs.List.{filter, position_from}
 use Rattle.std.specs.Option.{option_map, option_or}
 use Rattle.std.specs.Ordering.{is_eq}
+use Rattle.std.proofs.lemmas.Bool.{and_parts, eqb-true}
 use Rattle.bfd_packet.specs.declared.arrival.Port.{Port}
 use Rattle.bfd_demux.specs.declared.row.Row.{Row}
 use Rattle.bfd_demux.specs.declared.row.RowKind.{RowKind}
@@ -18,7 +19,7 @@ use Rattle.bfd_demux.specs.contracts.row.RowKindOrd.TheImpl as kind_order
 use Rattle.bfd_demux.specs.Rows.{repeat_after, first_repeat, same_discr, same_addresses, same_selector, has_addresses, build_fault, early_fault, pair_fault}
 use Rattle.bfd_demux.specs.Index.{names_of, addresses_of, name_of, name_in, heard_on}
 use Rattle.bfd_demux.specs.Table.{how_many, HasKeysOnce}
-use Rattle.bfd_demux.proofs.AlikeRows.{nat_level, selector_level, same_selector_is, number_is, both_true}
+use Rattle.bfd_demux.proofs.AlikeRows.{nat_level, selector_level, same_selector_is}
 use Rattle.bfd_demux.proofs.Ascending.{how_many-cons}
 
 -- how many of two lists
@@ -126,7 +127,7 @@ sound_rows rows e = go (nat_lt 65536 (length rows)) refl
 pub discr_once : (rows : List Row) → build_fault rows ≡ None → (discr : ℕ) → how_many (λ row. row.discr == discr) rows ≤ 1
 discr_once rows e discr =
     once_after same_discr (λ row. row.discr == discr)
-    (λ row other here there. let a = number_is row.discr discr here in let b = number_is other.discr discr there in rw (a, b) (grind (arith, nat_tests)))
+    (λ row other here there. let a = eqb-true row.discr discr here in let b = eqb-true other.discr discr there in rw (a, b) (grind (arith, nat_tests)))
     [] rows (sound_rows rows e).discrs (omega arith)
 
 -- a kind with its addresses comes once, whichever way round it is compared
@@ -168,7 +169,7 @@ addresses_once rows sound key =
     let mapped = how_many-map (λ (entry : RowKind × ℕ). is_eq (kind_order.ghosts.cmp entry.0 key)) (λ (row : Row). (row.kind, row.discr)) (filter (λ row. has_addresses row.kind) rows) in
     let kept = how_many-filter (λ (row : Row). is_eq (kind_order.ghosts.cmp row.kind key)) (λ row. has_addresses row.kind) rows in
     let less = how_many_weaker (λ (row : Row). has_addresses row.kind && is_eq (kind_order.ghosts.cmp row.kind key)) (λ row. same_selector row.kind key)
-    (λ row e. let parts = both_true (has_addresses row.kind) (is_eq (kind_order.ghosts.cmp row.kind key)) e in sym (selector_level row.kind key parts.0) ∙ parts.1) rows in
+    (λ row e. let parts = and_parts (has_addresses row.kind) (is_eq (kind_order.ghosts.cmp row.kind key)) e in sym (selector_level row.kind key parts.0) ∙ parts.1) rows in
     let once = kind_once_back rows sound key in
     omega arith
 

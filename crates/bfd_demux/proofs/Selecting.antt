@@ -37,10 +37,7 @@ find-append test (x ∷ xs) ys none = find_more (test x) x (find test xs) (find 
 header_same : (port : Port) (rows : List Row) (arrival : Arrival) →
     find (λ test. table_fails port test rows arrival) (tests_on_header port) ≡ find (λ test. header_fails test arrival.payload) (tests_on_header port)
 header_same EchoPort rows arrival = refl
-header_same SinglePort rows arrival = refl
-header_same MultiPort rows arrival = refl
-header_same SbfdPort rows arrival = refl
-header_same AnswerPort rows arrival = refl
+header_same port rows arrival = refl
 
 -- past the header: the tests on the table alone
 past_header : (port : Port) (rows : List Row) (arrival : Arrival) → find (λ test. header_fails test arrival.payload) (tests_on_header port) ≡ None →
@@ -211,8 +208,7 @@ pub session_failing : (port : Port) (rows : List Row) (arrival : Arrival) (packe
 session_failing EchoPort rows arrival packet is no_echo no_sbfd single = absurd (no_echo refl)
 session_failing SbfdPort rows arrival packet is no_echo no_sbfd single = absurd (no_sbfd refl)
 session_failing SinglePort rows arrival packet is no_echo no_sbfd single = rw (is, single) refl
-session_failing MultiPort rows arrival packet is no_echo no_sbfd single = rw is refl
-session_failing AnswerPort rows arrival packet is no_echo no_sbfd single = rw is refl
+session_failing port rows arrival packet is no_echo no_sbfd single = rw is refl
 
 pub session_named : (port : Port) (rows : List Row) (arrival : Arrival) (packet : Control) → packet ≡ fields_of arrival.payload →
     port ≢ EchoPort → port ≢ SbfdPort → is_multipoint port arrival ≡ false →
@@ -222,8 +218,7 @@ session_named SbfdPort rows arrival packet is no_echo no_sbfd single = absurd (n
 session_named SinglePort rows arrival packet is no_echo no_sbfd single =
     ap (option_map (λ (row : Row). Session (session_index rows row.discr)))
     (the_one_agree (names_session SinglePort packet (selector_on SinglePort arrival)) (names_on SinglePort arrival) (λ row. rw (is, single) refl) rows)
-session_named MultiPort rows arrival packet is no_echo no_sbfd single = rw is refl
-session_named AnswerPort rows arrival packet is no_echo no_sbfd single = rw is refl
+session_named port rows arrival packet is no_echo no_sbfd single = rw is refl
 
 -- where no row has addresses
 pub selector_none : (rows : List Row) → list_any (has_selector None) rows ≡ false
@@ -258,18 +253,12 @@ refused_by (Some other) fields test is = cc
 pub header_passed : (port : Port) (payload : List ℕ) (packet : Control) → port ≢ EchoPort → read_of port payload ≡ Ok packet →
     IsRead (find (λ test. header_fails test payload) (tests_on_header port)) (fields_of payload) packet
 header_passed EchoPort payload packet no_echo is = absurd (no_echo refl)
-header_passed SinglePort payload packet no_echo is = read_fields _ (fields_of payload) packet is
-header_passed MultiPort payload packet no_echo is = read_fields _ (fields_of payload) packet is
-header_passed SbfdPort payload packet no_echo is = read_fields _ (fields_of payload) packet is
-header_passed AnswerPort payload packet no_echo is = read_fields _ (fields_of payload) packet is
+header_passed port payload packet no_echo is = read_fields _ (fields_of payload) packet is
 
 header_failed : (port : Port) (payload : List ℕ) (test : Test) → port ≢ EchoPort → read_of port payload ≡ Err test →
     find (λ test. header_fails test payload) (tests_on_header port) ≡ Some test
 header_failed EchoPort payload test no_echo is = absurd (no_echo refl)
-header_failed SinglePort payload test no_echo is = refused_by _ (fields_of payload) test is
-header_failed MultiPort payload test no_echo is = refused_by _ (fields_of payload) test is
-header_failed SbfdPort payload test no_echo is = refused_by _ (fields_of payload) test is
-header_failed AnswerPort payload test no_echo is = refused_by _ (fields_of payload) test is
+header_failed port payload test no_echo is = refused_by _ (fields_of payload) test is
 
 -- a packet that isn't read fails that test
 pub unread : (port : Port) (rows : List Row) (arrival : Arrival) (test : Test) → port ≢ EchoPort → read_of port arrival.payload ≡ Err test →

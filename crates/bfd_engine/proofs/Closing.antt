@@ -1,5 +1,6 @@
 -- Shards that are taken out one by one.
 use Rattle.std.proofs.Common.{◌≡◌, ◌≢◌, ◌<◌, ◌≤◌, ◌+◌, ◌*◌, ◌++◌, ◌∷◌, [], ℕ, zero, suc, false, List, length, length-append, set, map, true, Some, slice_get, refl, ap, sym, ◌∙◌, subst, arith}
+use Rattle.std.proofs.lemmas.Option.{slice_get_within, same_Some}
 use mathlib.Core.Logic.{dite}
 use native.Mathlib.Decide.{ℕ_discrete}
 use Rattle.bfd_turn.specs.Lists.{calls, has}
@@ -12,13 +13,12 @@ use Rattle.bfd_engine.specs.Turned.{by, configs_in, limit_in}
 use Rattle.bfd_engine.specs.Engines.{Shards, Held, Knows, IsOf, AllThere, base_at}
 use Rattle.bfd_engine.specs.Calls.{seen_of, word_of, taken_of, made_of, kept_of}
 use Rattle.bfd_engine.specs.Passes.{EachJoined, IsClosed}
-use Rattle.bfd_engine.proofs.Places.{K, within, set_else, last_here, front_here, same_some}
+use Rattle.bfd_engine.proofs.Places.{K, set_else, last_here, front_here}
 
 next_here : {X : Type 0} (xs ys : List X) (x : X) (i : ℕ) → i ≡ length xs → slice_get (xs ++ x ∷ ys) i ≡ Some x
 next_here [] ys x zero e = refl
-next_here [] ys x (suc i) e = absurd (omega arith)
-next_here (z ∷ zs) ys x zero e = absurd (omega arith)
 next_here (z ∷ zs) ys x (suc i) e = next_here zs ys x i (omega arith)
+next_here xs ys x i e = absurd (omega arith)
 
 -- the passes from a place on are as they were
 pub record LeftFrom (at : ℕ) (before after : List Held) : Type 0 where
@@ -43,12 +43,12 @@ pub next_pass : (engine : Shards) (yielded rest : List TableId) (lock : TableId)
     → at ≡ length yielded → IsOf engine before → AllThere before → LeftFrom at before after → IsNext engine before after lock at
 next_pass engine yielded rest lock before after at whole long of all l =
     let here : slice_get engine.locks at ≡ Some lock = ap (λ (ls : List TableId). slice_get ls at) (sym whole) ∙ next_here yielded rest lock at long in
-    let inside : at < length engine.locks = within engine.locks at lock here in
+    let inside : at < length engine.locks = slice_get_within engine.locks at lock here in
     let t = all.at at (let e = of.long in omega (arith, inside, e)) in record {
       pass = t.0;
       before_is = t.1;
       after_is = l.left at (omega arith) ∙ t.1;
-      lock_is = same_some t.0.0 lock (sym (of.lock at t.0 t.1) ∙ here);
+      lock_is = same_Some t.0.0 lock (sym (of.lock at t.0 t.1) ∙ here);
       base_is = of.base_is at t.0 t.1;
       within_is = inside;
     }
@@ -57,7 +57,7 @@ next_pass engine yielded rest lock before after at whole long of all l =
 pub lifted : (engine : Shards) (before after : List Held) (lock : TableId) (at : ℕ) (p : K) → IsNext engine before after lock at → slice_get after at ≡ Some (Some p)
     → IsNext engine before after lock at × (slice_get before at ≡ Some (Some p)) × (p.0 ≡ lock) × (p.1.base ≡ Some (base_at engine at))
 lifted engine before after lock at p n e =
-    let same : n.pass ≡ p = same_some n.pass p (same_some (Some n.pass) (Some p) (sym n.after_is ∙ e)) in
+    let same : n.pass ≡ p = same_Some n.pass p (same_Some (Some n.pass) (Some p) (sym n.after_is ∙ e)) in
     (n, n.before_is ∙ ap (λ (x : K). Some (Some x)) same, sym (ap (λ (x : K). x.0) same) ∙ n.lock_is, sym (ap (λ (x : K). x.1.base) same) ∙ n.base_is)
 
 -- all that this pass made was joined
@@ -89,7 +89,7 @@ pub record AreEnded (engine : Shards) (k : Knows) (shards : List Shard) : Type 0
   pub each : (number : ℕ) (shard : Shard) → slice_get shards number ≡ Some shard → IsClosed engine k number shard
 
 pub ended_start : (engine : Shards) (k : Knows) → AreEnded engine k []
-ended_start engine k = record { each = λ number shard e. absurd (let i = within [] number shard e in omega (arith, i)) }
+ended_start engine k = record { each = λ number shard e. absurd (let i = slice_get_within [] number shard e in omega (arith, i)) }
 
 pub ended_more : (engine : Shards) (k : Knows) (at : ℕ) (p : K) (shards more : List Shard) (shard : Shard) → slice_get k.1 at ≡ Some (Some p) → p.1.base ≡ Some (base_at engine at)
     → IsEnd p shard → at ≡ length shards → more ≡ shards ++ shard ∷ [] → AreEnded engine k shards → AreEnded engine k more
@@ -97,8 +97,8 @@ ended_more engine k at p shards more shard here base end long is all = record {
   each = λ number x e.
       (let f : slice_get (shards ++ shard ∷ []) number ≡ Some x = ap (λ (xs : List Shard). slice_get xs number) (sym is) ∙ e in
       dite (ℕ_discrete number at)
-      (λ same. (let s : shard ≡ x = same_some shard x (sym (last_here shards shard number (same ∙ long)) ∙ f) in
+      (λ same. (let s : shard ≡ x = same_Some shard x (sym (last_here shards shard number (same ∙ long)) ∙ f) in
       subst (λ (y : ℕ × Shard). IsClosed engine k y.0 y.1) (λ i. (sym same i, s i)) (closed_here engine k at p shard here base end)))
       (λ other. all.each number x
-      (sym (front_here shards shard number (let w = within (shards ++ shard ∷ []) number x f in let l = length-append shards (shard ∷ []) in omega (arith, w, l, other, long))) ∙ f)));
+      (sym (front_here shards shard number (let w = slice_get_within (shards ++ shard ∷ []) number x f in let l = length-append shards (shard ∷ []) in omega (arith, w, l, other, long))) ∙ f)));
 }

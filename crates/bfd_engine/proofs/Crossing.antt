@@ -1,6 +1,5 @@
 -- Threads may share an engine, where its timers may go to another thread.
 use denote.RattleType.{RattleType}
-use denote.Param.{param}
 use denote.Param.Send.{sendable, IsSync, IsSend, view_sync}
 use denote.Param.SendFields.{declared_sync}
 use denote.Struct.Declared as S

@@ -3,13 +3,14 @@ use Rattle.std.proofs.Common.{◌≡◌, ◌<◌, ◌+◌, ◌++◌, ◌∷◌, 
 use mathlib.Core.Logic.{dite}
 use native.Mathlib.Decide.{ℕ_discrete}
 use Rattle.std.proofs.lemmas.List.Elements.{All-weaker, All-push, All-nil}
+use Rattle.std.proofs.lemmas.Option.{slice_get_within}
 use Rattle.bfd_turn.specs.Lists.{calls}
 use Rattle.bfd_turn.specs.Passes.{TableId, IsNew, having_made, made_by}
 use Rattle.bfd_engine.specs.Turned.{by, OfShard}
 use Rattle.bfd_engine.specs.Engines.{Shards, Held, Knows, IsOf, AllThere, AllOf, IsCallers, AreNew, AreNewAt}
 use Rattle.bfd_engine.specs.Calls.{seen_of, word_of, taken_of, made_of, kept_of}
 use Rattle.bfd_engine.specs.Passes.{Parted, IsCut, AreCut, CutsAt}
-use Rattle.bfd_engine.proofs.Places.{K, within, set_here, set_else, last_here, front_here, same_held}
+use Rattle.bfd_engine.proofs.Places.{K, set_here, set_else, last_here, front_here, same_held}
 
 -- with one number more used, all made are still used
 pub one_used : (number used : ℕ) (ps : List Held) → AllOf number used ps → AllOf number (used + 1) ps
@@ -35,7 +36,7 @@ cut_here number at ps id p q r here lock is_q is_r fresh = record {
   cut = record {
     pass = p;
     before_is = here;
-    after_is = set_here ps at (Some q) (within ps at (Some p) here) ∙ ap (λ (x : K). Some (Some x)) (is_q ∙ ap (λ (i : TableId). (i, having_made number p.1)) (sym lock));
+    after_is = set_here ps at (Some q) (slice_get_within ps at (Some p) here) ∙ ap (λ (x : K). Some (Some x)) (is_q ∙ ap (λ (i : TableId). (i, having_made number p.1)) (sym lock));
     new_is = ap (λ (x : K). Some (Some x)) (is_r ∙ ap (λ (i : TableId). (i, made_by number p.1)) (sym lock));
     fresh = fresh;
   };
@@ -76,7 +77,7 @@ new_left number at before after new cuts fresh p e = fresh at p (sym (cuts.left 
 module _ (engine : Shards) (number at : ℕ) (before after new : List Held) (cuts : AreCut number at before after new) (of : IsOf engine before) (all : length engine.locks ≡ at) where
   one : (k : ℕ) (p : K) → slice_get new k ≡ Some (Some p) → (u : K) × (slice_get before k ≡ Some (Some u)) × (p ≡ (u.0, made_by number u.1))
   one k p e =
-      let c : IsCut number (slice_get before k) (slice_get after k) (slice_get new k) = cuts.below k (let i = within new k (Some p) e in omega (arith, i, cuts.long)) in
+      let c : IsCut number (slice_get before k) (slice_get after k) (slice_get new k) = cuts.below k (let i = slice_get_within new k (Some p) e in omega (arith, i, cuts.long)) in
       (c.pass, c.before_is, same_held p (c.pass.0, made_by number c.pass.1) (slice_get new k) e c.new_is)
 
   pub new_of : IsOf engine new

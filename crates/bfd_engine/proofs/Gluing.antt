@@ -1,5 +1,6 @@
 -- Passes that are joined, shard by shard.
 use Rattle.std.proofs.Common.{◌≡◌, ◌<◌, ◌≤◌, ◌+◌, ◌++◌, ◌∷◌, [], ℕ, List, length, set, Option, Some, None, slice_get, refl, ap, ap₂, sym, ◌∙◌, subst, arith}
+use Rattle.std.proofs.lemmas.Option.{slice_get_within}
 use mathlib.Core.Logic.{dite}
 use native.Mathlib.Decide.{ℕ_discrete}
 use Rattle.bfd_turn.specs.Lists.{Begins, longer, calls}
@@ -9,7 +10,7 @@ use Rattle.bfd_engine.specs.Turned.{by}
 use Rattle.bfd_engine.specs.Engines.{Held, Knows, AllThere}
 use Rattle.bfd_engine.specs.Calls.{seen_of, word_of, taken_of, made_of, kept_of, seen_at}
 use Rattle.bfd_engine.specs.Passes.{Joined, IsGlued, AreGlued, GluesAt}
-use Rattle.bfd_engine.proofs.Places.{K, within, set_here, set_else}
+use Rattle.bfd_engine.proofs.Places.{K, set_here, set_else}
 
 -- what a shard's lock says of a join
 pub record IsJoin (id : TableId) (p q r : K) : Type 0 where
@@ -32,7 +33,7 @@ glue_here number at ps qs id p q r here theirs is j =
         word = r.1.word;
         before_is = here;
         theirs_is = theirs;
-        after_is = set_here ps at (Some r) (within ps at (Some p) here)
+        after_is = set_here ps at (Some r) (slice_get_within ps at (Some p) here)
             ∙ ap (λ (x : K). Some (Some x)) (j.result_is ∙ ap (λ (i : TableId). (i, having_joined by r.1.word p.1 q.1)) (sym j.first_lock));
         number_is = is;
         later = j.later;

@@ -1,9 +1,9 @@
 -- What a turn adds to what a pass knows.
-use Rattle.std.proofs.Common.{◌≡◌, ◌≢◌, ◌≤◌, ◌+◌, ◌++◌, ◌∷◌, [], ◌==◌, true, ℕ, List, append_assoc, append-nil, refl, ap, sym, ◌∙◌, subst, arith}
+use Rattle.std.proofs.Common.{◌≡◌, ◌≢◌, ◌≤◌, ◌+◌, ◌++◌, ◌∷◌, [], ◌==◌, ℕ, List, append_assoc, append-nil, refl, ap, sym, ◌∙◌, subst, arith}
 use mathlib.Core.Logic.{dite}
 use native.Mathlib.Decide.{ℕ_discrete}
 use Rattle.std.proofs.lemmas.List.Elements.{filter-append}
-use Rattle.std.proofs.lemmas.Bool.Decides.{nat_tests}
+use Rattle.std.proofs.lemmas.Bool.{eq-eqb}
 use Rattle.bfd_turn.specs.Lists.{Begins, calls}
 use Rattle.bfd_shard.specs.declared.entry.Entry.{Entry}
 use Rattle.bfd_shard.specs.declared.entry.ShardEvent.{ShardEvent}
@@ -28,12 +28,9 @@ gains k l shard between new t =
 pub mine_elsewhere : (k l : Knows) (shard r : ℕ) (between new : List Entry) → Turned k l shard between new → r ≢ shard → mine l r ≡ mine k r
 mine_elsewhere k l shard r between new t other = ap (λ n. calls by n (seen_at l r)) t.number ∙ ap (calls by k.0) (t.seen_elsewhere r other)
 
-same_is : (a b : ℕ) → a ≡ b → (a == b) ≡ true
-same_is a b h = grind (arith, nat_tests)
-
 -- a call of this caller is one of its own
 pub own_call : (n : ℕ) (event : ShardEvent) → calls by n (entry_of n event ∷ []) ≡ entry_of n event ∷ []
-own_call n event = rw (same_is n n refl) refl
+own_call n event = rw (eq-eqb n n refl) refl
 
 pub words : (k l : Knows) (shard r : ℕ) (between new : List Entry) → Turned k l shard between new → word_at k r ≤ word_at l r
 words k l shard r between new t = dite (ℕ_discrete r shard)

@@ -1,5 +1,6 @@
 -- A turn that is held, and one that isn't given.
 use Rattle.std.proofs.Common.{◌≡◌, ◌<◌, ◌+◌, ◌++◌, [], ℕ, All, List, set, length-set, Some, None, slice_get, refl, ap, sym, ◌∙◌, subst, arith}
+use Rattle.std.proofs.lemmas.Option.{slice_get_within}
 use Rattle.bfd_turn.specs.Lists.{calls}
 use mathlib.Core.Logic.{dite}
 use native.Mathlib.Decide.{ℕ_discrete}
@@ -15,7 +16,7 @@ use Rattle.bfd_engine.specs.Turned.{by, OfShard}
 use Rattle.bfd_engine.specs.Engines.{Shards, Held, Knows, IsOf, IsCallers, base_at}
 use Rattle.bfd_engine.specs.Calls.{seen_of, word_of, taken_of, made_of, kept_of}
 use Rattle.bfd_engine.specs.Holds.{HasTaken, HasMet, IsKept}
-use Rattle.bfd_engine.proofs.Places.{K, within, set_here, set_else, same_held}
+use Rattle.bfd_engine.proofs.Places.{K, set_here, set_else, same_held}
 use Rattle.bfd_engine.proofs.Turning.{at_place, elsewhere, same_at}
 
 pub has_taken : (engine : Shards) (shard : ℕ) (k l : Knows) (p : K) (id : TableId) (w : OfShard) (notes : List Entry) → IsOf engine k.1
@@ -31,7 +32,7 @@ has_taken engine shard k l p id w notes of here callers is lock same later adds 
       number_is = ap (λ (v : OfShard). v.number) same ∙ callers.number_is;
       used_up = subst (λ (ms : List ℕ). All (λ m. m < k.2 + 1) ms) (ap (λ (v : OfShard). v.made) (sym same)) callers.used_up;
     });
-    out = ap (λ (m : Knows). slice_get m.1 shard) is ∙ set_here k.1 shard None (within k.1 shard (Some p) here);
+    out = ap (λ (m : Knows). slice_get m.1 shard) is ∙ set_here k.1 shard None (slice_get_within k.1 shard (Some p) here);
   };
   rest = is;
   others = subst (λ n. calls by n adds.0 ≡ []) callers.number_is adds.2;
@@ -76,7 +77,7 @@ spent_is id v f pass word is h = subst (IsRefused id v) is h
 pub of_back : (engine : Shards) (ps : List Held) (at : ℕ) (q : K) → slice_get ps at ≡ Some None → slice_get engine.locks at ≡ Some q.0
     → q.1.base ≡ Some (base_at engine at) → IsOf engine ps → IsOf engine (set ps at (Some q))
 of_back engine ps at q out lock base of =
-    let here : slice_get (set ps at (Some q)) at ≡ Some (Some q) = set_here ps at (Some q) (within ps at None out) in record {
+    let here : slice_get (set ps at (Some q)) at ≡ Some (Some q) = set_here ps at (Some q) (slice_get_within ps at None out) in record {
       long = length-set ps at (Some q) ∙ of.long;
       lock = λ k r e. dite (ℕ_discrete k at)
           (λ is. (let qr : q ≡ r = same_held q r (slice_get (set ps at (Some q)) at) here (ap (slice_get (set ps at (Some q))) (sym is) ∙ e) in

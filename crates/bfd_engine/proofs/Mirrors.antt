@@ -1,13 +1,14 @@
 -- The reflector that a packet names stands at the place that selection tells.
-use Rattle.std.proofs.Common.{◌≡◌, ◌<◌, ◌≤◌, ◌==◌, ◌&&◌, ℕ, zero, suc, Bool, true, false, not, List, [], ◌∷◌, map, refl, sym, ap, ◌∙◌, subst, arith, Option, None, Some, if◌then◌else◌}
+use Rattle.std.proofs.Common.{◌≡◌, ◌<◌, ◌==◌, ◌&&◌, ℕ, zero, suc, Bool, true, false, not, List, [], ◌∷◌, map, refl, sym, ap, ◌∙◌, subst, arith, Option, None, Some, if◌then◌else◌}
 use Rattle.std.specs.Prelude.{slice_get, nat_lt, unwrap_or}
 use Rattle.std.specs.List.{AllByRecursion}
 use Rattle.std.specs.Option.{option_map}
 use Rattle.std.proofs.lemmas.Bool.Decides.{nat_tests}
+use Rattle.std.proofs.lemmas.Bool.{lt-ltb, le-ltb}
 use Rattle.bfd_packet.specs.declared.arrival.Addr.{Addr}
 use Rattle.bfd_packet.specs.declared.arrival.Arrival.{Arrival}
 use Rattle.bfd_packet.specs.declared.arrival.Port.{Port}
-use Rattle.bfd_packet.specs.declared.arrival.Port.TheVariants.{Single as SinglePort, Multi as MultiPort, Echo as EchoPort, Sbfd as SbfdPort, Answer as AnswerPort}
+use Rattle.bfd_packet.specs.declared.arrival.Port.TheVariants.{Sbfd as SbfdPort}
 use Rattle.bfd_packet.specs.Layout.{fields_of}
 use Rattle.bfd_rules.specs.declared.config.Role.{Role}
 use Rattle.bfd_rules.specs.declared.config.Role.TheVariants.{Single, Multi}
@@ -19,7 +20,7 @@ use Rattle.bfd_demux.specs.Selection.{is_session, names_on, reflector_index, tar
 use Rattle.bfd_sbfd.specs.declared.reflecting.Reflector.{Reflector}
 use Rattle.bfd_sbfd.specs.Reflect.{Ascends as PoolAscends}
 use Rattle.bfd_session.specs.declared.event.SessionConfig.{SessionConfig}
-use Rattle.bfd_session.specs.declared.event.SessionConfig.TheVariants.{Pair, Seek, Head, Tail}
+use Rattle.bfd_session.specs.declared.event.SessionConfig.TheVariants.{Pair}
 use Rattle.bfd_session.specs.Rows.{kind_of, row_of, row_of_reflector, table_of}
 use Rattle.bfd_session.proofs.Places.{Standing, AsSession, AsReflector, Found, found}
 use Rattle.bfd_session.proofs.Ports.{unreflected}
@@ -31,24 +32,16 @@ kind_session Multi iface local remote = refl
 
 session_row : (c : SessionConfig) → is_session (row_of c).kind ≡ true
 session_row (Pair c) = kind_session c.role c.iface c.local c.remote
-session_row (Seek c) = refl
-session_row (Head c) = refl
-session_row (Tail c) = refl
+session_row c = refl
 
 -- a reflector's row counts as below a discriminator where its own is
 abbrev is_under : ℕ → Row → Bool
 is_under discr row = not (is_session row.kind) && nat_lt row.discr discr
 
-not_lower : (a discr : ℕ) → discr ≤ a → nat_lt a discr ≡ false
-not_lower a discr h = grind (arith, nat_tests)
-
-lower : (a discr : ℕ) → a < discr → nat_lt a discr ≡ true
-lower a discr h = grind (arith, nat_tests)
-
 none_under : (discr : ℕ) (pool : List Reflector) → AllByRecursion (λ r. discr < r.discr) pool → how_many (is_under discr) (map row_of_reflector pool) ≡ 0
 none_under discr [] h = refl
 none_under discr (r ∷ pool) h =
-    let out : nat_lt r.discr discr ≡ false = not_lower r.discr discr (omega (arith, h.0)) in
+    let out : nat_lt r.discr discr ≡ false = le-ltb r.discr discr (omega (arith, h.0)) in
     rw out (none_under discr pool h.1)
 
 at_place : (P : Reflector → Type 0) (pool : List Reflector) (k : ℕ) (r : Reflector) → AllByRecursion P pool → slice_get pool k ≡ Some r → P r
@@ -64,11 +57,11 @@ place_in [] (suc k) r h e = cc
 place_in (x ∷ pool) zero r h e =
     let same : x ≡ r = ap (λ o. unwrap_or o r) e in
     let above : AllByRecursion (λ later. r.discr < later.discr) pool = subst (λ y. AllByRecursion (λ later. y.discr < later.discr) pool) same h.0 in
-    let out : nat_lt x.discr r.discr ≡ false = not_lower x.discr r.discr (let s = ap (λ (y : Reflector). y.discr) same in omega (arith, s)) in
+    let out : nat_lt x.discr r.discr ≡ false = le-ltb x.discr r.discr (let s = ap (λ (y : Reflector). y.discr) same in omega (arith, s)) in
     rw out (none_under r.discr pool above)
 place_in (x ∷ pool) (suc k) r h e =
     let above : x.discr < r.discr = at_place (λ later. x.discr < later.discr) pool k r h.0 e in
-    let under : nat_lt x.discr r.discr ≡ true = lower x.discr r.discr above in
+    let under : nat_lt x.discr r.discr ≡ true = lt-ltb x.discr r.discr above in
     rw under (ap suc (place_in pool k r h.1 e))
 
 -- no session counts
@@ -103,11 +96,8 @@ Mirrored pool arrival (Echo place sequence) = Unit {0}
 
 by_port : (port : Port) (arrival : Arrival) (cs : List SessionConfig) (pool : List Reflector) (row : Row) → PoolAscends pool
     → Found (names_on port arrival) cs pool row → Mirrored pool arrival (target_on port (table_of cs pool) arrival row)
-by_port SinglePort arrival cs pool row up f = tt
-by_port MultiPort arrival cs pool row up f = tt
-by_port AnswerPort arrival cs pool row up f = tt
-by_port EchoPort arrival cs pool row up f = tt
 by_port SbfdPort arrival cs pool row up f = stands arrival cs pool row up f.standing f.passes
+by_port port arrival cs pool row up f = tt
 
 by_row : (arrival : Arrival) (cs : List SessionConfig) (pool : List Reflector) (target : Target) (chosen : Option Row) → PoolAscends pool
     → the_one (names_on arrival.port arrival) (table_of cs pool) ≡ chosen

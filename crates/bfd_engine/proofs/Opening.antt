@@ -1,8 +1,9 @@
 -- Shards that are opened one after another.
-use Rattle.std.proofs.Common.{◌≡◌, ℕ, zero, suc, ◌<◌, ◌≤◌, List, [], ◌∷◌, ◌++◌, length, map, length-append, Some, None, slice_get, get_or, Result, Ok, Err, IfOk, refl, ap, sym, ◌∙◌, subst, arith}
+use Rattle.std.proofs.Common.{◌≡◌, ℕ, suc, ◌<◌, ◌≤◌, List, [], ◌∷◌, ◌++◌, length, map, length-append, Some, None, slice_get, get_or, Result, Ok, Err, IfOk, refl, ap, sym, ◌∙◌, subst, arith}
 use Rattle.std.specs.List.{AllByRecursion}
 use Rattle.std.proofs.lemmas.List.Elements.{All-nil}
 use Rattle.std.proofs.lemmas.List.{map-append}
+use Rattle.std.proofs.lemmas.Option.{slice_get_within, same_Some, slice_get-get_or}
 use mathlib.Core.Logic.{dite}
 use native.Mathlib.Decide.{ℕ_discrete}
 use Rattle.bfd_demux.specs.Rows.{build_fault}
@@ -17,7 +18,7 @@ use Rattle.bfd_engine.specs.declared.locked.Base.{Base}
 use Rattle.bfd_engine.specs.Engines.{IsCallers, Shards, Held, AllOf, IsOf, AllThere, IsEngine, share, configs_at}
 use Rattle.bfd_engine.specs.Calls.{seen_of, word_of, taken_of, made_of, kept_of}
 use Rattle.bfd_engine.specs.Opening.{IsSorted, IsNewPass, opened_base, IsNewShard, MayOpen, ArePassed, IsOpened, AreOpened}
-use Rattle.bfd_engine.proofs.Places.{K, within, last_here, front_here, same_some, same_held}
+use Rattle.bfd_engine.proofs.Places.{K, last_here, front_here, same_held}
 use Rattle.bfd_engine.proofs.Sharing.{few_share, all_share}
 use Rattle.bfd_engine.proofs.Tables.{few_rows, ascending, pool_ascending}
 
@@ -26,7 +27,7 @@ none_opened limit locks passes sizes e f g = record {
   locks_long = ap length e;
   passes_long = ap length f;
   sizes_long = ap length g;
-  each = λ k configs h. absurd (let i = within [] k configs h in omega (arith, i));
+  each = λ k configs h. absurd (let i = slice_get_within [] k configs h in omega (arith, i));
 }
 
 pub more_opened : (limit : ℕ) (parts : List (List SessionConfig)) (part : List SessionConfig) (locks locks2 : List TableId) (passes passes2 : List Held) (sizes sizes2 : List ℕ) (lock : TableId) (pass : K) (size : ℕ)
@@ -39,14 +40,14 @@ more_opened limit parts part locks locks2 passes passes2 sizes sizes2 lock pass 
   sizes_long = (let a = o.sizes_long in omega (arith, ap length g, length-append sizes (size ∷ []), length-append parts (part ∷ []), a));
   each = λ k configs h. dite (ℕ_discrete k (length parts))
       (λ here.
-      let same : part ≡ configs = same_some part configs (sym (last_here parts part k here) ∙ h) in record {
+      let same : part ≡ configs = same_Some part configs (sym (last_here parts part k here) ∙ h) in record {
         id = lock;
         lock_is = ap (λ xs. slice_get xs k) e ∙ last_here locks lock k (here ∙ sym o.locks_long);
         pass_is = ap (λ xs. slice_get xs k) f ∙ (last_here passes (Some pass) k (here ∙ sym o.passes_long) ∙ (ap (λ p. Some (Some p)) new ∙ ap (λ cs. Some (Some (lock, opened (opened_base limit cs) 0))) same));
         size_is = ap (λ xs. slice_get xs k) g ∙ (last_here sizes size k (here ∙ sym o.sizes_long) ∙ (ap Some is ∙ ap (λ cs. Some (length cs)) same));
       })
       (λ other.
-      let inside : k < length parts = (let i = within (parts ++ part ∷ []) k configs h in omega (arith, i, length-append parts (part ∷ []))) in
+      let inside : k < length parts = (let i = slice_get_within (parts ++ part ∷ []) k configs h in omega (arith, i, length-append parts (part ∷ []))) in
       let old : IsOpened limit configs (slice_get locks k) (slice_get passes k) (slice_get sizes k) = o.each k configs (sym (front_here parts part k inside) ∙ h) in record {
         id = old.id;
         lock_is = ap (λ xs. slice_get xs k) e ∙ (front_here locks lock k (let a = o.locks_long in omega (arith, a, inside)) ∙ old.lock_is);
@@ -83,13 +84,8 @@ pub record AreShares (n : ℕ) (configs : List SessionConfig) (parts : List (Lis
   pub long : length parts ≡ n
   pub each : (r : ℕ) → r < n → slice_get parts r ≡ Some (share n r configs)
 
-got : {A : Type 0} (xs : List A) (k : ℕ) (d : A) → k < length xs → slice_get xs k ≡ Some (get_or xs k d)
-got [] k d h = absurd (omega arith)
-got (x ∷ xs) zero d h = refl
-got (x ∷ xs) (suc k) d h = got xs k d (omega arith)
-
 pub are_shares : (n : ℕ) (configs : List SessionConfig) (parts : List (List SessionConfig)) → length parts ≡ n → ((r : ℕ) → r < n → get_or parts r [] ≡ share n r configs) → AreShares n configs parts
-are_shares n configs parts long each = record { long = long; each = λ r h. got parts r [] (omega (arith, long, h)) ∙ ap Some (each r h) }
+are_shares n configs parts long each = record { long = long; each = λ r h. slice_get-get_or parts r [] (omega (arith, long, h)) ∙ ap Some (each r h) }
 
 pass_each : (P : List SessionConfig → Type 0) (parts : List (List SessionConfig)) → ((r : ℕ) (x : List SessionConfig) → slice_get parts r ≡ Some x → P x) → AllByRecursion P parts
 pass_each P [] h = tt
@@ -101,8 +97,8 @@ long_rows (c ∷ configs) pool = let r = long_rows configs pool in omega (arith,
 
 pub may_open : (n : ℕ) (configs : List SessionConfig) (pool : List Reflector) (parts : List (List SessionConfig)) → AreShares n configs parts → build_fault (table_of configs pool) ≡ None → AreFit configs → ArePassed parts
 may_open n configs pool parts s sound fit = pass_each MayOpen parts (λ r x e.
-    let inside : r < n = (let i = within parts r x e in omega (arith, i, s.long)) in
-    let is : share n r configs ≡ x = same_some (share n r configs) x (sym (s.each r inside) ∙ e) in
+    let inside : r < n = (let i = slice_get_within parts r x e in omega (arith, i, s.long)) in
+    let is : share n r configs ≡ x = same_Some (share n r configs) x (sym (s.each r inside) ∙ e) in
     subst MayOpen is (record {
       few = (let a = few_share n r configs in let b = long_rows configs pool in let c = few_rows (table_of configs pool) sound in omega (arith, a, b, c));
       fit = all_share IsFit n r configs fit;
@@ -116,7 +112,7 @@ module _ (limit n : ℕ) (configs : List SessionConfig) (parts : List (List Sess
   count = o.locks_long ∙ s.long
 
   at : (k : ℕ) (p : K) → slice_get passes k ≡ Some (Some p) → k < n
-  at k p e = let i = within passes k (Some p) e in let a = o.passes_long in omega (arith, i, a, s.long)
+  at k p e = let i = slice_get_within passes k (Some p) e in let a = o.passes_long in omega (arith, i, a, s.long)
 
   pub numbers : AllOf 0 0 passes
   numbers k p e =

@@ -1,5 +1,6 @@
 -- Passes at their places.
 use Rattle.std.proofs.Common.{◌≡◌, ◌≢◌, ℕ, zero, suc, ◌<◌, List, [], ◌∷◌, ◌++◌, length, set, length-set, Option, Some, None, slice_get, refl, ap, sym, ◌∙◌, arith}
+use Rattle.std.proofs.lemmas.Option.{slice_get_within, same_Some}
 use mathlib.Core.Logic.{dite}
 use native.Mathlib.Decide.{ℕ_discrete}
 use Rattle.bfd_turn.specs.Passes.{TableId}
@@ -7,11 +8,6 @@ use Rattle.bfd_engine.specs.Turned.{OfShard}
 use Rattle.bfd_engine.specs.Engines.{Shards, Held, IsOf, AllThere, base_at}
 
 module _ {X : Type 0} where
-  pub within : (xs : List X) (i : ℕ) (x : X) → slice_get xs i ≡ Some x → i < length xs
-  within [] i x e = absurd (cc)
-  within (y ∷ ys) zero x e = omega arith
-  within (y ∷ ys) (suc i) x e = let h = within ys i x e in omega arith
-
   pub set_here : (xs : List X) (i : ℕ) (x : X) → i < length xs → slice_get (set xs i x) i ≡ Some x
   set_here [] i x h = absurd (omega arith)
   set_here (y ∷ ys) zero x h = refl
@@ -26,35 +22,31 @@ module _ {X : Type 0} where
 
   pub last_here : (xs : List X) (x : X) (i : ℕ) → i ≡ length xs → slice_get (xs ++ x ∷ []) i ≡ Some x
   last_here [] x zero e = refl
-  last_here [] x (suc i) e = absurd (omega arith)
-  last_here (y ∷ ys) x zero e = absurd (omega arith)
   last_here (y ∷ ys) x (suc i) e = last_here ys x i (omega arith)
+  last_here xs x i e = absurd (omega arith)
 
   pub front_here : (xs : List X) (x : X) (i : ℕ) → i < length xs → slice_get (xs ++ x ∷ []) i ≡ slice_get xs i
   front_here [] x i h = absurd (omega arith)
   front_here (y ∷ ys) x zero h = refl
   front_here (y ∷ ys) x (suc i) h = front_here ys x i (omega arith)
 
-  pub same_some : (a b : X) → Some a ≡ Some b → a ≡ b
-  same_some a b e = cc
-
 -- what a pass of a shard is, with its lock
 abbrev pub K : Type 0
 K = TableId × OfShard
 
 pub same_held : (p q : K) (o : Option Held) → o ≡ Some (Some p) → o ≡ Some (Some q) → p ≡ q
-same_held p q o e f = same_some p q (same_some (Some p) (Some q) (sym e ∙ f))
+same_held p q o e f = same_Some p q (same_Some (Some p) (Some q) (sym e ∙ f))
 
 -- a pass of the same lock and base is put in
 pub of_set : (engine : Shards) (ps : List Held) (at : ℕ) (p q : K) → slice_get ps at ≡ Some (Some p) → q.0 ≡ p.0 → q.1.base ≡ p.1.base → IsOf engine ps → IsOf engine (set ps at (Some q))
 of_set engine ps at p q here same base of = record {
   long = length-set ps at (Some q) ∙ of.long;
   lock = λ k r e. dite (ℕ_discrete k at)
-      (λ is. let qr : q ≡ r = same_held q r (slice_get (set ps at (Some q)) at) (set_here ps at (Some q) (within ps at (Some p) here)) (ap (slice_get (set ps at (Some q))) (sym is) ∙ e) in
+      (λ is. let qr : q ≡ r = same_held q r (slice_get (set ps at (Some q)) at) (set_here ps at (Some q) (slice_get_within ps at (Some p) here)) (ap (slice_get (set ps at (Some q))) (sym is) ∙ e) in
       ap (slice_get engine.locks) is ∙ (of.lock at p here ∙ ap Some (sym same ∙ ap (λ (x : K). x.0) qr)))
       (λ other. of.lock k r (sym (set_else ps at k (Some q) other) ∙ e));
   base_is = λ k r e. dite (ℕ_discrete k at)
-      (λ is. let qr : q ≡ r = same_held q r (slice_get (set ps at (Some q)) at) (set_here ps at (Some q) (within ps at (Some p) here)) (ap (slice_get (set ps at (Some q))) (sym is) ∙ e) in
+      (λ is. let qr : q ≡ r = same_held q r (slice_get (set ps at (Some q)) at) (set_here ps at (Some q) (slice_get_within ps at (Some p) here)) (ap (slice_get (set ps at (Some q))) (sym is) ∙ e) in
       ap (λ (x : K). x.1.base) (sym qr) ∙ (base ∙ (of.base_is at p here ∙ ap (λ s. Some (base_at engine s)) (sym is))))
       (λ other. of.base_is k r (sym (set_else ps at k (Some q) other) ∙ e));
 }
@@ -70,9 +62,9 @@ pub none_set : (engine : Shards) (ps : List Held) (at : ℕ) (p : K) → slice_g
 none_set engine ps at p here of = record {
   long = length-set ps at None ∙ of.long;
   lock = λ k r e. dite (ℕ_discrete k at)
-      (λ is. let gone : Some None ≡ Some (Some r) = sym (set_here ps at None (within ps at (Some p) here)) ∙ (ap (slice_get (set ps at None)) (sym is) ∙ e) in absurd (cc))
+      (λ is. let gone : Some None ≡ Some (Some r) = sym (set_here ps at None (slice_get_within ps at (Some p) here)) ∙ (ap (slice_get (set ps at None)) (sym is) ∙ e) in absurd (cc))
       (λ other. of.lock k r (sym (set_else ps at k None other) ∙ e));
   base_is = λ k r e. dite (ℕ_discrete k at)
-      (λ is. let gone : Some None ≡ Some (Some r) = sym (set_here ps at None (within ps at (Some p) here)) ∙ (ap (slice_get (set ps at None)) (sym is) ∙ e) in absurd (cc))
+      (λ is. let gone : Some None ≡ Some (Some r) = sym (set_here ps at None (slice_get_within ps at (Some p) here)) ∙ (ap (slice_get (set ps at None)) (sym is) ∙ e) in absurd (cc))
       (λ other. of.base_is k r (sym (set_else ps at k None other) ∙ e));
 }

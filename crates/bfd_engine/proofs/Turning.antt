@@ -1,5 +1,6 @@
 -- What one turn of a shard leaves of a caller's passes.
 use Rattle.std.proofs.Common.{◌≡◌, ◌≢◌, ℕ, List, [], ◌∷◌, ◌++◌, length, set, Option, Some, Result, Ok, Err, IfOk, IfErr, OnErr, slice_get, refl, ap, sym, ◌∙◌, subst, append-nil, arith}
+use Rattle.std.proofs.lemmas.Option.{slice_get_within}
 use mathlib.Core.Logic.{dite}
 use native.Mathlib.Decide.{ℕ_discrete}
 use Rattle.bfd_rules.specs.EventFrame.{Outputs}
@@ -14,10 +15,10 @@ use Rattle.bfd_engine.specs.declared.fault.EngineFault.{EngineFault}
 use Rattle.bfd_engine.specs.Turned.{by, entry_of, configs_in, limit_in, given_after, IsSame, HasTurned, HasLooked, IsCause as IsTurnCause}
 use Rattle.bfd_engine.specs.Engines.{Shards, Held, Knows, base_at, configs_at}
 use Rattle.bfd_engine.specs.Calls.{seen_of, seen_at, word_of, taken_of, made_of, kept_of, Turned, IsCause, fault_of, IsCall, IsFailed}
-use Rattle.bfd_engine.proofs.Places.{K, within, set_here, set_else}
+use Rattle.bfd_engine.proofs.Places.{K, set_here, set_else}
 
 pub at_place : (k l : Knows) (s : ℕ) (p q : K) → slice_get k.1 s ≡ Some (Some p) → l ≡ (k.0, set k.1 s (Some q), k.2) → slice_get l.1 s ≡ Some (Some q)
-at_place k l s p q here is = ap (λ (m : Knows). slice_get m.1 s) is ∙ set_here k.1 s (Some q) (within k.1 s (Some p) here)
+at_place k l s p q here is = ap (λ (m : Knows). slice_get m.1 s) is ∙ set_here k.1 s (Some q) (slice_get_within k.1 s (Some p) here)
 
 pub elsewhere : (k l : Knows) (s : ℕ) (q : K) (r : ℕ) → l ≡ (k.0, set k.1 s (Some q), k.2) → r ≢ s → slice_get l.1 r ≡ slice_get k.1 r
 elsewhere k l s q r is other = ap (λ (m : Knows). slice_get m.1 r) is ∙ set_else k.1 s r (Some q) other

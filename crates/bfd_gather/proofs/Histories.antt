@@ -1,8 +1,8 @@
 -- A shard's sessions after its history, and what it tells of one event more.
-use Rattle.std.proofs.Common.{◌≡◌, suc, ◌≢◌, ◌⊎◌, inl, inr, ◌<◌, ◌+◌, ◌/◌, ◌%◌, ◌==◌, ◌++◌, max, ℕ, Bool, true, false, List, [], ◌∷◌, length, map, get_or, refl, sym, ap, ◌∙◌, subst, append_assoc, append-nil, arith, Option, None, Some, if◌then◌else◌, ext_get_or}
+use Rattle.std.proofs.Common.{◌≡◌, suc, ◌≢◌, ◌⊎◌, inl, inr, ◌<◌, ◌+◌, ◌/◌, ◌%◌, ◌++◌, max, ℕ, Bool, List, [], ◌∷◌, length, map, get_or, refl, sym, ap, ◌∙◌, subst, append_assoc, append-nil, arith, Option, None, Some, if◌then◌else◌, ext_get_or}
 use Rattle.std.specs.List.{cons_option, filter_map}
-use Rattle.std.proofs.lemmas.Bool.Decides.{nat_tests}
 use Rattle.std.proofs.lemmas.List.{get_or-map, length-map}
+use Rattle.std.proofs.lemmas.Bool.{cases_eq, eq-eqb, ne_eqb}
 use Rattle.bfd_session.specs.declared.event.SessionConfig.{SessionConfig}
 use Rattle.bfd_session.specs.declared.event.Event.{Event}
 use Rattle.bfd_session.specs.Alone.{Outcome}
@@ -46,15 +46,6 @@ left_runs es cs =
 
 -- a shard's sessions after its history
 
-same_or_not : (a b : ℕ) → (a ≡ b) ⊎ (a ≢ b)
-same_or_not a b = grind arith
-
-is_same : (a b : ℕ) → a ≡ b → (a == b) ≡ true
-is_same a b e = grind (arith, nat_tests)
-
-not_same : (a b : ℕ) → a ≢ b → (a == b) ≡ false
-not_same a b e = grind (arith, nat_tests)
-
 abbrev pub goes_on : Bool → ℕ → ℕ → ℕ → Event → List ShardEvent → List Running → List Running
 goes_on b last p m event rest ss = left_by last (cons_option (if b then Some (Own p m event) else None) rest) ss
 
@@ -64,15 +55,15 @@ own_left : (n r last k m : ℕ) (event : Event) (es : List ShardEvent) (ss : Lis
 own_left n r last k m event es ss some h (inl same) rest =
     let here : share n r (moved last (Own k m event) ss) ≡ moved last (Own (k / n) m event) (share n r ss) =
     subst (λ i. share n i (moved last (Own k m event) ss) ≡ moved last (Own (k / n) m event) (share n i ss)) same (own_here n k m last event ss some) in
-    rest ∙ (ap (left_by last (history_of n r es)) here ∙ sym (ap (λ b. goes_on b last (k / n) m event (history_of n r es) (share n r ss)) (is_same (k % n) r same)))
+    rest ∙ (ap (left_by last (history_of n r es)) here ∙ sym (ap (λ b. goes_on b last (k / n) m event (history_of n r es) (share n r ss)) (eq-eqb (k % n) r same)))
 own_left n r last k m event es ss some h (inr other) rest =
     rest ∙ (ap (left_by last (history_of n r es)) (own_away n r k m last event ss some h other)
-    ∙ sym (ap (λ b. goes_on b last (k / n) m event (history_of n r es) (share n r ss)) (not_same (k % n) r other)))
+    ∙ sym (ap (λ b. goes_on b last (k / n) m event (history_of n r es) (share n r ss)) (ne_eqb (k % n) r other)))
 
 share_left : (n r last : ℕ) (es : List ShardEvent) (ss : List Running) → 0 < n → r < n → share n r (left_by last es ss) ≡ left_by last (history_of n r es) (share n r ss)
 share_left n r last [] ss some h = refl
 share_left n r last (Own k m event ∷ es) ss some h =
-    own_left n r last k m event es ss some h (same_or_not (k % n) r) (share_left n r last es (moved last (Own k m event) ss) some h)
+    own_left n r last k m event es ss some h (cases_eq (k % n) r) (share_left n r last es (moved last (Own k m event) ss) some h)
 share_left n r last (Tick t ∷ es) ss some h =
     share_left n r (max last t) es (moved last (Tick t) ss) some h ∙ ap (left_by (max last t) (history_of n r es)) (tick_here n r t last ss)
 

@@ -97,12 +97,11 @@ one_text n (o ∷ os) = append_assoc (item_line n o) (flat_map (item_line n) os)
 
 pub one_mark : (n : ℕ) (os : List Out) (o : Out) (long txs drops : ℕ) (m : Mark) → length os ≡ 1 → o ≡ get_or os 0 o
     → long ≡ length (event_lines n (record { items = os; answer = Handled })) → txs ≡ sent_by o → drops ≡ 0 → m ≡ mark (key n (named o)) long txs drops → m ∷ [] ≡ map mark_of (map (item_piece n) os)
-one_mark n [] o long txs drops m h e l t d is = absurd (omega (arith, h))
 one_mark n (x ∷ []) o long txs drops m h e l t d is =
     let here : long ≡ length (item_line n x) = l ∙ (ap length (one_text n (x ∷ [])) ∙ ap length (append-nil (item_line n x))) in
     ap (λ (y : Mark). y ∷ []) (is ∙ (ap (λ y. mark (key n (named y)) long txs drops) e ∙ (ap (λ y. mark (key n (named x)) y txs drops) here
     ∙ (ap (λ y. mark (key n (named x)) (length (item_line n x)) y drops) (t ∙ ap sent_by e) ∙ ap (λ y. mark (key n (named x)) (length (item_line n x)) (sent_by x) y) d))))
-one_mark n (x ∷ y ∷ os) o long txs drops m h e l t d is = absurd (omega (arith, h))
+one_mark n os o long txs drops m h e l t d is = absurd (omega (arith, h))
 
 -- a part has a mark for each piece
 long_at : (ms : List Mark) (t : List ℕ) → length (pieces_at ms t) ≡ length ms

@@ -1,11 +1,12 @@
 -- The best of one part more.
 use Rattle.std.proofs.Common.{◌≡◌, ◌⊎◌, inl, inr, ◌<◌, ◌+◌, ℕ, Bool, true, false, List, [], length, get_or, refl, sym, ap, ◌∙◌, subst, arith, if◌then◌else◌, Option, None, Some}
+use Rattle.std.proofs.lemmas.Bool.{both_ways}
 use Rattle.bfd_gather.specs.declared.key.Key.{Key}
 use Rattle.bfd_gather.specs.Pieces.{Piece, precedes}
 use Rattle.bfd_gather.specs.Inside.{first_key, better, IsBest, BestOf, IsLeast}
 use Rattle.bfd_gather.proofs.Keys.{itself, onward}
 
-before_or_at : (k n : ℕ) → k < n + 1 → (k < n) ⊎ (k ≡ n)
+pub before_or_at : (k n : ℕ) → k < n + 1 → (k < n) ⊎ (k ≡ n)
 before_or_at k n h = grind arith
 
 some_same : (a b : Key) (o p : Option Key) → o ≡ p → o ≡ Some a → p ≡ Some b → a ≡ b
@@ -14,12 +15,9 @@ some_same a b o p e h k = cc
 none_some : (a : Key) (o : Option Key) → o ≡ None → o ≡ Some a → ⊥
 none_some a o h k = cc
 
-not_both : (b : Bool) → b ≡ true → b ≡ false → ⊥
-not_both b h k = cc
-
 -- what does not precede the later of two keys, does not precede the earlier one
 not_earlier : (g h b : Key) (t : Bool) → precedes g h ≡ t → precedes g b ≡ false → precedes h b ≡ true → precedes g h ≡ false
-not_earlier g h b true is un over = absurd (not_both (precedes g b) (onward g h b is over) un)
+not_earlier g h b true is un over = absurd (both_ways (precedes g b) un (onward g h b is over))
 not_earlier g h b false is un over = is
 
 first_at : (parts : List (List Piece)) (r s : ℕ) → r ≡ s → first_key (get_or parts r []) ≡ first_key (get_or parts s [])

@@ -7,7 +7,7 @@ use Rattle.std.proofs.lemmas.List.Sums.{sum_by-cons}
 use Rattle.bfd_rules.specs.declared.outputs.Out.{Out}
 use Rattle.bfd_rules.specs.declared.outputs.Out.TheVariants.{Changed, Sent}
 use Rattle.bfd_session.specs.declared.event.Answer.{Answer}
-use Rattle.bfd_session.specs.declared.event.Answer.TheVariants.{Handled, Ticked, Dropped, Refused, Shown as Showing}
+use Rattle.bfd_session.specs.declared.event.Answer.TheVariants.{Dropped}
 use Rattle.bfd_session.specs.Alone.{Outcome}
 use Rattle.bfd_script.specs.Report.{sent_by, dropped_by, sent, dropped, item_line, answer_line, event_lines}
 
@@ -24,11 +24,8 @@ sent_short n (o ∷ os) =
     omega (arith, sum_by-cons sent_by o os, item_some n o, sent_short n os, length-append (item_line n o) (flat_map (item_line n) os))
 
 answer_some : (n : ℕ) (a : Answer) → dropped_by a ≤ length (answer_line n a)
-answer_some n Handled = omega arith
-answer_some n Ticked = omega arith
 answer_some n (Dropped test) = some_after (decimal n) _ 32
-answer_some n (Refused refusal) = omega arith
-answer_some n (Showing shown) = omega arith
+answer_some n a = omega arith
 
 pub event_some : (n : ℕ) (o : Outcome) → sent o + dropped o ≤ length (event_lines n o)
 event_some n o =

@@ -1,11 +1,11 @@
 -- What the shards tell is what the whole table gives, dealt out.
-use Rattle.std.proofs.Common.{◌≡◌, ◌≢◌, ◌⊎◌, inl, inr, ◌<◌, ◌≤◌, ◌+◌, ◌-◌, ◌*◌, ◌/◌, ◌%◌, ◌==◌, ◌++◌, max, ℕ, zero, suc, Bool, true, false, List, [], ◌∷◌, map, refl, sym, ap, ◌∙◌, subst, arith, None, Some, if◌then◌else◌}
+use Rattle.std.proofs.Common.{◌≡◌, ◌≢◌, ◌⊎◌, inl, inr, ◌<◌, ◌≤◌, ◌+◌, ◌-◌, ◌*◌, ◌/◌, ◌%◌, ◌==◌, ◌++◌, max, ℕ, zero, suc, Bool, List, [], ◌∷◌, map, refl, sym, ap, ◌∙◌, subst, arith, None, Some, if◌then◌else◌}
 use Rattle.std.specs.List.{cons_option, filter, flat_map}
-use Rattle.std.proofs.lemmas.Bool.Decides.{nat_tests}
 use Rattle.std.proofs.lemmas.List.{map-append}
 use Rattle.std.proofs.lemmas.List.Elements.{filter-append}
 use Rattle.std.proofs.lemmas.Nat.{div-add-mod', mul-le}
 use Rattle.std.proofs.Math.Nat.{mul-add-mod_self_left, mod-lt, mod-eq_of_lt}
+use Rattle.std.proofs.lemmas.Bool.{cases_eq, eq-eqb, ne_eqb}
 use Rattle.bfd_rules.specs.declared.outputs.Out.{Out}
 use Rattle.bfd_session.specs.declared.event.Event.{Event}
 use Rattle.bfd_session.specs.Alone.{tick_items}
@@ -36,9 +36,6 @@ abbrev pub deal_all : ℕ → ℕ → ℕ → List Happening → List Running �
 deal_all n number last [] ss = []
 deal_all n number last (Apart o ∷ hs) ss = deal n (whole_piece number o) ∷ deal_all n (number + 1) last hs ss
 deal_all n number last (Among e ∷ hs) ss = deal_event n number last e ss ++ deal_all n (number + 1) (later last e) hs (moved last e ss)
-
-same_or_not : (a b : ℕ) → (a ≡ b) ⊎ (a ≢ b)
-same_or_not a b = grind arith
 
 pub in_append : (r : ℕ) (ds es : List Dealt) → pieces_in r (ds ++ es) ≡ pieces_in r ds ++ pieces_in r es
 in_append r ds es =
@@ -112,12 +109,6 @@ items_none n number items k (s ∷ ss) some =
 
 -- what a shard tells
 
-is_same : (a b : ℕ) → a ≡ b → (a == b) ≡ true
-is_same a b e = grind (arith, nat_tests)
-
-not_same : (a b : ℕ) → a ≢ b → (a == b) ≡ false
-not_same a b e = grind (arith, nat_tests)
-
 -- what a shard of these sessions tells, where its first event is its own one or none
 abbrev pub begins : Bool → ℕ → ℕ → ℕ → ℕ → Event → List Numbered → List Running → List Piece
 begins b number last p m event rest ss = told last (cons_option (numbered number (if b then Some (Own p m event) else None)) rest) ss
@@ -126,7 +117,7 @@ own_each : (n number last k m : ℕ) (event : Event) (hs : List Happening) (ss :
     → told last (queue n (k % n) (number + 1) hs) (share n (k % n) (moved last (Own k m event) ss)) ≡ pieces_in (k % n) (deal_all n (number + 1) last hs (moved last (Own k m event) ss))
     → told last (queue n (k % n) number (Among (Own k m event) ∷ hs)) (share n (k % n) ss) ≡ pieces_in (k % n) (deal_all n number last (Among (Own k m event) ∷ hs) ss)
 own_each n number last k m event hs ss some rest =
-    ap (λ b. begins b number last (k / n) m event (queue n (k % n) (number + 1) hs) (share n (k % n) ss)) (is_same (k % n) (k % n) refl)
+    ap (λ b. begins b number last (k / n) m event (queue n (k % n) (number + 1) hs) (share n (k % n) ss)) (eq-eqb (k % n) (k % n) refl)
     ∙ (ap (λ o. whole_piece number o ∷ told last (queue n (k % n) (number + 1) hs) (moved last (Own (k / n) m event) (share n (k % n) ss))) (own_gives n k m last event ss some)
     ∙ (ap (λ zs. whole_piece number (outcome_of last (Own k m event) ss) ∷ told last (queue n (k % n) (number + 1) hs) zs) (sym (own_here n k m last event ss some))
     ∙ (ap (λ ps. whole_piece number (outcome_of last (Own k m event) ss) ∷ ps) rest
@@ -136,7 +127,7 @@ own_others : (n number last r k m : ℕ) (event : Event) (hs : List Happening) (
     → told last (queue n r (number + 1) hs) (share n r (moved last (Own k m event) ss)) ≡ pieces_in r (deal_all n (number + 1) last hs (moved last (Own k m event) ss))
     → told last (queue n r number (Among (Own k m event) ∷ hs)) (share n r ss) ≡ pieces_in r (deal_all n number last (Among (Own k m event) ∷ hs) ss)
 own_others n number last r k m event hs ss some h other rest =
-    ap (λ b. begins b number last (k / n) m event (queue n r (number + 1) hs) (share n r ss)) (not_same (k % n) r other)
+    ap (λ b. begins b number last (k / n) m event (queue n r (number + 1) hs) (share n r ss)) (ne_eqb (k % n) r other)
     ∙ (ap (told last (queue n r (number + 1) hs)) (sym (own_away n r k m last event ss some h other))
     ∙ (rest ∙ sym (away (deal (k % n) (whole_piece number (outcome_of last (Own k m event) ss))) (deal_all n (number + 1) last hs (moved last (Own k m event) ss)) r other)))
 
@@ -162,7 +153,7 @@ pub told_each : (n number last r : ℕ) (hs : List Happening) (ss : List Running
 told_each n number last r [] ss some h = refl
 told_each n number last r (Apart o ∷ hs) ss some h =
     told_each n (number + 1) last r hs ss some h ∙ sym (away (deal n (whole_piece number o)) (deal_all n (number + 1) last hs ss) r (λ z. omega (arith, z, h)))
-told_each n number last r (Among (Own k m event) ∷ hs) ss some h = elim (same_or_not (k % n) r) [
+told_each n number last r (Among (Own k m event) ∷ hs) ss some h = elim (cases_eq (k % n) r) [
   | inl same ↦ subst (λ i. told last (queue n i number (Among (Own k m event) ∷ hs)) (share n i ss) ≡ pieces_in i (deal_all n number last (Among (Own k m event) ∷ hs) ss)) same
       (own_each n number last k m event hs ss some (told_each n (number + 1) last (k % n) hs (moved last (Own k m event) ss) some (mod-lt k some)))
   | inr other ↦ own_others n number last r k m event hs ss some h other (told_each n (number + 1) last r hs (moved last (Own k m event) ss) some h)

@@ -1,5 +1,5 @@
 -- The parts of a replay have the pieces of its report, in its order, and their text is the report's lines.
-use Rattle.std.proofs.Common.{◌≡◌, ◌⊎◌, inl, inr, ◌<◌, ◌≤◌, ◌+◌, ◌*◌, ◌%◌, ◌++◌, max, ℕ, suc, List, [], ◌∷◌, length, map, get_or, refl, sym, ap, ◌∙◌, subst, append-nil, arith}
+use Rattle.std.proofs.Common.{◌≡◌, inl, inr, ◌<◌, ◌≤◌, ◌+◌, ◌*◌, ◌%◌, ◌++◌, max, ℕ, suc, List, [], ◌∷◌, length, map, get_or, refl, sym, ap, ◌∙◌, subst, append-nil, arith}
 use Rattle.std.specs.List.{AllByRecursion, flat_map, sum_by}
 use Rattle.std.proofs.lemmas.Grind.{flat_map-append}
 use Rattle.std.proofs.lemmas.List.{map-append}
@@ -20,6 +20,7 @@ use Rattle.bfd_gather.specs.Pieces.{Piece, whole_piece, item_piece, event_pieces
 use Rattle.bfd_gather.specs.Happenings.{Happening, Apart, Among, outcomes, told_whole, AreParts}
 use Rattle.bfd_gather.specs.Spread.{Dealt, deal, pieces_in, IsBefore, Ordered, IsSpread, AreGathered, text_of}
 use Rattle.bfd_gather.proofs.Keys.{earlier, lower}
+use Rattle.bfd_gather.proofs.Scan.{before_or_at}
 use Rattle.bfd_gather.proofs.Taking.{txs_of, drops_of}
 use Rattle.bfd_gather.proofs.Telling.{deal_items, deal_event, deal_all, tick_gives, told_each, apart_is}
 
@@ -149,14 +150,11 @@ all_ordered n number last (Among e ∷ hs) ss h =
     (event_of n number last e ss) (event_ordered n number last e ss h) (all_from n (number + 1) (later last e) hs (moved last e ss))
     (all_ordered n (number + 1) (later last e) hs (moved last e ss) (subst (λ cs. Ascends cs) (sym (moved_configs last e ss)) h))
 
-below_or : (r n : ℕ) → r < n + 1 → (r < n) ⊎ (r ≡ n)
-below_or r n h = grind arith
-
 -- the parts of a replay are a spread of its pieces
 pub parts_spread : (n number last : ℕ) (hs : List Happening) (ss : List Running) (parts : List (List Piece)) → AreParts n number last hs ss parts
     → IsSpread (deal_all n number last hs ss) parts
 parts_spread n number last hs ss parts p = record {
-  each = λ r h. elim (below_or r n (omega (arith, h, p.long))) [
+  each = λ r h. elim (before_or_at r n (omega (arith, h, p.long))) [
     | inl below ↦ p.each r below ∙ told_each n number last r hs ss p.some below
     | inr last_one ↦ ap (λ i. get_or parts i []) last_one ∙ (p.others ∙ (apart_is n number last hs ss p.some ∙ ap (λ i. pieces_in i (deal_all n number last hs ss)) (sym last_one)))
   ];
@@ -246,23 +244,29 @@ items_txs n number items k (s ∷ ss) =
       sum_by-append sent_by (items s) (flat_map items ss),
     )
 
+-- what dealt pieces tell, added up, where each event's pieces tell what its outcome does
+all_sum : (n : ℕ) (f : Dealt → ℕ) (g : Outcome → ℕ) → ((number : ℕ) (o : Outcome) → f (deal n (whole_piece number o)) ≡ g o)
+    → ((number last : ℕ) (e : ShardEvent) (ss : List Running) → sum_by f (deal_event n number last e ss) ≡ g (outcome_of last e ss))
+    → (number last : ℕ) (hs : List Happening) (ss : List Running) → sum_by f (deal_all n number last hs ss) ≡ sum_by g (outcomes last hs ss)
+all_sum n f g one event number last [] ss = refl
+all_sum n f g one event number last (Apart o ∷ hs) ss =
+    omega (arith, sum_by-cons f (deal n (whole_piece number o)) (deal_all n (number + 1) last hs ss), sum_by-cons g o (outcomes last hs ss), one number o, all_sum n f g one event (number + 1) last hs ss)
+all_sum n f g one event number last (Among e ∷ hs) ss =
+    omega (
+      arith,
+      sum_by-append f (deal_event n number last e ss) (deal_all n (number + 1) (later last e) hs (moved last e ss)),
+      event number last e ss,
+      sum_by-cons g (outcome_of last e ss) (outcomes (later last e) hs (moved last e ss)),
+      all_sum n f g one event (number + 1) (later last e) hs (moved last e ss),
+    )
+
 event_txs : (n number last : ℕ) (e : ShardEvent) (ss : List Running) → txs_of (deal_event n number last e ss) ≡ sent (outcome_of last e ss)
 unfolding outcome_of
 event_txs n number last (Own k m event) ss = sum_by-cons (λ (d : Dealt). d.piece.txs) (deal (k % n) (whole_piece number (outcome_of last (Own k m event) ss))) [] ∙ (let z : sent (outcome_of last (Own k m event) ss) + 0 ≡ sent (outcome_of last (Own k m event) ss) = omega arith in z)
 event_txs n number last (Tick t) ss = items_txs n number (tick_items (max last t)) 0 ss
 
 pub all_txs : (n number last : ℕ) (hs : List Happening) (ss : List Running) → txs_of (deal_all n number last hs ss) ≡ sum_by sent (outcomes last hs ss)
-all_txs n number last [] ss = refl
-all_txs n number last (Apart o ∷ hs) ss =
-    omega (arith, sum_by-cons (λ (d : Dealt). d.piece.txs) (deal n (whole_piece number o)) (deal_all n (number + 1) last hs ss), sum_by-cons sent o (outcomes last hs ss), all_txs n (number + 1) last hs ss)
-all_txs n number last (Among e ∷ hs) ss =
-    omega (
-      arith,
-      sum_by-append (λ (d : Dealt). d.piece.txs) (deal_event n number last e ss) (deal_all n (number + 1) (later last e) hs (moved last e ss)),
-      event_txs n number last e ss,
-      sum_by-cons sent (outcome_of last e ss) (outcomes (later last e) hs (moved last e ss)),
-      all_txs n (number + 1) (later last e) hs (moved last e ss),
-    )
+all_txs n number last hs ss = all_sum n (λ (d : Dealt). d.piece.txs) sent (λ _ o. refl) (event_txs n) number last hs ss
 
 session_drops : (number q : ℕ) (os : List Out) → drops_of (map (λ o. deal q (item_piece number o)) os) ≡ 0
 session_drops number q [] = refl
@@ -285,17 +289,7 @@ event_drops n number last (Own k m event) ss = sum_by-cons (λ (d : Dealt). d.pi
 event_drops n number last (Tick t) ss = items_drops n number (tick_items (max last t)) 0 ss
 
 pub all_drops : (n number last : ℕ) (hs : List Happening) (ss : List Running) → drops_of (deal_all n number last hs ss) ≡ sum_by dropped (outcomes last hs ss)
-all_drops n number last [] ss = refl
-all_drops n number last (Apart o ∷ hs) ss =
-    omega (arith, sum_by-cons (λ (d : Dealt). d.piece.drops) (deal n (whole_piece number o)) (deal_all n (number + 1) last hs ss), sum_by-cons dropped o (outcomes last hs ss), all_drops n (number + 1) last hs ss)
-all_drops n number last (Among e ∷ hs) ss =
-    omega (
-      arith,
-      sum_by-append (λ (d : Dealt). d.piece.drops) (deal_event n number last e ss) (deal_all n (number + 1) (later last e) hs (moved last e ss)),
-      event_drops n number last e ss,
-      sum_by-cons dropped (outcome_of last e ss) (outcomes (later last e) hs (moved last e ss)),
-      all_drops n (number + 1) (later last e) hs (moved last e ss),
-    )
+all_drops n number last hs ss = all_sum n (λ (d : Dealt). d.piece.drops) dropped (λ _ o. refl) (event_drops n) number last hs ss
 
 one_each : (last : ℕ) (hs : List Happening) (ss : List Running) → length (outcomes last hs ss) ≡ length hs
 one_each last [] ss = refl

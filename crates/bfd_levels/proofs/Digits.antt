@@ -1,8 +1,8 @@
 -- Heights by their digits, the lists that they name, and what a tick of the clock moves.
 use Rattle.std.proofs.Common.{◌≡◌, ◌≢◌, ◌⊎◌, inl, inr, ℕ, zero, suc, ◌+◌, ◌-◌, ◌*◌, ◌/◌, ◌%◌, ◌^◌, ◌<◌, ◌≤◌, Bool, true, false, cond, refl, sym, ◌∙◌, ap, arith, nat_le, nat_lt, nat_eq, if◌then◌else◌}
 use Rattle.std.proofs.lemmas.Bool.Decides.{nat_tests}
+use Rattle.std.proofs.lemmas.Bool.{eqb-true, eqb-false, leb-true, cases_eq, cases_lt}
 use Rattle.bfd_wheel.specs.Taken.{bit}
-use Rattle.bfd_wheel.proofs.Rings.{same_or_not, under_or_not}
 use Rattle.bfd_wheel.proofs.TakenIds.{bit_same, bit_other}
 use Rattle.bfd_levels.specs.Height.{height}
 use Rattle.bfd_levels.specs.Lists.{slot, place, level_of, reach}
@@ -22,21 +22,12 @@ pub record HasHeight (due now h : ℕ) : Type 0 where
   pub other3 : 3 ≤ h → due / 16777216 ≢ now / 16777216
   pub other4 : 4 ≤ h → due / 4294967296 ≢ now / 4294967296
 
-is_same : (a b : ℕ) → nat_eq a b ≡ true → a ≡ b
-is_same a b h = grind (arith, nat_tests)
-
-is_other : (a b : ℕ) → nat_eq a b ≡ false → a ≢ b
-is_other a b h = grind (arith, nat_tests)
-
-is_le : (a b : ℕ) → nat_le a b ≡ true → a ≤ b
-is_le a b h = grind (arith, nat_tests)
-
 by_tests : (due now : ℕ) → now < due → (a b c d e : Bool) → nat_le due now ≡ a → nat_eq (due / 256) (now / 256) ≡ b → nat_eq (due / 65536) (now / 65536) ≡ c
     → nat_eq (due / 16777216) (now / 16777216) ≡ d → nat_eq (due / 4294967296) (now / 4294967296) ≡ e
     → HasHeight due now (if a then 0 else if b then 0 else if c then 1 else if d then 2 else if e then 3 else 4)
-by_tests due now ahead true b c d e ha hb hc hd he = absurd (let le = is_le due now ha in omega arith)
+by_tests due now ahead true b c d e ha hb hc hd he = absurd (let le = leb-true due now ha in omega arith)
 by_tests due now ahead false true c d e ha hb hc hd he =
-    let s = is_same _ _ hb in
+    let s = eqb-true _ _ hb in
     record {
       few = omega arith;
       same1 = λ h. s;
@@ -49,8 +40,8 @@ by_tests due now ahead false true c d e ha hb hc hd he =
       other4 = λ h. absurd (omega arith);
     }
 by_tests due now ahead false false true d e ha hb hc hd he =
-    let o = is_other _ _ hb in
-    let s = is_same _ _ hc in
+    let o = eqb-false _ _ hb in
+    let s = eqb-true _ _ hc in
     record {
       few = omega arith;
       same1 = λ h. absurd (omega arith);
@@ -63,9 +54,9 @@ by_tests due now ahead false false true d e ha hb hc hd he =
       other4 = λ h. absurd (omega arith);
     }
 by_tests due now ahead false false false true e ha hb hc hd he =
-    let o1 = is_other _ _ hb in
-    let o2 = is_other _ _ hc in
-    let s = is_same _ _ hd in
+    let o1 = eqb-false _ _ hb in
+    let o2 = eqb-false _ _ hc in
+    let s = eqb-true _ _ hd in
     record {
       few = omega arith;
       same1 = λ h. absurd (omega arith);
@@ -78,10 +69,10 @@ by_tests due now ahead false false false true e ha hb hc hd he =
       other4 = λ h. absurd (omega arith);
     }
 by_tests due now ahead false false false false true ha hb hc hd he =
-    let o1 = is_other _ _ hb in
-    let o2 = is_other _ _ hc in
-    let o3 = is_other _ _ hd in
-    let s = is_same _ _ he in
+    let o1 = eqb-false _ _ hb in
+    let o2 = eqb-false _ _ hc in
+    let o3 = eqb-false _ _ hd in
+    let s = eqb-true _ _ he in
     record {
       few = omega arith;
       same1 = λ h. absurd (omega arith);
@@ -94,10 +85,10 @@ by_tests due now ahead false false false false true ha hb hc hd he =
       other4 = λ h. absurd (omega arith);
     }
 by_tests due now ahead false false false false false ha hb hc hd he =
-    let o1 = is_other _ _ hb in
-    let o2 = is_other _ _ hc in
-    let o3 = is_other _ _ hd in
-    let o4 = is_other _ _ he in
+    let o1 = eqb-false _ _ hb in
+    let o2 = eqb-false _ _ hc in
+    let o3 = eqb-false _ _ hd in
+    let o4 = eqb-false _ _ he in
     record {
       few = omega arith;
       same1 = λ h. absurd (omega arith);
@@ -118,17 +109,17 @@ pub height_come : (due now : ℕ) → due ≤ now → height due now ≡ 0
 height_come due now h = ap (λ (b : Bool). if b then 0 else if nat_eq (due / 256) (now / 256) then 0 else if nat_eq (due / 65536) (now / 65536) then 1 else if nat_eq (due / 16777216) (now / 16777216) then 2 else if nat_eq (due / 4294967296) (now / 4294967296) then 3 else 4) (let test : nat_le due now ≡ true = grind (arith, nat_tests) in test)
 
 pub height-le : (due now : ℕ) → height due now ≤ 4
-height-le due now = elim (under_or_not now due) [
+height-le due now = elim (cases_lt now due) [
   | inl ahead ↦ (has_height due now ahead).few
   | inr come ↦ (let e = height_come due now come in omega arith)
 ]
 
 -- no height grows as time goes on
 later_by : (due now t h k : ℕ) → HasHeight due now h → HasHeight due t k → now ≤ t → t < due → k ≤ h
-later_by due now t zero k a b later ahead = elim (under_or_not 0 k) [ inl more ↦ absurd (b.other1 (omega arith) (let e = a.same1 (omega arith) in omega arith)) | inr le ↦ le ]
-later_by due now t (suc zero) k a b later ahead = elim (under_or_not 1 k) [ inl more ↦ absurd (b.other2 (omega arith) (let e = a.same2 (omega arith) in omega arith)) | inr le ↦ le ]
-later_by due now t (suc (suc zero)) k a b later ahead = elim (under_or_not 2 k) [ inl more ↦ absurd (b.other3 (omega arith) (let e = a.same3 (omega arith) in omega arith)) | inr le ↦ le ]
-later_by due now t (suc (suc (suc zero))) k a b later ahead = elim (under_or_not 3 k) [ inl more ↦ absurd (b.other4 (omega arith) (let e = a.same4 (omega arith) in omega arith)) | inr le ↦ le ]
+later_by due now t zero k a b later ahead = elim (cases_lt 0 k) [ inl more ↦ absurd (b.other1 (omega arith) (let e = a.same1 (omega arith) in omega arith)) | inr le ↦ le ]
+later_by due now t (suc zero) k a b later ahead = elim (cases_lt 1 k) [ inl more ↦ absurd (b.other2 (omega arith) (let e = a.same2 (omega arith) in omega arith)) | inr le ↦ le ]
+later_by due now t (suc (suc zero)) k a b later ahead = elim (cases_lt 2 k) [ inl more ↦ absurd (b.other3 (omega arith) (let e = a.same3 (omega arith) in omega arith)) | inr le ↦ le ]
+later_by due now t (suc (suc (suc zero))) k a b later ahead = elim (cases_lt 3 k) [ inl more ↦ absurd (b.other4 (omega arith) (let e = a.same4 (omega arith) in omega arith)) | inr le ↦ le ]
 later_by due now t (suc (suc (suc (suc h)))) k a b later ahead = (let few = b.few in omega arith)
 
 pub height_later : (due now t : ℕ) → now ≤ t → t < due → height due t ≤ height due now
@@ -185,14 +176,14 @@ place_ahead n now due h = ap (λ (b : Bool). if b then slot n due 5 else slot n 
 
 -- a place is a head
 pub place_head : (n now due : ℕ) → (n ≤ place n now due) × (place n now due < n + 1026)
-place_head n now due = elim (under_or_not now due) [
+place_head n now due = elim (cases_lt now due) [
   | inl ahead ↦ (let e = place_ahead n now due ahead in let h = slot_head n due (height due now) (let few = height-le due now in omega arith) in let a = h.0 in let b = h.1 in (omega arith, omega arith))
   | inr come ↦ (let e = place_come n now due come in let h = slot_head n due 5 (omega arith) in let a = h.0 in let b = h.1 in (omega arith, omega arith))
 ]
 
 -- the level of a place is the height
 pub level_place : (n now due : ℕ) → level_of n (place n now due) ≡ height due now
-level_place n now due = elim (under_or_not now due) [
+level_place n now due = elim (cases_lt now due) [
   | inl ahead ↦ ap (level_of n) (place_ahead n now due ahead) ∙ level_slot n due (height due now) (height-le due now)
   | inr come ↦ ap (level_of n) (place_come n now due come) ∙ level_overdue n due ∙ sym (height_come due now come)
 ]
@@ -214,7 +205,7 @@ goes_down n before tick due level later ahead few at =
     let here : level_of n (place n before due) ≡ level_of n (slot n tick level) = ap (level_of n) at in
     let now_is = level_place n tick due in
     let h = height_later due before tick later ahead in
-    elim (under_or_not (height due tick) level) [
+    elim (cases_lt (height due tick) level) [
       | inl less ↦ inr (omega arith)
       | inr more ↦ inl (sym (same_place n before tick due (omega arith) ahead (omega arith)) ∙ at)
     ]
@@ -222,7 +213,7 @@ goes_down n before tick due level later ahead few at =
 -- ---- which lists a tick reaches
 
 pub bit_zero : (x : ℕ) → ((x ≡ 0) × (bit x 0 ≡ 1)) ⊎ ((x ≢ 0) × (bit x 0 ≡ 0))
-bit_zero x = elim (same_or_not x 0) [
+bit_zero x = elim (cases_eq x 0) [
   | inl e ↦ inl (e, ap (λ (y : ℕ). bit y 0) e ∙ bit_same 0)
   | inr ne ↦ inr (ne, bit_other x 0 ne)
 ]
@@ -257,7 +248,7 @@ pub record Hit (n before tick due : ℕ) : Type 0 where
   pub at : place n before due ≡ slot n tick level
 
 hit_or_same : (n before tick due h : ℕ) → tick ≡ before + 1 → before < due → HasHeight due before h → height due before ≡ h → (place n before due ≡ place n tick due) ⊎ Hit n before tick due
-hit_or_same n before tick due zero next was a is = elim (same_or_not due tick) [
+hit_or_same n before tick due zero next was a is = elim (cases_eq due tick) [
   | inl q ↦ inr (record { level = 0; few = omega (arith, bit-le (tick % 256)); at = place_ahead n before due was ∙ ap (slot n due) is ∙ ap (λ (d : ℕ). slot n d 0) q })
   | inr ne ↦ inl (let b = has_height due tick (omega arith) in
       let le : height due tick ≤ 0 = height_le_0 (height due tick) b in
@@ -265,40 +256,40 @@ hit_or_same n before tick due zero next was a is = elim (same_or_not due tick) [
 ]
   where
     height_le_0 : (k : ℕ) → HasHeight due tick k → k ≤ 0
-    height_le_0 k b = elim (under_or_not 0 k) [ inl more ↦ absurd (b.other1 (omega arith) (let e = a.same1 (omega arith) in omega arith)) | inr le ↦ le ]
-hit_or_same n before tick due (suc zero) next was a is = elim (same_or_not (due / 256) (tick / 256)) [
+    height_le_0 k b = elim (cases_lt 0 k) [ inl more ↦ absurd (b.other1 (omega arith) (let e = a.same1 (omega arith) in omega arith)) | inr le ↦ le ]
+hit_or_same n before tick due (suc zero) next was a is = elim (cases_eq (due / 256) (tick / 256)) [
   | inl q ↦ inr (record { level = 1; few = omega (arith, reach_2 tick (let o = a.other1 (omega arith) in omega arith)); at = place_ahead n before due was ∙ ap (slot n due) is ∙ slot_same n due tick 1 q })
   | inr ne ↦ inl (let b = has_height due tick (omega arith) in
       let le = height_later due before tick (omega arith) (omega arith) in
       same_place n before tick due was (omega arith)
-      (elim (under_or_not (height due tick) 1) [ inl less ↦ absurd (ne (b.same1 less)) | inr more ↦ omega arith ]))
+      (elim (cases_lt (height due tick) 1) [ inl less ↦ absurd (ne (b.same1 less)) | inr more ↦ omega arith ]))
 ]
-hit_or_same n before tick due (suc (suc zero)) next was a is = elim (same_or_not (due / 65536) (tick / 65536)) [
+hit_or_same n before tick due (suc (suc zero)) next was a is = elim (cases_eq (due / 65536) (tick / 65536)) [
   | inl q ↦ inr (record { level = 2; few = omega (arith, reach_3 tick (let o = a.other2 (omega arith) in omega arith)); at = place_ahead n before due was ∙ ap (slot n due) is ∙ slot_same n due tick 2 q })
   | inr ne ↦ inl (let b = has_height due tick (omega arith) in
       let le = height_later due before tick (omega arith) (omega arith) in
       same_place n before tick due was (omega arith)
-      (elim (under_or_not (height due tick) 2) [ inl less ↦ absurd (ne (b.same2 less)) | inr more ↦ omega arith ]))
+      (elim (cases_lt (height due tick) 2) [ inl less ↦ absurd (ne (b.same2 less)) | inr more ↦ omega arith ]))
 ]
-hit_or_same n before tick due (suc (suc (suc zero))) next was a is = elim (same_or_not (due / 16777216) (tick / 16777216)) [
+hit_or_same n before tick due (suc (suc (suc zero))) next was a is = elim (cases_eq (due / 16777216) (tick / 16777216)) [
   | inl q ↦ inr (record { level = 3; few = omega (arith, reach_4 tick (let o = a.other3 (omega arith) in omega arith)); at = place_ahead n before due was ∙ ap (slot n due) is ∙ slot_same n due tick 3 q })
   | inr ne ↦ inl (let b = has_height due tick (omega arith) in
       let le = height_later due before tick (omega arith) (omega arith) in
       same_place n before tick due was (omega arith)
-      (elim (under_or_not (height due tick) 3) [ inl less ↦ absurd (ne (b.same3 less)) | inr more ↦ omega arith ]))
+      (elim (cases_lt (height due tick) 3) [ inl less ↦ absurd (ne (b.same3 less)) | inr more ↦ omega arith ]))
 ]
-hit_or_same n before tick due (suc (suc (suc (suc zero)))) next was a is = elim (same_or_not (due / 4294967296) (tick / 4294967296)) [
+hit_or_same n before tick due (suc (suc (suc (suc zero)))) next was a is = elim (cases_eq (due / 4294967296) (tick / 4294967296)) [
   | inl q ↦ inr (record { level = 4; few = omega (arith, reach_5 tick (let o = a.other4 (omega arith) in omega arith)); at = place_ahead n before due was ∙ ap (slot n due) is ∙ slot_same n due tick 4 q })
   | inr ne ↦ inl (let b = has_height due tick (omega arith) in
       let le = height_later due before tick (omega arith) (omega arith) in
       same_place n before tick due was (omega arith)
-      (elim (under_or_not (height due tick) 4) [ inl less ↦ absurd (ne (b.same4 less)) | inr more ↦ omega arith ]))
+      (elim (cases_lt (height due tick) 4) [ inl less ↦ absurd (ne (b.same4 less)) | inr more ↦ omega arith ]))
 ]
 hit_or_same n before tick due (suc (suc (suc (suc (suc h))))) next was a is = absurd (let few = a.few in omega arith)
 
 -- a due tick stands where it did, or on a list that the tick reaches
 pub moved_or_same : (n before tick due : ℕ) → tick ≡ before + 1 → (place n before due ≡ place n tick due) ⊎ Hit n before tick due
-moved_or_same n before tick due next = elim (under_or_not before due) [
+moved_or_same n before tick due next = elim (cases_lt before due) [
   | inl was ↦ hit_or_same n before tick due (height due before) next was (has_height due before was) refl
   | inr come ↦ inl (place_come n before due come ∙ sym (place_come n tick due (omega arith)))
 ]

@@ -2,11 +2,11 @@
 use Rattle.std.proofs.Common.{◌≡◌, ◌≢◌, inl, inr, ℕ, ◌+◌, ◌<◌, ◌≤◌, Bool, true, false, cond, List, length, sym, ◌∙◌, ap, subst, arith, nat_lt, slice_index, slice_set}
 use Rattle.std.proofs.lemmas.List.{get_or-set_same, get_or-set_other}
 use Rattle.std.proofs.lemmas.Bool.Decides.{nat_tests}
+use Rattle.std.proofs.lemmas.Bool.{cases_eq}
 use Rattle.bfd_lanes.specs.Places.{never}
 use Rattle.bfd_wheel.specs.declared.links.Node.{Node}
 use Rattle.bfd_wheel.specs.Rings.{Unlinks}
 use Rattle.bfd_wheel.specs.Wheel.{due_in, next_in, prev_in}
-use Rattle.bfd_wheel.proofs.Rings.{same_or_not}
 use Rattle.bfd_levels.specs.Lists.{place, level_of, load, loads, at_tick, at_jump}
 use Rattle.bfd_levels.specs.Rings.{IsPlaced}
 use Rattle.bfd_levels.specs.Moves.{Relinks}
@@ -49,7 +49,7 @@ jump_same n now t i j dues ne = ap (λ (b : Bool). cond b (place n t (slice_inde
 
 -- no id comes to a higher level
 jump_lower : (n now t i j : ℕ) (dues : List ℕ) → now ≤ t → t < slice_index dues j → level_of n (at_jump n now t (i + 1) dues j) ≤ level_of n (at_jump n now t i dues j)
-jump_lower n now t i j dues later above = elim (same_or_not j i) [
+jump_lower n now t i j dues later above = elim (cases_eq j i) [
   | inl e ↦ subst (λ (k : ℕ). level_of n (at_jump n now t (i + 1) dues k) ≤ level_of n (at_jump n now t i dues k)) (sym e)
       (let a = ap (level_of n) (jump_own n now t i dues) in
       let b = ap (level_of n) (jump_was n now t i dues) in

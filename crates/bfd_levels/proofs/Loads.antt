@@ -1,9 +1,9 @@
 -- Sums over the ids, and what they have to do with the potential.
 use Rattle.std.proofs.Common.{◌≡◌, ◌≢◌, inl, inr, ℕ, zero, suc, ◌+◌, ◌*◌, ◌<◌, ◌≤◌, Bool, true, false, cond, List, [], ◌∷◌, map, length, slice_index, None, Some, refl, sym, ◌∙◌, ap, arith, nat_eq}
 use Rattle.std.proofs.lemmas.Bool.Decides.{nat_tests}
+use Rattle.std.proofs.lemmas.Bool.{cases_eq}
 use Rattle.bfd_lanes.specs.Places.{never, due_of}
 use Rattle.bfd_wheel.specs.Wheel.{due_in}
-use Rattle.bfd_wheel.proofs.Rings.{same_or_not}
 use Rattle.bfd_levels.specs.Height.{weight, potential}
 use Rattle.bfd_levels.specs.Lists.{level_of, load, loads, total, at_tick}
 use Rattle.bfd_levels.proofs.Digits.{level_place}
@@ -24,7 +24,7 @@ total_less f g (suc n) h = (let a = h n (omega arith) in let b = total_less f g 
 pub total_change : (f g : ℕ → ℕ) (i n : ℕ) → ((j : ℕ) → j ≢ i → g j ≡ f j) → i < n → total g n + f i ≡ total f n + g i
 unfolding total
 total_change f g i zero same near = absurd (omega arith)
-total_change f g i (suc n) same near = elim (same_or_not n i) [
+total_change f g i (suc n) same near = elim (cases_eq n i) [
   | inl e ↦ (let rest = total_same f g n (λ j l. same j (λ q. absurd (omega arith))) in
       let f_at : f n ≡ f i = ap f e in
       let g_at : g n ≡ g i = ap g e in
@@ -48,13 +48,13 @@ unfolding load
 load_some n at dues j ne = ap (λ (b : Bool). cond b 0 (2 * level_of n (at j) + 1)) (let test : nat_eq (due_in dues j) never ≡ false = grind (arith, nat_tests) in test)
 
 pub load_same : (n : ℕ) (at at2 : ℕ → ℕ) (dues dues2 : List ℕ) (j : ℕ) → due_in dues2 j ≡ due_in dues j → (due_in dues j ≢ never → at2 j ≡ at j) → load n at2 dues2 j ≡ load n at dues j
-load_same n at at2 dues dues2 j d a = elim (same_or_not (due_in dues j) never) [
+load_same n at at2 dues dues2 j d a = elim (cases_eq (due_in dues j) never) [
   | inl e ↦ load_none n at2 dues2 j (d ∙ e) ∙ sym (load_none n at dues j e)
   | inr ne ↦ load_some n at2 dues2 j (λ q. ne (sym d ∙ q)) ∙ ap (λ (h : ℕ). 2 * level_of n h + 1) (a ne) ∙ sym (load_some n at dues j ne)
 ]
 
 pub load_less : (n : ℕ) (at at2 : ℕ → ℕ) (dues : List ℕ) (j : ℕ) → (due_in dues j ≢ never → level_of n (at2 j) ≤ level_of n (at j)) → load n at2 dues j ≤ load n at dues j
-load_less n at at2 dues j low = elim (same_or_not (due_in dues j) never) [
+load_less n at at2 dues j low = elim (cases_eq (due_in dues j) never) [
   | inl e ↦ (let z = load_none n at2 dues j e in omega arith)
   | inr ne ↦ (let a = load_some n at2 dues j ne in let b = load_some n at dues j ne in let l = low ne in omega arith)
 ]
@@ -84,7 +84,7 @@ loads_lower n i at at2 dues near on low lists =
 -- ---- between ticks the loads are the potential
 
 load_weight : (n now : ℕ) (dues : List ℕ) (j : ℕ) → load n (at_tick n now dues) dues j ≡ weight now (due_of (slice_index dues j))
-load_weight n now dues j = elim (same_or_not (slice_index dues j) never) [
+load_weight n now dues j = elim (cases_eq (slice_index dues j) never) [
   | inl e ↦ load_none n (at_tick n now dues) dues j e ∙ sym (ap (λ (b : Bool). weight now (cond b None (Some (slice_index dues j)))) (let test : nat_eq (slice_index dues j) never ≡ true = grind (arith, nat_tests) in test))
   | inr ne ↦ load_some n (at_tick n now dues) dues j ne ∙ ap (λ (h : ℕ). 2 * h + 1) (level_place n now (slice_index dues j))
       ∙ sym (ap (λ (b : Bool). weight now (cond b None (Some (slice_index dues j)))) (let test : nat_eq (slice_index dues j) never ≡ false = grind (arith, nat_tests) in test))

@@ -1,7 +1,7 @@
 -- Where a due tick stands while the clock goes from one tick to the next, list by list.
 use Rattle.std.proofs.Common.{◌≡◌, ◌≢◌, ◌⊎◌, inl, inr, ℕ, zero, suc, ◌+◌, ◌<◌, ◌≤◌, Bool, true, false, cond, refl, sym, ◌∙◌, ap, arith, add-one, nat_eq}
 use Rattle.std.proofs.lemmas.Bool.Decides.{nat_tests}
-use Rattle.bfd_wheel.proofs.Rings.{same_or_not}
+use Rattle.std.proofs.lemmas.Bool.{cases_eq}
 use Rattle.bfd_levels.specs.Lists.{slot, place, reach, midway}
 use Rattle.bfd_levels.specs.Moves.{GoesDown}
 use Rattle.bfd_levels.proofs.Digits.{goes_down, moved_or_same, reach-le}
@@ -31,7 +31,7 @@ midway_miss n before tick k due ne = ap (λ (l : ℕ). midway n before tick l du
 either : (n before tick k due : ℕ) → (midway n before tick k due ≡ place n before due) ⊎ (midway n before tick k due ≡ place n tick due)
 unfolding midway
 either n before tick zero due = inl refl
-either n before tick (suc k) due = elim (same_or_not (midway n before tick k due) (slot n tick k)) [
+either n before tick (suc k) due = elim (cases_eq (midway n before tick k due) (slot n tick k)) [
   | inl e ↦ inr (hit_suc n before tick k due e)
   | inr ne ↦ elim (either n before tick k due) [
     | inl e ↦ inl (miss_suc n before tick k due ne ∙ e)
@@ -41,7 +41,7 @@ either n before tick (suc k) due = elim (same_or_not (midway n before tick k due
 
 -- and once there, it stays
 remains : (n before tick k due : ℕ) → midway n before tick k due ≡ place n tick due → midway n before tick (suc k) due ≡ place n tick due
-remains n before tick k due e = elim (same_or_not (midway n before tick k due) (slot n tick k)) [
+remains n before tick k due e = elim (cases_eq (midway n before tick k due) (slot n tick k)) [
   | inl q ↦ hit_suc n before tick k due q
   | inr ne ↦ miss_suc n before tick k due ne ∙ e
 ]
@@ -53,7 +53,7 @@ still n before tick (suc k) due e = remains n before tick k due (still n before 
 
 reached_by : (n before tick k level due : ℕ) → level < k → place n before due ≡ slot n tick level → midway n before tick k due ≡ place n tick due
 reached_by n before tick zero level due few at = absurd (omega arith)
-reached_by n before tick (suc k) level due few at = elim (same_or_not level k) [
+reached_by n before tick (suc k) level due few at = elim (cases_eq level k) [
   | inl q ↦ elim (either n before tick k due) [
     | inl e ↦ hit_suc n before tick k due (e ∙ at ∙ ap (slot n tick) q)
     | inr e ↦ remains n before tick k due e

@@ -1,12 +1,13 @@
 -- Rings behind any heads: a node is taken out, put in or moved, the lists get other names, and the start.
-use Rattle.std.proofs.Common.{◌≡◌, ◌≢◌, inl, inr, ℕ, suc, ◌+◌, ◌<◌, ◌≤◌, Bool, cond, List, length, get_or, sym, ◌∙◌, ap, subst, arith, slice_index, slice_set, refl}
-use Rattle.std.proofs.lemmas.List.{get_or-set_same, get_or-set_other, length-set, get_or_past}
+use Rattle.std.proofs.Common.{◌≡◌, ◌≢◌, inl, inr, ℕ, suc, ◌+◌, ◌<◌, ◌≤◌, Bool, cond, List, length, sym, ◌∙◌, ap, arith, slice_index, slice_set, refl}
+use Rattle.std.proofs.lemmas.List.{get_or-set_same, get_or-set_other, length-set}
+use Rattle.std.proofs.lemmas.Bool.{cases_lt, lt-ltb, le-ltb}
 use Rattle.bfd_lanes.specs.Places.{never}
 use Rattle.bfd_wheel.specs.declared.links.Node.{Node}
 use Rattle.bfd_wheel.specs.Rings.{IsOn, IsRing, Unlinks, Links}
 use Rattle.bfd_wheel.specs.Wheel.{due_in, next_in, prev_in, IsLinked}
-use Rattle.bfd_wheel.proofs.Rings.{under_or_not, TakesOut, PutsIn, ring_without, ring_with, ring_moved}
-use Rattle.bfd_wheel.proofs.Wheels.{below_true, below_false, ranked, ranked_own, ranked_same, ranked_below, start_rank, start_id, start_head, start_below, start_one}
+use Rattle.bfd_wheel.proofs.Rings.{TakesOut, PutsIn, ring_without, ring_with, ring_moved}
+use Rattle.bfd_wheel.proofs.Wheels.{head_on, id_on, ring_linked, ranked, ranked_own, ranked_same, ranked_below, start_ranked}
 use Rattle.bfd_levels.specs.Rings.{head_for, IsPlaced}
 use Rattle.bfd_levels.specs.Moves.{Relinks, CanMove}
 
@@ -14,23 +15,17 @@ use Rattle.bfd_levels.specs.Moves.{Relinks, CanMove}
 
 pub head_id : (n : ℕ) (at : ℕ → ℕ) (j : ℕ) → j < n → head_for n at j ≡ at j
 unfolding head_for
-head_id n at j h = ap (λ (b : Bool). cond b (at j) j) (below_true j n h)
+head_id n at j h = ap (λ (b : Bool). cond b (at j) j) (lt-ltb j n h)
 
 pub head_own : (n : ℕ) (at : ℕ → ℕ) (j : ℕ) → n ≤ j → head_for n at j ≡ j
 unfolding head_for
-head_own n at j h = ap (λ (b : Bool). cond b (at j) j) (below_false j n h)
+head_own n at j h = ap (λ (b : Bool). cond b (at j) j) (le-ltb j n h)
 
 pub head_same : (n : ℕ) (at at2 : ℕ → ℕ) (j : ℕ) → (j < n → at2 j ≡ at j) → head_for n at2 j ≡ head_for n at j
-head_same n at at2 j e = elim (under_or_not j n) [
+head_same n at at2 j e = elim (cases_lt j n) [
   | inl near ↦ head_id n at2 j near ∙ e near ∙ sym (head_id n at j near)
   | inr far ↦ head_own n at2 j far ∙ sym (head_own n at j far)
 ]
-
-pub id_on : (n m : ℕ) (dues : List ℕ) (j : ℕ) → j < n → slice_index dues j ≢ never → IsOn (n + m) (due_in dues) j
-id_on n m dues j near there = record { below = omega arith; there = there }
-
-pub head_on : (n m : ℕ) (dues : List ℕ) (h : ℕ) → length dues ≡ n → n ≤ h → h < n + m → IsOn (n + m) (due_in dues) h
-head_on n m dues h count far near = record { below = near; there = λ e. absurd (let past : get_or dues h 0 ≡ 0 = get_or_past dues h 0 (omega arith) in omega arith) }
 
 -- ---- one id changes: its due tick, its list or both
 
@@ -86,13 +81,7 @@ module _ (n m i : ℕ) (at at2 : ℕ → ℕ) (dues : List ℕ) (nodes nodes2 : 
 module _ (n m i : ℕ) (at : ℕ → ℕ) (dues : List ℕ) (nodes : List Node) (w : IsPlaced n m at dues nodes) where
   -- what a node with a due tick is linked to are nodes
   pub linked : i < n → slice_index dues i ≢ never → IsLinked i dues nodes
-  linked near there =
-      let on = id_on n m dues i near there in
-      let c = w.count in
-      let s = w.size in
-      let f = (w.links.ring.next_on i on).below in
-      let b = (w.links.ring.prev_on i on).below in
-      record { inside = omega arith; node = omega arith; due = there; next = omega arith; prev = omega arith }
+  linked near there = ring_linked n m i (head_for n at) w.links.rank dues nodes w.links.ring w.count w.size near there
 
   first_on : (h : ℕ) → n ≤ h → h < n + m → IsOn (n + m) (due_in dues) (next_in nodes h)
   first_on h far inside = w.links.ring.next_on h (head_on n m dues h w.count far inside)
@@ -186,28 +175,4 @@ module _ (n m i : ℕ) (at : ℕ → ℕ) (dues : List ℕ) (nodes : List Node) 
 -- each node is linked to itself alone
 pub start : (n m : ℕ) (at : ℕ → ℕ) (dues : List ℕ) (nodes : List Node) → n ≤ 65536 → length dues ≡ n → ((j : ℕ) → j < n → slice_index dues j ≡ never) → length nodes ≡ n + m → ((j : ℕ) → j < n + m → next_in nodes j ≡ j) → ((j : ℕ) → j < n + m → prev_in nodes j ≡ j) → IsPlaced n m at dues nodes
 start n m at dues nodes few count none size next prev =
-    let far : (j : ℕ) → IsOn (n + m) (due_in dues) j → n ≤ j = λ j on. elim (under_or_not j n) [ inl near ↦ absurd (on.there (none j near)) | inr h ↦ h ] in
-    record {
-      few = few;
-      count = count;
-      size = size;
-      links = record {
-        rank = start_rank n;
-        top = n + 1;
-        below = start_below n;
-        ring = record {
-          next_on = λ j on. subst (IsOn (n + m) (due_in dues)) (sym (next j on.below)) on;
-          prev_on = λ j on. subst (IsOn (n + m) (due_in dues)) (sym (prev j on.below)) on;
-          next_home = λ j on. ap (head_for n at) (next j on.below);
-          prev_home = λ j on. ap (head_for n at) (prev j on.below);
-          back = λ j on. ap (prev_in nodes) (next j on.below) ∙ prev j on.below;
-          forth = λ j on. ap (next_in nodes) (prev j on.below) ∙ next j on.below;
-          head_home = head_own n at;
-          head_rank = start_head n;
-          id_rank = λ j near. (let e = start_id n j near in omega arith);
-          falls = λ j near on. absurd (on.there (none j near));
-          one = start_one n;
-          no_gap = λ c j onc on same under. (let e = start_head n j (far j on) in omega arith);
-        };
-      };
-    }
+    record { few = few; count = count; size = size; links = start_ranked n m (head_for n at) dues nodes none next prev (head_own n at) }

@@ -2,8 +2,8 @@
 use Rattle.std.proofs.Common.{◌≡◌, inl, inr, ℕ, zero, suc, ◌+◌, ◌*◌, ◌<◌, ◌≤◌, max, Bool, true, false, cond, List, [], ◌∷◌, map, replicate, refl, ap, arith, nat_le, slice_set}
 use Rattle.std.specs.Prelude.{Option, None, Some}
 use Rattle.std.proofs.lemmas.Bool.Decides.{nat_tests}
+use Rattle.std.proofs.lemmas.Bool.{cases_lt}
 use Rattle.bfd_lanes.specs.Places.{without}
-use Rattle.bfd_wheel.proofs.Rings.{under_or_not}
 use Rattle.bfd_levels.specs.Height.{height, weight, potential, Clocked, potential_of}
 use Rattle.bfd_levels.specs.Calls.{Call, Set, Clear, Advance, Made, after, Keeps, KeepsAll, after_all, steps_of, share, shares}
 use Rattle.bfd_levels.proofs.Digits.{height-le, height_later}
@@ -33,7 +33,7 @@ clears_falls w clock dues id time is = (let a = clear_falls w id in let b = ap (
 -- ---- the clock goes on
 
 height_max : (due now t : ℕ) → t < due → height due (max now t) ≤ height due now
-height_max due now t ahead = elim (under_or_not now t) [
+height_max due now t ahead = elim (cases_lt now t) [
   | inl less ↦ (let e : max now t ≡ t = omega arith in let a = ap (height due) e in let l = height_later due now t (omega arith) ahead in omega arith)
   | inr back ↦ (let e : max now t ≡ now = omega arith in let a = ap (height due) e in omega arith)
 ]
@@ -59,7 +59,7 @@ advance_falls w t = potential_falls w.clock t w.dues
 one_call : (w : Clocked) (steps : ℕ) (call : Call) → Keeps w steps call → steps + potential_of (after call w) + 2 * w.clock ≤ share call + potential_of w + 2 * (after call w).clock
 one_call w steps (Set id due) k = (let a = set_adds w id due in omega arith)
 one_call w steps (Clear id) k = (let a = clear_falls w id in omega arith)
-one_call w steps (Advance t) k = elim (under_or_not t w.clock) [
+one_call w steps (Advance t) k = elim (cases_lt t w.clock) [
   | inl earlier ↦ (let s = k.1 earlier in let a = advance_falls w t in omega arith)
   | inr later ↦ (let s = k.0 later in let a = advance_falls w t in omega arith)
 ]

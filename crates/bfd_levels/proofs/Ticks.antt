@@ -1,8 +1,8 @@
 -- How many lists the clock reaches on its way, and the overdue list.
 use Rattle.std.proofs.Common.{◌≡◌, ◌≢◌, inl, inr, ℕ, ◌+◌, ◌-◌, ◌*◌, ◌/◌, ◌%◌, ◌<◌, ◌≤◌, List, refl, ◌∙◌, arith, slice_index}
+use Rattle.std.proofs.lemmas.Bool.{cases_lt}
 use Rattle.bfd_lanes.specs.Places.{never}
 use Rattle.bfd_wheel.specs.Taken.{bit}
-use Rattle.bfd_wheel.proofs.Rings.{under_or_not}
 use Rattle.bfd_levels.specs.Lists.{slot, midway, reach}
 use Rattle.bfd_levels.proofs.Digits.{place_come, overdue_same, bit_zero}
 use Rattle.bfd_levels.proofs.Midway.{midway_still}
@@ -46,7 +46,7 @@ reached_few now t later near =
 pub overdue_left : (n now t : ℕ) (dues : List ℕ) → t ≤ now
     → ((j : ℕ) → j < n → slice_index dues j ≢ never → midway n now now 5 (slice_index dues j) ≡ slot n now 5 → t < slice_index dues j)
     → (j : ℕ) → j < n → slice_index dues j ≢ never → t < slice_index dues j
-overdue_left n now t dues back left j near there = elim (under_or_not t (slice_index dues j)) [
+overdue_left n now t dues back left j near there = elim (cases_lt t (slice_index dues j)) [
   | inl above ↦ above
   | inr le ↦ left j near there (midway_still n now 5 (slice_index dues j) ∙ place_come n now (slice_index dues j) (omega arith) ∙ overdue_same n (slice_index dues j) now)
 ]

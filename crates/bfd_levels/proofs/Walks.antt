@@ -1,17 +1,18 @@
 -- A walk along one list, which takes off what has come and moves the rest to other lists.
 use Rattle.std.proofs.Common.{◌≡◌, ◌≢◌, ◌⊎◌, inl, inr, ℕ, suc, ◌+◌, ◌<◌, ◌≤◌, List, length, refl, sym, ◌∙◌, ap, subst, arith, slice_index, slice_set}
 use Rattle.std.proofs.lemmas.List.{get_or-set_same, get_or-set_other, length-set}
+use Rattle.std.proofs.lemmas.Bool.{cases_eq, cases_lt}
 use Rattle.bfd_lanes.specs.Places.{never}
 use Rattle.bfd_wheel.specs.declared.links.Node.{Node}
 use Rattle.bfd_wheel.specs.Rings.{IsOn, Unlinks}
 use Rattle.bfd_wheel.specs.Wheel.{due_in, next_in, prev_in}
-use Rattle.bfd_wheel.proofs.Rings.{same_or_not, under_or_not, ring_without}
-use Rattle.bfd_wheel.proofs.Wheels.{ranked, ranked_own, ranked_same, ranked_below}
+use Rattle.bfd_wheel.proofs.Rings.{ring_without}
+use Rattle.bfd_wheel.proofs.Wheels.{head_on, id_on, ranked, ranked_own, ranked_same, ranked_below}
 use Rattle.bfd_wheel.proofs.Walk.{upto, upto-le, upto_one, upto_falls, upto_up}
 use Rattle.bfd_levels.specs.Lists.{level_of, loads}
 use Rattle.bfd_levels.specs.Rings.{head_for, IsPlaced}
 use Rattle.bfd_levels.specs.Moves.{Relinks}
-use Rattle.bfd_levels.proofs.Placing.{head_id, head_own, head_same, head_on, id_on, out_of, ring_relinked, renamed}
+use Rattle.bfd_levels.proofs.Placing.{head_id, head_own, head_same, out_of, ring_relinked, renamed}
 use Rattle.bfd_levels.proofs.Loads.{loads_same, loads_gone, loads_lower}
 
 -- Where an id is in the walk of the list of head. Its list is `at`; before the walk it was `from`, and `to` is where it
@@ -42,7 +43,7 @@ walk_begins n m head t s from to dues nodes w far inside =
       placed = w;
       on = w.links.ring.next_on head on;
       same = w.links.ring.next_home head on ∙ own;
-      each = λ j near there. elim (same_or_not (at j) head) [
+      each = λ j near there. elim (cases_eq (at j) head) [
         | inl e ↦ ahead e e (w.links.ring.no_gap head j on (id_on n m dues j near there) (head_id n at j near ∙ e ∙ sym own) (λ h. absurd (omega arith)))
         | inr ne ↦ elsewhere refl ne
       ];
@@ -53,7 +54,7 @@ walk_begins n m head t s from to dues nodes w far inside =
 module _ (n m head t s bound : ℕ) (from to : ℕ → ℕ) (dues : List ℕ) (nodes : List Node) (cur i : ℕ) (w : IsWalk n m head t s bound from to dues nodes cur i) where
   -- who isn't the head is an id
   pub walk_id : cur ≢ head → cur < n
-  walk_id other = elim (under_or_not cur n) [
+  walk_id other = elim (cases_lt cur n) [
     | inl near ↦ near
     | inr far ↦ absurd (other (sym (head_own n w.at cur far) ∙ w.same))
   ]
@@ -92,7 +93,7 @@ module _ (n m head t s bound : ℕ) (from to : ℕ → ℕ) (dues : List ℕ) (n
     placed = w.placed;
     on = w.placed.links.ring.next_on cur w.on;
     same = w.placed.links.ring.next_home cur w.on ∙ w.same;
-    each = λ j close there. elim (same_or_not j cur) [
+    each = λ j close there. elim (cases_eq j cur) [
       | inl e ↦ subst (λ (k : ℕ). Seen head t (w.placed.links.rank k) (w.placed.links.rank (next_in nodes cur)) (w.at k) (from (slice_index dues k)) (to (slice_index dues k)) (slice_index dues k)) (sym e)
           (passed (cur_at near ∙ sym stays) (cur_from near) above)
       | inr ne ↦ next_seen near j close ne there
@@ -160,7 +161,7 @@ module _ (n m head t s bound : ℕ) (from to : ℕ → ℕ) (dues : List ℕ) (n
         };
         on = next_on;
         same = head_same n w.at at2 (next_in nodes cur) (λ _. at_same (next_in nodes cur) next_ne) ∙ w.placed.links.ring.next_home cur w.on ∙ w.same;
-        each = λ j close there. elim (same_or_not j cur) [
+        each = λ j close there. elim (cases_eq j cur) [
           | inl e ↦ subst (λ (k : ℕ). Seen head t (rank2 k) (rank2 (next_in nodes cur)) (at2 k) (from (slice_index dues k)) (to (slice_index dues k)) (slice_index dues k)) (sym e)
               (passed (at_own ∙ is) (cur_from near) above)
           | inr ne ↦ elim (next_seen near j close ne there) [
@@ -170,7 +171,7 @@ module _ (n m head t s bound : ℕ) (from to : ℕ → ℕ) (dues : List ℕ) (n
           ]
         ];
         left = (let l = next_left near in
-            let up = upto_up w.placed.links.rank rank2 (rank2 (next_in nodes cur)) n (λ j. elim (same_or_not j cur) [
+            let up = upto_up w.placed.links.rank rank2 (rank2 (next_in nodes cur)) n (λ j. elim (cases_eq j cur) [
               | inl e ↦ (let own : rank2 j ≡ w.placed.links.top = ap rank2 e ∙ ranked_own cur w.placed.links.top w.placed.links.rank in let b = w.placed.links.below j in omega arith)
               | inr ne ↦ (let own = ranked_same cur w.placed.links.top w.placed.links.rank j ne in omega arith)
             ]) in
@@ -185,7 +186,7 @@ module _ (n m head t s bound : ℕ) (from to : ℕ → ℕ) (dues : List ℕ) (n
     end_head : n ≤ cur
     end_head = elim done [
       | inl e ↦ omega arith
-      | inr steps ↦ elim (under_or_not cur n) [ inl near ↦ absurd (let one = upto_one w.placed.links.rank (w.placed.links.rank cur) cur n near (omega arith) in let l = w.left in omega arith) | inr h ↦ h ]
+      | inr steps ↦ elim (cases_lt cur n) [ inl near ↦ absurd (let one = upto_one w.placed.links.rank (w.placed.links.rank cur) cur n near (omega arith) in let l = w.left in omega arith) | inr h ↦ h ]
     ]
 
     none_ahead : (j : ℕ) → j < n → w.placed.links.rank j ≤ w.placed.links.rank cur → ⊥

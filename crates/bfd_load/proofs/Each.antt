@@ -3,12 +3,9 @@ use Rattle.std.proofs.Common.{◌≡◌, ◌∙◌, ap, sym, append-nil, ◌<◌
 use Rattle.std.specs.List.{AllByRecursion, filter, flat_map, range_with_len}
 use Rattle.std.proofs.lemmas.List.{map-append}
 use Rattle.std.proofs.lemmas.List.Concat.{flat_map-append}
+use Rattle.bfd_script.proofs.Elements.{each_more}
 
 module _ {X : Type 0} (P : X → Type 0) where
-  pub all_append : (xs ys : List X) → AllByRecursion P xs → AllByRecursion P ys → AllByRecursion P (xs ++ ys)
-  all_append [] ys h k = k
-  all_append (x ∷ xs) ys h k = (h.0, all_append xs ys h.1 k)
-
   pub all_map : (f : ℕ → X) (a n : ℕ) → ((i : ℕ) → a ≤ i → i < a + n → P (f i)) → AllByRecursion P (map f (range_with_len a n))
   all_map f a zero h = tt
   all_map f a (suc n) h = (h a (omega arith) (omega arith), all_map f (a + 1) n (λ i low high. h i (omega arith) (omega arith)))
@@ -28,7 +25,7 @@ module _ {X : Type 0} (P : X → Type 0) where
       → AllByRecursion P (flat_map f (range_with_len a n))
   all_gathered f a zero h = tt
   all_gathered f a (suc n) h =
-      all_append (f a) (flat_map f (range_with_len (a + 1) n)) (h a (omega arith) (omega arith))
+      each_more P (f a) (flat_map f (range_with_len (a + 1) n)) (h a (omega arith) (omega arith))
       (all_gathered f (a + 1) n (λ i low high. h i (omega arith) (omega arith)))
 
 range_more : (a n j : ℕ) → a + n ≡ j → range_with_len a (suc n) ≡ range_with_len a n ++ j ∷ []

@@ -1,25 +1,19 @@
 -- The sessions that hear a packet at a tick are a period apart.
-use Rattle.std.proofs.Common.{◌≡◌, ◌<◌, ◌≤◌, ◌+◌, ◌-◌, ◌%◌, ◌==◌, ◌++◌, ◌&&◌, ◌∙◌, ℕ, zero, suc, true, false, cond, not, List, [], ◌∷◌, map, sym, ap, arith, append_assoc, append-nil}
+use Rattle.std.proofs.Common.{◌≡◌, ◌<◌, ◌≤◌, ◌+◌, ◌-◌, ◌%◌, ◌++◌, ◌&&◌, ◌∙◌, ℕ, zero, suc, false, cond, not, List, [], ◌∷◌, map, sym, ap, arith, append_assoc, append-nil}
 use Rattle.std.proofs.lemmas.List.{map-append}
-use Rattle.std.proofs.lemmas.Bool.Decides.{nat_tests}
 use Rattle.std.proofs.lemmas.List.Elements.{filter-append}
 use Rattle.std.specs.List.{filter, range_with_len}
+use Rattle.std.proofs.lemmas.Bool.{eq-eqb, ne_eqb}
 use Rattle.bfd_script.specs.declared.entries.Line.{Line}
 use Rattle.bfd_load.specs.Load.{earlier, hears, is_silent, packet, packets}
 
-equal : (a b : ℕ) → a ≡ b → (a == b) ≡ true
-equal a b same = grind (arith, nat_tests)
-
-unequal : (a b : ℕ) → (a ≡ b → ⊥) → (a == b) ≡ false
-unequal a b other = grind (arith, nat_tests)
-
 -- with the remainder of the tick a session hears a packet unless it is silent
 pub hears_there : (t i : ℕ) → t % 300 ≡ i % 300 → hears t i ≡ not (is_silent i (earlier t))
-hears_there t i same = ap (λ b. b && not (is_silent i (earlier t))) (equal (t % 300) (i % 300) same)
+hears_there t i same = ap (λ b. b && not (is_silent i (earlier t))) (eq-eqb (t % 300) (i % 300) same)
 
 -- with another it hears none
 deaf : (t i : ℕ) → (t % 300 ≡ i % 300 → ⊥) → hears t i ≡ false
-deaf t i other = ap (λ b. b && not (is_silent i (earlier t))) (unequal (t % 300) (i % 300) other)
+deaf t i other = ap (λ b. b && not (is_silent i (earlier t))) (ne_eqb (t % 300) (i % 300) other)
 
 nothing : (b n : ℕ) → n ≡ 0 → range_with_len b n ≡ []
 nothing b n none = ap (range_with_len b) none

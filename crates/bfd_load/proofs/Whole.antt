@@ -17,7 +17,8 @@ use Rattle.bfd_script.specs.Sound.{AreConfigs, AreEvents, ArePool, IsEvent, IsRo
 use Rattle.bfd_load.specs.Load.{config, earlier, events, hears, is_silent, packet, packets, script, tick_events}
 use Rattle.bfd_load.proofs.Bytes.{are_bytes, long}
 use Rattle.bfd_load.proofs.Counting.{gap}
-use Rattle.bfd_load.proofs.Each.{all_append, all_gathered, all_map, all_picked}
+use Rattle.bfd_script.proofs.Elements.{each_more}
+use Rattle.bfd_load.proofs.Each.{all_gathered, all_map, all_picked}
 
 -- ---- the sessions
 
@@ -88,7 +89,7 @@ is_packet t i tick session = record {
 each_event : (P : Line → Type 0) (n k : ℕ) → ((t i : ℕ) → t ≤ k → i ≤ n → P (packet t i)) → ((t : ℕ) → t ≤ k → P (Tick t))
     → AllByRecursion P (events n k)
 each_event P n k each tick =
-    all_gathered P (tick_events n) 1 k (λ t low high. all_append P (packets n t) (Tick t ∷ [])
+    all_gathered P (tick_events n) 1 k (λ t low high. each_more P (packets n t) (Tick t ∷ [])
     (all_picked P (packet t) (hears t) 1 n (λ i from to. each t i (omega arith) (omega arith)))
     (tick t (omega arith), tt))
 

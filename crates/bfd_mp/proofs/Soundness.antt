@@ -89,12 +89,7 @@ head_done_steady Disable v free steady = disabled_steady v steady
 head_done_steady Enable v free steady = enabled_steady v steady
 head_done_steady (Tx n) v free steady = interval_by n v (n == v.tx) (is_up v.state) (tx_least n v free) (tx_most n v free) refl steady
 head_done_steady (Mult n) v free steady = mult_steady n v free steady
-head_done_steady Reset v free steady = steady
-head_done_steady (Path n) v free steady = steady
-head_done_steady (Rx n) v free steady = steady
-head_done_steady (Demand n) v free steady = steady
-head_done_steady (EchoEvery n) v free steady = steady
-head_done_steady (Key n) v free steady = steady
+head_done_steady cmd v free steady = steady
 
 head_commanded_by : (c : HeadConfig) (cmd : Cmd) (s : Course) (refused : Bool) → is_some (head_refusal s.vars cmd) ≡ refused → IsHeadSteady s.vars
     → IsHeadSteady (if refused then s else changes c.discr (head_done cmd s.vars) s).vars
@@ -160,12 +155,7 @@ machine_sound c Down Up v there sound = up_sound c v there sound
 machine_sound c Up Down v there sound = down_sound c 3 v (omega arith) sound
 machine_sound c Up AdminDown v there sound = down_sound c 3 v (omega arith) sound
 machine_sound c Up Init v there sound = sound
-machine_sound c Up Up v there sound = sound
-machine_sound c Down AdminDown v there sound = sound
-machine_sound c Down Down v there sound = sound
-machine_sound c Down Init v there sound = sound
-machine_sound c AdminDown received v there sound = sound
-machine_sound c Init received v there sound = sound
+machine_sound c own received v there sound = sound
 
 accepted_sound : (c : TailConfig) (eff : ℕ) (packet : Control) (s : Course) → eff < moment_bound → IsSized packet → IsTailSound c s.vars
     → IsTailSound c (receiving.accepted c eff packet s).vars
@@ -185,14 +175,7 @@ received_sound c eff raw s h sized sound =
 tail_done_sound : (c : TailConfig) (cmd : Cmd) (v : Vars) → IsTailSound c v → IsTailSound c (tail_done cmd v)
 tail_done_sound c Disable v sound = grind (arith, common_steps)
 tail_done_sound c Enable v sound = down_sound c v.diag v sound.diag_below sound
-tail_done_sound c (Tx n) v sound = sound
-tail_done_sound c (Mult n) v sound = sound
-tail_done_sound c Reset v sound = sound
-tail_done_sound c (Path n) v sound = sound
-tail_done_sound c (Rx n) v sound = sound
-tail_done_sound c (Demand n) v sound = sound
-tail_done_sound c (EchoEvery n) v sound = sound
-tail_done_sound c (Key n) v sound = sound
+tail_done_sound c cmd v sound = sound
 
 pub tail_commanded_sound : (c : TailConfig) (cmd : Cmd) (s : Course) → IsTailSound c s.vars → IsTailSound c (tail_commanded c cmd s).vars
 unfolding tail_commanded changes

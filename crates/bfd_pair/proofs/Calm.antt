@@ -1,5 +1,6 @@
 -- Only a packet in Init or Up makes a session tell a change to Up, or leaves one Up that wasn't.
-use Rattle.std.proofs.Common.{◌≡◌, inl, inr, ◌++◌, ◌||◌, not, ℕ, Bool, true, false, List, [], ◌∷◌, refl, sym, ap, ◌∙◌, Option, None, Some, Result, Ok, Err, if◌then◌else◌}
+use Rattle.std.proofs.Common.{◌≡◌, inl, inr, ◌++◌, not, ℕ, Bool, true, false, List, [], ◌∷◌, refl, sym, ap, ◌∙◌, Option, None, Some, Result, Ok, Err, if◌then◌else◌}
+use Rattle.std.proofs.lemmas.Bool.{both_ways, not-true, or_from, or_parts}
 use Rattle.bfd_packet.specs.declared.arrival.Arrival.{Arrival}
 use Rattle.bfd_packet.specs.declared.control.Control.{Control}
 use Rattle.bfd_packet.specs.declared.control.State.{State}
@@ -22,7 +23,7 @@ use Rattle.bfd_echo.specs.declared.echo.Echo.{Echo}
 use Rattle.bfd_echo.specs.declared.echo.EchoResult.{EchoResult}
 use Rattle.bfd_echo.specs.declared.echo.EchoResult.TheVariants.{Nothing, Sent as EchoSent, Failed}
 use Rattle.bfd_session.specs.declared.event.SessionConfig.{SessionConfig}
-use Rattle.bfd_session.specs.declared.event.SessionConfig.TheVariants.{Pair, Seek, Head, Tail}
+use Rattle.bfd_session.specs.declared.event.SessionConfig.TheVariants.{Pair}
 use Rattle.bfd_session.specs.declared.event.Event.TheVariants.{Packet, Command}
 use Rattle.bfd_session.specs.Kinds.{Running, Flow}
 use Rattle.bfd_session.specs.Echoing.{settled_by, settled_running, settles_echo}
@@ -39,44 +40,24 @@ pub record Calm (was : Bool) (s : Course) : Type 0 where
 abbrev low_state : State → Bool
 low_state state = not (is_up state)
 
-neither : (a b : Bool) → a ≡ false → b ≡ false → (a || b) ≡ false
-neither true b h k = cc
-neither false b h k = k
-
-left_false : (a b : Bool) → (a || b) ≡ false → a ≡ false
-left_false true b h = cc
-left_false false b h = refl
-
-right_false : (a b : Bool) → (a || b) ≡ false → b ≡ false
-right_false true b h = cc
-right_false false b h = h
-
 tells-append : (xs ys : List Out) → tells_up xs ≡ false → tells_up ys ≡ false → tells_up (xs ++ ys) ≡ false
 tells-append [] ys h k = k
 tells-append (Changed discr old new diag ∷ xs) ys h k =
-    neither (is_up new) (tells_up (xs ++ ys)) (left_false (is_up new) (tells_up xs) h)
-    (tells-append xs ys (right_false (is_up new) (tells_up xs) h) k)
+    or_from (is_up new) (tells_up (xs ++ ys)) (or_parts (is_up new) (tells_up xs) h).0
+    (tells-append xs ys (or_parts (is_up new) (tells_up xs) h).1 k)
 tells-append (Sent discr datagram ∷ xs) ys h k = tells-append xs ys h k
-
-never : (b : Bool) → not b ≡ true → b ≡ true → ⊥
-never true h k = cc
-never false h k = cc
 
 same_is : (a : State) → same_state a a ≡ true
 same_is AdminDown = refl
-same_is Down = refl
-same_is Init = refl
-same_is Up = refl
+same_is a = refl
 
 told_low : (discr diag : ℕ) (a b : State) → not (is_up b) ≡ true → (same : Bool)
     → tells_up (if same then [] else Changed discr a b diag ∷ []) ≡ false
 told_low discr diag a AdminDown low true = refl
-told_low discr diag a AdminDown low false = refl
 told_low discr diag a Down low true = refl
-told_low discr diag a Down low false = refl
 told_low discr diag a Init low true = refl
-told_low discr diag a Init low false = refl
 told_low discr diag a Up low same = cc
+told_low discr diag a b low same = refl
 
 told_calm : (discr : ℕ) (v w : Vars) → Goes low_state v w → tells_up (told discr v w) ≡ false
 told_calm discr v w (inl same) = rw (same, same_is v.state) refl
@@ -89,7 +70,7 @@ calm_still was s v m same h = record { untold = h.untold; low = λ up. h.low (ap
 
 low_to : (was : Bool) (v w : Vars) → (is_up v.state ≡ true → was ≡ true) → Goes low_state v w → is_up w.state ≡ true → was ≡ true
 low_to was v w low (inl same) up = low (ap is_up (sym same) ∙ up)
-low_to was v w low (inr allowed) up = absurd (never (is_up w.state) allowed up)
+low_to was v w low (inr allowed) up = absurd (both_ways (is_up w.state) (not-true (is_up w.state) allowed) up)
 
 calm_goes : (was : Bool) (discr : ℕ) (v : Vars) (s : Course) → Goes low_state s.vars v → Calm was s → Calm was (changes discr v s)
 unfolding changes
@@ -132,25 +113,19 @@ settled_calm : (was : Bool) (c : SessionConfig) (limit eff : ℕ) (f : Flow) →
 settled_calm was (Pair c) limit eff f p h =
     echo_calm was c limit eff _
     (settle_keeps (Calm was) low_state (calm_still was) (calm_goes was) (calm_puts was) refl refl c limit eff f.course h)
-settled_calm was (Seek c) limit eff f p h = absurd p
-settled_calm was (Head c) limit eff f p h = absurd p
-settled_calm was (Tail c) limit eff f p h = absurd p
+settled_calm was c limit eff f p h = absurd p
 
 finished_calm : (was : Bool) (c : SessionConfig) (eff : ℕ) (f : Flow) → IsPoint c → Calm was f.course
     → Calm was (finished c eff f).course
 finished_calm was (Pair c) eff f p h =
     finish_keeps (Calm was) low_state (calm_still was) (calm_goes was) (calm_puts was) refl refl c eff f.course h
-finished_calm was (Seek c) eff f p h = absurd p
-finished_calm was (Head c) eff f p h = absurd p
-finished_calm was (Tail c) eff f p h = absurd p
+finished_calm was c eff f p h = absurd p
 
 ordered_calm : (was : Bool) (c : SessionConfig) (eff : ℕ) (cmd : Cmd) (f : Flow) → IsPoint c → Calm was f.course
     → Calm was (acted c eff (Command cmd) f).course
 ordered_calm was (Pair c) eff cmd f p h =
     commanded_keeps (Calm was) low_state (calm_still was) (calm_goes was) (calm_puts was) refl refl c eff cmd f.course h
-ordered_calm was (Seek c) eff cmd f p h = absurd p
-ordered_calm was (Head c) eff cmd f p h = absurd p
-ordered_calm was (Tail c) eff cmd f p h = absurd p
+ordered_calm was c eff cmd f p h = absurd p
 
 received_calm : (was : Bool) (c : Config) (eff : ℕ) (packet : Control) (judgement : Result SeqState Test) (s : Course)
     → is_init_or_up packet.state ≡ false → Calm was s → Calm was (receiving.received_on c eff packet judgement s)
@@ -163,9 +138,7 @@ acted_calm : (was : Bool) (c : SessionConfig) (eff : ℕ) (arrival : Arrival) (f
     → is_init_or_up (fields_of arrival.payload).state ≡ false → Calm was f.course → Calm was (acted c eff (Packet arrival) f).course
 unfolding receiving.received
 acted_calm was (Pair c) eff arrival f p low h = received_calm was c eff (fields_of arrival.payload) _ f.course low h
-acted_calm was (Seek c) eff arrival f p low h = absurd p
-acted_calm was (Head c) eff arrival f p low h = absurd p
-acted_calm was (Tail c) eff arrival f p low h = absurd p
+acted_calm was c eff arrival f p low h = absurd p
 
 tick_calm : (s : Running) (limit eff : ℕ) → IsPoint s.config → Calm (is_up s.vars.state) (tick_from limit eff s []).course
 unfolding tick

@@ -1,10 +1,12 @@
 -- A session outside Init and Up that handles no packet stays there, and sends no packet in Init or Up.
-use Rattle.std.proofs.Common.{◌≡◌, inl, inr, ◌≤◌, ◌++◌, ◌^◌, ◌+◌, ◌*◌, ◌/◌, not, ◌&&◌, ℕ, Bool, true, false, List, [], refl, sym, ap, ◌∙◌, subst, Option, None, Some, Result, Ok, Err, if◌then◌else◌, arith}
+use Rattle.std.proofs.Common.{◌≡◌, inl, inr, ◌≤◌, ◌++◌, ◌^◌, ◌+◌, ◌*◌, ◌/◌, not, ℕ, Bool, true, false, List, [], refl, sym, ap, ◌∙◌, subst, Option, None, Some, Result, Ok, Err, if◌then◌else◌, arith}
+use Rattle.std.proofs.lemmas.Bool.{not-true}
+use Rattle.std.proofs.Math.Bool.{and-false}
 use Rattle.bfd_auth.specs.Sealed.{sealed, section_of}
 use Rattle.bfd_packet.specs.declared.arrival.Arrival.{Arrival}
 use Rattle.bfd_packet.specs.declared.control.Control.{Control}
 use Rattle.bfd_packet.specs.declared.control.State.{State}
-use Rattle.bfd_packet.specs.declared.control.State.TheVariants.{AdminDown, Down, Init, Up}
+use Rattle.bfd_packet.specs.declared.control.State.TheVariants.{AdminDown, Init, Up}
 use Rattle.bfd_packet.specs.declared.discard.Test.{Test}
 use Rattle.bfd_packet.specs.declared.discard.Test.TheVariants.{AdminDown as DiscardAdminDown}
 use Rattle.bfd_packet.specs.declared.keys.SeqState.{SeqState}
@@ -25,7 +27,7 @@ use Rattle.bfd_p2p.specs.Receive as receiving
 use Rattle.bfd_p2p.specs.Receive.{is_single}
 use Rattle.bfd_echo.specs.declared.echo.Echo.{Echo}
 use Rattle.bfd_session.specs.declared.event.SessionConfig.{SessionConfig}
-use Rattle.bfd_session.specs.declared.event.SessionConfig.TheVariants.{Pair, Seek, Head, Tail}
+use Rattle.bfd_session.specs.declared.event.SessionConfig.TheVariants.{Pair}
 use Rattle.bfd_session.specs.declared.event.Event.TheVariants.{Packet, Command}
 use Rattle.bfd_session.specs.declared.event.Answer.{Answer}
 use Rattle.bfd_session.specs.declared.event.Answer.TheVariants.{Handled}
@@ -61,9 +63,7 @@ high_bits s p f i a d m hp hf hi ha hd hm = omega arith
 
 number_back : (state : State) → state_of (state_number state) ≡ state
 number_back AdminDown = refl
-number_back Down = refl
-number_back Init = refl
-number_back Up = refl
+number_back state = refl
 
 text_state : (packet : Control) (section : List ℕ) → (fields_of (text_of packet section)).state ≡ packet.state
 unfolding text_of
@@ -85,13 +85,9 @@ bytes_state (Some keys) with seq packet = text_state packet (section_of keys.kin
 cold_still : (s : Course) (v : Vars) (m : Mark) → v.state ≡ s.vars.state → Cold s → Cold (course v m s.outs)
 cold_still s v m same h = record { state = ap is_init_or_up same ∙ h.state; packets = h.packets }
 
-not_true : (b : Bool) → not b ≡ true → b ≡ false
-not_true true h = cc
-not_true false h = refl
-
 cold_to : (v w : Vars) → is_init_or_up v.state ≡ false → Goes cold_state v w → is_init_or_up w.state ≡ false
 cold_to v w low (inl same) = ap is_init_or_up same ∙ low
-cold_to v w low (inr allowed) = not_true (is_init_or_up w.state) allowed
+cold_to v w low (inr allowed) = not-true (is_init_or_up w.state) allowed
 
 put_cold : (xs ys : List Out) → Each IsCold (packets_in xs) → Each IsCold (packets_in ys) → Each IsCold (packets_in (xs ++ ys))
 put_cold xs ys h k =
@@ -123,17 +119,12 @@ begun_cold (Some eff) s low = record { state = low; packets = tt }
 -- outside Up no Echo function runs
 
 not_up : (state : State) → is_init_or_up state ≡ false → is_up state ≡ false
-not_up AdminDown low = refl
-not_up Down low = refl
 not_up Init low = cc
 not_up Up low = cc
-
-and_false : (b : Bool) → (b && false) ≡ false
-and_false true = refl
-and_false false = refl
+not_up state low = refl
 
 no_echo : (c : Config) (v : Vars) (echo : Option Echo) → is_init_or_up v.state ≡ false → echoing c v echo ≡ None
-no_echo c v echo low = rw (not_up v.state low, and_false (is_single c.role)) refl
+no_echo c v echo low = rw (not_up v.state low, and-false (is_single c.role)) refl
 
 echo_cold : (c : Config) (limit eff : ℕ) (f : Flow) → Cold f.course → Cold (settles_echo c limit eff f).course
 unfolding settles_echo
@@ -142,22 +133,16 @@ echo_cold c limit eff f h = rw (no_echo c f.course.vars f.echo h.state) h
 settled_cold : (c : SessionConfig) (limit eff : ℕ) (f : Flow) → IsPoint c → Cold f.course → Cold (settled c limit eff f).course
 settled_cold (Pair c) limit eff f p h =
     echo_cold c limit eff _ (settle_keeps Cold cold_state cold_still cold_goes cold_puts refl refl c limit eff f.course h)
-settled_cold (Seek c) limit eff f p h = absurd p
-settled_cold (Head c) limit eff f p h = absurd p
-settled_cold (Tail c) limit eff f p h = absurd p
+settled_cold c limit eff f p h = absurd p
 
 finished_cold : (c : SessionConfig) (eff : ℕ) (f : Flow) → IsPoint c → Cold f.course → Cold (finished c eff f).course
 finished_cold (Pair c) eff f p h = finish_keeps Cold cold_state cold_still cold_goes cold_puts refl refl c eff f.course h
-finished_cold (Seek c) eff f p h = absurd p
-finished_cold (Head c) eff f p h = absurd p
-finished_cold (Tail c) eff f p h = absurd p
+finished_cold c eff f p h = absurd p
 
 ordered_cold : (c : SessionConfig) (eff : ℕ) (cmd : Cmd) (f : Flow) → IsPoint c → Cold f.course
     → Cold (acted c eff (Command cmd) f).course
 ordered_cold (Pair c) eff cmd f p h = commanded_keeps Cold cold_state cold_still cold_goes cold_puts refl refl c eff cmd f.course h
-ordered_cold (Seek c) eff cmd f p h = absurd p
-ordered_cold (Head c) eff cmd f p h = absurd p
-ordered_cold (Tail c) eff cmd f p h = absurd p
+ordered_cold c eff cmd f p h = absurd p
 
 tick_cold : (s : Running) (limit eff : ℕ) → IsPoint s.config → is_init_or_up s.vars.state ≡ false
     → Cold (tick_from limit eff s []).course
@@ -226,9 +211,7 @@ unfolding receiving.received
 acted_cold (Pair c) eff arrival f p refused h =
     let s : Course = f.course in
     unhandled_cold c eff (fields_of arrival.payload) (receiving.judged c s.vars arrival.ttl arrival.payload) s refused h
-acted_cold (Seek c) eff arrival f p refused h = absurd p
-acted_cold (Head c) eff arrival f p refused h = absurd p
-acted_cold (Tail c) eff arrival f p refused h = absurd p
+acted_cold c eff arrival f p refused h = absurd p
 
 packet_cold : (s : Running) (eff : ℕ) (arrival : Arrival) → IsPoint s.config → is_handled (reply eff (Packet arrival) s) ≡ false
     → is_init_or_up s.vars.state ≡ false → Cold (step_from eff (Packet arrival) s []).course

@@ -1,5 +1,6 @@
 -- A side comes to Up by a handshake alone.
 use Rattle.std.proofs.Common.{◌≡◌, ◌⊎◌, inl, inr, ◌++◌, ◌*◌, ◌<◌, max, ℕ, Bool, true, false, List, [], ◌∷◌, length, refl, sym, ap, ◌∙◌, Option, None, Some}
+use Rattle.std.proofs.lemmas.Bool.{both_ways}
 use Rattle.bfd_packet.specs.declared.arrival.Arrival.{Arrival}
 use Rattle.bfd_packet.specs.declared.discard.Test.{Test}
 use Rattle.bfd_packet.specs.Layout.{fields_of}
@@ -92,23 +93,16 @@ rises_or_stays : (w : Both) (event : PairEvent) (side : Side) → IsPoint (end_o
     → Rises w event side ⊎ Stays (end_of side w) (part side event w)
 rises_or_stays w (Tick t) side p = inr (ticks w t side p)
 rises_or_stays w (Give Left moment number) Left p = by_packet w Left moment number _ refl
-rises_or_stays w (Give Right moment number) Left p = inr (record { untold = refl; low = λ up. up })
-rises_or_stays w (Give Left moment number) Right p = inr (record { untold = refl; low = λ up. up })
 rises_or_stays w (Give Right moment number) Right p = by_packet w Right moment number _ refl
 rises_or_stays w (Order Left moment cmd) Left p = inr (record {
   untold = order_untold w.left.session (effective moment w.last w.left.session) cmd p;
   low = order_low w.left.session (effective moment w.last w.left.session) cmd p;
 })
-rises_or_stays w (Order Right moment cmd) Left p = inr (record { untold = refl; low = λ up. up })
-rises_or_stays w (Order Left moment cmd) Right p = inr (record { untold = refl; low = λ up. up })
 rises_or_stays w (Order Right moment cmd) Right p = inr (record {
   untold = order_untold w.right.session (effective moment w.last w.right.session) cmd p;
   low = order_low w.right.session (effective moment w.last w.right.session) cmd p;
 })
-
-never : (b : Bool) → b ≡ false → b ≡ true → ⊥
-never true h k = cc
-never false h k = cc
+rises_or_stays w event side p = inr (record { untold = refl; low = λ up. up })
 
 module _ (left right : SessionConfig) (l : IsPoint left) (r : IsPoint right) where
   shakes : (past : List PairEvent) (event : PairEvent) (side : Side)
@@ -132,7 +126,7 @@ module _ (left right : SessionConfig) (l : IsPoint left) (r : IsPoint right) whe
       → tells_up (items_of side (turn event (pair_run left right past))) ≡ true → IsHandshake left right side event past
   handshakes past event side up = elim (rises_or_stays (pair_run left right past) event side (run_point left right l r past side)) [
     | inl rises ↦ shakes past event side rises
-    | inr stays ↦ absurd (never _ stays.untold up)
+    | inr stays ↦ absurd (both_ways _ stays.untold up)
   ]
 
   pub comes_up : (past : List PairEvent) (event : PairEvent) (side : Side)
@@ -140,7 +134,7 @@ module _ (left right : SessionConfig) (l : IsPoint left) (r : IsPoint right) whe
       → IsHandshake left right side event past
   comes_up past event side low up = elim (rises_or_stays (pair_run left right past) event side (run_point left right l r past side)) [
     | inl rises ↦ shakes past event side rises
-    | inr stays ↦ absurd (never _ low (stays.low
+    | inr stays ↦ absurd (both_ways _ low (stays.low
         (ap (λ (w : Both). is_up (end_of side w).session.vars.state) (sym (run_more left right past event)) ∙ up)))
   ]
 

@@ -2,11 +2,12 @@
 use Rattle.std.proofs.Common.{◌≡◌, ◌⊎◌, inl, inr, ◌++◌, ◌==◌, ◌-◌, ◌<◌, ◌≤◌, ℕ, Bool, true, false, List, [], ◌∷◌, length, length-append, refl, sym, ap, ◌∙◌, subst, arith, append_assoc, append-nil, None, Some}
 use Rattle.std.specs.Prelude.{slice_get}
 use Rattle.std.proofs.lemmas.Bool.Decides.{nat_tests}
+use Rattle.std.proofs.lemmas.Bool.{both_ways}
 use Rattle.bfd_packet.specs.Layout.{fields_of}
 use Rattle.bfd_packet.specs.States.{is_init_or_up}
 use Rattle.bfd_p2p.specs.Machine.{made as pair_made}
 use Rattle.bfd_session.specs.declared.event.SessionConfig.{SessionConfig}
-use Rattle.bfd_session.specs.declared.event.SessionConfig.TheVariants.{Pair, Seek, Head, Tail}
+use Rattle.bfd_session.specs.declared.event.SessionConfig.TheVariants.{Pair}
 use Rattle.bfd_session.specs.Step.{started}
 use Rattle.bfd_pair.specs.declared.event.Side.{Side}
 use Rattle.bfd_pair.specs.declared.event.Side.TheVariants.{Left, Right}
@@ -76,10 +77,6 @@ pub record Told (left right : SessionConfig) (side : Side) (past : List PairEven
   pub packets : (k : ℕ) (bytes : List ℕ) → slice_get e.sent k ≡ Some bytes → is_init_or_up (fields_of bytes).state ≡ true
       → HeardBy left right side past k
 
-never : (b : Bool) → b ≡ false → b ≡ true → ⊥
-never true h k = cc
-never false h k = cc
-
 either : (b : Bool) → (b ≡ false) ⊎ (b ≡ true)
 either true = inr refl
 either false = inl refl
@@ -117,9 +114,9 @@ told_quiet : (left right : SessionConfig) (side : Side) (past : List PairEvent) 
     → Told left right side past e → Quiet e e2 → Told left right side (past ++ event ∷ []) e2
 told_quiet left right side past event e e2 t q = elim (either (is_init_or_up e.session.vars.state)) [
   | inl low ↦ record {
-    state = λ warm. absurd (never _ (q.state low) warm);
+    state = λ warm. absurd (both_ways _ (q.state low) warm);
     packets = packet_then left right side past event e e2 t q.grows
-        (λ k bytes later warm. absurd (never _ (each_at IsCold q.grows.more later.place bytes (q.packets low) later.there) warm));
+        (λ k bytes later warm. absurd (both_ways _ (each_at IsCold q.grows.more later.place bytes (q.packets low) later.there) warm));
   }
   | inr warm ↦ told_warm left right side past event e e2 t q.grows
       (λ n le. heard_still left right side past event (length e.sent) n le (t.state warm))
@@ -137,15 +134,13 @@ told_step left right side past event p t = elim (hears_or_quiet (pair_run left r
 started_cold : (config : SessionConfig) → IsPoint config → is_init_or_up (started config).vars.state ≡ false
 unfolding pair_made
 started_cold (Pair c) p = ap is_init_or_up (drawn_state c.active _ _)
-started_cold (Seek c) p = absurd p
-started_cold (Head c) p = absurd p
-started_cold (Tail c) p = absurd p
+started_cold config p = absurd p
 
 module _ (left right : SessionConfig) (l : IsPoint left) (r : IsPoint right) where
   told_start : (side : Side) → Told left right side [] (end_of side (pair_run left right []))
   unfolding pair_run
-  told_start Left = record { state = λ warm. absurd (never _ (started_cold left l) warm); packets = λ k bytes there warm. cc }
-  told_start Right = record { state = λ warm. absurd (never _ (started_cold right r) warm); packets = λ k bytes there warm. cc }
+  told_start Left = record { state = λ warm. absurd (both_ways _ (started_cold left l) warm); packets = λ k bytes there warm. cc }
+  told_start Right = record { state = λ warm. absurd (both_ways _ (started_cold right r) warm); packets = λ k bytes there warm. cc }
 
   told_on : (side : Side) (past events : List PairEvent) → Told left right side past (end_of side (pair_run left right past))
       → Told left right side (past ++ events) (end_of side (pair_run left right (past ++ events)))

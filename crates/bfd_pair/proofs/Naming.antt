@@ -18,7 +18,7 @@ use Rattle.bfd_p2p.specs.Port.{port_of}
 use Rattle.bfd_demux.specs.declared.row.Row.{Row}
 use Rattle.bfd_demux.specs.Selection.{first_header_failing, first_table_failing, first_failing_on, is_multipoint, table_fails, tests_on_header}
 use Rattle.bfd_session.specs.declared.event.SessionConfig.{SessionConfig}
-use Rattle.bfd_session.specs.declared.event.SessionConfig.TheVariants.{Pair, Seek, Head, Tail}
+use Rattle.bfd_session.specs.declared.event.SessionConfig.TheVariants.{Pair}
 use Rattle.bfd_session.specs.declared.event.Event.TheVariants.{Packet}
 use Rattle.bfd_session.specs.Kinds.{discr_of}
 use Rattle.bfd_session.specs.Rows.{kind_of, row_of}
@@ -103,9 +103,7 @@ same_arrival a b e = ap (λ o. unwrap_or o a) e
 pub way_payload : (config : SessionConfig) (bytes : List ℕ) (arrival : Arrival) → arrival_to config bytes ≡ Some arrival
     → arrival.payload ≡ bytes
 way_payload (Pair c) bytes arrival is = ap (λ (a : Arrival). a.payload) (sym (same_arrival _ arrival is))
-way_payload (Seek c) bytes arrival is = cc
-way_payload (Head c) bytes arrival is = cc
-way_payload (Tail c) bytes arrival is = cc
+way_payload config bytes arrival is = cc
 
 way_port : (c : Config) (bytes : List ℕ) (arrival : Arrival) → arrival_to (Pair c) bytes ≡ Some arrival → arrival.port ≡ port_of c.role
 way_port c bytes arrival is = ap (λ (a : Arrival). a.port) (sym (same_arrival _ arrival is))
@@ -118,9 +116,7 @@ names (Pair c) bytes arrival is state h =
     ∙ names_by c.role c.discr c.iface c.local c.remote arrival
     (ap (λ (raw : List ℕ). is_init_or_up (fields_of raw).state) payload ∙ state)
     (subst (λ (p : Port). first_failing_on p (row_of (Pair c) ∷ []) arrival ≡ None) (way_port c bytes arrival is) h)
-names (Seek c) bytes arrival is state h = cc
-names (Head c) bytes arrival is state h = cc
-names (Tail c) bytes arrival is state h = cc
+names config bytes arrival is state h = cc
 
 -- the session takes it
 
@@ -151,6 +147,4 @@ takes (Pair c) arrival is header none =
       multi = plain_by c.role c.discr c.iface c.local c.remote arrival
           (subst (λ (p : Port). first_failing_on p (row_of (Pair c) ∷ []) arrival ≡ None) port none);
     }
-takes (Seek c) arrival is header none = cc
-takes (Head c) arrival is header none = cc
-takes (Tail c) arrival is header none = cc
+takes config arrival is header none = cc

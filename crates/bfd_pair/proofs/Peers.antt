@@ -71,9 +71,7 @@ comes_by p moment last arrival bytes peer is =
 -- the last own event of a side was at a moment
 at_by : (config : SessionConfig) (s : Running) → IsPoint config → sound_by config s → s.vars.at < moment_bound
 at_by (Pair c) s p sound = sound.vars.steady.plain.at_below
-at_by (Seek c) s p sound = absurd p
-at_by (Head c) s p sound = absurd p
-at_by (Tail c) s p sound = absurd p
+at_by config s p sound = absurd p
 
 pub at_below : (p : Peer) → IsPeer p → IsSound p.session → p.session.vars.at < moment_bound
 at_below p peer sound = at_by p.session.config p.session (way_point p.session.config [] _ (peer.way [])) sound

@@ -3,7 +3,7 @@ use Rattle.std.proofs.Common.{◌≡◌, ℕ, List, [], ◌∷◌, refl, sym, �
 use Rattle.bfd_packet.specs.declared.arrival.Arrival.{Arrival}
 use Rattle.bfd_packet.specs.declared.discard.Test.{Test}
 use Rattle.bfd_session.specs.declared.event.SessionConfig.{SessionConfig}
-use Rattle.bfd_session.specs.declared.event.SessionConfig.TheVariants.{Pair, Seek, Head, Tail}
+use Rattle.bfd_session.specs.declared.event.SessionConfig.TheVariants.{Pair}
 use Rattle.bfd_pair.specs.declared.event.Side.{Side}
 use Rattle.bfd_pair.specs.declared.event.Side.TheVariants.{Left, Right}
 use Rattle.bfd_pair.specs.declared.event.PairEvent.{PairEvent}
@@ -18,9 +18,7 @@ IsPoint _ = ⊥
 -- only to such a session a packet is on its way
 pub way_point : (config : SessionConfig) (bytes : List ℕ) (arrival : Arrival) → arrival_to config bytes ≡ Some arrival → IsPoint config
 way_point (Pair c) bytes arrival is = tt
-way_point (Seek c) bytes arrival is = cc
-way_point (Head c) bytes arrival is = cc
-way_point (Tail c) bytes arrival is = cc
+way_point config bytes arrival is = cc
 
 -- no event changes a configuration
 
@@ -42,15 +40,12 @@ given_config (Some bytes) count moment last e = comes_config (arrival_to e.sessi
 pub turn_config : (event : PairEvent) (w : Both) (side : Side)
     → (end_of side (turn event w).both).session.config ≡ (end_of side w).session.config
 turn_config (Tick t) w Left = refl
-turn_config (Tick t) w Right = refl
 turn_config (Give Left moment number) w Left = given_config (packet_at number w.right.sent) (length w.right.sent) moment w.last w.left
-turn_config (Give Right moment number) w Left = refl
-turn_config (Give Left moment number) w Right = refl
 turn_config (Give Right moment number) w Right = given_config (packet_at number w.left.sent) (length w.left.sent) moment w.last w.right
 turn_config (Order Left moment cmd) w Left = refl
 turn_config (Order Right moment cmd) w Left = refl
 turn_config (Order Left moment cmd) w Right = refl
-turn_config (Order Right moment cmd) w Right = refl
+turn_config event w side = refl
 
 after_config : (events : List PairEvent) (w : Both) (side : Side)
     → (end_of side (after events w)).session.config ≡ (end_of side w).session.config

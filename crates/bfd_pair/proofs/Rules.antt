@@ -10,7 +10,7 @@ use Rattle.bfd_packet.specs.declared.control.State.TheVariants.{AdminDown, Down,
 use Rattle.bfd_packet.specs.declared.keys.SeqState.{SeqState}
 use Rattle.bfd_packet.specs.States.{is_init_or_up}
 use Rattle.bfd_rules.specs.declared.commands.Cmd.{Cmd}
-use Rattle.bfd_rules.specs.declared.commands.Cmd.TheVariants.{Disable, Enable, Reset, Path, Tx, Rx, Mult, Demand, EchoEvery, Key}
+use Rattle.bfd_rules.specs.declared.commands.Cmd.TheVariants.{Disable, Enable, Reset}
 use Rattle.bfd_rules.specs.declared.config.Config.{Config}
 use Rattle.bfd_rules.specs.declared.variables.Mark.{Mark}
 use Rattle.bfd_rules.specs.declared.variables.Vars.{Vars}
@@ -107,13 +107,7 @@ module _ (P : Course → Type 0) (ok : State → Bool)
   done_goes c Disable v = inr admin_down
   done_goes c Enable v = inr down
   done_goes c Reset v = inr down
-  done_goes c (Path n) v = inl refl
-  done_goes c (Tx n) v = inl refl
-  done_goes c (Rx n) v = inl refl
-  done_goes c (Mult n) v = inl refl
-  done_goes c (Demand n) v = inl refl
-  done_goes c (EchoEvery n) v = inl refl
-  done_goes c (Key n) v = inl refl
+  done_goes c cmd v = inl refl
 
   pub commanded_keeps : (c : Config) (eff : ℕ) (cmd : Cmd) (s : Course) → P s → P (commanded c eff cmd s)
   unfolding commanded
@@ -155,18 +149,13 @@ module _ (P : Course → Type 0) (ok : State → Bool)
   machine_goes : ok Init ≡ true → (mine received : State) (v : Vars) → v.state ≡ mine → is_init_or_up received ≡ false
       → Goes ok v (receiving.machine mine received v)
   machine_goes init Down Down v is low = inr init
-  machine_goes init Down Init v is low = cc
-  machine_goes init Down Up v is low = cc
   machine_goes init Down AdminDown v is low = inl refl
   machine_goes init Init Down v is low = inl refl
-  machine_goes init Init Init v is low = cc
-  machine_goes init Init Up v is low = cc
   machine_goes init Init AdminDown v is low = inr down
   machine_goes init Up Down v is low = inr down
-  machine_goes init Up Init v is low = cc
-  machine_goes init Up Up v is low = cc
   machine_goes init Up AdminDown v is low = inr down
   machine_goes init AdminDown received v is low = inl refl
+  machine_goes init mine received v is low = cc
 
   pub low_keeps : ok Init ≡ true → (c : Config) (eff : ℕ) (packet : Control) (seq : SeqState) (s : Course)
       → is_init_or_up packet.state ≡ false → P s → P (receiving.accepted c eff packet seq s)

@@ -6,7 +6,7 @@ use Rattle.bfd_packet.specs.States.{is_init_or_up}
 use Rattle.bfd_rules.specs.declared.commands.Cmd.{Cmd}
 use Rattle.bfd_session.specs.declared.event.Event.TheVariants.{Packet, Command}
 use Rattle.bfd_session.specs.declared.event.Answer.{Answer}
-use Rattle.bfd_session.specs.declared.event.Answer.TheVariants.{Handled, Ticked, Dropped, Refused, Shown}
+use Rattle.bfd_session.specs.declared.event.Answer.TheVariants.{Handled}
 use Rattle.bfd_session.specs.Alone.{effective, step_outcome, tick_items}
 use Rattle.bfd_pair.specs.declared.event.Side.{Side}
 use Rattle.bfd_pair.specs.declared.event.Side.TheVariants.{Left, Right}
@@ -79,10 +79,7 @@ moves_answer Right m w = refl
 
 is_answer : (a : Answer) → is_handled a ≡ true → a ≡ Handled
 is_answer Handled h = refl
-is_answer Ticked h = cc
-is_answer (Dropped test) h = cc
-is_answer (Refused refusal) h = cc
-is_answer (Shown shown) h = cc
+is_answer a h = cc
 
 by_answer : (moment last : ℕ) (arrival : Arrival) (e : End) (b : Bool) → IsPoint e.session.config
     → is_handled (step_outcome moment last (Packet arrival) e.session).answer ≡ b
@@ -130,10 +127,9 @@ pub hears_or_quiet : (w : Both) (event : PairEvent) (side : Side) → IsPoint (e
 hears_or_quiet w (Tick t) Left p = inl (ticking_quiet (max w.last t) w.left p)
 hears_or_quiet w (Tick t) Right p = inl (ticking_quiet (max w.last t) w.right p)
 hears_or_quiet w (Give Left moment number) Left p = by_packet w Left moment number _ p refl
-hears_or_quiet w (Give Right moment number) Left p = inl (rests_quiet w.left)
 hears_or_quiet w (Give Left moment number) Right p = inl (rests_quiet w.right)
 hears_or_quiet w (Give Right moment number) Right p = by_packet w Right moment number _ p refl
 hears_or_quiet w (Order Left moment cmd) Left p = inl (order_quiet moment w.last cmd w.left p)
-hears_or_quiet w (Order Right moment cmd) Left p = inl (rests_quiet w.left)
 hears_or_quiet w (Order Left moment cmd) Right p = inl (rests_quiet w.right)
 hears_or_quiet w (Order Right moment cmd) Right p = inl (order_quiet moment w.last cmd w.right p)
+hears_or_quiet w event Left p = inl (rests_quiet w.left)

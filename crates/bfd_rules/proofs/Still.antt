@@ -1,6 +1,6 @@
 -- Variables that an event left as they were: there is no news of them, and their due tick stands.
-use Rattle.std.proofs.Common.{◌≡◌, ◌==◌, ◌&&◌, not, ℕ, Bool, true, false, refl, sym, ap, Option, None, Some, is_none, IsSome, IsTrue, ◌↔◌, if◌then◌else◌, arith}
-use Rattle.std.proofs.lemmas.Bool.Decides.{nat_tests}
+use Rattle.std.proofs.Common.{◌≡◌, ◌==◌, ◌&&◌, not, ℕ, Bool, true, false, refl, sym, ap, Option, None, Some, is_none, IsSome, IsTrue, ◌↔◌, if◌then◌else◌}
+use Rattle.std.proofs.lemmas.Bool.{eq-eqb}
 use Rattle.bfd_packet.specs.declared.control.State.{State}
 use Rattle.bfd_packet.specs.declared.control.State.TheVariants.{AdminDown, Down, Init, Up}
 use Rattle.bfd_rules.specs.declared.variables.Vars.{Vars}
@@ -13,25 +13,12 @@ same_state_is AdminDown AdminDown h = refl
 same_state_is Down Down h = refl
 same_state_is Init Init h = refl
 same_state_is Up Up h = refl
-same_state_is AdminDown Down h = cc
-same_state_is AdminDown Init h = cc
-same_state_is AdminDown Up h = cc
-same_state_is Down AdminDown h = cc
-same_state_is Down Init h = cc
-same_state_is Down Up h = cc
-same_state_is Init AdminDown h = cc
-same_state_is Init Down h = cc
-same_state_is Init Up h = cc
-same_state_is Up AdminDown h = cc
-same_state_is Up Down h = cc
-same_state_is Up Init h = cc
+same_state_is a b h = cc
 
 -- a state is the same as itself
 pub same_itself : (a : State) → same_state a a ≡ true
 same_itself AdminDown = refl
-same_itself Down = refl
-same_itself Init = refl
-same_itself Up = refl
+same_itself a = refl
 
 both_true : (a b : Bool) → not (a && b) ≡ false → a ≡ true
 both_true true b h = refl
@@ -41,12 +28,9 @@ both_true false b h = cc
 pub unchanged_state : (v0 v : Vars) → is_news (begins v0) v ≡ false → v.state ≡ v0.state
 unchanged_state v0 v h = same_state_is v.state v0.state (both_true (same_state v.state v0.state) _ h)
 
-equal_itself : (n : ℕ) → (n == n) ≡ true
-equal_itself n = grind (arith, nat_tests)
-
 -- there is no news of variables as they were when the event began
 pub no_news : (v : Vars) → is_news (begins v) v ≡ false
-no_news v = rw (same_itself v.state, equal_itself v.diag) refl
+no_news v = rw (same_itself v.state, eq-eqb v.diag v.diag refl) refl
 
 one_stands : (b : Bool) → (if b then not b else b) ≡ false
 one_stands true = refl
@@ -57,7 +41,7 @@ some_is_not_none None h = cc
 some_is_not_none (Some x) h = refl
 
 draw_stands : (v : Vars) → IsSome v.tx_due → draws (begins v) v ≡ false
-draw_stands v there = rw (some_is_not_none v.tx_due there, equal_itself (tx_interval v), one_stands (v.mult == 1)) refl
+draw_stands v there = rw (some_is_not_none v.tx_due there, eq-eqb (tx_interval v) (tx_interval v) refl, one_stands (v.mult == 1)) refl
 
 gone : (o : Option ℕ) (b : Bool) → (IsSome o ↔ IsTrue b) → b ≡ false → o ≡ None
 gone None b both h = refl

@@ -1,11 +1,12 @@
 -- What a binary search of an ascending pool finds is the reflector with the discriminator.
-use Rattle.std.proofs.Common.{◌≡◌, ◌<◌, ◌≤◌, ◌==◌, ℕ, zero, suc, true, false, List, [], ◌∷◌, length, get_or, refl, sym, ap, arith, inl, inr, None, Some, Ok, Err, find}
+use Rattle.std.proofs.Common.{◌≡◌, ◌<◌, ◌≤◌, ◌==◌, ℕ, zero, suc, false, List, [], ◌∷◌, length, get_or, refl, sym, ap, arith, inl, inr, None, Some, Ok, Err, find}
 use Rattle.std.proofs.Math.Nat.{eq-or-lt_of_le}
 use Rattle.std.proofs.lemmas.Bool.Decides.{nat_tests}
 use Rattle.std.proofs.lemmas.Cmp.{ranked}
 use Rattle.std.specs.List.{AllByRecursion}
 use Rattle.std.specs.List.Sorted.{IsSearchInRange, IsBinarySearchResult, IsNonDecreasingBy}
 use Rattle.std.specs.Ordering.{nat_cmp, ordering_index}
+use Rattle.std.proofs.lemmas.Bool.{ne_eqb, eq-eqb}
 use Rattle.bfd_sbfd.specs.declared.reflecting.Reflector.{Reflector}
 use Rattle.bfd_sbfd.specs.Reflect.{Ascends, named_in}
 
@@ -32,20 +33,14 @@ rise xs discr up i j d le within = elim (eq-or-lt_of_le le) [
   | inr before ↦ no_lower _ _ discr (omega (arith, ascend xs i j d up before within))
 ]
 
-is_other : (a discr : ℕ) → (a ≡ discr → ⊥) → (a == discr) ≡ false
-is_other a discr differs = grind (arith, nat_tests)
-
-is_own : (a discr : ℕ) → a ≡ discr → (a == discr) ≡ true
-is_own a discr same = grind (arith, nat_tests)
-
 -- the first that has the discriminator, where a place has it and each before it another
 first_found : (xs : List Reflector) (discr at : ℕ) (d : Reflector) → at < length xs
     → ((k : ℕ) → k < at → (get_or xs k d).discr ≡ discr → ⊥)
     → (get_or xs at d).discr ≡ discr → find (λ (r : Reflector). r.discr == discr) xs ≡ Some (get_or xs at d)
 first_found [] discr at d within other same = absurd (omega arith)
-first_found (x ∷ xs) discr zero d within other same = rw (is_own x.discr discr same) refl
+first_found (x ∷ xs) discr zero d within other same = rw (eq-eqb x.discr discr same) refl
 first_found (x ∷ xs) discr (suc at) d within other same =
-    rw (is_other x.discr discr (other 0 (omega arith)))
+    rw (ne_eqb x.discr discr (other 0 (omega arith)))
     (first_found xs discr at d (omega arith) (λ k lt. other (suc k) (omega arith)) same)
 
 -- none, where each has another
@@ -53,7 +48,7 @@ none_found : (xs : List Reflector) (discr : ℕ) (d : Reflector)
     → ((k : ℕ) → k < length xs → (get_or xs k d).discr ≡ discr → ⊥) → find (λ (r : Reflector). r.discr == discr) xs ≡ None
 none_found [] discr d other = refl
 none_found (x ∷ xs) discr d other =
-    rw (is_other x.discr discr (other 0 (omega arith)))
+    rw (ne_eqb x.discr discr (other 0 (omega arith)))
     (none_found xs discr d (λ k lt. other (suc k) (omega arith)))
 
 lower : (a discr : ℕ) → a < discr → a ≡ discr → ⊥
@@ -85,9 +80,9 @@ missing xs discr at d up within parted =
 
 pub named_found : (xs : List Reflector) (discr at : ℕ) (d : Reflector) → (discr ≡ 0 → ⊥) → Ascends xs → IsSearchInRange (Ok at) (length xs)
     → IsBinarySearchResult (λ (r : Reflector). nat_cmp r.discr discr) xs (Ok at) → Some (get_or xs at d) ≡ named_in xs discr
-named_found xs discr at d some up within equal = rw (is_other discr 0 some) (sym (found xs discr at d up within equal))
+named_found xs discr at d some up within equal = rw (ne_eqb discr 0 some) (sym (found xs discr at d up within equal))
 
 pub named_missing : (xs : List Reflector) (discr at : ℕ) → (discr ≡ 0 → ⊥) → Ascends xs → IsSearchInRange (Err at) (length xs)
     → IsBinarySearchResult (λ (r : Reflector). nat_cmp r.discr discr) xs (Err at) → None ≡ named_in xs discr
 named_missing xs discr at some up within parted =
-    rw (is_other discr 0 some) (sym (missing xs discr at (record { discr = 0; rx = 0; up = false }) up within parted))
+    rw (ne_eqb discr 0 some) (sym (missing xs discr at (record { discr = 0; rx = 0; up = false }) up within parted))

@@ -93,17 +93,8 @@ machine_plain c Up AdminDown v there plain = down_plain c v plain
 machine_plain c AdminDown AdminDown v there plain = plain
 machine_plain c AdminDown Down v there plain = plain
 machine_plain c AdminDown Init v there plain = plain
-machine_plain c AdminDown Up v there plain = plain
-machine_plain c Down AdminDown v there plain = plain
-machine_plain c Down Down v there plain = plain
-machine_plain c Down Init v there plain = plain
 machine_plain c Init AdminDown v there plain = plain
-machine_plain c Init Down v there plain = plain
-machine_plain c Init Init v there plain = plain
-machine_plain c Init Up v there plain = plain
-machine_plain c Up Down v there plain = plain
-machine_plain c Up Init v there plain = plain
-machine_plain c Up Up v there plain = plain
+machine_plain c own received v there plain = plain
 
 accepted_steady : (c : SeekConfig) (eff : ℕ) (packet : Control) (s : Course) → eff < moment_bound → packet.min_rx < 2 ^ 32 → IsSeekSteady c s.vars
     → IsSeekSteady c (receiving.accepted c eff packet s).vars
@@ -127,12 +118,7 @@ done_plain c Disable v free plain = grind (arith, common_steps)
 done_plain c Enable v free plain = grind (arith, common_steps)
 done_plain c (Tx n) v free plain = grind (arith, common_steps, nat_tests)
 done_plain c (Mult n) v free plain = grind (arith, common_steps, nat_tests)
-done_plain c Reset v free plain = plain
-done_plain c (Path n) v free plain = plain
-done_plain c (Rx n) v free plain = plain
-done_plain c (Demand n) v free plain = plain
-done_plain c (EchoEvery n) v free plain = plain
-done_plain c (Key n) v free plain = plain
+done_plain c cmd v free plain = plain
 
 command_by : (c : SeekConfig) (cmd : Cmd) (s : Course) (b : Bool) → is_some (refusal s.vars cmd) ≡ b → IsSeekSteady c s.vars
     → IsSeekSteady c (if b then s else moves c.discr (done cmd s.vars) s).vars

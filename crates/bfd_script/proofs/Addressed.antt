@@ -4,7 +4,7 @@ use Rattle.std.proofs.lemmas.Cmp.{eq_by_cmp_equiv, tied_itself, upto}
 use Rattle.std.proofs.Math.Seq.{take-length}
 use Rattle.std.proofs.lemmas.List.{length-drop}
 use Rattle.std.proofs.lemmas.List.Folds.{list_any-append}
-use Rattle.std.specs.List.{AllByRecursion, list_any}
+use Rattle.std.specs.List.{AllByRecursion}
 use Rattle.std.specs.Ordering.{is_eq, is_gt, is_lt, ordering_reverse}
 use Rattle.std.specs.declared.cmp.Ordering.{Ordering}
 use Rattle.std.specs.declared.cmp.Ordering.TheVariants.{Less, Equal, Greater}
@@ -21,11 +21,10 @@ use Rattle.bfd_script.proofs.Inserting.{noted}
 -- ---- none of them is this one
 
 apart_by : (e up down : Ordering) → down ≡ ordering_reverse up → is_lt up ≡ true → (e ≡ Equal → is_gt down ≡ false) → is_eq e ≡ false
-apart_by Less up down r l same = refl
-apart_by Greater up down r l same = refl
 apart_by Equal Less down r l same = ap is_gt (sym r) ∙ same refl
 apart_by Equal Equal down r l same = sym l
 apart_by Equal Greater down r l same = sym l
+apart_by e up down r l same = refl
 
 -- one that isn't above the greatest isn't this one
 apart : (greatest kind k : RowKind) → is_lt (order.ghosts.cmp greatest kind) ≡ true → is_gt (order.ghosts.cmp k greatest) ≡ false → is_eq (order.ghosts.cmp kind k) ≡ false
@@ -46,9 +45,8 @@ above_all greatest kind rising keys all above =
 -- ---- one more
 
 below : (o : Ordering) → is_lt o ≡ true → is_gt o ≡ false
-below Less e = refl
-below Equal e = refl
 below Greater e = cc
+below o e = refl
 
 -- the greatest is the new one
 pub up_to_more : (greatest kind : RowKind) (rising more : List RowKind) → AreUpTo greatest rising → is_lt (order.ghosts.cmp greatest kind) ≡ true

@@ -1,19 +1,19 @@
 -- Where a text is cut at a byte.
 use Rattle.std.proofs.Common.{◌≡◌, ℕ, ◌+◌, ◌<◌, ◌≤◌, ◌==◌, not, cond, Bool, true, false, List, [], ◌∷◌, ◌++◌, length, map, take, drop, refl, ap, ◌∙◌, sym, arith, subst, zero, suc}
 use Rattle.std.specs.Prelude.{slice_index}
-use Rattle.std.specs.List.{after_first, before_first, onto_first, position_or_len, slice_split}
+use Rattle.std.specs.List.{onto_first, position_or_len, slice_split}
 use Rattle.std.proofs.lemmas.List.{append-nil, length-drop}
 use Rattle.std.proofs.lemmas.List.Splits.{slice_split_first}
 use Rattle.std.proofs.lemmas.List.Sums.{position_or_len_is, prefix_len-le-length}
+use Rattle.std.proofs.lemmas.Bool.{false_from_ne_true}
 use Rattle.memchr.specs.Find.{NoneBefore, Nowhere, Passes, is_byte}
-use Rattle.bfd_script.proofs.FirstLine.{not_true}
 
 -- ---- the first such byte
 
 found : (p : ℕ → Bool) (text : List ℕ) (place : ℕ) → place ≤ length text → Nowhere (Passes p text) 0 place
     → (place < length text → p (slice_index text place) ≡ true) → position_or_len p text ≡ place
 found p text place within none here =
-    position_or_len_is p text place 0 within (λ k l. not_true (p (slice_index text k)) (none k (omega arith) l)) here
+    position_or_len_is p text place 0 within (λ k l. false_from_ne_true (p (slice_index text k)) (none k (omega arith) l)) here
 
 -- a search that finds one
 pub at_place : (byte : ℕ) (text : List ℕ) (place : ℕ)

@@ -1,21 +1,17 @@
 -- Hexadecimal digits that are decoded into room of their own size.
-use Rattle.std.proofs.Common.{◌≡◌, ℕ, ◌+◌, ◌*◌, ◌≤◌, ◌==◌, ◌&&◌, Bool, true, false, List, [], ◌∷◌, length, take, Result, Ok, Err, refl, arith}
+use Rattle.std.proofs.Common.{◌≡◌, ℕ, ◌*◌, ◌≤◌, ◌==◌, false, List, ◌∷◌, length, take, Ok, refl, arith}
 use Rattle.std.proofs.lemmas.Bool.Decides.{nat_tests}
 use Rattle.std.specs.Prelude.{codes}
 use Rattle.std.specs.Str.{bytes_eq}
+use Rattle.std.proofs.Math.Bool.{and-false}
 use Rattle.hex.specs.Hex.{decode_sized}
 use Rattle.hex.proofs.HexLemmas.{decode_sized-twice}
 use Rattle.bfd_script.specs.Gives.{◌>>=◌}
 use Rattle.bfd_script.specs.Values.{decoded, payload_of}
 
-neither : (b : Bool) → (b && false) ≡ false
-neither true = refl
-neither false = refl
-
 no_dash : (field : List ℕ) → 2 ≤ length field → bytes_eq field (codes "-") ≡ false
-no_dash [] some = absurd (omega (arith, some))
-no_dash (a ∷ []) some = absurd (omega (arith, some))
-no_dash (a ∷ b ∷ field) some = neither (a == 45)
+no_dash (a ∷ b ∷ field) some = and-false (a == 45)
+no_dash field some = absurd (omega (arith, some))
 
 -- a payload of two digits or more
 pub payload_by_room : (field : List ℕ) (n : ℕ) → 2 ≤ length field → length field ≡ 2 * n

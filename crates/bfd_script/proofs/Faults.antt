@@ -1,6 +1,7 @@
 -- The table of a script has no fault.
-use Rattle.std.proofs.Common.{◌==◌, ◌||◌, ◌<◌, ◌≤◌, ◌+◌, Bool, true, false, None, ◌≡◌, List, [], ◌∷◌, length, refl}
+use Rattle.std.proofs.Common.{◌==◌, ◌<◌, ◌≤◌, ◌+◌, None, ◌≡◌, List, [], ◌∷◌, length}
 use Rattle.std.specs.List.{AllByRecursion}
+use Rattle.std.proofs.lemmas.Bool.{or_parts}
 use Rattle.bfd_sbfd.specs.declared.reflecting.Reflector.{Reflector}
 use Rattle.bfd_session.specs.declared.event.SessionConfig.{SessionConfig}
 use Rattle.bfd_session.specs.Kinds.{discr_of}
@@ -12,17 +13,13 @@ use Rattle.bfd_script.specs.Sound.{AreApart, AreConfigs, ArePool, IsReflector}
 
 -- no reflector has a session's discriminator, told for the sessions
 
-other : (a b : Bool) → (a || b) ≡ false → (a ≡ false) × (b ≡ false)
-other true b h = cc
-other false b h = (refl, h)
-
 first_apart : (c : SessionConfig) (cs : List SessionConfig) (pool : List Reflector) → AreApart (c ∷ cs) pool → IsElsewhere pool c
 first_apart c cs [] apart = tt
-first_apart c cs (r ∷ pool) apart = ((other (r.discr == discr_of c) (has_discr r.discr cs) apart.0).0, first_apart c cs pool apart.1)
+first_apart c cs (r ∷ pool) apart = ((or_parts (r.discr == discr_of c) (has_discr r.discr cs) apart.0).0, first_apart c cs pool apart.1)
 
 rest_apart : (c : SessionConfig) (cs : List SessionConfig) (pool : List Reflector) → AreApart (c ∷ cs) pool → AreApart cs pool
 rest_apart c cs [] apart = tt
-rest_apart c cs (r ∷ pool) apart = ((other (r.discr == discr_of c) (has_discr r.discr cs) apart.0).1, rest_apart c cs pool apart.1)
+rest_apart c cs (r ∷ pool) apart = ((or_parts (r.discr == discr_of c) (has_discr r.discr cs) apart.0).1, rest_apart c cs pool apart.1)
 
 elsewhere : (cs : List SessionConfig) (pool : List Reflector) → AreApart cs pool → AllByRecursion (IsElsewhere pool) cs
 elsewhere [] pool apart = tt

@@ -6,6 +6,7 @@ use Rattle.memchr.specs.Find.{NoneBefore, Nowhere, Passes}
 use Rattle.std.proofs.Math.Seq.{take-length}
 use Rattle.std.proofs.Math.ListN.{drop_of_length-le}
 use Rattle.std.proofs.lemmas.List.Sums.{prefix_len_is}
+use Rattle.std.proofs.lemmas.Bool.{false_from_ne_true}
 use Rattle.bfd_script.specs.Fields.{lines_of, onto_line}
 
 -- a byte before the first LF
@@ -36,11 +37,6 @@ pub first : (text : List ℕ) → 0 < length text
 first [] some = absurd (omega arith)
 first (byte ∷ bytes) some = one_more (byte == 10) byte bytes (first bytes)
 
--- what cannot be true is false
-pub not_true : (b : Bool) → (b ≡ true → ⊥) → b ≡ false
-not_true true never = absurd (never refl)
-not_true false never = refl
-
 -- a byte that ends a line
 abbrev is_end : ℕ → Bool
 is_end byte = byte == 10
@@ -50,7 +46,7 @@ at_end : (text : List ℕ) (end : ℕ) → end ≤ length text → Nowhere (Pass
     → line_length text ≡ end
 at_end text end within none here =
     prefix_len_is in_line text end 0 within
-    (λ k l. ap (λ b. not b) (not_true (is_end (slice_index text k)) (none k (omega arith) l)))
+    (λ k l. ap (λ b. not b) (false_from_ne_true (is_end (slice_index text k)) (none k (omega arith) l)))
     (λ l. ap (λ b. not b) (here l))
 
 -- a text with an LF

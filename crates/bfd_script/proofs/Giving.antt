@@ -5,13 +5,14 @@ use Rattle.std.specs.List.{list_any, AllByRecursion}
 use Rattle.std.specs.Map.{values_of, lookup, set_value}
 use Rattle.std.specs.BTreeMap.{is_at}
 use Rattle.std.specs.Ordering.{nat_cmp, is_eq}
+use Rattle.bfd_demux.proofs.AlikeRows.{nat_level}
 use Rattle.bfd_session.specs.Rows.{Ascends, row_of, same_selector, Differs}
 use Rattle.bfd_packet.specs.KeyChain.{KeyChain}
 use Rattle.bfd_packet.specs.declared.keys.AuthType.{AuthType}
 use Rattle.bfd_packet.specs.declared.keys.Key.{Key}
 use Rattle.bfd_rules.specs.declared.config.Config.{Config}
 use Rattle.bfd_session.specs.declared.event.SessionConfig.{SessionConfig}
-use Rattle.bfd_session.specs.declared.event.SessionConfig.TheVariants.{Pair, Seek, Head, Tail}
+use Rattle.bfd_session.specs.declared.event.SessionConfig.TheVariants.{Pair}
 use Rattle.bfd_session.specs.Kinds.{discr_of}
 use Rattle.bfd_session.specs.Step.{IsFit}
 use Rattle.bfd_demux.specs.declared.row.RowKind.{RowKind}
@@ -21,7 +22,7 @@ use Rattle.bfd_script.specs.Secrets.{key_fault}
 use Rattle.bfd_script.specs.Sound.{AreConfigs, AreKeys, AreNext, IsChain, IsKey, IsNext, IsRow}
 use Rattle.bfd_script.specs.Tables.{IsTable}
 use Rattle.bfd_script.proofs.Elements.{each_to}
-use Rattle.bfd_script.proofs.Numbered.{level, values_by}
+use Rattle.bfd_script.proofs.Numbered.{values_by}
 
 -- what a change of a session leaves: all but its keys
 pub record Keeps (f : SessionConfig → SessionConfig) : Type 0 where
@@ -37,7 +38,7 @@ found_step at same x o p e rest = rw (e, rest) refl
 -- a look-up by a discriminator finds the session that has it
 found : (k : ℕ) (cs : List SessionConfig) → lookup (is_at (nat_cmp k)) (by_discr cs) ≡ find (λ c. k == discr_of c) cs
 found k [] = refl
-found k (c ∷ cs) = found_step (is_eq (nat_cmp k (discr_of c))) (k == discr_of c) c (lookup (is_at (nat_cmp k)) (by_discr cs)) (find (λ d. k == discr_of d) cs) (level k (discr_of c)) (found k cs)
+found k (c ∷ cs) = found_step (is_eq (nat_cmp k (discr_of c))) (k == discr_of c) c (lookup (is_at (nat_cmp k)) (by_discr cs)) (find (λ d. k == discr_of d) cs) (nat_level k (discr_of c)) (found k cs)
 
 pub found_at : (k : ℕ) (entries : List (ℕ × SessionConfig)) → entries ≡ by_discr (values_of entries)
     → lookup (is_at (nat_cmp k)) entries ≡ find (λ c. k == discr_of c) (values_of entries)
@@ -48,15 +49,14 @@ changed_step : (f : SessionConfig → SessionConfig) → Keeps f → (at same : 
     → cond at ((discr_of x, f c) ∷ by_discr cs) ((discr_of x, x) ∷ es) ≡ by_discr (cond same (f x ∷ cs) (x ∷ rest))
 changed_step f kept true true x c cs rest es o e h next = let k = kept.discr x in cc
 changed_step f kept false false x c cs rest es o e h next = ap (λ t. (discr_of x, x) ∷ t) (next h)
-changed_step f kept true false x c cs rest es o e h next = cc
-changed_step f kept false true x c cs rest es o e h next = cc
+changed_step f kept at same x c cs rest es o e h next = cc
 
 set_changed : (f : SessionConfig → SessionConfig) → Keeps f → (k : ℕ) (c : SessionConfig) (cs : List SessionConfig) → Some c ≡ lookup (is_at (nat_cmp k)) (by_discr cs)
     → set_value (is_at (nat_cmp k)) (by_discr cs) (f c) ≡ by_discr (changed k f cs)
 set_changed f kept k c [] h = refl
 set_changed f kept k c (x ∷ cs) h =
     changed_step f kept (is_eq (nat_cmp k (discr_of x))) (k == discr_of x) x c cs (changed k f cs) (set_value (is_at (nat_cmp k)) (by_discr cs) (f c))
-    (lookup (is_at (nat_cmp k)) (by_discr cs)) (level k (discr_of x)) h (set_changed f kept k c cs)
+    (lookup (is_at (nat_cmp k)) (by_discr cs)) (nat_level k (discr_of x)) h (set_changed f kept k c cs)
 
 -- the map's change is that of the sessions
 pub entries_changed : (f : SessionConfig → SessionConfig) → Keeps f → (k : ℕ) (c w : SessionConfig) (entries more : List (ℕ × SessionConfig)) → entries ≡ by_discr (values_of entries)
@@ -189,27 +189,19 @@ row_keyed keys c are h = record { discr = h.discr; local = h.local; remote = h.r
 
 with_discr : (keys : KeyChain) (c : SessionConfig) → discr_of (keyed_with keys c) ≡ discr_of c
 with_discr keys (Pair c) = refl
-with_discr keys (Seek c) = refl
-with_discr keys (Head c) = refl
-with_discr keys (Tail c) = refl
+with_discr keys c = refl
 
 with_place : (keys : KeyChain) (c : SessionConfig) → (row_of (keyed_with keys c)).kind ≡ (row_of c).kind
 with_place keys (Pair c) = refl
-with_place keys (Seek c) = refl
-with_place keys (Head c) = refl
-with_place keys (Tail c) = refl
+with_place keys c = refl
 
 with_fit : (keys : KeyChain) (c : SessionConfig) → IsFit c → IsFit (keyed_with keys c)
 with_fit keys (Pair c) h = fit_keyed (Some keys) c h
-with_fit keys (Seek c) h = h
-with_fit keys (Head c) h = h
-with_fit keys (Tail c) h = h
+with_fit keys c h = h
 
 with_row : (keys : KeyChain) → IsChain keys → (c : SessionConfig) → IsRow c → IsRow (keyed_with keys c)
 with_row keys are (Pair c) h = row_keyed (Some keys) c are h
-with_row keys are (Seek c) h = h
-with_row keys are (Head c) h = h
-with_row keys are (Tail c) h = h
+with_row keys are c h = h
 
 pub with_keeps : (keys : KeyChain) → Keeps (keyed_with keys)
 with_keeps keys = record { discr = with_discr keys; place = with_place keys; fit = with_fit keys }
@@ -223,21 +215,15 @@ table_given k keys entries more has were are e =
 
 more_discr : (key : Key) (c : SessionConfig) → discr_of (keyed_more key c) ≡ discr_of c
 more_discr key (Pair c) = refl
-more_discr key (Seek c) = refl
-more_discr key (Head c) = refl
-more_discr key (Tail c) = refl
+more_discr key c = refl
 
 more_place : (key : Key) (c : SessionConfig) → (row_of (keyed_more key c)).kind ≡ (row_of c).kind
 more_place key (Pair c) = refl
-more_place key (Seek c) = refl
-more_place key (Head c) = refl
-more_place key (Tail c) = refl
+more_place key c = refl
 
 more_fit : (key : Key) (c : SessionConfig) → IsFit c → IsFit (keyed_more key c)
 more_fit key (Pair c) h = fit_keyed (one_more key c.keys) c h
-more_fit key (Seek c) h = h
-more_fit key (Head c) h = h
-more_fit key (Tail c) h = h
+more_fit key c h = h
 
 pub more_keeps : (key : Key) → Keeps (keyed_more key)
 more_keeps key = record { discr = more_discr key; place = more_place key; fit = more_fit key }
@@ -262,9 +248,7 @@ more_keys (Some keys) key free is all = record {
 
 more_row : (key : Key) (c : SessionConfig) → key_fault (keys_in (Some c)) key ≡ None → IsKey key → IsRow c → IsRow (keyed_more key c)
 more_row key (Pair c) free is h = row_keyed (one_more key c.keys) c (more_keys c.keys key free is h.keys) h
-more_row key (Seek c) free is h = h
-more_row key (Head c) free is h = h
-more_row key (Tail c) free is h = h
+more_row key c free is h = h
 
 pub table_more_keys : (k : ℕ) (key : Key) (cs : List SessionConfig) (entries more : List (ℕ × SessionConfig)) (has : RowKind → Bool) → IsTable entries has
     → values_of entries ≡ cs → key_fault (keys_of k cs) key ≡ None → IsKey key

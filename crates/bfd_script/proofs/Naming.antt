@@ -1,6 +1,7 @@
 -- One more session in a table, or other keys for one: the sessions that events name are there still.
 use Rattle.std.proofs.Common.{◌≡◌, ℕ, ◌+◌, ◌<◌, ◌==◌, Bool, true, false, ◌||◌, List, length, nat_le, refl, sym, ap, ◌∙◌, subst, arith}
 use Rattle.std.proofs.lemmas.Bool.Decides.{nat_tests}
+use Rattle.std.proofs.lemmas.Bool.{or_right, or_parts}
 use Rattle.bfd_session.specs.declared.event.SessionConfig.{SessionConfig}
 use Rattle.bfd_session.specs.Kinds.{discr_of}
 use Rattle.bfd_script.specs.declared.entries.Line.{Line}
@@ -11,21 +12,16 @@ use Rattle.bfd_sbfd.specs.declared.reflecting.Reflector.{Reflector}
 use Rattle.bfd_script.specs.Rows.{has_reflector, number_of, pooled}
 use Rattle.bfd_script.specs.Sound.{AreApart, AreNamed}
 use Rattle.bfd_script.specs.Tables.{IsReading}
-use Rattle.bfd_script.proofs.Numbered.{length_inserted, or_false}
+use Rattle.bfd_script.proofs.Numbered.{length_inserted}
 use Rattle.bfd_script.proofs.Pooling.{apart_inserted, apart_pooled}
 use Rattle.bfd_script.proofs.Elements.{each_to}
 use Rattle.bfd_script.proofs.Giving.{Keeps, any_changed, length_changed}
 use Rattle.bfd_script.proofs.Numbered.{any_inserted}
 
-or_true : (p q : Bool) → q ≡ true → (p || q) ≡ true
-or_true true q h = refl
-or_true false q h = h
-
 named_more : (c : SessionConfig) (cs : List SessionConfig) (event : Line) → is_named event cs ≡ true → is_named event (inserted c cs) ≡ true
-named_more c cs (events.Rx m a) h = refl
-named_more c cs (events.Tick t) h = refl
-named_more c cs (events.Cmd m d cmd) h = any_inserted discr_of (λ o. d == discr_of o) c cs ∙ or_true (d == discr_of c) (is_named (events.Cmd m d cmd) cs) h
-named_more c cs (events.Show m d) h = any_inserted discr_of (λ o. d == discr_of o) c cs ∙ or_true (d == discr_of c) (is_named (events.Show m d) cs) h
+named_more c cs (events.Cmd m d cmd) h = any_inserted discr_of (λ o. d == discr_of o) c cs ∙ or_right (d == discr_of c) (is_named (events.Cmd m d cmd) cs) h
+named_more c cs (events.Show m d) h = any_inserted discr_of (λ o. d == discr_of o) c cs ∙ or_right (d == discr_of c) (is_named (events.Show m d) cs) h
+named_more c cs event h = refl
 
 all_named : (c : SessionConfig) (cs more : List SessionConfig) (lines : List Line) → more ≡ inserted c cs → AreNamed cs lines → AreNamed more lines
 all_named c cs more lines e h = subst (λ t. AreNamed t lines) (sym e) (each_to lines (named_more c cs) h)
@@ -34,10 +30,9 @@ any_named : (f : SessionConfig → SessionConfig) → Keeps f → (k d : ℕ) (c
 any_named f kept k d cs = any_changed (λ o. d == discr_of o) f k cs (λ c. ap (λ n. d == n) (kept.discr c))
 
 named_changed : (f : SessionConfig → SessionConfig) → Keeps f → (k : ℕ) (cs : List SessionConfig) (event : Line) → is_named event cs ≡ true → is_named event (changed k f cs) ≡ true
-named_changed f kept k cs (events.Rx m a) h = refl
-named_changed f kept k cs (events.Tick t) h = refl
 named_changed f kept k cs (events.Cmd m d cmd) h = any_named f kept k d cs ∙ h
 named_changed f kept k cs (events.Show m d) h = any_named f kept k d cs ∙ h
+named_changed f kept k cs event h = refl
 
 still_named : (f : SessionConfig → SessionConfig) → Keeps f → (k : ℕ) (cs more : List SessionConfig) (lines : List Line) → more ≡ changed k f cs → AreNamed cs lines → AreNamed more lines
 still_named f kept k cs more lines e h = subst (λ t. AreNamed t lines) (sym e) (each_to lines (named_changed f kept k cs) h)
@@ -52,7 +47,7 @@ pub reading_row : (c : SessionConfig) (k : ℕ) (taken full : Bool) (cs more : L
     → IsReading cs pool lines → more ≡ inserted c cs → k ≡ discr_of c → taken ≡ (has_discr k cs || has_reflector k pool) → taken ≡ false
     → full ≡ nat_le 65536 (length cs + length pool) → full ≡ false → IsReading more pool lines
 reading_row c k taken full cs more pool lines were e key taken_is free full_is room =
-    let none = or_false (has_discr (discr_of c) cs) (has_reflector (discr_of c) pool) (ap (λ n. has_discr n cs || has_reflector n pool) (sym key) ∙ sym taken_is ∙ free) in
+    let none = or_parts (has_discr (discr_of c) cs) (has_reflector (discr_of c) pool) (ap (λ n. has_discr n cs || has_reflector n pool) (sym key) ∙ sym taken_is ∙ free) in
     let longer = length_inserted discr_of c cs in
     let few = has_room full (length cs + length pool) full_is room in
     subst (λ xs. IsReading xs pool lines) (sym e) (record {
@@ -67,7 +62,7 @@ pub reading_reflector : (r : Reflector) (taken full : Bool) (cs : List SessionCo
     → IsReading cs pool lines → more ≡ pooled r pool → taken ≡ (has_discr r.discr cs || has_reflector r.discr pool) → taken ≡ false
     → full ≡ nat_le 65536 (length cs + length pool) → full ≡ false → IsReading cs more lines
 reading_reflector r taken full cs pool more lines were e taken_is free full_is room =
-    let none = or_false (has_discr r.discr cs) (has_reflector r.discr pool) (sym taken_is ∙ free) in
+    let none = or_parts (has_discr r.discr cs) (has_reflector r.discr pool) (sym taken_is ∙ free) in
     let longer = length_inserted number_of r pool in
     let few = has_room full (length cs + length pool) full_is room in
     subst (λ xs. IsReading cs xs lines) (sym e) (record {

@@ -7,12 +7,11 @@ use Rattle.std.specs.Map.{values_of, lookup}
 use Rattle.std.specs.BTreeMap.{is_at, insert_entry}
 use Rattle.std.specs.Ordering.{nat_cmp, is_eq, match_ordering}
 use Rattle.std.specs.declared.cmp.Ordering.TheVariants.{Less, Equal, Greater}
+use Rattle.std.proofs.lemmas.Bool.{or_parts}
+use Rattle.bfd_demux.proofs.AlikeRows.{nat_level}
 use Rattle.bfd_script.specs.Rows.{by_number, has_number, insert_by}
 
 -- ---- the entries
-
-pub level : (a b : ℕ) → is_eq (nat_cmp a b) ≡ (a == b)
-level a b = grind (arith, nat_tests)
 
 known_step : {X : Type 0} (at same has : Bool) (x : X) (o : Option X) → at ≡ same → is_some o ≡ has → is_some (cond at (Some x) o) ≡ (same || has)
 known_step at true has x o e rest = rw e refl
@@ -22,7 +21,7 @@ known_step at false has x o e rest = rw e rest
 known : {X : Type 0} (number : X → ℕ) (k : ℕ) (xs : List X) → is_some (lookup (is_at (nat_cmp k)) (by_number number xs)) ≡ has_number number k xs
 known number k [] = refl
 known number k (x ∷ xs) =
-    known_step (is_eq (nat_cmp k (number x))) (k == number x) (has_number number k xs) x (lookup (is_at (nat_cmp k)) (by_number number xs)) (level k (number x)) (known number k xs)
+    known_step (is_eq (nat_cmp k (number x))) (k == number x) (has_number number k xs) x (lookup (is_at (nat_cmp k)) (by_number number xs)) (nat_level k (number x)) (known number k xs)
 
 pub known_among : {X : Type 0} (number : X → ℕ) (k : ℕ) (entries : List (ℕ × X)) → entries ≡ by_number number (values_of entries)
     → is_some (lookup (is_at (nat_cmp k)) entries) ≡ has_number number k (values_of entries)
@@ -93,18 +92,11 @@ pub length_inserted : {X : Type 0} (number : X → ℕ) (x : X) (xs : List X) �
 length_inserted number x [] = refl
 length_inserted number x (y ∷ ys) = length_cond (nat_lt (number x) (number y)) x y ys (insert_by number x ys) (length_inserted number x ys)
 
-pub or_false : (p q : Bool) → (p || q) ≡ false → (p ≡ false) × (q ≡ false)
-or_false true q h = cc
-or_false false q h = (refl, h)
-
 -- none passes the test
 pub none_any : {X : Type 0} (test : X → Bool) (xs : List X) → list_any test xs ≡ false → AllByRecursion (λ x. test x ≡ false) xs
 none_any test [] h = tt
-none_any test (x ∷ xs) h = let e = or_false (test x) (list_any test xs) h in (e.0, none_any test xs e.1)
+none_any test (x ∷ xs) h = let e = or_parts (test x) (list_any test xs) h in (e.0, none_any test xs e.1)
 
 -- below, equal or above
 pub is_above : (a b : ℕ) → nat_lt a b ≡ false → (a == b) ≡ false → b < a
 is_above a b not_below other = grind (arith, nat_tests)
-
-pub is_below : (a b : ℕ) → nat_lt a b ≡ true → a < b
-is_below a b h = grind (arith, nat_tests)

@@ -1,5 +1,5 @@
 -- The numbers of an address, digit by digit.
-use Rattle.std.proofs.Common.{◌≡◌, ℕ, ◌+◌, ◌-◌, ◌*◌, ◌/◌, ◌%◌, ◌<◌, ◌≤◌, ◌^◌, ◌==◌, ◌&&◌, cond, Bool, true, false, List, [], ◌∷◌, length, take, drop, Result, Ok, Err, refl, ap, ◌∙◌, sym, arith}
+use Rattle.std.proofs.Common.{◌≡◌, ℕ, ◌+◌, ◌-◌, ◌*◌, ◌/◌, ◌%◌, ◌<◌, ◌≤◌, ◌==◌, cond, Bool, true, false, List, [], ◌∷◌, length, take, drop, Ok, Err, refl, ap, ◌∙◌, sym, arith}
 use Rattle.std.proofs.Math.Seq.{take-length}
 use Rattle.std.proofs.lemmas.Bool.Decides.{nat_tests}
 use Rattle.std.proofs.lemmas.List.{length-drop}
@@ -8,9 +8,7 @@ use Rattle.std.specs.Char.{digit_value, is_ascii_digit}
 use Rattle.std.specs.List.{before_first, slice_split}
 use Rattle.std.specs.Str.Parse.{digits_value}
 use Rattle.hex.specs.declared.error.FromHexError.TheVariants.{InvalidStringLength, OddLength}
-use Rattle.bfd_packet.specs.declared.arrival.Addr.{Addr}
 use Rattle.bfd_packet.specs.declared.arrival.Addr.TheVariants.{V4}
-use Rattle.bfd_script.specs.declared.fault.LineFault.{LineFault}
 use Rattle.bfd_script.specs.Fields.{is_number}
 use Rattle.bfd_script.specs.Values.{address_by, address_of, dotted_of, octet_of, quad_of}
 use Rattle.bfd_script.proofs.Cutting.{four}
@@ -63,53 +61,41 @@ behind n field = ap (λ k. take k (drop n field)) (sym (length-drop n field)) �
 
 pub part_1 : (field rest : List ℕ) → 2 ≤ length field → 48 ≤ slice_index field 0 → slice_index field 0 ≤ 57 → slice_index field 1 ≡ 46
     → rest ≡ take (length field - 2) (drop 2 field) → Part field (slice_index field 0 - 48) rest
-part_1 [] rest long low high dot e = absurd (omega (arith, long))
-part_1 (a ∷ []) rest long low high dot e = absurd (omega (arith, long))
 part_1 (a ∷ y ∷ bytes) rest long low high dot e = rw (e ∙ behind 2 (a ∷ y ∷ bytes), dot, no_dot a low) (octet_1 a low high, refl)
+part_1 field rest long low high dot e = absurd (omega (arith, long))
 
 pub part_2 : (field rest : List ℕ) → 3 ≤ length field → 49 ≤ slice_index field 0 → slice_index field 0 ≤ 57 → 48 ≤ slice_index field 1
     → slice_index field 1 ≤ 57 → slice_index field 2 ≡ 46 → rest ≡ take (length field - 3) (drop 3 field)
     → Part field ((slice_index field 0 - 48) * 10 + (slice_index field 1 - 48)) rest
-part_2 [] rest long low high least most dot e = absurd (omega (arith, long))
-part_2 (a ∷ []) rest long low high least most dot e = absurd (omega (arith, long))
-part_2 (a ∷ b ∷ []) rest long low high least most dot e = absurd (omega (arith, long))
 part_2 (a ∷ b ∷ y ∷ bytes) rest long low high least most dot e =
     rw (e ∙ behind 3 (a ∷ b ∷ y ∷ bytes), dot, no_dot a (omega (arith, low)), no_dot b least) (octet_2 a b low high least most, refl)
+part_2 field rest long low high least most dot e = absurd (omega (arith, long))
 
 pub part_3 : (field rest : List ℕ) → 4 ≤ length field → 49 ≤ slice_index field 0 → slice_index field 0 ≤ 57 → 48 ≤ slice_index field 1
     → slice_index field 1 ≤ 57 → 48 ≤ slice_index field 2 → slice_index field 2 ≤ 57 → slice_index field 3 ≡ 46 → rest ≡ take (length field - 4) (drop 4 field)
     → (slice_index field 0 - 48) * 100 + (slice_index field 1 - 48) * 10 + (slice_index field 2 - 48) < 256
     → Part field ((slice_index field 0 - 48) * 100 + (slice_index field 1 - 48) * 10 + (slice_index field 2 - 48)) rest
-part_3 [] rest long low high least most least' most' dot e small = absurd (omega (arith, long))
-part_3 (a ∷ []) rest long low high least most least' most' dot e small = absurd (omega (arith, long))
-part_3 (a ∷ b ∷ []) rest long low high least most least' most' dot e small = absurd (omega (arith, long))
-part_3 (a ∷ b ∷ c ∷ []) rest long low high least most least' most' dot e small = absurd (omega (arith, long))
 part_3 (a ∷ b ∷ c ∷ y ∷ bytes) rest long low high least most least' most' dot e small =
     rw (e ∙ behind 4 (a ∷ b ∷ c ∷ y ∷ bytes), dot, no_dot a (omega (arith, low)), no_dot b least, no_dot c least') (octet_3 a b c low high least most least' most' small, refl)
+part_3 field rest long low high least most least' most' dot e small = absurd (omega (arith, long))
 
 -- ---- the last number
 
 pub end_1 : (field : List ℕ) → length field ≡ 1 → 48 ≤ slice_index field 0 → slice_index field 0 ≤ 57 → octet_of field ≡ Ok (slice_index field 0 - 48)
-end_1 [] long low high = absurd (omega (arith, long))
 end_1 (a ∷ []) long low high = octet_1 a low high
-end_1 (a ∷ b ∷ bytes) long low high = absurd (omega (arith, long))
+end_1 field long low high = absurd (omega (arith, long))
 
 pub end_2 : (field : List ℕ) → length field ≡ 2 → 49 ≤ slice_index field 0 → slice_index field 0 ≤ 57 → 48 ≤ slice_index field 1
     → slice_index field 1 ≤ 57 → octet_of field ≡ Ok ((slice_index field 0 - 48) * 10 + (slice_index field 1 - 48))
-end_2 [] long low high least most = absurd (omega (arith, long))
-end_2 (a ∷ []) long low high least most = absurd (omega (arith, long))
 end_2 (a ∷ b ∷ []) long low high least most = octet_2 a b low high least most
-end_2 (a ∷ b ∷ c ∷ bytes) long low high least most = absurd (omega (arith, long))
+end_2 field long low high least most = absurd (omega (arith, long))
 
 pub end_3 : (field : List ℕ) → length field ≡ 3 → 49 ≤ slice_index field 0 → slice_index field 0 ≤ 57 → 48 ≤ slice_index field 1
     → slice_index field 1 ≤ 57 → 48 ≤ slice_index field 2 → slice_index field 2 ≤ 57
     → (slice_index field 0 - 48) * 100 + (slice_index field 1 - 48) * 10 + (slice_index field 2 - 48) < 256
     → octet_of field ≡ Ok ((slice_index field 0 - 48) * 100 + (slice_index field 1 - 48) * 10 + (slice_index field 2 - 48))
-end_3 [] long low high least most least' most' small = absurd (omega (arith, long))
-end_3 (a ∷ []) long low high least most least' most' small = absurd (omega (arith, long))
-end_3 (a ∷ b ∷ []) long low high least most least' most' small = absurd (omega (arith, long))
 end_3 (a ∷ b ∷ c ∷ []) long low high least most least' most' small = octet_3 a b c low high least most least' most' small
-end_3 (a ∷ b ∷ c ∷ y ∷ bytes) long low high least most least' most' small = absurd (omega (arith, long))
+end_3 field long low high least most least' most' small = absurd (omega (arith, long))
 
 -- ---- all four
 

@@ -5,6 +5,7 @@ use Rattle.std.specs.Prelude.{is_some}
 use Rattle.std.specs.Map.{values_of, lookup}
 use Rattle.std.specs.BTreeMap.{is_at, insert_entry}
 use Rattle.std.specs.Ordering.{nat_cmp}
+use Rattle.std.proofs.lemmas.Bool.{or_parts, or_from, ltb-true}
 use Rattle.bfd_sbfd.specs.Reflect.{Ascends}
 use Rattle.bfd_sbfd.specs.declared.reflecting.Reflector.{Reflector}
 use Rattle.bfd_session.specs.declared.event.SessionConfig.{SessionConfig}
@@ -13,7 +14,7 @@ use Rattle.bfd_script.specs.Rows.{has_discr, has_reflector, inserted, number_of,
 use Rattle.bfd_script.specs.Sound.{AreApart, ArePool, IsReflector}
 use Rattle.bfd_script.specs.Tables.{IsPool}
 use Rattle.bfd_script.proofs.Elements.{each_to}
-use Rattle.bfd_script.proofs.Numbered.{any_inserted, each_inserted, entries_more, is_above, is_below, known_among, or_false}
+use Rattle.bfd_script.proofs.Numbered.{any_inserted, each_inserted, entries_more, is_above, known_among}
 
 pub known_at : (k : ℕ) (entries : List (ℕ × Reflector)) → entries ≡ pool_by_discr (values_of entries)
     → is_some (lookup (is_at (nat_cmp k)) entries) ≡ has_reflector k (values_of entries)
@@ -25,7 +26,7 @@ ascends_cond : (less same has : Bool) (r q : Reflector) (pool : List Reflector)
     → nat_lt r.discr q.discr ≡ less → (r.discr == q.discr) ≡ same → (same || has) ≡ false
     → Ascends (q ∷ pool) → (has ≡ false → Ascends (pooled r pool)) → Ascends (cond less (r ∷ q ∷ pool) (q ∷ pooled r pool))
 ascends_cond true same has r q pool l s none all more =
-    let low : r.discr < q.discr = is_below r.discr q.discr l in
+    let low : r.discr < q.discr = ltb-true r.discr q.discr l in
     ((low, each_to pool (λ x h. let k : q.discr < x.discr = h in omega arith) all.0), all)
 ascends_cond false true has r q pool l s none all more = cc
 ascends_cond false false has r q pool l s none all more =
@@ -60,15 +61,12 @@ pool_more r pool entries more were view none row e =
 turned_apart : (a b : ℕ) → (a == b) ≡ false → (b == a) ≡ false
 turned_apart a b h = grind (arith, nat_tests)
 
-neither : (p q : Bool) → p ≡ false → q ≡ false → (p || q) ≡ false
-neither p q e f = rw (e, f) refl
-
 -- one more session with a discriminator that no reflector has
 pub apart_inserted : (c : SessionConfig) (cs : List SessionConfig) (pool : List Reflector) → has_reflector (discr_of c) pool ≡ false → AreApart cs pool → AreApart (inserted c cs) pool
 apart_inserted c cs [] none apart = tt
 apart_inserted c cs (r ∷ pool) none apart =
-    let e = or_false (discr_of c == r.discr) (has_reflector (discr_of c) pool) none in (
-      any_inserted discr_of (λ d. r.discr == discr_of d) c cs ∙ neither (r.discr == discr_of c) (has_discr r.discr cs) (turned_apart (discr_of c) r.discr e.0) apart.0,
+    let e = or_parts (discr_of c == r.discr) (has_reflector (discr_of c) pool) none in (
+      any_inserted discr_of (λ d. r.discr == discr_of d) c cs ∙ or_from (r.discr == discr_of c) (has_discr r.discr cs) (turned_apart (discr_of c) r.discr e.0) apart.0,
       apart_inserted c cs pool e.1 apart.1,
     )
 

@@ -15,7 +15,7 @@ use Rattle.bfd_engine.specs.Turned.{by, entry_of, given_after}
 use Rattle.bfd_engine.specs.Engines.{Shards, Knows, configs_at}
 use Rattle.bfd_engine.specs.Calls.{Act, Turns, Rests, seen_at, word_at, mine, IsDone, IsCall, IsFailed, IsCause}
 use Rattle.bfd_serve.specs.declared.ending.End.{End}
-use Rattle.bfd_serve.specs.declared.ending.End.TheVariants.{Ended, LinkFault, ClockFault, Full, Turns as TurnsMade, Spent, Memory}
+use Rattle.bfd_serve.specs.declared.ending.End.TheVariants.{Full, Spent, Memory}
 use Rattle.bfd_serve.specs.Calls.{calls_of, entries, until, datagrams, given_by, sends}
 use Rattle.bfd_serve.specs.Works.{HasSent, IsSettled, Did, Stops, IsAside, IsStopped, IsWhole, AreDone, end_of}
 use Rattle.bfd_serve.proofs.Packets.{traffic_same, traffic_join, risen_same, risen_join, lacks_append}
@@ -23,26 +23,6 @@ use Rattle.bfd_serve.proofs.Histories.{until_last, entries_append, calls_of_appe
 use Rattle.bfd_serve.proofs.Gains.{begins_self, begins_trans, calls_append, mine_call, mine_fault, grows, words, taken_call}
 
 module _ (engine : Shards) where
-  pub did_none : (k : Knows) (t : LinkTold) (lost : ℕ) → Did engine k k t t [] [] [] [] lost lost
-  did_none k t lost = record {
-    number = refl;
-    used = refl;
-    gains = λ s. sym (append-nil (mine k s));
-    grows = λ s. begins_self (seen_at k s);
-    words = λ s. le_refl (word_at k s);
-    taken = λ s. omega arith;
-    made = λ s. refl;
-    keeps = λ s. refl;
-    tried = [];
-    kept = [];
-    missing = 0;
-    sends_are = refl;
-    lacks = (refl, refl);
-    traffic = sym (traffic_same t.traffic);
-    send_faults = risen_same t.counts.send_faults;
-    lost_is = risen_same lost;
-  }
-
   -- something was heard, and not handled yet
   pub did_hear : (k : Knows) (t u : LinkTold) (hs : List (ℕ × Arrival)) (lost : ℕ) → u.traffic ≡ more_traffic hs [] t.traffic → u.counts.send_faults ≡ t.counts.send_faults → Did engine k k t u hs [] [] [] lost lost
   did_hear k t u hs lost traffic faults = record {
@@ -63,6 +43,9 @@ module _ (engine : Shards) where
     send_faults = faults ∙ risen_same t.counts.send_faults;
     lost_is = risen_same lost;
   }
+
+  pub did_none : (k : Knows) (t : LinkTold) (lost : ℕ) → Did engine k k t t [] [] [] [] lost lost
+  did_none k t lost = did_hear k t t [] lost (sym (traffic_same t.traffic)) refl
 
   -- how many calls a caller has on a shard afterwards
   count_of : (k l : Knows) (t u : LinkTold) (hs : List (ℕ × Arrival)) (xs cut : List Act) (untried : List Datagram) (a b : ℕ) → Did engine k l t u hs xs cut untried a b
@@ -256,10 +239,7 @@ module _ (engine : Shards) where
   stops_less h w cut more untried (Full shard n) s = (s.0, s.1, (s.2.0, s.2.1 ++ more, ap (λ x. x ++ more) s.2.2), s.3)
   stops_less h w cut more untried (Spent shard word) s = (s.0, s.1, s.2, (s.3.0, s.3.1 ++ more, ap (λ x. x ++ more) s.3.2))
   stops_less h w cut more untried Memory s = tt
-  stops_less h w cut more untried Ended s = s
-  stops_less h w cut more untried LinkFault s = s
-  stops_less h w cut more untried ClockFault s = s
-  stops_less h w cut more untried (TurnsMade n) s = s
+  stops_less h w cut more untried end s = s
 
   -- the acts that follow are left out too
   pub stopped_less : (xs more : List Act) (k l : Knows) (t u : LinkTold) (a b : ℕ) (end : End) → IsStopped engine xs k l t u a b end → IsStopped engine (xs ++ more) k l t u a b end
@@ -278,10 +258,7 @@ module _ (engine : Shards) where
   stops_grow h h2 w w2 cut untried (Full shard n) longer more s = (s.0, (let a = longer shard in let b = s.1 in omega arith), s.2, s.3)
   stops_grow h h2 w w2 cut untried (Spent shard word) longer more s = (s.0, s.1, (let a = more shard in let b = s.2 in omega arith), s.3)
   stops_grow h h2 w w2 cut untried Memory longer more s = tt
-  stops_grow h h2 w w2 cut untried Ended longer more s = s
-  stops_grow h h2 w w2 cut untried LinkFault longer more s = s
-  stops_grow h h2 w w2 cut untried ClockFault longer more s = s
-  stops_grow h h2 w w2 cut untried (TurnsMade n) longer more s = s
+  stops_grow h h2 w w2 cut untried end longer more s = s
 
   pub done_then : (xs ys : List Act) (k l m : Knows) (t u v : LinkTold) (a b c : ℕ) (r : Result (Unit {0}) End) → IsWhole engine xs k l t u a b → AreDone engine ys l m u v b c r → AreDone engine (xs ++ ys) k m t v a c r
   done_then xs ys k l m t u v a b c (Ok x) p q = whole_then xs ys k l m t u v a b c p q

@@ -1,9 +1,11 @@
 -- From what each caller did to what all did.
-use Rattle.std.proofs.Common.{◌≡◌, ℕ, zero, suc, ◌+◌, ◌*◌, ◌<◌, ◌≤◌, List, [], ◌∷◌, ◌++◌, length, map, Some, None, slice_get, get_or, slice_index_or, refl, ap, ap₂, sym, ◌∙◌, subst, length-append, arith}
+use Rattle.std.proofs.Common.{◌≡◌, ℕ, zero, suc, ◌+◌, ◌*◌, ◌<◌, ◌≤◌, List, [], ◌∷◌, ◌++◌, length, map, Some, slice_get, get_or, slice_index_or, refl, ap, sym, ◌∙◌, subst, length-append, arith}
 use Rattle.std.specs.List.{All, sum}
 use Rattle.std.proofs.lemmas.List.Elements.{All-get_or}
-use Rattle.std.proofs.lemmas.List.{length-map, get_or-map, get_or_default}
+use Rattle.std.proofs.lemmas.List.{length-map, get_or-map, get_or_default, same_lists, get_or_append_left}
 use Rattle.std.proofs.lemmas.List.Sums.{sum_by-le}
+use Rattle.std.proofs.lemmas.Option.{slice_get_past}
+use Rattle.std.proofs.Math.Seq.{get_or-append_seam}
 use mathlib.Core.Logic.{dite}
 use native.Mathlib.Decide.{dec_lt}
 use Rattle.bfd_packet.specs.declared.arrival.Arrival.{Arrival}
@@ -19,7 +21,7 @@ use Rattle.bfd_engine.specs.Turned.{by}
 use Rattle.bfd_engine.specs.Engines.{Shards, Knows, IsOf}
 use Rattle.bfd_engine.specs.Calls.{Act, seen_of, word_of, seen_at, word_at, taken_at, kept_at, mine}
 use Rattle.bfd_serve.specs.declared.ending.End.{End}
-use Rattle.bfd_serve.specs.declared.ending.End.TheVariants.{Ended, LinkFault, ClockFault, Full, Turns as TurnsMade, Spent, Memory}
+use Rattle.bfd_serve.specs.declared.ending.End.TheVariants.{Full, Spent}
 use Rattle.bfd_serve.specs.declared.jobs.Job.{Job}
 use Rattle.bfd_serve.specs.Calls.{calls_of, entries, sends, worker_acts}
 use Rattle.bfd_serve.specs.Works.{Did, IsWorkerEnd, HasWorked}
@@ -33,12 +35,6 @@ use Rattle.bfd_serve.proofs.Weights.{timer_weight, arrivals_weight}
 use Rattle.bfd_serve.proofs.Turning.{acts_append}
 use Rattle.bfd_serve.proofs.Splits.{kept_numbers, kept_length}
 
-no_element : {X : Type 0} (xs : List X) (i : ℕ) → length xs ≤ i → slice_get xs i ≡ None
-no_element [] zero h = refl
-no_element [] (suc i) h = refl
-no_element (x ∷ xs) zero h = absurd (omega arith)
-no_element (x ∷ xs) (suc i) h = no_element xs i (omega arith)
-
 -- a number below another, or not
 by_shard : (P : ℕ → Type 0) (s n : ℕ) → (s < n → P s) → (n ≤ s → P s) → P s
 by_shard P s n inside beyond = dite (dec_lt s n) inside (λ far. beyond (omega (arith, far)))
@@ -46,10 +42,10 @@ by_shard P s n inside beyond = dite (dec_lt s n) inside (λ far. beyond (omega (
 module _ (engine : Shards) where
   -- beyond the last shard nothing is seen
   seen_beyond : (k : Knows) (s : ℕ) → IsOf engine k.1 → length engine.locks ≤ s → seen_at k s ≡ []
-  seen_beyond k s of h = ap seen_of (no_element k.1 s (let a = of.long in omega arith))
+  seen_beyond k s of h = ap seen_of (slice_get_past k.1 s (let a = of.long in omega arith))
 
   word_beyond : (k : Knows) (s : ℕ) → IsOf engine k.1 → length engine.locks ≤ s → word_at k s ≡ 0
-  word_beyond k s of h = ap word_of (no_element k.1 s (let a = of.long in omega arith))
+  word_beyond k s of h = ap word_of (slice_get_past k.1 s (let a = of.long in omega arith))
 
   none_seen : (k : Knows) → IsOf engine k.1 → ((s : ℕ) → s < length engine.locks → seen_at k s ≡ []) → (s : ℕ) → seen_at k s ≡ []
   none_seen k of each s = by_shard (λ i. seen_at k i ≡ []) s (length engine.locks) (each s) (seen_beyond k s of)
@@ -83,21 +79,13 @@ module _ (engine : Shards) where
       → IsWorkerEnd engine h w t u turns cut untried end → IsWorkerEnd engine h2 w2 t u turns cut untried end
   worker_end_grows h h2 w w2 t u turns cut untried (Full shard n) longer more i = (i.0, i.1, stops_grow engine h h2 w w2 cut untried (Full shard n) longer more i.2)
   worker_end_grows h h2 w w2 t u turns cut untried (Spent shard word) longer more i = (i.0, i.1, stops_grow engine h h2 w w2 cut untried (Spent shard word) longer more i.2)
-  worker_end_grows h h2 w w2 t u turns cut untried Memory longer more i = i
-  worker_end_grows h h2 w w2 t u turns cut untried Ended longer more i = i
-  worker_end_grows h h2 w w2 t u turns cut untried LinkFault longer more i = i
-  worker_end_grows h h2 w w2 t u turns cut untried ClockFault longer more i = i
-  worker_end_grows h h2 w w2 t u turns cut untried (TurnsMade n) longer more i = i
+  worker_end_grows h h2 w w2 t u turns cut untried end longer more i = i
 
   timer_end_grows : (h h2 : ℕ → List Entry) (w w2 : ℕ → ℕ) (c d : TickerTold) (got : List ℕ) (ticks : ℕ) (cut : List Act) (untried : List Datagram) (end : End) → ((s : ℕ) → length (h s) ≤ length (h2 s)) → ((s : ℕ) → w s ≤ w2 s)
       → IsTimerEnd engine h w c d got ticks cut untried end → IsTimerEnd engine h2 w2 c d got ticks cut untried end
   timer_end_grows h h2 w w2 c d got ticks cut untried (Full shard n) longer more i = (i.0, stops_grow engine h h2 w w2 cut untried (Full shard n) longer more i.1)
   timer_end_grows h h2 w w2 c d got ticks cut untried (Spent shard word) longer more i = (i.0, stops_grow engine h h2 w w2 cut untried (Spent shard word) longer more i.1)
-  timer_end_grows h h2 w w2 c d got ticks cut untried Memory longer more i = i
-  timer_end_grows h h2 w w2 c d got ticks cut untried Ended longer more i = i
-  timer_end_grows h h2 w w2 c d got ticks cut untried LinkFault longer more i = i
-  timer_end_grows h h2 w w2 c d got ticks cut untried ClockFault longer more i = i
-  timer_end_grows h h2 w w2 c d got ticks cut untried (TurnsMade n) longer more i = i
+  timer_end_grows h h2 w w2 c d got ticks cut untried end longer more i = i
 
   worker_did : (k o m : Knows) (n : ℕ) (t u : LinkTold) (turns : ℕ) (end : End) (lost : ℕ) → HasWorked engine k o t u turns end lost → k.0 ≡ n → ((s : ℕ) → seen_at k s ≡ [])
       → ((s : ℕ) → Begins (seen_at o s) (seen_at m s)) → ((s : ℕ) → word_at o s ≤ word_at m s) → WorkerDid engine n (mine o) (seen_at m) (word_at m) t u turns end lost
@@ -130,21 +118,12 @@ numbers_long : (n : ℕ) → length (numbers n) ≡ n
 numbers_long zero = refl
 numbers_long (suc n) = length-append (numbers n) (suc n ∷ []) ∙ (let a = numbers_long n in omega arith)
 
-get_front : {X : Type 0} (xs ys : List X) (i : ℕ) (d : X) → i < length xs → get_or (xs ++ ys) i d ≡ get_or xs i d
-get_front [] ys i d h = absurd (omega arith)
-get_front (x ∷ xs) ys zero d h = refl
-get_front (x ∷ xs) ys (suc i) d h = get_front xs ys i d (omega arith)
-
-get_last : {X : Type 0} (xs : List X) (x d : X) → get_or (xs ++ x ∷ []) (length xs) d ≡ x
-get_last [] x d = refl
-get_last (z ∷ zs) x d = get_last zs x d
-
 numbers_get : (n i d : ℕ) → i < n → get_or (numbers n) i d ≡ i + 1
 numbers_get zero i d h = absurd (omega arith)
 numbers_get (suc n) i d h = dite (dec_lt i n)
-    (λ less. get_front (numbers n) (suc n ∷ []) i d (let a = numbers_long n in omega arith) ∙ numbers_get n i d less)
+    (λ less. get_or_append_left (numbers n) (suc n ∷ []) d i (let a = numbers_long n in omega arith) ∙ numbers_get n i d less)
     (λ last. let is : i ≡ length (numbers n) = (let a = numbers_long n in omega (arith, last)) in
-    ap (λ j. get_or (numbers n ++ suc n ∷ []) j d) is ∙ (get_last (numbers n) (suc n) d ∙ (let a = numbers_long n in omega arith)))
+    ap (λ j. get_or (numbers n ++ suc n ∷ []) j d) is ∙ (get_or-append_seam (numbers n) (suc n) [] d ∙ (let a = numbers_long n in omega arith)))
 
 calls_kept_get : (s : ℕ) (os : List Knows) (i : ℕ) (d : Knows) → i < length os → slice_get (calls_kept s os) i ≡ Some ((get_or os i d).0, mine (get_or os i d) s)
 calls_kept_get s [] i d h = absurd (omega arith)
@@ -155,13 +134,6 @@ calls_kept_get s (o ∷ os) (suc i) d h = calls_kept_get s os i d (omega arith)
 pick : {X : Type 0} (xs : List X) (i : ℕ) → i < length xs → X
 pick [] i h = absurd (omega arith)
 pick (x ∷ xs) i h = x
-
--- lists that agree at each place
-same_list : {X : Type 0} (xs ys : List X) → length xs ≡ length ys → ((i : ℕ) (d : X) → i < length xs → get_or xs i d ≡ get_or ys i d) → xs ≡ ys
-same_list [] [] len each = refl
-same_list [] (y ∷ ys) len each = absurd (omega (arith, len))
-same_list (x ∷ xs) [] len each = absurd (omega (arith, len))
-same_list (x ∷ xs) (y ∷ ys) len each = ap₂ ◌∷◌ (each 0 x (omega arith)) (same_list xs ys (omega (arith, len)) (λ i d h. each (suc i) d (omega arith)))
 
 -- the jobs before the work
 pub all_ready : {L : Type 0} (told : L → LinkTold) (engine : Shards) (jobs : List (Job L)) → All (IsFresh engine) (map pass_of jobs) → All (IsOpen told) (map link_of jobs) → All (IsReady told engine) jobs
@@ -196,7 +168,7 @@ module _ {L : Type 0} (told : L → LinkTold) (engine : Shards) (k : Knows) (tur
   pass_after i j h = get_or-map pass_of after i j j.pass (omega (arith, long))
 
   numbers_after : map number_of (map pass_of after) ≡ numbers n
-  numbers_after = same_list (map number_of (map pass_of after)) (numbers n) (length-map (map pass_of after) number_of ∙ (length-map after pass_of ∙ (long ∙ (count_is ∙ sym (numbers_long n))))) (λ i x h.
+  numbers_after = same_lists (map number_of (map pass_of after)) (numbers n) (length-map (map pass_of after) number_of ∙ (length-map after pass_of ∙ (long ∙ (count_is ∙ sym (numbers_long n))))) (λ i x h.
       let less : i < length before = (let a = length-map (map pass_of after) number_of in let b = length-map after pass_of in omega (arith, long)) in
       let j : Job L = pick before i less in
       get_or_default (map number_of (map pass_of after)) i x j.pass.0 h ∙ get_or-map number_of (map pass_of after) i j.pass j.pass.0 (let b = length-map after pass_of in omega (arith, long))

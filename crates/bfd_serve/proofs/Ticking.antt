@@ -11,7 +11,7 @@ use Rattle.bfd_edge.specs.Tickers.{Ticks, TickerTold, after_next, one_given}
 use Rattle.bfd_engine.specs.Engines.{Shards, Knows}
 use Rattle.bfd_engine.specs.Calls.{Act, seen_at, word_at}
 use Rattle.bfd_serve.specs.declared.ending.End.{End}
-use Rattle.bfd_serve.specs.declared.ending.End.TheVariants.{Ended, LinkFault, ClockFault, Full, Turns as TurnsMade, Spent, Memory}
+use Rattle.bfd_serve.specs.declared.ending.End.TheVariants.{ClockFault, Full, Spent, Memory}
 use Rattle.bfd_serve.specs.Orders.{due, orders_acts, tick_acts, ticks_acts, orders_left, timer_acts}
 use Rattle.bfd_serve.specs.Works.{Stops, IsStopped, IsWhole}
 use Rattle.bfd_serve.specs.Ticks.{more_given, IsTimerEnd, is_clock_fault, HasTimed, IsTicking, IsFinished}
@@ -50,19 +50,13 @@ module _ (engine : Shards) where
   no_clock_fault h w cut untried (Full shard n) s = refl
   no_clock_fault h w cut untried (Spent shard word) s = refl
   no_clock_fault h w cut untried Memory s = refl
-  no_clock_fault h w cut untried Ended s = absurd s
-  no_clock_fault h w cut untried LinkFault s = absurd s
-  no_clock_fault h w cut untried ClockFault s = absurd s
-  no_clock_fault h w cut untried (TurnsMade n) s = absurd s
+  no_clock_fault h w cut untried end s = absurd s
 
   timer_end : (h : ℕ → List Entry) (w : ℕ → ℕ) (c d : TickerTold) (got : List ℕ) (ticks : ℕ) (cut : List Act) (untried : List Datagram) (end : End) → Stops engine h w cut untried end → d.faults ≡ c.faults → IsTimerEnd engine h w c d got ticks cut untried end
   timer_end h w c d got ticks cut untried (Full shard n) s none = (none, s)
   timer_end h w c d got ticks cut untried (Spent shard word) s none = (none, s)
   timer_end h w c d got ticks cut untried Memory s none = none
-  timer_end h w c d got ticks cut untried Ended s none = absurd s
-  timer_end h w c d got ticks cut untried LinkFault s none = absurd s
-  timer_end h w c d got ticks cut untried ClockFault s none = absurd s
-  timer_end h w c d got ticks cut untried (TurnsMade n) s none = absurd s
+  timer_end h w c d got ticks cut untried end s none = absurd s
 
   -- the acts were stopped
   timed_stop : (k l : Knows) (t u : LinkTold) (c d : TickerTold) (orders : List Line) (ticks : ℕ) (end : End) (lost : ℕ) (got : List ℕ) → IsStopped engine (timer_acts engine orders got false) k l t u 0 lost end

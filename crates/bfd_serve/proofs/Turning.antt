@@ -9,7 +9,7 @@ use Rattle.bfd_edge.specs.Links.{LinkTold, after_receive}
 use Rattle.bfd_engine.specs.Engines.{Shards, Knows}
 use Rattle.bfd_engine.specs.Calls.{Act, seen_at, word_at}
 use Rattle.bfd_serve.specs.declared.ending.End.{End}
-use Rattle.bfd_serve.specs.declared.ending.End.TheVariants.{Ended, LinkFault, ClockFault, Full, Turns as TurnsMade, Spent, Memory}
+use Rattle.bfd_serve.specs.declared.ending.End.TheVariants.{Ended, LinkFault, Full, Turns as TurnsMade, Spent, Memory}
 use Rattle.bfd_serve.specs.Calls.{act_at, worker_acts}
 use Rattle.bfd_serve.specs.Works.{Did, Stops, AreDone, IsWorking, HasWorked, IsWorkerEnd}
 use Rattle.bfd_serve.proofs.Packets.{traffic_same, risen_same, risen_join}
@@ -28,25 +28,9 @@ module _ (engine : Shards) where
   did_as k l t u hs hs2 xs xs2 cut untried a b p q d = subst (λ (y : List (ℕ × Arrival) × List Act). Did engine k l t u y.0 y.1 cut untried a b) (λ i. (p i, q i)) d
 
   -- the link told more, of receiving alone
-  did_told : (k l : Knows) (t u v : LinkTold) (hs : List (ℕ × Arrival)) (xs cut : List Act) (untried : List Datagram) (a b : ℕ) → v.traffic ≡ u.traffic → v.counts.send_faults ≡ u.counts.send_faults → Did engine k l t u hs xs cut untried a b → Did engine k l t v hs xs cut untried a b
-  did_told k l t u v hs xs cut untried a b traffic faults d = record {
-    number = d.number;
-    used = d.used;
-    gains = d.gains;
-    grows = d.grows;
-    words = d.words;
-    taken = d.taken;
-    made = d.made;
-    keeps = d.keeps;
-    tried = d.tried;
-    kept = d.kept;
-    missing = d.missing;
-    sends_are = d.sends_are;
-    lacks = d.lacks;
-    traffic = traffic ∙ d.traffic;
-    send_faults = faults ∙ d.send_faults;
-    lost_is = d.lost_is;
-  }
+  did_told : (k l : Knows) (t u v : LinkTold) (hs : List (ℕ × Arrival)) (xs : List Act) (a b : ℕ) → v.traffic ≡ u.traffic → v.counts.send_faults ≡ u.counts.send_faults → Did engine k l t u hs xs [] [] a b → Did engine k l t v hs xs [] [] a b
+  did_told k l t u v hs xs a b traffic faults d = did_as k l t v (hs ++ []) hs (xs ++ []) xs [] [] a b (append-nil hs) (append-nil xs)
+      (did_then engine k l l t u v hs [] xs [] [] [] a b b d (did_hear engine l u v [] b (traffic ∙ sym (traffic_same u.traffic)) faults))
 
   -- of one act, either nothing was left out or all of it
   one_cut : (xs ys : List Act) (x : Act) → xs ++ ys ≡ x ∷ [] → ((xs ≡ []) × (ys ≡ x ∷ [])) ⊎ ((xs ≡ x ∷ []) × (ys ≡ []))
@@ -79,17 +63,14 @@ module _ (engine : Shards) where
   worker_end h w t u turns cut untried (Full shard n) s over none = (over, none, s)
   worker_end h w t u turns cut untried (Spent shard word) s over none = (over, none, s)
   worker_end h w t u turns cut untried Memory s over none = (over, none)
-  worker_end h w t u turns cut untried Ended s over none = absurd s
-  worker_end h w t u turns cut untried LinkFault s over none = absurd s
-  worker_end h w t u turns cut untried ClockFault s over none = absurd s
-  worker_end h w t u turns cut untried (TurnsMade n) s over none = absurd s
+  worker_end h w t u turns cut untried end s over none = absurd s
 
   pub working_quiet : (k l : Knows) (t u v : LinkTold) (n lost : ℕ) → IsWorking engine k l t u n lost → v ≡ after_receive received.Quiet u → IsWorking engine k l t v (n + 1) lost
   working_quiet k l t u v n lost g is = record {
     done = g.done;
     over = ap (λ (x : LinkTold). x.counts.over) is ∙ g.over;
     no_fault = ap (λ (x : LinkTold). x.counts.receive_faults) is ∙ g.no_fault;
-    did = did_told k l t u v g.done (worker_acts engine g.done) [] [] 0 lost (ap (λ (x : LinkTold). x.traffic) is ∙ traffic_same u.traffic) (ap (λ (x : LinkTold). x.counts.send_faults) is) g.did;
+    did = did_told k l t u v g.done (worker_acts engine g.done) 0 lost (ap (λ (x : LinkTold). x.traffic) is ∙ traffic_same u.traffic) (ap (λ (x : LinkTold). x.counts.send_faults) is) g.did;
     gave = ap (λ (x : LinkTold). x.counts.gave) is ∙ (ap (λ x. risen x 1) g.gave ∙ risen_join t.counts.gave n 1);
     few = (let f = g.few in omega arith);
   }
@@ -136,7 +117,7 @@ module _ (engine : Shards) where
     untried = [];
     ends = i;
     few = (let f = g.few in let b = ap length (append-nil g.done) in omega arith);
-    did = did_as k l t v g.done (g.done ++ []) (worker_acts engine g.done) (worker_acts engine g.done) [] [] 0 lost (sym (append-nil g.done)) refl (did_told k l t u v g.done (worker_acts engine g.done) [] [] 0 lost traffic faults g.did);
+    did = did_as k l t v g.done (g.done ++ []) (worker_acts engine g.done) (worker_acts engine g.done) [] [] 0 lost (sym (append-nil g.done)) refl (did_told k l t u v g.done (worker_acts engine g.done) 0 lost traffic faults g.did);
   }
 
   pub working_over : (k l : Knows) (t u v : LinkTold) (n lost turns : ℕ) → IsWorking engine k l t u n lost → n ≤ turns → v ≡ after_receive received.Ended u → HasWorked engine k l t v turns Ended lost

@@ -151,8 +151,6 @@ module _ (engine : Shards) (states : List Shard) (orders : List Line) (workers :
   by_blame : (at : ℕ) (x : End) → at < workers + 1 → get_or ends at end.Ended ≡ x → x ≢ end.Ended → ((j : ℕ) → j < at → get_or ends j end.Ended ≡ end.Ended) → IsPlain x
       → IsCause engine (history_at states) orders workers limits before after c d ends lost run journal (finish_by at x Done)
   by_blame at end.Ended inner is other first plain = absurd (other refl)
-  by_blame at (end.Spent s n) inner is other first plain = absurd plain
-  by_blame at end.Memory inner is other first plain = absurd plain
   by_blame zero (end.Full s n) inner is other first plain =
       let w = (timer_is (end.Full s n) is).1 in let f = full_at s n w.1 w.3 in record {
         inside = f.0;
@@ -193,6 +191,7 @@ module _ (engine : Shards) (states : List Shard) (orders : List Line) (workers :
         faults = subst (λ n. (after n).counts.receive_faults ≡ 0) e (w.3 ∙ no_faults i less);
         gave = subst (λ n. (after n).counts.gave ≡ limits.turns) e (let a = w.5 in let b = gave_none i less in omega (arith, a, b, turns_few));
       }
+  by_blame at x inner is other first plain = absurd plain
 
   timer_gave : (d.over ≡ true) ⊎ (length run.timer.did.got ≡ limits.ticks) → (d.over ≡ true) ⊎ (d.gave ≡ risen c.gave limits.ticks)
   timer_gave (inl x) = inl x

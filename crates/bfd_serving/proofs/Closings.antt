@@ -5,7 +5,7 @@ use Rattle.std.proofs.lemmas.Bool.Decides.{nat_tests}
 use Rattle.std.proofs.lemmas.List.Elements.{All-same, All-cons}
 use Rattle.std.proofs.lemmas.Nat.{mul-le}
 use Rattle.std.proofs.lemmas.List.{get_or_default}
-use Rattle.std.proofs.lemmas.Option.{slice_get_past}
+use Rattle.std.proofs.lemmas.Option.{slice_get_past, get_or_from_slice_get, slice_get_within, same_Some}
 use mathlib.Core.Logic.{dite}
 use native.Mathlib.Decide.{dec_lt}
 use Rattle.bfd_turn.specs.Lists.{calls, has, numbers_of}
@@ -20,9 +20,8 @@ use Rattle.bfd_engine.specs.Turned.{by}
 use Rattle.bfd_engine.specs.Engines.{Shards, Knows, IsOf}
 use Rattle.bfd_engine.specs.Calls.{Act, seen_of, word_of, seen_at, word_at, made_at, kept_at}
 use Rattle.bfd_engine.specs.Passes.{EachJoined, IsClosed, AreClosed}
-use Rattle.bfd_engine.proofs.Places.{within, same_some}
 use Rattle.bfd_serve.specs.declared.ending.End.{End}
-use Rattle.bfd_serve.specs.declared.ending.End.TheVariants.{Ended, LinkFault, ClockFault, Full, Turns as TurnsMade, Spent, Memory}
+use Rattle.bfd_serve.specs.declared.ending.End.TheVariants.{Ended, Spent}
 use Rattle.bfd_serve.specs.declared.serving.Limits.{Limits}
 use Rattle.bfd_serve.specs.Works.{IsWorkerEnd}
 use Rattle.bfd_serve.specs.Ticks.{IsTimerEnd}
@@ -35,12 +34,6 @@ pub there_is : {X : Type 0} (xs : List X) (i : ℕ) → i < length xs → (x : X
 there_is [] i h = absurd (omega arith)
 there_is (x ∷ xs) zero h = (x, refl)
 there_is (x ∷ xs) (suc i) h = there_is xs i (omega arith)
-
-pub read : {X : Type 0} (xs : List X) (i : ℕ) (x d : X) → slice_get xs i ≡ Some x → get_or xs i d ≡ x
-read [] zero x d e = absurd (cc e)
-read [] (suc i) x d e = absurd (cc e)
-read (y ∷ ys) zero x d e = same_some y x e
-read (y ∷ ys) (suc i) x d e = read ys i x d e
 
 none_has : (n : ℕ) (js : List (ℕ × List Entry)) → ((i : ℕ) (j : ℕ × List Entry) → slice_get js i ≡ Some j → j.0 ≢ n) → has n (numbers_of js) ≡ false
 none_has n [] f = refl
@@ -57,27 +50,17 @@ AreSmall words = (shard : ℕ) → words shard < 18446744073709551614
 timer_unspent : (engine : Shards) (histories : ℕ → List Entry) (words : ℕ → ℕ) (c d : TickerTold) (got : List ℕ) (ticks : ℕ) (cut : List Act) (untried : List Datagram) (end : End)
     → AreSmall words → IsTimerEnd engine histories words c d got ticks cut untried end → IsUnspent end × IsTimerEnd engine histories no_words c d got ticks cut untried end
 timer_unspent engine histories words c d got ticks cut untried (Spent shard word) small i = absurd (let a = small shard in let s = i.1 in let b = s.1 in let e = s.2 in omega (arith, a, b, e))
-timer_unspent engine histories words c d got ticks cut untried (Full shard n) small i = (tt, i)
-timer_unspent engine histories words c d got ticks cut untried Ended small i = (tt, i)
-timer_unspent engine histories words c d got ticks cut untried LinkFault small i = (tt, i)
-timer_unspent engine histories words c d got ticks cut untried ClockFault small i = (tt, i)
-timer_unspent engine histories words c d got ticks cut untried (TurnsMade n) small i = (tt, i)
-timer_unspent engine histories words c d got ticks cut untried Memory small i = (tt, i)
+timer_unspent engine histories words c d got ticks cut untried end small i = (tt, i)
 
 worker_unspent : (engine : Shards) (histories : ℕ → List Entry) (words : ℕ → ℕ) (t u : LinkTold) (turns : ℕ) (cut : List Act) (untried : List Datagram) (end : End)
     → AreSmall words → IsWorkerEnd engine histories words t u turns cut untried end → IsUnspent end × IsWorkerEnd engine histories no_words t u turns cut untried end
 worker_unspent engine histories words t u turns cut untried (Spent shard word) small i = absurd (let a = small shard in let s = i.2 in let b = s.1 in let e = s.2 in omega (arith, a, b, e))
-worker_unspent engine histories words t u turns cut untried (Full shard n) small i = (tt, i)
-worker_unspent engine histories words t u turns cut untried Ended small i = (tt, i)
-worker_unspent engine histories words t u turns cut untried LinkFault small i = (tt, i)
-worker_unspent engine histories words t u turns cut untried ClockFault small i = (tt, i)
-worker_unspent engine histories words t u turns cut untried (TurnsMade n) small i = (tt, i)
-worker_unspent engine histories words t u turns cut untried Memory small i = (tt, i)
+worker_unspent engine histories words t u turns cut untried end small i = (tt, i)
 
 kept_here : (js : List (ℕ × List Entry)) (history : List Entry) (at number : ℕ) (own : List Entry) → slice_get js at ≡ Some (number, own) → AllKept by js history → calls by number history ≡ own
 kept_here js history at number own here kept =
-    let e : get_or js at (number, own) ≡ (number, own) = read js at (number, own) (number, own) here in
-    subst (λ (j : ℕ × List Entry). calls by j.0 history ≡ j.1) e (kept at (number, own) (within js at (number, own) here))
+    let e : get_or js at (number, own) ≡ (number, own) = get_or_from_slice_get js at (number, own) (number, own) here in
+    subst (λ (j : ℕ × List Entry). calls by j.0 history ≡ j.1) e (kept at (number, own) (slice_get_within js at (number, own) here))
 
 product : (a b : ℕ) → a ≤ 64 → b ≤ 1000000000 → a * b ≤ 64000000000
 product a b h k = mul-le a b 64 1000000000 h k
@@ -151,9 +134,9 @@ module _ {L : Type 0} (told : L → LinkTold) (engine : Shards) (l : Knows) (own
   -- a kept number is that of a worker
   kept_numbers : (s : ℕ) → s < length engine.locks → (n : ℕ) → length links < n → (i : ℕ) (j : ℕ × List Entry) → slice_get (kept_at l s) i ≡ Some j → j.0 ≢ n
   kept_numbers s less n far i j here same =
-      let inner : i < length links = (let a = within (kept_at l s) i j here in let b = served.kept_long s less in omega (arith, a, b)) in
+      let inner : i < length links = (let a = slice_get_within (kept_at l s) i j here in let b = served.kept_long s less in omega (arith, a, b)) in
       let w = served.workers i own Ended 0 inner in
-      let eq : (i + 1, w.own s) ≡ j = same_some (i + 1, w.own s) j (sym (w.kept s less) ∙ here) in
+      let eq : (i + 1, w.own s) ≡ j = same_Some (i + 1, w.own s) j (sym (w.kept s less) ∙ here) in
       let num : i + 1 ≡ j.0 = ap (λ (x : ℕ × List Entry). x.0) eq in absurd (omega (arith, same, num, inner, far))
 
   others_here : (n s : ℕ) → s < length engine.locks → length links < n → calls by n (history_at states s) ≡ []
@@ -203,6 +186,6 @@ closed_shards engine l states seen closed same kept = record {
   each = λ n x e. (let a = closed.each n x e in record {
     configs = a.configs;
     limit = a.limit;
-    kept = subst IsShard (read states n x x e) (subst (All IsShard) same kept n x (within states n x e));
+    kept = subst IsShard (get_or_from_slice_get states n x x e) (subst (All IsShard) same kept n x (slice_get_within states n x e));
   });
 }

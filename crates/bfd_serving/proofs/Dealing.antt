@@ -2,7 +2,8 @@
 use Rattle.std.proofs.Common.{◌≡◌, ℕ, zero, suc, ◌+◌, ◌-◌, ◌<◌, ◌≤◌, List, [], ◌∷◌, ◌++◌, length, map, drop, get_or, refl, ap, sym, ◌∙◌, subst, append_assoc, append-nil, length-append, arith}
 use Rattle.std.specs.List.{AllByRecursion}
 use Rattle.std.proofs.lemmas.List.Elements.{recursion_from_All}
-use Rattle.std.proofs.lemmas.List.{drop_more, drop_all, length-map, get_or-map, same_lists, get_or_default, get_or_append_left}
+use Rattle.std.proofs.lemmas.List.{drop_more, drop_all, length-map, get_or-map, same_lists, get_or_default, get_or_append_left, drop-drop}
+use Rattle.std.proofs.lemmas.Option.{get_or_from_slice_get}
 use mathlib.Core.Logic.{dite}
 use native.Mathlib.Decide.{dec_lt}
 use Rattle.bfd_session.specs.declared.event.SessionConfig.{SessionConfig}
@@ -14,36 +15,26 @@ use Rattle.bfd_engine.specs.Engines.{Shards, share}
 use Rattle.bfd_engine.proofs.Sharing.{all_share}
 use Rattle.bfd_serving.specs.Runs.{AreDealt, AreClosedShards}
 use Rattle.bfd_serving.proofs.Shuts.{get_last}
-use Rattle.bfd_serving.proofs.Closings.{there_is, read}
+use Rattle.bfd_serving.proofs.Closings.{there_is}
 
 module _ {A : Type 0} where
   -- a share begins with what is left after the elements that are passed over
   pub share_from : (n c : ℕ) (xs : List A) → share n 0 (drop c xs) ≡ share n c xs
   unfolding share
   share_from n zero [] = refl
-  share_from n zero (x ∷ xs) = refl
-  share_from n (suc c) [] = refl
   share_from n (suc c) (x ∷ xs) = share_from n c xs
+  share_from n c xs = refl
 
   share_one : (n : ℕ) (x : A) (xs : List A) → share n 0 (x ∷ xs) ≡ x ∷ share n (n - 1) xs
   unfolding share
   share_one n x xs = refl
-
-  drop_none : (k : ℕ) → drop {A = A} k [] ≡ []
-  drop_none zero = refl
-  drop_none (suc k) = refl
-
-  drop_twice : (i j : ℕ) (xs : List A) → drop j (drop i xs) ≡ drop (i + j) xs
-  drop_twice zero j xs = let e : j ≡ 0 + j = omega arith in ap (λ k. drop k xs) e
-  drop_twice (suc i) j [] = drop_none j ∙ sym (drop_none (suc i + j))
-  drop_twice (suc i) j (x ∷ xs) = let e : suc (i + j) ≡ suc i + j = omega arith in drop_twice i j xs ∙ ap (λ k. drop k (x ∷ xs)) e
 
   -- one element more of a share
   pub share_more : (n c at next : ℕ) (xs part more : List A) (x : A) → 0 < n → at < length xs → next ≡ at + n → x ≡ get_or xs at x → more ≡ part ++ x ∷ []
       → part ++ share n 0 (drop at xs) ≡ share n c xs → more ++ share n 0 (drop next xs) ≡ share n c xs
   share_more n c at next xs part more x some inside next_is is pushed whole =
       let split : drop at xs ≡ x ∷ drop (at + 1) xs = drop_more xs at x inside ∙ ap (λ y. y ∷ drop (at + 1) xs) (sym is) in
-      let far : drop (n - 1) (drop (at + 1) xs) ≡ drop next xs = (let e : at + 1 + (n - 1) ≡ next = omega (arith, some, next_is) in drop_twice (at + 1) (n - 1) xs ∙ ap (λ k. drop k xs) e) in
+      let far : drop (n - 1) (drop (at + 1) xs) ≡ drop next xs = (let e : at + 1 + (n - 1) ≡ next = omega (arith, some, next_is) in drop-drop (n - 1) (at + 1) xs ∙ ap (λ k. drop k xs) e) in
       let one : share n 0 (drop at xs) ≡ x ∷ share n 0 (drop next xs) =
       ap (share n 0) split ∙ (share_one n x (drop (at + 1) xs) ∙ ap (λ ys. x ∷ ys) (sym (share_from n (n - 1) (drop (at + 1) xs)) ∙ ap (share n 0) far)) in
       ap (λ ys. ys ++ share n 0 (drop next xs)) pushed ∙ (append_assoc part (x ∷ []) (share n 0 (drop next xs)) ∙ (ap (λ ys. part ++ ys) (sym one) ∙ whole))
@@ -74,7 +65,7 @@ own_share : (engine : Shards) (shards : ℕ) (configs : List SessionConfig) (k :
 own_share engine shards configs k states d locks same closed inside =
     let x = there_is states k inside in
     sym (get_or-map (λ (state : Shard). configs_of state.sessions) states k x.0 d inside
-    ∙ (ap (λ (state : Shard). configs_of state.sessions) (read states k x.0 x.0 x.1)
+    ∙ (ap (λ (state : Shard). configs_of state.sessions) (get_or_from_slice_get states k x.0 x.0 x.1)
     ∙ ((closed.each k x.0 x.1).configs ∙ (ap (λ n. share n k engine.configs) locks ∙ ap (share shards k) same))))
 
 -- the parts are what the shards were made of

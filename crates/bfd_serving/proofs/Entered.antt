@@ -4,6 +4,8 @@ use Rattle.std.specs.Prelude.{slice_get}
 use Rattle.std.specs.List.{AllByRecursion}
 use Rattle.std.proofs.lemmas.Bool.Decides.{nat_tests}
 use Rattle.std.proofs.lemmas.List.{map-append}
+use Rattle.std.proofs.lemmas.Option.{slice_get_within}
+use Rattle.bfd_script.proofs.Elements.{each_more}
 use mathlib.Core.Logic.{dite}
 use native.Mathlib.Decide.{dec_lt}
 use Rattle.bfd_packet.specs.declared.arrival.Arrival.{Arrival}
@@ -30,7 +32,7 @@ use Rattle.bfd_shard.specs.Expired.{expired, forgotten}
 use Rattle.bfd_shard.specs.History.{events_of, last_tick, runs}
 use Rattle.bfd_shard.specs.Shard.{Shard, CanHappen, IsHistory, IsOnTime, IsTaken, NoneDue}
 use Rattle.bfd_script.specs.declared.entries.Line.{Line}
-use Rattle.bfd_script.specs.declared.entries.Line.TheVariants.{Rx, Tick, Cmd as CmdLine, Show}
+use Rattle.bfd_script.specs.declared.entries.Line.TheVariants.{Cmd as CmdLine, Show}
 use Rattle.bfd_turn.specs.Lists.{calls}
 use Rattle.bfd_edge.specs.Links.{LinkTold}
 use Rattle.bfd_edge.specs.Tickers.{TickerTold}
@@ -38,7 +40,6 @@ use Rattle.bfd_engine.specs.Turned.{by, entry_of}
 use Rattle.bfd_engine.specs.Engines.{Shards, configs_at}
 use Rattle.bfd_engine.specs.Calls.{Act, Turns, Rests, ask_act, coming_act, reflect_act}
 use Rattle.bfd_engine.specs.Judging.{packet_answer, return_answer}
-use Rattle.bfd_engine.proofs.Places.{within}
 use Rattle.bfd_engine.proofs.Verdicts.{own_answer, packet_is, return_is, runs_there}
 use Rattle.bfd_serve.specs.declared.ending.End.{End}
 use Rattle.bfd_serve.specs.declared.serving.Limits.{Limits}
@@ -82,10 +83,6 @@ timely engine states closed number caller t before after h =
 -- lists of which all elements are of a kind
 
 module _ {A : Type 0} (P : A → Type 0) where
-  all_both : (xs ys : List A) → AllByRecursion P xs → AllByRecursion P ys → AllByRecursion P (xs ++ ys)
-  all_both [] ys h k = k
-  all_both (x ∷ xs) ys h k = (h.0, all_both xs ys h.1 k)
-
   all_front : (xs ys : List A) → AllByRecursion P (xs ++ ys) → AllByRecursion P xs
   all_front [] ys h = tt
   all_front (x ∷ xs) ys h = (h.0, all_front xs ys h.1)
@@ -137,10 +134,9 @@ module _ (engine : Shards) where
   show_fits moment (Some k) = tt
 
   order_fits : (order : Line) → ActFits (order_act engine order)
-  order_fits (Rx moment arrival) = tt
-  order_fits (Tick t) = tt
   order_fits (CmdLine moment discr cmd) = command_fits moment cmd (place_of discr engine.configs)
   order_fits (Show moment discr) = show_fits moment (place_of discr engine.configs)
+  order_fits order = tt
 
   orders_fit : (orders : List Line) → AllByRecursion ActFits (orders_acts engine orders)
   orders_fit [] = tt
@@ -148,19 +144,19 @@ module _ (engine : Shards) where
 
   advances_fit : (n t : ℕ) → AllByRecursion ActFits (advances n t)
   advances_fit zero t = tt
-  advances_fit (suc n) t = all_both ActFits (advances n t) (Turns n (TickEvent t) ∷ []) (advances_fit n t) (tt, tt)
+  advances_fit (suc n) t = each_more ActFits (advances n t) (Turns n (TickEvent t) ∷ []) (advances_fit n t) (tt, tt)
 
   ticks_fit : (orders : List Line) (ticks : List ℕ) → AllByRecursion ActFits (ticks_acts engine orders ticks)
   ticks_fit orders [] = tt
   ticks_fit orders (t ∷ ts) =
-      all_both ActFits (orders_acts engine (take (due t orders) orders) ++ advances (length engine.locks) t) (ticks_acts engine (drop (due t orders) orders) ts)
-      (all_both ActFits (orders_acts engine (take (due t orders) orders)) (advances (length engine.locks) t) (orders_fit (take (due t orders) orders)) (advances_fit (length engine.locks) t))
+      each_more ActFits (orders_acts engine (take (due t orders) orders) ++ advances (length engine.locks) t) (ticks_acts engine (drop (due t orders) orders) ts)
+      (each_more ActFits (orders_acts engine (take (due t orders) orders)) (advances (length engine.locks) t) (orders_fit (take (due t orders) orders)) (advances_fit (length engine.locks) t))
       (ticks_fit (drop (due t orders) orders) ts)
 
   timer_fits : (orders : List Line) (ticks : List ℕ) (failed : Bool) → AllByRecursion ActFits (timer_acts engine orders ticks failed)
-  timer_fits orders ticks true = all_both ActFits (ticks_acts engine orders ticks) [] (ticks_fit orders ticks) tt
+  timer_fits orders ticks true = each_more ActFits (ticks_acts engine orders ticks) [] (ticks_fit orders ticks) tt
   timer_fits orders ticks false =
-      all_both ActFits (ticks_acts engine orders ticks) (orders_acts engine (orders_left orders ticks)) (ticks_fit orders ticks) (orders_fit (orders_left orders ticks))
+      each_more ActFits (ticks_acts engine orders ticks) (orders_acts engine (orders_left orders ticks)) (ticks_fit orders ticks) (orders_fit (orders_left orders ticks))
 
   -- so do the entries of such acts
   entries_fit : (caller shard : ℕ) (acts : List Act) → AllByRecursion ActFits acts → AllByRecursion EntryFits (entries caller shard (calls_of acts))
@@ -221,7 +217,7 @@ module _ (engine : Shards) (states : List Shard) (orders : List Line) (workers :
       let x : Entry = entry_of caller (Own place moment event) in
       let s = shard_with states number (slice_get states number) seen rest x refl h in
       let made = closed.each number s.0 s.1 in
-      let inside = within states number s.0 s.1 in
+      let inside = slice_get_within states number s.0 s.1 in
       let history : IsHistory (configs_at engine number) (events_of seen ++ Own place moment event ∷ events_of rest) =
       subst (IsHistory (configs_at engine number)) (ap events_of s.2 ∙ split seen rest x) (subst (λ (ks : List SessionConfig). IsHistory ks (events_of s.0.journal)) made.configs made.kept.history) in (
         let long = closed.long in omega (arith, inside, long),

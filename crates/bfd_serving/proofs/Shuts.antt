@@ -18,9 +18,8 @@ use Rattle.bfd_serving.specs.Linking.{IsNew, IsOpenTo, AreUncalled, IsFaultOf, I
 
 pub get_last : {X : Type 0} (xs : List X) (x : X) (i : ℕ) (d : X) → i ≡ length xs → get_or (xs ++ x ∷ []) i d ≡ x
 get_last [] x zero d h = refl
-get_last [] x (suc i) d h = absurd (omega (arith, h))
-get_last (y ∷ ys) x zero d h = absurd (omega (arith, h))
 get_last (y ∷ ys) x (suc i) d h = get_last ys x i d (omega (arith, h))
+get_last xs x i d h = absurd (omega (arith, h))
 
 shut_here : (n m : ℕ) (t : LinkTold) (p : PortsTold) → m ≡ n → (after_shut n t p).shut m ≡ Some t
 shut_here n m t p is = let e : (m == n) ≡ true = grind (arith, nat_tests, is) in rw e refl

@@ -7,7 +7,7 @@ use Rattle.std.specs.List.{list_all}
 use Rattle.std.specs.Option.{option_or}
 use Rattle.bfd_packet.specs.declared.arrival.Arrival.{Arrival}
 use Rattle.bfd_packet.specs.declared.arrival.Port.{Port}
-use Rattle.bfd_packet.specs.declared.arrival.Port.TheVariants.{Single, Multi, Echo, Sbfd, Answer as AnswerPort}
+use Rattle.bfd_packet.specs.declared.arrival.Port.TheVariants.{Single, Multi, Answer as AnswerPort}
 use Rattle.bfd_packet.specs.declared.control.State.{State}
 use Rattle.bfd_packet.specs.declared.discard.Test.{Test}
 use Rattle.bfd_packet.specs.declared.discard.Test.TheVariants.{Ttl, AuthUnexpected, AuthMissing, AuthType, AuthKey, AuthLen, AuthSeq, AuthDigest, AdminDown}
@@ -25,7 +25,7 @@ use Rattle.bfd_p2p.specs.Receive.{session_fails, session_tests, authenticated, j
 use Rattle.bfd_demux.specs.declared.row.Row.{Row}
 use Rattle.bfd_demux.specs.Selection.{is_multipoint, table_fails, tests_on_header, tests_on_table, first_table_failing}
 use Rattle.bfd_session.specs.declared.event.SessionConfig.{SessionConfig}
-use Rattle.bfd_session.specs.declared.event.SessionConfig.TheVariants.{Pair, Seek, Head, Tail}
+use Rattle.bfd_session.specs.declared.event.SessionConfig.TheVariants.{Pair, Head}
 use Rattle.bfd_session.specs.declared.event.Event.TheVariants.{Packet}
 use Rattle.bfd_session.specs.Kinds.{Running}
 use Rattle.bfd_session.specs.Step.{reply, answer_to_packet, verdict_by as verdict_of}
@@ -63,13 +63,12 @@ is_shared test = not (is_section test || is_first test)
 -- no packet fails another test for its authentication section, nor for the session
 
 unauthentic_not : (keys : Option KeyChain) (seq : SeqState) (raw : List ℕ) (test : Test) → is_section test ≡ false → unauthentic keys seq raw test ≡ false
-unauthentic_not None seq raw test other = refl
 unauthentic_not (Some keys) seq raw AuthType other = cc
 unauthentic_not (Some keys) seq raw AuthKey other = cc
 unauthentic_not (Some keys) seq raw AuthLen other = cc
 unauthentic_not (Some keys) seq raw AuthSeq other = cc
 unauthentic_not (Some keys) seq raw AuthDigest other = cc
-unauthentic_not (Some keys) seq raw _ other = refl
+unauthentic_not keys seq raw test other = refl
 
 pair_not : (c : Config) (v : Vars) (ttl : ℕ) (raw : List ℕ) (test : Test) → is_shared test ≡ true → pair_fails c v ttl raw test ≡ false
 pair_not c v ttl raw Ttl shared = cc
@@ -90,9 +89,8 @@ plain_not v raw _ shared = refl
 
 own_not : (c : SessionConfig) (v : Vars) (arrival : Arrival) (test : Test) → is_shared test ≡ true → own_fails c v arrival test ≡ false
 own_not (Pair c) v arrival test shared = pair_not c v arrival.ttl arrival.payload test shared
-own_not (Seek c) v arrival test shared = plain_not v arrival.payload test shared
 own_not (Head c) v arrival test shared = refl
-own_not (Tail c) v arrival test shared = plain_not v arrival.payload test shared
+own_not c v arrival test shared = plain_not v arrival.payload test shared
 
 -- the tests of the table are such
 
@@ -100,11 +98,8 @@ tests_shared : (port : Port) (multipoint : Bool) → list_all is_shared (tests_o
 tests_shared Single true = refl
 tests_shared Single false = refl
 tests_shared Multi true = refl
-tests_shared Multi false = refl
-tests_shared Echo multipoint = refl
-tests_shared Sbfd multipoint = refl
 tests_shared AnswerPort true = refl
-tests_shared AnswerPort false = refl
+tests_shared port multipoint = refl
 
 or_nothing : (a b : Bool) → b ≡ false → (a || b) ≡ a
 or_nothing true b h = refl
@@ -123,9 +118,7 @@ table_first rows c v arrival =
 own_first : (rows : List Row) (c : SessionConfig) (v : Vars) (arrival : Arrival)
     → find (discards rows c v arrival) (own_tests c) ≡ first_own_failing c v arrival
 own_first rows (Pair c) v arrival = refl
-own_first rows (Seek c) v arrival = refl
-own_first rows (Head c) v arrival = refl
-own_first rows (Tail c) v arrival = refl
+own_first rows c v arrival = refl
 
 pub discards_first : (rows : List Row) (c : SessionConfig) (v : Vars) (arrival : Arrival)
     → first_discarding rows c v arrival ≡ option_or (first_table_failing rows arrival) (first_own_failing c v arrival)
@@ -192,9 +185,8 @@ plain_first false false = refl
 
 pub verdict_first : (c : SessionConfig) (v : Vars) (arrival : Arrival) → first_own_failing c v arrival ≡ test_of (verdict_of c arrival v)
 verdict_first (Pair c) v arrival = pair_first c v arrival
-verdict_first (Seek c) v arrival = plain_first (fields_of arrival.payload).auth (is_admin_down v.state)
 verdict_first (Head c) v arrival = refl
-verdict_first (Tail c) v arrival = plain_first (fields_of arrival.payload).auth (is_admin_down v.state)
+verdict_first c v arrival = plain_first (fields_of arrival.payload).auth (is_admin_down v.state)
 
 answered : (verdict : Verdict) → answer_to_packet verdict ≡ answer_by (test_of verdict)
 answered Accepted = refl

@@ -1,6 +1,7 @@
 -- A tick forgets that a packet was heard exactly where the Detection Time has expired.
-use Rattle.std.proofs.Common.{◌≡◌, ◌+◌, ◌-◌, ◌==◌, ◌||◌, ◌&&◌, ℕ, Bool, true, false, refl, ap, ◌∙◌, Option, None, Some, is_none, IsSome, option_map, [], arith, if◌then◌else◌}
+use Rattle.std.proofs.Common.{◌≡◌, ◌+◌, ◌-◌, ◌==◌, ◌||◌, ◌&&◌, ℕ, Bool, true, false, refl, ap, ◌∙◌, Option, None, Some, is_none, IsSome, option_map, [], arith, if◌then◌else◌, sym}
 use Rattle.std.proofs.lemmas.Grind.{common_steps}
+use Rattle.std.proofs.Math.Bool.{or-false}
 use Rattle.bfd_packet.specs.declared.control.State.TheVariants.{Down, Up}
 use Rattle.bfd_packet.specs.States.{is_init_or_up}
 use Rattle.bfd_num.specs.Numbers.{floor_tick}
@@ -28,7 +29,7 @@ use Rattle.bfd_mp.specs.HeadFinish as head_finish
 use Rattle.bfd_mp.proofs.Expiry as tail
 use Rattle.bfd_echo.specs.declared.echo.Echo.{Echo}
 use Rattle.bfd_echo.specs.declared.echo.EchoResult.{EchoResult}
-use Rattle.bfd_echo.specs.declared.echo.EchoResult.TheVariants.{Nothing, Sent, Failed}
+use Rattle.bfd_echo.specs.declared.echo.EchoResult.TheVariants.{Failed}
 use Rattle.bfd_session.specs.declared.event.SessionConfig.{SessionConfig}
 use Rattle.bfd_session.specs.declared.event.SessionConfig.TheVariants.{Pair, Seek, Head, Tail}
 use Rattle.bfd_session.specs.Kinds.{Running, Flow}
@@ -130,9 +131,8 @@ finish_none c eff s = ap (λ (o : Option ℕ). is_none o) (drawn_heard c.active 
 settled_by_none : (c : Config) (eff : ℕ) (result : EchoResult) (e : Echo) (f : Flow)
     → is_none (settled_by c eff result e f).course.vars.heard ≡ is_none f.course.vars.heard
 unfolding sends
-settled_by_none c eff Nothing e f = refl
-settled_by_none c eff (Sent bytes) e f = refl
 settled_by_none c eff Failed e f = moves_none c.discr eff (failed 2 f.course.vars) f.course
+settled_by_none c eff result e f = refl
 
 settled_running_none : (c : Config) (limit eff : ℕ) (echo : Option Echo) (f : Flow)
     → is_none (settled_running c limit eff echo f).course.vars.heard ≡ is_none f.course.vars.heard
@@ -177,10 +177,6 @@ head_heard : (c : HeadConfig) (limit eff : ℕ) (s : Course)
     → (head_finish.finish c eff (head_settle.settle c limit eff s)).vars.heard ≡ s.vars.heard
 head_heard c limit eff s = head_finish_heard c eff (head_settle.settle c limit eff s) ∙ head_settle_heard c limit eff s
 
-or_never : (n : Bool) → n ≡ (n || false)
-or_never true = refl
-or_never false = refl
-
 -- the whole tick
 
 tick_by : (c : SessionConfig) (s : Running) (limit eff : ℕ)
@@ -190,7 +186,7 @@ tick_by (Pair c) s limit eff =
     finish_none c eff _ ∙ settles_echo_none c limit eff _ ∙ settle_none c limit eff (begun None s []).course
 tick_by (Seek c) s limit eff =
     none_by (has_come limit (seek_deadline s.vars)) s.vars.heard _ (seek.tick_heard c limit eff (begun None s []).course)
-tick_by (Head c) s limit eff = ap (λ (o : Option ℕ). is_none o) (head_heard c limit eff (begun None s []).course) ∙ or_never (is_none s.vars.heard)
+tick_by (Head c) s limit eff = ap (λ (o : Option ℕ). is_none o) (head_heard c limit eff (begun None s []).course) ∙ sym (or-false (is_none s.vars.heard))
 tick_by (Tail c) s limit eff =
     none_by (has_come limit (tail_deadline s.vars)) s.vars.heard _ (tail.tail_heard c limit (begun None s []).course)
 

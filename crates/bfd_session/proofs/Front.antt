@@ -166,17 +166,11 @@ acted-after (Pair c) eff (Returned sequence) os f = refl
 acted-after (Pair c) eff (Command cmd) os f = ap (λ (s : Course). along f s) (commanded-after c eff cmd os f.course)
 acted-after (Pair c) eff Show os f = refl
 acted-after (Seek c) eff (Packet arrival) os f = ap (λ (s : Course). along f s) (seek.received-after c eff _ os f.course)
-acted-after (Seek c) eff (Returned sequence) os f = refl
 acted-after (Seek c) eff (Command cmd) os f = ap (λ (s : Course). along f s) (seek.commanded-after c cmd os f.course)
-acted-after (Seek c) eff Show os f = refl
-acted-after (Head c) eff (Packet arrival) os f = refl
-acted-after (Head c) eff (Returned sequence) os f = refl
 acted-after (Head c) eff (Command cmd) os f = ap (λ (s : Course). along f s) (head.commanded-after c cmd os f.course)
-acted-after (Head c) eff Show os f = refl
 acted-after (Tail c) eff (Packet arrival) os f = ap (λ (s : Course). along f s) (tail.received-after c eff _ os f.course)
-acted-after (Tail c) eff (Returned sequence) os f = refl
 acted-after (Tail c) eff (Command cmd) os f = ap (λ (s : Course). along f s) (tail.commanded-after c cmd os f.course)
-acted-after (Tail c) eff Show os f = refl
+acted-after c eff event os f = refl
 
 finished-after : (c : SessionConfig) (eff : ℕ) (os : List Out) (f : Flow) → finished c eff (ahead os f) ≡ ahead os (finished c eff f)
 finished-after (Pair c) eff os f = ap (λ (s : Course). turns_echo c eff (along f s)) (finish-after c eff os f.course)
@@ -243,11 +237,7 @@ tick_outs s limit eff os = ap (λ (f : Flow). f.course.outs) (tick-from s limit 
 answer_of-after : (c : SessionConfig) (event : Event) (os : List Out) (f : Flow) → answer_of c event (ahead os f) ≡ answer_of c event f
 answer_of-after c (Packet arrival) os f = refl
 answer_of-after (Pair c) (Returned sequence) os f = refl
-answer_of-after (Seek c) (Returned sequence) os f = refl
-answer_of-after (Head c) (Returned sequence) os f = refl
-answer_of-after (Tail c) (Returned sequence) os f = refl
-answer_of-after c (Command cmd) os f = refl
-answer_of-after c Show os f = refl
+answer_of-after c event os f = refl
 
 pub reply_law : (s : Running) (eff : ℕ) (event : Event) (os : List Out) → reply_from eff event s os ≡ reply eff event s
 unfolding reply
@@ -272,17 +262,9 @@ pub step_leaves : (c : SessionConfig) (eff : ℕ) (event : Event) (f : Flow) →
 unfolding step
 step_leaves (Pair c) eff event f kind = elim kind [ ]
 step_leaves (Seek c) eff (Packet arrival) f kind = record { echo_kept = refl; number_kept = refl }
-step_leaves (Seek c) eff (Returned sequence) f kind = record { echo_kept = refl; number_kept = refl }
-step_leaves (Seek c) eff (Command cmd) f kind = record { echo_kept = refl; number_kept = refl }
-step_leaves (Seek c) eff Show f kind = record { echo_kept = refl; number_kept = refl }
 step_leaves (Head c) eff (Packet arrival) f kind = record { echo_kept = refl; number_kept = refl }
-step_leaves (Head c) eff (Returned sequence) f kind = record { echo_kept = refl; number_kept = refl }
-step_leaves (Head c) eff (Command cmd) f kind = record { echo_kept = refl; number_kept = refl }
-step_leaves (Head c) eff Show f kind = record { echo_kept = refl; number_kept = refl }
 step_leaves (Tail c) eff (Packet arrival) f kind = record { echo_kept = refl; number_kept = refl }
-step_leaves (Tail c) eff (Returned sequence) f kind = record { echo_kept = refl; number_kept = refl }
-step_leaves (Tail c) eff (Command cmd) f kind = record { echo_kept = refl; number_kept = refl }
-step_leaves (Tail c) eff Show f kind = record { echo_kept = refl; number_kept = refl }
+step_leaves c eff event f kind = record { echo_kept = refl; number_kept = refl }
 
 pub plain_step : (s : Running) (eff : ℕ) (event : Event) → IsPlainKind s.config → LeavesEcho (stepped_flow eff event s) s.echo s.echo_next
 unfolding stepped_flow
@@ -291,9 +273,7 @@ plain_step s eff event kind = step_leaves s.config eff event _ kind
 tick_leaves : (c : SessionConfig) (limit eff : ℕ) (f : Flow) → IsPlainKind c → LeavesEcho (tick c limit eff f) f.echo f.echo_next
 unfolding tick
 tick_leaves (Pair c) limit eff f kind = elim kind [ ]
-tick_leaves (Seek c) limit eff f kind = record { echo_kept = refl; number_kept = refl }
-tick_leaves (Head c) limit eff f kind = record { echo_kept = refl; number_kept = refl }
-tick_leaves (Tail c) limit eff f kind = record { echo_kept = refl; number_kept = refl }
+tick_leaves c limit eff f kind = record { echo_kept = refl; number_kept = refl }
 
 pub plain_tick : (s : Running) (limit eff : ℕ) → IsPlainKind s.config → LeavesEcho (ticked_flow limit eff s) s.echo s.echo_next
 unfolding ticked_flow

@@ -169,18 +169,12 @@ acted-names (Pair c) eff (Command cmd) f h = commanded-names c eff cmd f.course 
 acted-names (Pair c) eff Show f h = h
 acted-names (Seek c) eff (Packet arrival) f h =
     record { all = seek.received_names c _ eff arrival.payload f.course (own c.discr) h.all }
-acted-names (Seek c) eff (Returned sequence) f h = h
 acted-names (Seek c) eff (Command cmd) f h = record { all = seek.commanded_names c _ cmd f.course (own c.discr) h.all }
-acted-names (Seek c) eff Show f h = h
-acted-names (Head c) eff (Packet arrival) f h = h
-acted-names (Head c) eff (Returned sequence) f h = h
 acted-names (Head c) eff (Command cmd) f h = record { all = tree.head_commanded_names c _ cmd f.course (own c.discr) h.all }
-acted-names (Head c) eff Show f h = h
 acted-names (Tail c) eff (Packet arrival) f h =
     record { all = tree.received_names c _ eff arrival.payload f.course (own c.discr) h.all }
-acted-names (Tail c) eff (Returned sequence) f h = h
 acted-names (Tail c) eff (Command cmd) f h = record { all = tree.tail_commanded_names c _ cmd f.course (own c.discr) h.all }
-acted-names (Tail c) eff Show f h = h
+acted-names c eff event f h = h
 
 finished-names : (c : SessionConfig) (eff : ℕ) (f : Flow) → Names (discr_of c) f.course → Names (discr_of c) (finished c eff f).course
 finished-names (Pair c) eff f h = finish-names c eff f.course h

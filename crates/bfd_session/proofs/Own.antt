@@ -257,15 +257,7 @@ done_plain c (KeyOf n) v kind range plain = key_plain c _ v (place_within c.keys
 
 done_peer : (c : Config) (cmd : Cmd) (v : Vars) → HasPeerMult v → HasPeerMult (done c cmd v)
 done_peer c Disable v h = record { heard_mult = h.heard_mult; seq_mult = h.seq_mult }
-done_peer c Enable v h = record { heard_mult = h.heard_mult; seq_mult = h.seq_mult }
-done_peer c Reset v h = record { heard_mult = h.heard_mult; seq_mult = h.seq_mult }
-done_peer c (Path n) v h = record { heard_mult = h.heard_mult; seq_mult = h.seq_mult }
-done_peer c (Tx n) v h = record { heard_mult = h.heard_mult; seq_mult = h.seq_mult }
-done_peer c (Rx n) v h = record { heard_mult = h.heard_mult; seq_mult = h.seq_mult }
-done_peer c (Mult n) v h = record { heard_mult = h.heard_mult; seq_mult = h.seq_mult }
-done_peer c (Demand n) v h = record { heard_mult = h.heard_mult; seq_mult = h.seq_mult }
-done_peer c (EchoEvery n) v h = record { heard_mult = h.heard_mult; seq_mult = h.seq_mult }
-done_peer c (KeyOf n) v h = record { heard_mult = h.heard_mult; seq_mult = h.seq_mult }
+done_peer c cmd v h = record { heard_mult = h.heard_mult; seq_mult = h.seq_mult }
 
 commanded_by : (c : Config) (eff : ℕ) (cmd : Cmd) (s : Course) (o : Option Refusal) → refusal c s.vars cmd ≡ o → eff < moment_bound
     → IsSteady c s.vars → IsSteady c (if is_some o then s else moves c.discr eff (done c cmd s.vars) s).vars
@@ -322,26 +314,22 @@ seek_vars : (c : SeekConfig) (eff : ℕ) (event : Event) (f : Flow) → eff < mo
     → IsSeekSteady c f.course.vars → IsSeekSound c (step (Seek c) eff event f).course.vars
 unfolding step
 seek_vars c eff (Packet arrival) f h sized steady = seek.packet_sound c eff eff arrival.payload f.course h sized steady
-seek_vars c eff (Returned sequence) f h sized steady = seek.tick_sound c eff eff f.course h steady
 seek_vars c eff (Command cmd) f h sized steady = seek.command_sound c eff eff cmd f.course h steady
-seek_vars c eff Show f h sized steady = seek.tick_sound c eff eff f.course h steady
+seek_vars c eff event f h sized steady = seek.tick_sound c eff eff f.course h steady
 
 head_vars : (c : HeadConfig) (eff : ℕ) (event : Event) (f : Flow) → eff < moment_bound
     → IsHeadSteady f.course.vars → IsHeadSound (step (Head c) eff event f).course.vars
 unfolding step
-head_vars c eff (Packet arrival) f h steady = tree.head_tick_sound c eff eff f.course h steady
-head_vars c eff (Returned sequence) f h steady = tree.head_tick_sound c eff eff f.course h steady
 head_vars c eff (Command cmd) f h steady = tree.head_command_sound c eff eff cmd f.course h steady
-head_vars c eff Show f h steady = tree.head_tick_sound c eff eff f.course h steady
+head_vars c eff event f h steady = tree.head_tick_sound c eff eff f.course h steady
 
 tail_vars : (c : TailConfig) (eff : ℕ) (event : Event) (f : Flow) → eff < moment_bound → HasSize (Tail c) event
     → IsTailSound c f.course.vars → IsTailSound c (step (Tail c) eff event f).course.vars
 unfolding step
 tail_vars c eff (Packet arrival) f h sized sound =
     tree.received_sound c eff arrival.payload _ h sized (tree.tail_settle_sound c eff f.course sound)
-tail_vars c eff (Returned sequence) f h sized sound = tree.tail_settle_sound c eff f.course sound
 tail_vars c eff (Command cmd) f h sized sound = tree.tail_commanded_sound c cmd _ (tree.tail_settle_sound c eff f.course sound)
-tail_vars c eff Show f h sized sound = tree.tail_settle_sound c eff f.course sound
+tail_vars c eff event f h sized sound = tree.tail_settle_sound c eff f.course sound
 
 plain_sound : (IsVars : Vars → Type 0) (s : Running) (f : Flow) → session.IsEcholess s → LeavesEcho f s.echo s.echo_next
     → IsVars f.course.vars → session.IsPlainSound IsVars (left_by f s)

@@ -1,6 +1,6 @@
 -- A tick by which nothing is due leaves sound variables as they are, and puts nothing out.
-use Rattle.std.proofs.Common.{◌≡◌, ◌<◌, ◌*◌, ◌++◌, append-nil, ℕ, Bool, true, false, refl, ap, ◌∙◌, Option, None, Some, IsSome, IsTrue, ◌↔◌, option_map, nat_le, List, [], if◌then◌else◌, arith}
-use Rattle.std.proofs.lemmas.Bool.Decides.{nat_tests}
+use Rattle.std.proofs.Common.{◌≡◌, ◌*◌, ◌++◌, append-nil, ℕ, Bool, true, false, refl, ap, ◌∙◌, Option, None, Some, IsSome, IsTrue, ◌↔◌, option_map, List, [], if◌then◌else◌}
+use Rattle.std.proofs.lemmas.Bool.{leb-false}
 use Rattle.bfd_num.specs.Numbers.{floor_tick}
 use Rattle.bfd_num.specs.Due.{has_come, sooner}
 use Rattle.bfd_rules.specs.declared.config.Config.{Config}
@@ -43,15 +43,12 @@ finish_rests c eff v os sound = rw (no_news v, drawn_stands c.active v sound.due
 
 -- the Echo function with nothing due
 
-before : (a b : ℕ) → nat_le b a ≡ false → a < b
-before a b h = grind (arith, nat_tests)
-
 running_rests : (c : Config) (t eff : ℕ) (echo : Option Echo) (f : Flow)
     → has_come t (option_map (λ e. echo_tick e (interval_of f.course.vars) f.course.vars.mult) echo) ≡ false
     → settled_running c (1000 * t) eff echo f ≡ f
 running_rests c t eff None f later = refl
 running_rests c t eff (Some e) f later =
-    rw (outcome_rests e t (interval_of f.course.vars) f.course.vars.mult c.discr (before t _ later)) refl
+    rw (outcome_rests e t (interval_of f.course.vars) f.course.vars.mult c.discr (leb-false _ t later)) refl
 
 settles_echo_rests : (c : Config) (t eff : ℕ) (f : Flow) → has_come t (echo_due c f.course.vars f.echo) ≡ false
     → settles_echo c (1000 * t) eff f ≡ f
@@ -63,9 +60,8 @@ settles_echo_rests c t eff f later = running_rests c t eff (echoing c f.course.v
 goes_on_by : (eff next : ℕ) (should : Bool) (echo : Option Echo) → (IsSome echo ↔ IsTrue should)
     → (if should then Some (goes_on eff next echo) else None) ≡ echo
 goes_on_by eff next true None both = let true_too : false ≡ true = both.1 refl in cc
-goes_on_by eff next true (Some e) both = refl
-goes_on_by eff next false None both = refl
 goes_on_by eff next false (Some e) both = let true_too : false ≡ true = both.0 refl in cc
+goes_on_by eff next should echo both = refl
 
 number_by_rests : (next : ℕ) (should : Bool) (echo : Option Echo) → (IsSome echo ↔ IsTrue should)
     → (if should then next else number_by echo next) ≡ next

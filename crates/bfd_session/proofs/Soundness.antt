@@ -8,7 +8,7 @@ use Rattle.bfd_num.specs.Numbers.{moment_bound, floor_tick, next_j}
 use Rattle.bfd_num.specs.Due.{has_come}
 use Rattle.bfd_rules.specs.declared.config.Config.{Config}
 use Rattle.bfd_rules.specs.declared.variables.Poll.{Poll}
-use Rattle.bfd_rules.specs.declared.variables.Poll.TheVariants.{Idle, Wanted, Running as UnderWay}
+use Rattle.bfd_rules.specs.declared.variables.Poll.TheVariants.{Idle, Wanted}
 use Rattle.bfd_rules.specs.declared.variables.Mark.{Mark}
 use Rattle.bfd_rules.specs.declared.variables.Vars.{Vars}
 use Rattle.bfd_rules.specs.Quantities.{deadline, seq_deadline, demand_here, may_send, tx_interval, is_idle}
@@ -69,10 +69,9 @@ again_plain c v plain = grind (arith, common_steps)
 
 plain_by : (c : Config) (eff : ℕ) (v : Vars) (a b : Bool) → eff < moment_bound → IsPlain c v
     → IsPlain c (if a then (if b then v else record v { heard = option_map (λ _. eff) v.heard }) else (if b then record v { poll = poll_again v.poll } else v))
-plain_by c eff v true true h plain = plain
 plain_by c eff v true false h plain = heard_plain c eff v h plain
 plain_by c eff v false true h plain = again_plain c v plain
-plain_by c eff v false false h plain = plain
+plain_by c eff v a b h plain = plain
 
 pub demand_plain : (c : Config) (eff : ℕ) (before v : Vars) → eff < moment_bound → IsPlain c v → IsPlain c (demand_renewed eff before v)
 unfolding demand_renewed
@@ -84,8 +83,7 @@ demand_peer eff before v h = grind (arith, common_steps)
 
 again_idle : (poll : Poll) → is_idle (poll_again poll) ≡ is_idle poll
 again_idle Idle = refl
-again_idle Wanted = refl
-again_idle (UnderWay first) = refl
+again_idle poll = refl
 
 again_renews : (v : Vars) → IsRenewed v → IsRenewed (record v { poll = poll_again v.poll })
 again_renews v h = record {
@@ -100,10 +98,9 @@ heard_renews eff v h = record { settled_tx = h.settled_tx; tx_at_most = h.tx_at_
 
 renews_by : (eff : ℕ) (v : Vars) (a b : Bool) → IsRenewed v
     → IsRenewed (if a then (if b then v else record v { heard = option_map (λ _. eff) v.heard }) else (if b then record v { poll = poll_again v.poll } else v))
-renews_by eff v true true h = h
 renews_by eff v true false h = heard_renews eff v h
 renews_by eff v false true h = again_renews v h
-renews_by eff v false false h = h
+renews_by eff v a b h = h
 
 demand_renews : (eff : ℕ) (before v : Vars) → IsRenewed v → IsRenewed (demand_renewed eff before v)
 unfolding demand_renewed
@@ -331,10 +328,9 @@ tick_sound s limit eff h sound = sound_after s.config s limit eff h sound
 -- the effective moment of the last own event is a moment
 
 at_by : (c : SessionConfig) (s : Running) → session.sound_by c s → s.vars.at < moment_bound
-at_by (Pair c) s sound = sound.vars.steady.plain.at_below
-at_by (Seek c) s sound = sound.vars.steady.plain.at_below
 at_by (Head c) s sound = sound.vars.steady.at_below
 at_by (Tail c) s sound = sound.vars.at_below
+at_by c s sound = sound.vars.steady.plain.at_below
 
 pub at_sound : (s : Running) → session.IsSound s → s.vars.at < moment_bound
 at_sound s sound = at_by s.config s sound

@@ -1,9 +1,9 @@
 -- A session's own events are all that it is made of.
-use Rattle.std.proofs.Common.{◌≡◌, ◌≢◌, ◌⊎◌, inl, inr, ℕ, ◌+◌, ◌*◌, ◌/◌, ◌%◌, Bool, true, false, List, [], ◌∷◌, Some, None, refl, ap, sym, ◌∙◌, arith, max}
+use Rattle.std.proofs.Common.{◌≡◌, ◌≢◌, ◌⊎◌, inl, inr, ℕ, ◌+◌, ◌*◌, ◌/◌, ◌%◌, Bool, true, false, List, [], ◌∷◌, Some, None, refl, ap, sym, ◌∙◌, max}
 use Rattle.std.specs.Prelude.{if◌then◌else◌, ◌==◌}
 use Rattle.std.specs.List.{cons_option}
-use Rattle.std.proofs.lemmas.Bool.Decides.{nat_tests}
 use Rattle.std.proofs.lemmas.Nat.{div-add-mod'}
+use Rattle.std.proofs.lemmas.Bool.{cases_eq, eq-eqb, ne_eqb, eqb-true, eqb-false}
 use Rattle.bfd_session.specs.declared.event.SessionConfig.{SessionConfig}
 use Rattle.bfd_session.specs.declared.event.Event.{Event}
 use Rattle.bfd_session.specs.Alone.{stepped, ticked}
@@ -40,39 +40,24 @@ whole : (j k n : ℕ) → j / n ≡ k / n → j % n ≡ k % n → j ≡ k
 whole j k n q r =
     sym (div-add-mod' j n) ∙ (ap (λ (x : ℕ). x * n + j % n) q ∙ (ap (λ (x : ℕ). k / n * n + x) r ∙ div-add-mod' k n))
 
-same_or_not : (a b : ℕ) → (a ≡ b) ⊎ (a ≢ b)
-same_or_not a b = grind arith
-
-tells : (a b : ℕ) → a ≡ b → (a == b) ≡ true
-tells a b e = grind (arith, nat_tests)
-
-differs : (a b : ℕ) → a ≢ b → (a == b) ≡ false
-differs a b e = grind (arith, nat_tests)
-
-told : (a b : ℕ) → (a == b) ≡ true → a ≡ b
-told a b e = grind (arith, nat_tests)
-
-apart : (a b : ℕ) → (a == b) ≡ false → a ≢ b
-apart a b e = grind (arith, nat_tests)
-
 -- in one shard, places are the same where those of the table are
 same_places : (j k n : ℕ) → j % n ≡ k % n → (j / n == k / n) ≡ (j == k)
-same_places j k n together = by (same_or_not j k)
+same_places j k n together = by (cases_eq j k)
   where
     by : (j ≡ k) ⊎ (j ≢ k) → (j / n == k / n) ≡ (j == k)
-    by (inl same) = tells (j / n) (k / n) (ap (λ (x : ℕ). x / n) same) ∙ sym (tells j k same)
-    by (inr other) = differs (j / n) (k / n) (λ q. other (whole j k n q together)) ∙ sym (differs j k other)
+    by (inl same) = eq-eqb (j / n) (k / n) (ap (λ (x : ℕ). x / n) same) ∙ sym (eq-eqb j k same)
+    by (inr other) = ne_eqb (j / n) (k / n) (λ q. other (whole j k n q together)) ∙ sym (ne_eqb j k other)
 
 -- an own event of another shard is one of another place
 other_shard : (j k n : ℕ) → (j % n == k % n) ≡ false → (j == k) ≡ false
-other_shard j k n is = differs j k (λ same. apart (j % n) (k % n) is (ap (λ (x : ℕ). x % n) same))
+other_shard j k n is = ne_eqb j k (λ same. eqb-false (j % n) (k % n) is (ap (λ (x : ℕ). x % n) same))
 
 own_dealt : (n k j m : ℕ) (ev : Event) (es : List ShardEvent) (b : Bool) → (j % n == k % n) ≡ b
     → own_events (k / n) (history_of n (k % n) es) ≡ own_events k es
     → own_events (k / n) (cons_option (if b then Some (Own (j / n) m ev) else None) (history_of n (k % n) es)) ≡ own_events k (Own j m ev ∷ es)
 own_dealt n k j m ev es true is rest =
     ap (λ (b : Bool). cons_option (if b then Some (Own 0 m ev) else None) (own_events (k / n) (history_of n (k % n) es)))
-    (same_places j k n (told (j % n) (k % n) is))
+    (same_places j k n (eqb-true (j % n) (k % n) is))
     ∙ ap (cons_option (if j == k then Some (Own 0 m ev) else None)) rest
 own_dealt n k j m ev es false is rest =
     rest ∙ ap (λ (b : Bool). cons_option (if b then Some (Own 0 m ev) else None) (own_events k es)) (sym (other_shard j k n is))

@@ -4,6 +4,7 @@ use Rattle.std.specs.Prelude.{if◌then◌else◌, ◌==◌, slice_get, unwrap_o
 use Rattle.std.specs.List.{AllByRecursion}
 use Rattle.std.proofs.lemmas.List.{get_or-map, length-map, map-append}
 use Rattle.std.proofs.lemmas.Bool.Decides.{nat_tests}
+use Rattle.std.proofs.lemmas.Bool.{cases_eq}
 use Rattle.bfd_num.specs.Numbers.{greatest_tick}
 use Rattle.bfd_session.specs.declared.event.SessionConfig.{SessionConfig}
 use Rattle.bfd_session.specs.declared.event.Event.{Event}
@@ -46,9 +47,6 @@ runs_at p es (x ∷ cs) (suc k) m c d h e = runs_at (p + 1) es cs k m c d (omega
 
 -- an event of all sessions
 
-same_or_not : (a b : ℕ) → (a ≡ b) ⊎ (a ≢ b)
-same_or_not a b = grind arith
-
 chosen : {A : Type 0} (q k : ℕ) (x y : A) → q ≡ k → (if q == k then x else y) ≡ x
 chosen q k x y e = grind (arith, nat_tests)
 
@@ -59,14 +57,13 @@ passed q k x y e = grind (arith, nat_tests)
 past_end : (ss : List Running) (k q : ℕ) → slice_get ss q ≡ None → k < length ss → q ≢ k
 past_end [] k q e h = absurd (omega arith)
 past_end (x ∷ ss) zero zero e h = cc
-past_end (x ∷ ss) zero (suc q) e h = omega arith
-past_end (x ∷ ss) (suc k) zero e h = omega arith
 past_end (x ∷ ss) (suc k) (suc q) e h = let r = past_end ss k q e (omega arith) in omega (arith, r)
+past_end (x ∷ ss) k q e h = omega arith
 
 own_at : (last q m : ℕ) (ev : Event) (ss : List Running) (o : Option Running) → slice_get ss q ≡ o → (k : ℕ) (d : Running) → k < length ss
     → get_or (own_moved o q m last ev ss) k d ≡ after k last (Own q m ev) (get_or ss k d)
 own_at last q m ev ss None e k d h = sym (passed q k (stepped m last ev (get_or ss k d)) (get_or ss k d) (past_end ss k q e h))
-own_at last q m ev ss (Some x) e k d h = by (same_or_not k q)
+own_at last q m ev ss (Some x) e k d h = by (cases_eq k q)
   where
     by : (k ≡ q) ⊎ (k ≢ q) → get_or (set ss q (stepped m last ev x)) k d ≡ after k last (Own q m ev) (get_or ss k d)
     by (inl same) =

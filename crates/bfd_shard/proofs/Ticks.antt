@@ -4,6 +4,7 @@ use Rattle.std.specs.Prelude.{if◌then◌else◌}
 use Rattle.std.proofs.Math.Seq.{get_or-append_seam, set-append_seam}
 use Rattle.std.proofs.lemmas.List.{drop_all, get_or-map, length-map}
 use Rattle.std.specs.List.{AllByRecursion, flat_map}
+use Rattle.std.proofs.lemmas.Bool.{cases_eq}
 use Rattle.bfd_num.specs.Due.{has_come}
 use Rattle.bfd_num.specs.Numbers.{moment_bound, greatest_tick}
 use Rattle.bfd_lanes.specs.Places.{places, without}
@@ -146,16 +147,13 @@ passed_over p (x ∷ xs) n zero m d h e away = away_at p x (places p (n + 1) xs)
 passed_over p (x ∷ xs) n (suc k) m d h e away =
     passed_over p xs (n + 1) k m d (omega arith) (omega arith) (away_from n m (places p (n + 1) xs) (p x) away)
 
-same_or_not : (a b : ℕ) → (a ≡ b) ⊎ (a ≢ b)
-same_or_not a b = grind arith
-
 -- nothing is due by this tick, but at places that are still to be visited
 abbrev pub QuietFrom : ℕ → ℕ → List ℕ → List Running → Type 0
 QuietFrom last i ks ss = (k : ℕ) (d : Running) → k < length ss → IsAway k i ks → has_come last (due (get_or ss k d)) ≡ false
 
 -- away from the rest of the list, and not at the place that is visited now, is away from this place on
 earlier : (i j k : ℕ) (ks : List ℕ) → get_or ks i 0 ≡ k → k ≢ j → IsAway j (i + 1) ks → IsAway j i ks
-earlier i j k ks at other away m from to = by (same_or_not i m)
+earlier i j k ks at other away m from to = by (cases_eq i m)
   where
     by : (i ≡ m) ⊎ (i ≢ m) → get_or ks m 0 ≢ j
     by (inl same) = λ here. other (sym at ∙ (ap (λ (x : ℕ). get_or ks x 0) same ∙ here))
@@ -175,7 +173,7 @@ pub quiet_more : (last i : ℕ) (ks : List ℕ) (ss ss2 : List Running) (k : ℕ
     → k < length ss → ss2 ≡ set ss k s → has_come last (due s) ≡ false → QuietFrom last (i + 1) ks ss2
 quiet_more last i ks ss ss2 k s quiet at within made over =
     subst (λ (xs : List Running). QuietFrom last (i + 1) ks xs) (sym made)
-    (λ j d inside away. quiet_by last i k ks ss s quiet at within over j d (let l = length-set ss k s in omega arith) away (same_or_not k j))
+    (λ j d inside away. quiet_by last i k ks ss s quiet at within over j d (let l = length-set ss k s in omega arith) away (cases_eq k j))
 
 each_one : (P : Running → Type 0) (ss : List Running) → ((k : ℕ) (d : Running) → k < length ss → P (get_or ss k d)) → AllByRecursion P ss
 each_one P [] at = tt

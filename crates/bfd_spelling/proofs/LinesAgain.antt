@@ -4,6 +4,7 @@ use Rattle.std.proofs.lemmas.Bool.Decides.{nat_tests}
 use Rattle.std.specs.Prelude.{codes}
 use Rattle.std.specs.Fmt.{decimal}
 use Rattle.std.specs.List.{AllByRecursion}
+use Rattle.std.proofs.lemmas.Bool.{leb-true, and_parts}
 use Rattle.bfd_num.specs.Numbers.{moment_bound, greatest_tick}
 use Rattle.hex.specs.Hex.{IsBytes}
 use Rattle.bfd_packet.specs.KeyChain.{digest_size, fits_kind, type_number}
@@ -35,7 +36,7 @@ use Rattle.bfd_script.specs.Verbs.{command, fits, number_of, verb_of}
 use Rattle.bfd_spelling.specs.Written.{address_field, auth_fields, event_fields, is_new_line, key_fields, port_field, verb_fields}
 use Rattle.bfd_spelling.proofs.Numerals.{number_again, number_field, number_short}
 use Rattle.bfd_spelling.proofs.Rereading.{address_again, address_is_field, address_short, bytes_again, hex_is_field, hex_short, payload_again}
-use Rattle.bfd_spelling.proofs.Visible.{IsField, both, word}
+use Rattle.bfd_spelling.proofs.Visible.{IsField, word}
 use Rattle.bfd_spelling.proofs.Splitting.{entry_again, total}
 
 -- ---- versions
@@ -49,10 +50,7 @@ Speaks Two new = Unit {0}
 
 port_again : (port : Port) → port_of (port_field port) ≡ Ok port
 port_again ports.Single = refl
-port_again ports.Multi = refl
-port_again ports.Echo = refl
-port_again ports.Sbfd = refl
-port_again ports.Answer = refl
+port_again port = refl
 
 port_is_field : (port : Port) → IsField (port_field port)
 port_is_field ports.Single = word (codes "single") refl
@@ -63,10 +61,7 @@ port_is_field ports.Answer = word (codes "answer") refl
 
 port_short : (port : Port) → length (port_field port) ≤ 6
 port_short ports.Single = omega arith
-port_short ports.Multi = omega arith
-port_short ports.Echo = omega arith
-port_short ports.Sbfd = omega arith
-port_short ports.Answer = omega arith
+port_short port = omega arith
 
 rx_is_field : IsField (codes "rx")
 rx_is_field = word (codes "rx") refl
@@ -85,25 +80,16 @@ kind_again kinds.MeticulousSha1 = ap (λ r. r >>= λ n. Ok (kind_by n)) (number_
 
 kind_small : (kind : AuthType) → type_number kind < 2 ^ 64
 kind_small kinds.Password = omega arith
-kind_small kinds.KeyedMd5 = omega arith
-kind_small kinds.MeticulousMd5 = omega arith
-kind_small kinds.KeyedSha1 = omega arith
-kind_small kinds.MeticulousSha1 = omega arith
+kind_small kind = omega arith
 
 most_room : (kind : AuthType) → digest_size kind ≤ 20
 most_room kinds.Password = omega arith
-most_room kinds.KeyedMd5 = omega arith
-most_room kinds.MeticulousMd5 = omega arith
-most_room kinds.KeyedSha1 = omega arith
-most_room kinds.MeticulousSha1 = omega arith
-
-at_most : (n room : ℕ) → nat_le n room ≡ true → n ≤ room
-at_most n room h = grind (arith, nat_tests)
+most_room kind = omega arith
 
 secret_few : (kind : AuthType) (secret : List ℕ) → fits_kind kind secret ≡ true → length secret ≤ 20
 secret_few kind secret h =
-    let e = both (nat_le 1 (length secret)) (nat_le (length secret) (digest_size kind)) h in
-    let most = at_most (length secret) (digest_size kind) e.1 in
+    let e = and_parts (nat_le 1 (length secret)) (nat_le (length secret) (digest_size kind)) h in
+    let most = leb-true (length secret) (digest_size kind) e.1 in
     let room = most_room kind in omega arith
 
 fit_step : (fits : Bool) (bytes : List ℕ) → fits ≡ true → cond fits (Ok bytes) (Err OutOfRange) ≡ Ok bytes
@@ -172,7 +158,7 @@ room_step false n h = refl
 widest : (kind : AuthType) (secret : List ℕ) → fits_kind kind secret ≡ true → fits_kind kinds.KeyedSha1 secret ≡ true
 widest kind secret fits =
     room_step (nat_le 1 (length secret)) (length secret) (secret_few kind secret fits)
-    ∙ (both (nat_le 1 (length secret)) (nat_le (length secret) (digest_size kind)) fits).0
+    ∙ (and_parts (nat_le 1 (length secret)) (nat_le (length secret) (digest_size kind)) fits).0
 
 key_read : (kind : AuthType) (key : Key) → IsKey key → fits_kind kind key.secret ≡ true → key_of (decimal key.id) (hex_field key.secret) ≡ Ok key
 unfolding key_of
@@ -259,9 +245,6 @@ verb_fits (commands.EchoEvery n) h = (word (codes "echo") refl, (number_field n 
 verb_fits (commands.Key n) h = (word (codes "key") refl, (number_field n h, tt))
 
 verb_short : (cmd : Cmd) → number_of cmd < 2 ^ 64 → total (verb_fields cmd) ≤ 40
-verb_short commands.Disable h = omega arith
-verb_short commands.Enable h = omega arith
-verb_short commands.Reset h = omega arith
 verb_short (commands.Path n) h = let l = number_short n h in omega arith
 verb_short (commands.Tx n) h = let l = number_short n h in omega arith
 verb_short (commands.Rx n) h = let l = number_short n h in omega arith
@@ -269,6 +252,7 @@ verb_short (commands.Mult n) h = let l = number_short n h in omega arith
 verb_short (commands.Demand n) h = let l = number_short n h in omega arith
 verb_short (commands.EchoEvery n) h = let l = number_short n h in omega arith
 verb_short (commands.Key n) h = let l = number_short n h in omega arith
+verb_short cmd h = omega arith
 
 moment_again : (m d : ℕ) → IsAsked m d → number_in 0 (moment_bound - 1) (decimal m) ≡ Ok m
 moment_again m d h =

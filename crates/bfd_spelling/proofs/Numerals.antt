@@ -1,7 +1,7 @@
 -- Numbers, written and read again.
 use Rattle.std.proofs.Common.{◌≡◌, ℕ, ◌<◌, ◌≤◌, ◌^◌, ◌==◌, Bool, true, false, ◌&&◌, List, [], ◌∷◌, length, Ok, refl, arith, nat_lt, inl, inr}
 use Rattle.std.proofs.lemmas.Bool.Decides.{nat_tests}
-use Rattle.std.proofs.lemmas.Bool.{cases_lt}
+use Rattle.std.proofs.lemmas.Bool.{cases_lt, and_parts}
 use Rattle.std.proofs.lemmas.Fmt.{digits_decimal, digits_value-decimal, decimal_nonempty, first_decimal, decimal_digit, length-decimal-le}
 use Rattle.std.specs.Prelude.{slice_index}
 use Rattle.std.specs.Char.{is_ascii_digit}
@@ -9,7 +9,7 @@ use Rattle.std.specs.Fmt.{decimal}
 use Rattle.std.specs.List.{list_all, AllByRecursion}
 use Rattle.bfd_script.specs.Fields.{is_number, number_in}
 use Rattle.bfd_script.proofs.Decimal.{own}
-use Rattle.bfd_spelling.proofs.Visible.{IsField, both}
+use Rattle.bfd_spelling.proofs.Visible.{IsField}
 
 -- a decimal digit
 record IsDigit (byte : ℕ) : Type 0 where
@@ -21,7 +21,7 @@ digit_at b h = grind (arith, nat_tests)
 
 each_digit : (ds : List ℕ) → list_all is_ascii_digit ds ≡ true → AllByRecursion IsDigit ds
 each_digit [] h = tt
-each_digit (d ∷ ds) h = let e = both (is_ascii_digit d) (list_all is_ascii_digit ds) h in (digit_at d e.0, each_digit ds e.1)
+each_digit (d ∷ ds) h = let e = and_parts (is_ascii_digit d) (list_all is_ascii_digit ds) h in (digit_at d e.0, each_digit ds e.1)
 
 digits : (n : ℕ) → n < 2 ^ 64 → AllByRecursion IsDigit (decimal n)
 digits n h = each_digit (decimal n) (digits_decimal own n h)

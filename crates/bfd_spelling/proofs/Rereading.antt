@@ -1,5 +1,5 @@
 -- Addresses and bytes, written and read again.
-use Rattle.std.proofs.Common.{◌≡◌, ℕ, ◌+◌, ◌*◌, ◌/◌, ◌%◌, ◌<◌, ◌≤◌, ◌^◌, ◌==◌, Bool, true, false, cond, ◌&&◌, List, [], ◌∷◌, ◌++◌, length, Ok, Err, refl, sym, ap, ◌∙◌, arith, suc, zero, append-nil, length-append}
+use Rattle.std.proofs.Common.{◌≡◌, ℕ, ◌+◌, ◌*◌, ◌/◌, ◌%◌, ◌<◌, ◌≤◌, ◌^◌, ◌==◌, Bool, true, false, cond, List, [], ◌∷◌, ◌++◌, length, Ok, Err, refl, sym, ap, ◌∙◌, arith, suc, zero, append-nil, length-append}
 use Rattle.std.proofs.Math.Nat.{mod-lt}
 use Rattle.std.proofs.Math.Seq.{take_all}
 use Rattle.std.proofs.lemmas.Bool.Decides.{nat_tests}
@@ -8,6 +8,8 @@ use Rattle.std.specs.Fmt.{decimal}
 use Rattle.std.specs.Int.{byte_at, bytes_high_first}
 use Rattle.std.specs.List.{list_all, slice_split}
 use Rattle.std.specs.Str.{bytes_eq}
+use Rattle.std.proofs.Math.Bool.{and-false}
+use Rattle.std.proofs.lemmas.Bool.{and_parts}
 use Rattle.byteorder.specs.Endian.{big_bytes, big_number}
 use Rattle.byteorder.specs.Numbers.{big_number-reads_back, length-bytes_high_first}
 use Rattle.hex.specs.Hex.{IsBytes, decode_pairs, encode_lower, encode_with, lower_digits}
@@ -20,7 +22,7 @@ use Rattle.bfd_script.specs.Values.{IsAddress, address_by, address_of, bytes_of,
 use Rattle.bfd_spelling.specs.Written.{address_field, dotted_field}
 use Rattle.bfd_spelling.proofs.Numerals.{number_again, number_dotless, number_field, octet_short}
 use Rattle.bfd_script.proofs.Elements.{each_more}
-use Rattle.bfd_spelling.proofs.Visible.{IsVisible, IsField, both, is_visible, seen}
+use Rattle.bfd_spelling.proofs.Visible.{IsVisible, IsField, is_visible, seen}
 use Rattle.bfd_spelling.proofs.Splitting.{split_front, split_last}
 
 -- ---- four numbers with dots
@@ -92,8 +94,8 @@ high_bytes (suc n) x (suc i) = high_bytes n x i
 
 digit_seen : (digits : List ℕ) → list_all is_visible digits ≡ true → (i : ℕ) → i < length digits → IsVisible (slice_index digits i)
 digit_seen [] h i lt = absurd (omega arith)
-digit_seen (d ∷ digits) h zero lt = seen d (both (is_visible d) (list_all is_visible digits) h).0
-digit_seen (d ∷ digits) h (suc i) lt = digit_seen digits (both (is_visible d) (list_all is_visible digits) h).1 i (omega arith)
+digit_seen (d ∷ digits) h zero lt = seen d (and_parts (is_visible d) (list_all is_visible digits) h).0
+digit_seen (d ∷ digits) h (suc i) lt = digit_seen digits (and_parts (is_visible d) (list_all is_visible digits) h).1 i (omega arith)
 
 encoded_field : (bytes : List ℕ) → IsBytes bytes → IsField (encode_with lower_digits bytes)
 unfolding encode_with
@@ -113,13 +115,9 @@ pub hex_short : (bytes : List ℕ) → length bytes ≤ 256 → length (hex_fiel
 hex_short [] h = omega arith
 hex_short (b ∷ bytes) h = let e = length-encode_with lower_digits (b ∷ bytes) in omega arith
 
-and_false : (b : Bool) → (b && false) ≡ false
-and_false true = refl
-and_false false = refl
-
 no_dash : (b : ℕ) (bytes : List ℕ) → bytes_eq (encode_with lower_digits (b ∷ bytes)) (codes "-") ≡ false
 unfolding encode_with
-no_dash b bytes = and_false _
+no_dash b bytes = and-false _
 
 some_digits : (b : ℕ) (bytes : List ℕ) → (length (encode_with lower_digits (b ∷ bytes)) == 0) ≡ false
 some_digits b bytes = let e = length-encode_with lower_digits (b ∷ bytes) in grind (arith, nat_tests)

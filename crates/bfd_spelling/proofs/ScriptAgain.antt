@@ -3,12 +3,14 @@ use Rattle.std.proofs.Common.{◌≡◌, ℕ, ◌+◌, ◌<◌, ◌≤◌, ◌==
 use Rattle.std.proofs.lemmas.Bool.Decides.{nat_tests}
 use Rattle.std.specs.Prelude.{codes, find, is_some, not}
 use Rattle.std.specs.List.{list_any, AllByRecursion}
+use Rattle.std.proofs.lemmas.Bool.{or_from}
+use Rattle.bfd_script.proofs.Numbered.{none_any}
 use Rattle.bfd_packet.specs.KeyChain.{KeyChain, fits_kind, has_id}
 use Rattle.bfd_packet.specs.declared.keys.AuthType.{AuthType}
 use Rattle.bfd_packet.specs.declared.keys.Key.{Key}
 use Rattle.bfd_rules.specs.declared.config.Config.{Config}
 use Rattle.bfd_session.specs.declared.event.SessionConfig.{SessionConfig}
-use Rattle.bfd_session.specs.declared.event.SessionConfig.TheVariants.{Pair, Seek, Head, Tail}
+use Rattle.bfd_session.specs.declared.event.SessionConfig.TheVariants.{Pair}
 use Rattle.bfd_sbfd.specs.Reflect as pools
 use Rattle.bfd_sbfd.specs.declared.reflecting.Reflector.{Reflector}
 use Rattle.bfd_session.specs.Kinds.{discr_of}
@@ -82,23 +84,18 @@ taken_last : (taken place full : Bool) (next : State) → taken ≡ false → pl
     → cond taken (Err SameDiscr) (cond place (Err SameAddresses) (cond full (Err TooMany) (Ok next))) ≡ Ok next
 taken_last taken place full next e f g = rw (e, f, g) refl
 
-or_none : (taken : Bool) → taken ≡ false → (taken || false) ≡ false
-or_none taken e = rw e refl
-
 row_taken : (version : Version) (c : SessionConfig) (done : List SessionConfig) → Follows done c → length done < 65536
     → with_config c (at_table version done) ≡ Ok (at_table version (done ++ c ∷ []))
 row_taken version c done follows room =
     let few : nat_le 65536 (length done + 0) ≡ false = grind (arith, nat_tests) in
     taken_last (has_discr (discr_of c) done || false) (has_place c done) (nat_le 65536 (length done + 0)) (at_table version (inserted c done))
-    (or_none (has_discr (discr_of c) done) (none_above (discr_of c) done follows.above)) (none_same (same_selector c) done follows.apart) few
+    (or_from (has_discr (discr_of c) done) false (none_above (discr_of c) done follows.above) refl) (none_same (same_selector c) done follows.apart) few
     ∙ ap (λ xs. Ok (at_table version xs)) (inserted_last c done follows.above)
 
 -- a session without its keys follows those before it as it does with them
 follows_bare : (c : SessionConfig) (done : List SessionConfig) → Follows done c → Follows done (bare c)
 follows_bare (Pair c) done h = record { above = h.above; apart = h.apart }
-follows_bare (Seek c) done h = h
-follows_bare (Head c) done h = h
-follows_bare (Tail c) done h = h
+follows_bare c done h = h
 
 row_step : (version : Version) (c : SessionConfig) (done : List SessionConfig) → IsFit c → IsRow c → Follows done c → length done < 65536
     → step false (at_table version done) (spaced (row_fields c) []) ≡ Ok (at_table version (done ++ bare c ∷ []))
@@ -245,18 +242,14 @@ keys_again version c (Some keys) done number rest some below speaks fit h =
 -- a session's discriminator, and its keys
 some_discr : (c : SessionConfig) → IsFit c → 0 < discr_of c
 some_discr (Pair c) fit = fit.discr
-some_discr (Seek c) fit = fit.discr
-some_discr (Head c) fit = fit.discr
-some_discr (Tail c) fit = fit.discr
+some_discr c fit = fit.discr
 
 bare_again : (version : Version) (c : SessionConfig) (done : List SessionConfig) (number : ℕ) (rest : List ℕ) → IsFit c → IsRow c
     → Speaks version (is_new_row c) → AllByRecursion (λ d. discr_of d < discr_of c) done
     → told_from false (at_table version (done ++ bare c ∷ [])) number (lines_of (keys_text (discr_of c) (keys_in (Some c)) ++ rest))
     ≡ told_from false (at_table version (done ++ c ∷ [])) (past_keys number (keys_in (Some c))) (lines_of rest)
 bare_again version (Pair c) done number rest fit row speaks h = keys_again version c c.keys done number rest fit.discr row.discr speaks row.keys h
-bare_again version (Seek c) done number rest fit row speaks h = refl
-bare_again version (Head c) done number rest fit row speaks h = refl
-bare_again version (Tail c) done number rest fit row speaks h = refl
+bare_again version c done number rest fit row speaks h = refl
 
 session_again : (version : Version) (c : SessionConfig) (done : List SessionConfig) (number : ℕ) (rest : List ℕ) → IsFit c → IsRow c → Follows done c
     → Speaks version (is_new_row c) → length done < 65536
@@ -311,16 +304,13 @@ below_rest d r pool h = h.1
 free_next : (taken full : Bool) (next : State) → taken ≡ false → full ≡ false → cond taken (Err SameDiscr) (cond full (Err TooMany) (Ok next)) ≡ Ok next
 free_next taken full next e f = rw (e, f) refl
 
-neither : (p q : Bool) → p ≡ false → q ≡ false → (p || q) ≡ false
-neither p q e f = rw (e, f) refl
-
 reflector_taken : (version : Version) (cs : List SessionConfig) (r : Reflector) (done : List Reflector) → has_discr r.discr cs ≡ false
     → AllByRecursion (λ d. d.discr < r.discr) done → length cs + length done < 65536
     → with_reflector r (at_pool version cs done) ≡ Ok (at_pool version cs (done ++ r ∷ []))
 reflector_taken version cs r done apart h room =
     let few : nat_le 65536 (length cs + length done) ≡ false = grind (arith, nat_tests) in
     free_next (has_discr r.discr cs || has_reflector r.discr done) (nat_le 65536 (length cs + length done)) (at_pool version cs (pooled r done))
-    (neither (has_discr r.discr cs) (has_reflector r.discr done) apart (no_reflector r.discr done h)) few
+    (or_from (has_discr r.discr cs) (has_reflector r.discr done) apart (no_reflector r.discr done h)) few
     ∙ ap (λ xs. Ok (at_pool version cs xs)) (pooled_last r done h)
 
 reflector_step : (version : Version) (cs : List SessionConfig) (r : Reflector) (done : List Reflector) → IsReflector r → has_discr r.discr cs ≡ false
@@ -402,27 +392,15 @@ all_spoken : {X : Type 0} (test : X → Bool) (xs : List X) → AllByRecursion (
 all_spoken test [] = tt
 all_spoken test (x ∷ xs) = (tt, all_spoken test xs)
 
-or_left : (p q : Bool) → (p || q) ≡ false → p ≡ false
-or_left true q e = e
-or_left false q e = refl
-
-or_right : (p q : Bool) → (p || q) ≡ false → q ≡ false
-or_right true q e = absurd cc
-or_right false q e = e
-
-none_new : {X : Type 0} (test : X → Bool) (xs : List X) → list_any test xs ≡ false → AllByRecursion (λ x. Speaks One (test x)) xs
-none_new test [] e = tt
-none_new test (x ∷ xs) e = (or_left (test x) (list_any test xs) e, none_new test xs (or_right (test x) (list_any test xs) e))
-
 rows_by : (rows lines : Bool) (cs : List SessionConfig) → list_any is_new_row cs ≡ rows → AllByRecursion (λ c. Speaks (cond (rows || lines) Two One) (is_new_row c)) cs
 rows_by true lines cs e = all_spoken is_new_row cs
 rows_by false true cs e = all_spoken is_new_row cs
-rows_by false false cs e = none_new is_new_row cs e
+rows_by false false cs e = none_any is_new_row cs e
 
 events_by : (rows lines : Bool) (es : List Line) → list_any is_new_line es ≡ lines → AllByRecursion (λ e. Speaks (cond (rows || lines) Two One) (is_new_line e)) es
 events_by true lines es e = all_spoken is_new_line es
 events_by false true es e = all_spoken is_new_line es
-events_by false false es e = none_new is_new_line es e
+events_by false false es e = none_any is_new_line es e
 
 -- the text of events, and that of reflectors before it
 abbrev after_pool : Lists → List ℕ

@@ -1,7 +1,8 @@
 -- The bytes that a field may have.
-use Rattle.std.proofs.Common.{◌≡◌, ℕ, ◌≤◌, Bool, true, false, ◌&&◌, List, [], ◌∷◌, refl, arith, nat_lt}
+use Rattle.std.proofs.Common.{◌≡◌, ℕ, ◌≤◌, Bool, true, ◌&&◌, List, [], ◌∷◌, arith, nat_lt}
 use Rattle.std.proofs.lemmas.Bool.Decides.{nat_tests}
 use Rattle.std.specs.List.{list_all, AllByRecursion}
+use Rattle.std.proofs.lemmas.Bool.{and_parts}
 
 -- a byte that a field may have
 pub record IsVisible (byte : ℕ) : Type 0 where
@@ -19,11 +20,7 @@ is_visible b = nat_lt 32 b && nat_lt b 127
 pub seen : (b : ℕ) → is_visible b ≡ true → IsVisible b
 seen b h = grind (arith, nat_tests)
 
-pub both : (p q : Bool) → (p && q) ≡ true → (p ≡ true) × (q ≡ true)
-both true q h = (refl, h)
-both false q h = cc
-
 -- a word of visible bytes, by computing
 pub word : (w : List ℕ) → list_all is_visible w ≡ true → IsField w
 word [] h = tt
-word (b ∷ w) h = let e = both (is_visible b) (list_all is_visible w) h in (seen b e.0, word w e.1)
+word (b ∷ w) h = let e = and_parts (is_visible b) (list_all is_visible w) h in (seen b e.0, word w e.1)

@@ -6,11 +6,12 @@ use Rattle.std.proofs.lemmas.List.Sorted.{sum_by-IsPermutation}
 use Rattle.std.proofs.lemmas.List.Sums.{sum_by-cons}
 use Rattle.std.proofs.lemmas.List.{take-append-drop, take_all, length-drop}
 use Rattle.std.proofs.Math.Seq.{take-append_seam, drop-append_seam}
+use Rattle.std.proofs.lemmas.Bool.{cases_eq, cases_lt}
 use Rattle.bfd_num.specs.Due.{has_come}
 use Rattle.bfd_lanes.specs.Places.{never, due_of, places, come}
 use Rattle.bfd_wheel.specs.Taken.{bit, times, waits, Took}
-use Rattle.bfd_wheel.proofs.Rings.{same_or_not, under_or_not}
-use Rattle.bfd_wheel.proofs.TakenIds.{bit_same, bit_other, come_of, counts_not}
+use Rattle.bfd_wheel.proofs.TakenIds.{bit_same, bit_other, come_of}
+use Rattle.bfd_wheel.proofs.Walk.{counted_not}
 
 -- no number after another is below it
 Ascends : List ℕ → Type 0
@@ -39,7 +40,7 @@ before t k [] x below h = refl
 before t k (d ∷ ds) x below h = omega (arith, times_step t k d x (places (has_come t) (k + 1) (map due_of ds)) below, no_bit (nat_le d t) x k (omega arith), before t (k + 1) ds x below (omega arith))
 
 from_place : (t k : ℕ) (ds : List ℕ) (y : ℕ) → t < never → times (k + y) (places (has_come t) k (map due_of ds)) ≡ waits t ds y
-from_place t k [] y below = sym (counts_not t never below)
+from_place t k [] y below = sym (counted_not never t below)
 from_place t k (d ∷ ds) zero below = omega (arith, times_step t k d (k + zero) (places (has_come t) (k + 1) (map due_of ds)) below, one_bit (nat_le d t) (k + zero) k (omega arith), before t (k + 1) ds (k + zero) below (omega arith))
 from_place t k (d ∷ ds) (suc y) below =
     let shift : times (k + suc y) (places (has_come t) (k + 1) (map due_of ds)) ≡ times ((k + 1) + y) (places (has_come t) (k + 1) (map due_of ds)) = ap (λ (z : ℕ). times z (places (has_come t) (k + 1) (map due_of ds))) (omega arith) in
@@ -62,12 +63,12 @@ ascends_from : (t k : ℕ) (ds : List ℕ) → t < never → Ascends (places (ha
 unfolding Ascends
 ascends_from t k [] below = tt
 ascends_from t k (d ∷ ds) below = ascends_by (has_come t (due_of d)) k (places (has_come t) (k + 1) (map due_of ds))
-    (λ y there. elim (under_or_not y k) [ inl less ↦ absurd (let none = before t (k + 1) ds y below (omega arith) in omega arith) | inr h ↦ h ])
+    (λ y there. elim (cases_lt y k) [ inl less ↦ absurd (let none = before t (k + 1) ds y below (omega arith) in omega arith) | inr h ↦ h ])
     (ascends_from t (k + 1) ds below)
 
 found : (y : ℕ) (xs : List ℕ) → 1 ≤ times y xs → (k : ℕ) × (k < length xs) × (get_or xs k 0 ≡ y)
 found y [] there = absurd (omega arith)
-found y (x ∷ xs) there = elim (same_or_not y x) [
+found y (x ∷ xs) there = elim (cases_eq y x) [
   | inl e ↦ (0, omega arith, sym e)
   | inr ne ↦ (let rest = found y xs (let none = bit_other y x ne in omega arith) in (suc rest.0, (let h = rest.1 in omega arith), rest.2))
 ]
@@ -82,7 +83,7 @@ ascends_sorted (x ∷ xs) sorted = (
 
 head_le : (x y : ℕ) (xs : List ℕ) → Ascends (x ∷ xs) → 1 ≤ times y (x ∷ xs) → x ≤ y
 unfolding Ascends
-head_le x y xs a there = elim (same_or_not y x) [
+head_le x y xs a there = elim (cases_eq y x) [
   | inl e ↦ omega arith
   | inr ne ↦ a.0 y (let none = bit_other y x ne in omega arith)
 ]

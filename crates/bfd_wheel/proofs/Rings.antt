@@ -1,13 +1,8 @@
 -- Taking a node out of its ring, putting one in behind a head, and naming the lists anew.
-use Rattle.std.proofs.Common.{◌≡◌, ◌≢◌, ◌⊎◌, inl, inr, ℕ, ◌<◌, ◌≤◌, sym, ◌∙◌, ap, subst, arith}
+use Rattle.std.proofs.Common.{◌≡◌, ◌≢◌, inl, inr, ℕ, ◌<◌, ◌≤◌, sym, ◌∙◌, ap, subst, arith}
+use Rattle.std.proofs.lemmas.Bool.{cases_eq, cases_lt}
 use Rattle.bfd_lanes.specs.Places.{never}
 use Rattle.bfd_wheel.specs.Rings.{IsOn, IsRing, Unlinks, Links}
-
-pub same_or_not : (a b : ℕ) → (a ≡ b) ⊎ (a ≢ b)
-same_or_not a b = grind arith
-
-pub under_or_not : (a b : ℕ) → (a < b) ⊎ (b ≤ a)
-under_or_not a b = grind arith
 
 -- the id i leaves its list
 pub record TakesOut (i : ℕ) (due home next prev due2 home2 next2 prev2 : ℕ → ℕ) : Type 0 where
@@ -40,43 +35,43 @@ module _ (n all i : ℕ) (due home next prev rank due2 home2 next2 prev2 : ℕ �
   out_prev_is j on ne = λ e. ne (sym (r.forth j (out_was j on)) ∙ ap next e)
 
   out_next_on : (j : ℕ) → IsOn all due2 j → IsOn all due2 (next2 j)
-  out_next_on j on = elim (same_or_not j (prev i)) [
+  out_next_on j on = elim (cases_eq j (prev i)) [
     | inl e ↦ subst (IsOn all due2) (sym (ap next2 e ∙ u.links.next_prev)) (out_stays (next i) out_next (r.next_on i o))
     | inr ne ↦ subst (IsOn all due2) (sym (u.links.next_same j ne)) (out_stays (next j) (out_next_is j on ne) (r.next_on j (out_was j on)))
   ]
 
   out_prev_on : (j : ℕ) → IsOn all due2 j → IsOn all due2 (prev2 j)
-  out_prev_on j on = elim (same_or_not j (next i)) [
+  out_prev_on j on = elim (cases_eq j (next i)) [
     | inl e ↦ subst (IsOn all due2) (sym (ap prev2 e ∙ u.links.prev_next)) (out_stays (prev i) out_prev (r.prev_on i o))
     | inr ne ↦ subst (IsOn all due2) (sym (u.links.prev_same j ne)) (out_stays (prev j) (out_prev_is j on ne) (r.prev_on j (out_was j on)))
   ]
 
   out_next_home : (j : ℕ) → IsOn all due2 j → home2 (next2 j) ≡ home2 j
-  out_next_home j on = elim (same_or_not j (prev i)) [
+  out_next_home j on = elim (cases_eq j (prev i)) [
     | inl e ↦ ap home2 (ap next2 e ∙ u.links.next_prev) ∙ u.home_same (next i) out_next ∙ r.next_home i o ∙ sym (r.prev_home i o) ∙ sym (u.home_same (prev i) out_prev) ∙ ap home2 (sym e)
     | inr ne ↦ ap home2 (u.links.next_same j ne) ∙ u.home_same (next j) (out_next_is j on ne) ∙ r.next_home j (out_was j on) ∙ sym (u.home_same j (out_other j on))
   ]
 
   out_prev_home : (j : ℕ) → IsOn all due2 j → home2 (prev2 j) ≡ home2 j
-  out_prev_home j on = elim (same_or_not j (next i)) [
+  out_prev_home j on = elim (cases_eq j (next i)) [
     | inl e ↦ ap home2 (ap prev2 e ∙ u.links.prev_next) ∙ u.home_same (prev i) out_prev ∙ r.prev_home i o ∙ sym (r.next_home i o) ∙ sym (u.home_same (next i) out_next) ∙ ap home2 (sym e)
     | inr ne ↦ ap home2 (u.links.prev_same j ne) ∙ u.home_same (prev j) (out_prev_is j on ne) ∙ r.prev_home j (out_was j on) ∙ sym (u.home_same j (out_other j on))
   ]
 
   out_back : (j : ℕ) → IsOn all due2 j → prev2 (next2 j) ≡ j
-  out_back j on = elim (same_or_not j (prev i)) [
+  out_back j on = elim (cases_eq j (prev i)) [
     | inl e ↦ ap prev2 (ap next2 e ∙ u.links.next_prev) ∙ u.links.prev_next ∙ sym e
     | inr ne ↦ ap prev2 (u.links.next_same j ne) ∙ u.links.prev_same (next j) (λ e. out_other j on (sym (r.back j (out_was j on)) ∙ ap prev e ∙ r.back i o)) ∙ r.back j (out_was j on)
   ]
 
   out_forth : (j : ℕ) → IsOn all due2 j → next2 (prev2 j) ≡ j
-  out_forth j on = elim (same_or_not j (next i)) [
+  out_forth j on = elim (cases_eq j (next i)) [
     | inl e ↦ ap next2 (ap prev2 e ∙ u.links.prev_next) ∙ u.links.next_prev ∙ sym e
     | inr ne ↦ ap next2 (u.links.prev_same j ne) ∙ u.links.next_same (prev j) (λ e. out_other j on (sym (r.forth j (out_was j on)) ∙ ap next e ∙ r.forth i o)) ∙ r.forth j (out_was j on)
   ]
 
   out_falls : (j : ℕ) → j < n → IsOn all due2 j → rank (next2 j) < rank j
-  out_falls j below on = elim (same_or_not j (prev i)) [
+  out_falls j below on = elim (cases_eq j (prev i)) [
     | inl e ↦ (let next_is : rank (next2 j) ≡ rank (next i) = ap rank (ap next2 e ∙ u.links.next_prev) in
         let mid : rank (next j) ≡ rank i = ap rank (ap next e ∙ r.forth i o) in
         let f = r.falls i id o in
@@ -91,7 +86,7 @@ module _ (n all i : ℕ) (due home next prev rank due2 home2 next2 prev2 : ℕ �
   out_no_gap c j onc on same under =
       let home_is : home j ≡ home c = sym (u.home_same j (out_other j on)) ∙ same ∙ u.home_same c (out_other c onc) in
       let first : rank j ≤ rank (next c) = r.no_gap c j (out_was c onc) (out_was j on) home_is under in
-      elim (same_or_not c (prev i)) [
+      elim (cases_eq c (prev i)) [
         | inl e ↦ (let next_is : rank (next2 c) ≡ rank (next i) = ap rank (ap next2 e ∙ u.links.next_prev) in
             let mid : rank (next c) ≡ rank i = ap rank (ap next e ∙ r.forth i o) in
             let differs : rank i ≢ rank j = λ q. out_other j on (sym (r.one i j q id)) in
@@ -147,45 +142,45 @@ module _ (n all i h top : ℕ) (due home next prev rank due2 home2 next2 prev2 r
   in_home_first = u.home_same (next h) (in_other (next h) (r.next_on h o)) ∙ r.next_home h o ∙ r.head_home h head
 
   in_next_on : (j : ℕ) → IsOn all due2 j → IsOn all due2 (next2 j)
-  in_next_on j on = elim (same_or_not j i) [
+  in_next_on j on = elim (cases_eq j i) [
     | inl e ↦ subst (IsOn all due2) (sym (ap next2 e ∙ u.links.next_own)) (in_stays (next h) (r.next_on h o))
-    | inr ne ↦ elim (same_or_not j h) [
+    | inr ne ↦ elim (cases_eq j h) [
       | inl e ↦ subst (IsOn all due2) (sym (ap next2 e ∙ u.links.next_head)) in_own
       | inr nh ↦ subst (IsOn all due2) (sym (u.links.next_same j ne nh)) (in_stays (next j) (r.next_on j (in_was j ne on)))
     ]
   ]
 
   in_prev_on : (j : ℕ) → IsOn all due2 j → IsOn all due2 (prev2 j)
-  in_prev_on j on = elim (same_or_not j i) [
+  in_prev_on j on = elim (cases_eq j i) [
     | inl e ↦ subst (IsOn all due2) (sym (ap prev2 e ∙ u.links.prev_own)) (in_stays h o)
-    | inr ne ↦ elim (same_or_not j (next h)) [
+    | inr ne ↦ elim (cases_eq j (next h)) [
       | inl e ↦ subst (IsOn all due2) (sym (ap prev2 e ∙ u.links.prev_first)) in_own
       | inr nh ↦ subst (IsOn all due2) (sym (u.links.prev_same j ne nh)) (in_stays (prev j) (r.prev_on j (in_was j ne on)))
     ]
   ]
 
   in_next_home : (j : ℕ) → IsOn all due2 j → home2 (next2 j) ≡ home2 j
-  in_next_home j on = elim (same_or_not j i) [
+  in_next_home j on = elim (cases_eq j i) [
     | inl e ↦ ap home2 (ap next2 e ∙ u.links.next_own) ∙ in_home_first ∙ sym u.home_own ∙ ap home2 (sym e)
-    | inr ne ↦ elim (same_or_not j h) [
+    | inr ne ↦ elim (cases_eq j h) [
       | inl e ↦ ap home2 (ap next2 e ∙ u.links.next_head) ∙ u.home_own ∙ sym in_home_head ∙ ap home2 (sym e)
       | inr nh ↦ ap home2 (u.links.next_same j ne nh) ∙ u.home_same (next j) (in_other (next j) (r.next_on j (in_was j ne on))) ∙ r.next_home j (in_was j ne on) ∙ sym (u.home_same j ne)
     ]
   ]
 
   in_prev_home : (j : ℕ) → IsOn all due2 j → home2 (prev2 j) ≡ home2 j
-  in_prev_home j on = elim (same_or_not j i) [
+  in_prev_home j on = elim (cases_eq j i) [
     | inl e ↦ ap home2 (ap prev2 e ∙ u.links.prev_own) ∙ in_home_head ∙ sym u.home_own ∙ ap home2 (sym e)
-    | inr ne ↦ elim (same_or_not j (next h)) [
+    | inr ne ↦ elim (cases_eq j (next h)) [
       | inl e ↦ ap home2 (ap prev2 e ∙ u.links.prev_first) ∙ u.home_own ∙ sym in_home_first ∙ ap home2 (sym e)
       | inr nh ↦ ap home2 (u.links.prev_same j ne nh) ∙ u.home_same (prev j) (in_other (prev j) (r.prev_on j (in_was j ne on))) ∙ r.prev_home j (in_was j ne on) ∙ sym (u.home_same j ne)
     ]
   ]
 
   in_back : (j : ℕ) → IsOn all due2 j → prev2 (next2 j) ≡ j
-  in_back j on = elim (same_or_not j i) [
+  in_back j on = elim (cases_eq j i) [
     | inl e ↦ ap prev2 (ap next2 e ∙ u.links.next_own) ∙ u.links.prev_first ∙ sym e
-    | inr ne ↦ elim (same_or_not j h) [
+    | inr ne ↦ elim (cases_eq j h) [
       | inl e ↦ ap prev2 (ap next2 e ∙ u.links.next_head) ∙ u.links.prev_own ∙ sym e
       | inr nh ↦ (let on1 = in_was j ne on in
           ap prev2 (u.links.next_same j ne nh) ∙ u.links.prev_same (next j) (in_other (next j) (r.next_on j on1)) (λ q. nh (sym (r.back j on1) ∙ ap prev q ∙ r.back h o)) ∙ r.back j on1)
@@ -193,9 +188,9 @@ module _ (n all i h top : ℕ) (due home next prev rank due2 home2 next2 prev2 r
   ]
 
   in_forth : (j : ℕ) → IsOn all due2 j → next2 (prev2 j) ≡ j
-  in_forth j on = elim (same_or_not j i) [
+  in_forth j on = elim (cases_eq j i) [
     | inl e ↦ ap next2 (ap prev2 e ∙ u.links.prev_own) ∙ u.links.next_head ∙ sym e
-    | inr ne ↦ elim (same_or_not j (next h)) [
+    | inr ne ↦ elim (cases_eq j (next h)) [
       | inl e ↦ ap next2 (ap prev2 e ∙ u.links.prev_first) ∙ u.links.next_own ∙ sym e
       | inr nh ↦ (let on1 = in_was j ne on in
           ap next2 (u.links.prev_same j ne nh) ∙ u.links.next_same (prev j) (in_other (prev j) (r.prev_on j on1)) (λ q. nh (sym (r.forth j on1) ∙ ap next q)) ∙ r.forth j on1)
@@ -206,13 +201,13 @@ module _ (n all i h top : ℕ) (due home next prev rank due2 home2 next2 prev2 r
   in_head_rank j far = u.rank_same j (λ e. absurd (omega arith)) ∙ r.head_rank j far
 
   in_id_rank : (j : ℕ) → j < n → 0 < rank2 j
-  in_id_rank j near = elim (same_or_not j i) [
+  in_id_rank j near = elim (cases_eq j i) [
     | inl e ↦ (let own : rank2 j ≡ top = ap rank2 e ∙ u.rank_own in let b = below j in omega arith)
     | inr ne ↦ (let own : rank2 j ≡ rank j = u.rank_same j ne in let b = r.id_rank j near in omega arith)
   ]
 
   in_falls : (j : ℕ) → j < n → IsOn all due2 j → rank2 (next2 j) < rank2 j
-  in_falls j near on = elim (same_or_not j i) [
+  in_falls j near on = elim (cases_eq j i) [
     | inl e ↦ (let own : rank2 j ≡ top = ap rank2 e ∙ u.rank_own in
         let next_is : rank2 (next2 j) ≡ rank (next h) = ap rank2 (ap next2 e ∙ u.links.next_own) ∙ u.rank_same (next h) (in_other (next h) (r.next_on h o)) in
         let b = below (next h) in
@@ -226,12 +221,12 @@ module _ (n all i h top : ℕ) (due home next prev rank due2 home2 next2 prev2 r
   ]
 
   in_one : (j k : ℕ) → rank2 j ≡ rank2 k → j < n → j ≡ k
-  in_one j k same near = elim (same_or_not j i) [
-    | inl e ↦ elim (same_or_not k i) [
+  in_one j k same near = elim (cases_eq j i) [
+    | inl e ↦ elim (cases_eq k i) [
       | inl q ↦ e ∙ sym q
       | inr nk ↦ absurd (let own : rank2 j ≡ top = ap rank2 e ∙ u.rank_own in let other : rank2 k ≡ rank k = u.rank_same k nk in let b = below k in omega arith)
     ]
-    | inr ne ↦ elim (same_or_not k i) [
+    | inr ne ↦ elim (cases_eq k i) [
       | inl q ↦ absurd (let own : rank2 k ≡ top = ap rank2 q ∙ u.rank_own in let other : rank2 j ≡ rank j = u.rank_same j ne in let b = below j in omega arith)
       | inr nk ↦ r.one j k (sym (u.rank_same j ne) ∙ same ∙ u.rank_same k nk) near
     ]
@@ -246,12 +241,12 @@ module _ (n all i h top : ℕ) (due home next prev rank due2 home2 next2 prev2 r
       let on1 = in_was c ne onc in
       let own_c : rank2 c ≡ rank c = u.rank_same c ne in
       let next_is : rank2 (next2 c) ≡ rank (next c) = ap rank2 (u.links.next_same c ne nh) ∙ u.rank_same (next c) (in_other (next c) (r.next_on c on1)) in
-      elim (same_or_not j i) [
+      elim (cases_eq j i) [
         | inl q ↦ absurd (
             let own : rank2 j ≡ top = ap rank2 q ∙ u.rank_own in
             let c_home : home c ≡ h = sym (u.home_same c ne) ∙ sym same ∙ ap home2 q ∙ u.home_own in
             let b = below c in
-            elim (under_or_not c n) [
+            elim (cases_lt c n) [
               | inl near ↦ absurd (let l = under near in omega arith)
               | inr far ↦ nh (sym (r.head_home c far) ∙ c_home)
             ])
@@ -262,16 +257,16 @@ module _ (n all i h top : ℕ) (due home next prev rank due2 home2 next2 prev2 r
       ]
 
   in_no_gap : (c j : ℕ) → IsOn all due2 c → IsOn all due2 j → home2 j ≡ home2 c → (c < n → rank2 j < rank2 c) → rank2 j ≤ rank2 (next2 c)
-  in_no_gap c j onc on same under = elim (same_or_not c i) [
+  in_no_gap c j onc on same under = elim (cases_eq c i) [
     | inl e ↦ (let next_is : rank2 (next2 c) ≡ rank (next h) = ap rank2 (ap next2 e ∙ u.links.next_own) ∙ u.rank_same (next h) (in_other (next h) (r.next_on h o)) in
         let less : rank2 j < rank2 c = under (let near : c < n = omega arith in near) in
         let ne : j ≢ i = λ q. absurd (let k : rank2 j ≡ rank2 c = ap rank2 (q ∙ sym e) in omega arith) in
         let own : rank2 j ≡ rank j = u.rank_same j ne in
         let gap : rank j ≤ rank (next h) = in_gap_own j ne on (same ∙ ap home2 e ∙ u.home_own) in
         omega arith)
-    | inr ne ↦ elim (same_or_not c h) [
+    | inr ne ↦ elim (cases_eq c h) [
       | inl e ↦ (let next_is : rank2 (next2 c) ≡ top = ap rank2 (ap next2 e ∙ u.links.next_head) ∙ u.rank_own in
-          elim (same_or_not j i) [
+          elim (cases_eq j i) [
             | inl q ↦ (let own : rank2 j ≡ top = ap rank2 q ∙ u.rank_own in omega arith)
             | inr nj ↦ (let own : rank2 j ≡ rank j = u.rank_same j nj in let b = below j in omega arith)
           ])

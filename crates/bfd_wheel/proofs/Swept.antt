@@ -1,11 +1,11 @@
 -- All lists that can hold what has come by t are those of the ticks from now on up to t.
 use Rattle.std.proofs.Common.{◌≡◌, ◌≢◌, inl, inr, ℕ, ◌+◌, ◌%◌, ◌^◌, ◌<◌, ◌≤◌, Bool, true, cond, List, max, refl, sym, ◌∙◌, ap, subst, arith, nat_le, slice_index}
 use Rattle.std.proofs.lemmas.Bool.Decides.{nat_tests}
+use Rattle.std.proofs.lemmas.Bool.{cases_eq, cases_lt}
 use Rattle.bfd_lanes.specs.Places.{never}
 use Rattle.bfd_wheel.specs.declared.links.Node.{Node}
 use Rattle.bfd_wheel.specs.Wheel.{place, IsWheel}
 use Rattle.bfd_wheel.specs.Taken.{Took}
-use Rattle.bfd_wheel.proofs.Rings.{same_or_not, under_or_not}
 use Rattle.bfd_wheel.proofs.Wheels.{moved}
 
 -- the lists of the ticks from now on, before tick, have nothing left
@@ -18,7 +18,7 @@ left_none n now t dues = λ k j later before near there at. absurd (omega arith)
 
 pub left_more : (n m now t tick : ℕ) (dues dues2 items items2 : List ℕ) → m ≡ n → Left n now t tick dues → Took t dues dues2 items items2 → ((j : ℕ) → j < m → slice_index dues2 j ≢ never → place m now (slice_index dues2 j) ≡ place m now tick → t < slice_index dues2 j) → Left n now t (tick + 1) dues2
 unfolding Left
-left_more n m now t tick dues dues2 items items2 same_count left took here = λ k j later before near there at. elim (same_or_not k tick) [
+left_more n m now t tick dues dues2 items items2 same_count left took here = λ k j later before near there at. elim (cases_eq k tick) [
   | inl e ↦ here j (omega arith) there
       (ap (λ (z : ℕ). place z now (slice_index dues2 j)) same_count ∙ at ∙ ap (place n now) e ∙ ap (λ (z : ℕ). place z now tick) (sym same_count))
   | inr ne ↦ elim (took.same_or_gone j) [
@@ -32,9 +32,9 @@ overdue n now due h = ap (λ (b : Bool). cond b (n + 4096) (n + due % 4096)) (le
 
 pub left_all : (n now t tick : ℕ) (dues : List ℕ) → Left n now t tick dues → max now t < tick → (j : ℕ) → j < n → slice_index dues j ≢ never → t < slice_index dues j
 unfolding Left
-left_all n now t tick dues left end j near there = elim (under_or_not t (slice_index dues j)) [
+left_all n now t tick dues left end j near there = elim (cases_lt t (slice_index dues j)) [
   | inl more ↦ more
-  | inr le ↦ elim (under_or_not now (slice_index dues j)) [
+  | inr le ↦ elim (cases_lt now (slice_index dues j)) [
     | inl above ↦ left (slice_index dues j) j (omega arith) (omega arith) near there refl
     | inr past ↦ left now j (omega arith) (omega arith) near there (overdue n now (slice_index dues j) past ∙ sym (overdue n now now (omega arith)))
   ]
@@ -42,7 +42,7 @@ left_all n now t tick dues left end j near there = elim (under_or_not t (slice_i
 
 -- the greatest tick so far, where nothing at most t is left
 pub moved_on : (n now t : ℕ) (dues : List ℕ) (nodes : List Node) → IsWheel n now dues nodes → t < 2 ^ 60 → ((j : ℕ) → j < n → slice_index dues j ≢ never → t < slice_index dues j) → IsWheel n (max now t) dues nodes
-moved_on n now t dues nodes w early above = elim (under_or_not now t) [
+moved_on n now t dues nodes w early above = elim (cases_lt now t) [
   | inl later ↦ subst (λ (k : ℕ). IsWheel n k dues nodes) (let e : t ≡ max now t = omega arith in e) (moved n now t dues nodes w (omega arith) early above)
   | inr back ↦ subst (λ (k : ℕ). IsWheel n k dues nodes) (let e : now ≡ max now t = omega arith in e) w
 ]

@@ -1,11 +1,12 @@
 -- What was taken, id by id.
-use Rattle.std.proofs.Common.{◌≡◌, ◌≢◌, ◌⊎◌, inl, inr, ℕ, zero, suc, ◌+◌, ◌^◌, ◌<◌, ◌≤◌, Bool, true, false, cond, List, [], ◌∷◌, ◌++◌, map, length, get_or, set, drop, add-one, drop-cons, refl, sym, ◌∙◌, ap, subst, arith, nat_le, append_assoc, length-append, slice_index, slice_set, None}
+use Rattle.std.proofs.Common.{◌≡◌, ◌≢◌, ◌⊎◌, inl, inr, ℕ, zero, suc, ◌+◌, ◌^◌, ◌<◌, ◌≤◌, Bool, cond, List, [], ◌∷◌, ◌++◌, map, length, get_or, set, drop, add-one, drop-cons, refl, sym, ◌∙◌, ap, subst, arith, nat_le, append_assoc, length-append, slice_index, slice_set, None}
 use Rattle.std.proofs.lemmas.List.{get_or-set_same, get_or-set_other, length-set, get_or_past, get_or_default, append-nil, same_lists, get_or-map, length-map}
 use Rattle.std.proofs.lemmas.Bool.Decides.{nat_tests}
+use Rattle.std.proofs.lemmas.Bool.{cases_eq, cases_lt, le-leb, lt-leb}
 use Rattle.bfd_num.specs.Due.{has_come}
 use Rattle.bfd_lanes.specs.Places.{never, due_of, without}
 use Rattle.bfd_wheel.specs.Taken.{bit, times, waits, waiting, Took}
-use Rattle.bfd_wheel.proofs.Rings.{same_or_not, under_or_not}
+use Rattle.bfd_wheel.proofs.Walk.{counted, counted_now, counted_not}
 
 pub bit_same : (x : ℕ) → bit x x ≡ 1
 bit_same x = grind (arith, nat_tests)
@@ -19,27 +20,21 @@ times-append x (y ∷ xs) ys = omega (arith, times-append x xs ys)
 
 -- ---- what waits
 
-test_of : (t d : ℕ) → d ≤ t → nat_le d t ≡ true
-test_of t d h = grind (arith, nat_tests)
-
-test_off : (t d : ℕ) → t < d → nat_le d t ≡ false
-test_off t d h = grind (arith, nat_tests)
-
 pub waits_now : (t : ℕ) (dues : List ℕ) (x : ℕ) → x < length dues → slice_index dues x ≤ t → waits t dues x ≡ 1
-waits_now t dues x inside h = ap (λ (b : Bool). cond b 1 0) (test_of t (get_or dues x never) (let e = get_or_default dues x never 0 inside in omega arith))
+waits_now t dues x inside h = ap (λ (b : Bool). cond b 1 0) (le-leb (get_or dues x never) t (let e = get_or_default dues x never 0 inside in omega arith))
 
 pub waits_not : (t : ℕ) (dues : List ℕ) (x : ℕ) → t < never → (x < length dues → t < slice_index dues x) → waits t dues x ≡ 0
-waits_not t dues x below h = ap (λ (b : Bool). cond b 1 0) (test_off t (get_or dues x never) (elim (under_or_not x (length dues)) [
+waits_not t dues x below h = ap (λ (b : Bool). cond b 1 0) (lt-leb (get_or dues x never) t (elim (cases_lt x (length dues)) [
   | inl inside ↦ (let e = get_or_default dues x never 0 inside in let l = h inside in omega arith)
   | inr past ↦ (let e = get_or_past dues x never past in omega arith)
 ]))
 
 -- who waits is an id whose due tick is at most t
 pub waits_then : (t : ℕ) (dues : List ℕ) (x : ℕ) → t < never → 1 ≤ waits t dues x → (x < length dues) × (slice_index dues x ≤ t)
-waits_then t dues x below h = elim (under_or_not x (length dues)) [
+waits_then t dues x below h = elim (cases_lt x (length dues)) [
   | inl inside ↦ (
     inside,
-    elim (under_or_not t (slice_index dues x)) [
+    elim (cases_lt t (slice_index dues x)) [
       | inl more ↦ absurd (let none = waits_not t dues x below (λ _. more) in omega arith)
       | inr le ↦ le
     ],
@@ -48,7 +43,7 @@ waits_then t dues x below h = elim (under_or_not x (length dues)) [
 ]
 
 pub waits_none : (t : ℕ) (dues : List ℕ) → t < never → ((j : ℕ) → j < length dues → slice_index dues j ≢ never → t < slice_index dues j) → (x : ℕ) → waits t dues x ≡ 0
-waits_none t dues below above x = waits_not t dues x below (λ inside. elim (same_or_not (slice_index dues x) never) [ inl e ↦ omega arith | inr ne ↦ above x inside ne ])
+waits_none t dues below above x = waits_not t dues x below (λ inside. elim (cases_eq (slice_index dues x) never) [ inl e ↦ omega arith | inr ne ↦ above x inside ne ])
 
 -- where all due ticks that are left are above t, none waits
 pub none_waits : (t n : ℕ) (dues : List ℕ) → t < 2 ^ 60 → length dues ≡ n → ((j : ℕ) → j < n → slice_index dues j ≢ never → t < slice_index dues j) → (x : ℕ) → waits t dues x ≡ 0
@@ -56,13 +51,13 @@ none_waits t n dues early count above = waits_none t dues (omega arith) (λ j ne
 
 -- where none waits, all due ticks that are left are above t
 pub above_all : (t n : ℕ) (dues : List ℕ) → length dues ≡ n → ((x : ℕ) → waits t dues x ≡ 0) → (j : ℕ) → j < n → slice_index dues j ≢ never → t < slice_index dues j
-above_all t n dues count none j near there = elim (under_or_not t (slice_index dues j)) [
+above_all t n dues count none j near there = elim (cases_lt t (slice_index dues j)) [
   | inl more ↦ more
   | inr le ↦ absurd (let one = waits_now t dues j (omega arith) le in let zero_there = none j in omega arith)
 ]
 
 pub waits_gone : (t : ℕ) (dues : List ℕ) (i : ℕ) → t < never → waits t (slice_set dues i never) i ≡ 0
-waits_gone t dues i below = ap (λ (b : Bool). cond b 1 0) (test_off t (get_or (set dues i never) i never) (elim (under_or_not i (length dues)) [
+waits_gone t dues i below = ap (λ (b : Bool). cond b 1 0) (lt-leb (get_or (set dues i never) i never) t (elim (cases_lt i (length dues)) [
   | inl inside ↦ (let e = get_or-set_same dues i never never inside in omega arith)
   | inr past ↦ (let e = get_or_past (set dues i never) i never (let l = length-set dues i never in omega arith) in omega arith)
 ]))
@@ -70,28 +65,19 @@ waits_gone t dues i below = ap (λ (b : Bool). cond b 1 0) (test_off t (get_or (
 pub waits_same : (t : ℕ) (dues : List ℕ) (i x : ℕ) → x ≢ i → waits t (slice_set dues i never) x ≡ waits t dues x
 waits_same t dues i x ne = ap (λ (d : ℕ). cond (nat_le d t) 1 0) (get_or-set_other dues i x never never ne)
 
-counts : (t d : ℕ) → d ≤ t → ◌≡◌ {A = ℕ} (cond (nat_le d t) 1 0) 1
-counts t d h = ap (λ (b : Bool). cond b 1 0) (test_of t d h)
-
-pub counts_not : (t d : ℕ) → t < d → ◌≡◌ {A = ℕ} (cond (nat_le d t) 1 0) 0
-counts_not t d h = ap (λ (b : Bool). cond b 1 0) (test_off t d h)
-
-counts-le : (t d : ℕ) → cond (nat_le d t) 1 0 ≤ 1
-counts-le t d = grind (arith, nat_tests)
-
 pub waiting-set : (t : ℕ) (dues : List ℕ) (i : ℕ) → i < length dues → slice_index dues i ≤ t → t < never → 1 + waiting t (set dues i never) ≡ waiting t dues
 waiting-set t [] i inside h below = absurd (omega arith)
 waiting-set t (d ∷ ds) zero inside h below =
-    omega (arith, counts t d h, counts_not t never below)
+    omega (arith, counted_now d t h, counted_not never t below)
 waiting-set t (d ∷ ds) (suc i) inside h below = omega (arith, waiting-set t ds i (omega arith) h below)
 
 pub waiting-le : (t : ℕ) (dues : List ℕ) → waiting t dues ≤ length dues
 waiting-le t [] = omega arith
-waiting-le t (d ∷ ds) = omega (arith, counts-le t d, waiting-le t ds)
+waiting-le t (d ∷ ds) = omega (arith, counted d t, waiting-le t ds)
 
 pub waiting_one : (t : ℕ) (dues : List ℕ) (i : ℕ) → i < length dues → slice_index dues i ≤ t → 1 ≤ waiting t dues
 waiting_one t [] i inside h = absurd (omega arith)
-waiting_one t (d ∷ ds) zero inside h = omega (arith, counts t d h)
+waiting_one t (d ∷ ds) zero inside h = omega (arith, counted_now d t h)
 waiting_one t (d ∷ ds) (suc i) inside h = omega (arith, waiting_one t ds i (omega arith) h)
 
 -- ---- what was taken
@@ -109,7 +95,7 @@ pub took_one : (t : ℕ) (dues items : List ℕ) (i : ℕ) → i < length dues �
 took_one t dues items i inside h below = record {
   taken = i ∷ [];
   appended = refl;
-  each = λ x. elim (same_or_not x i) [
+  each = λ x. elim (cases_eq x i) [
     | inl e ↦ (let one : bit x i ≡ 1 = ap (λ (y : ℕ). bit y i) e ∙ bit_same i in
         let gone : waits t (slice_set dues i never) x ≡ 0 = ap (waits t (slice_set dues i never)) e ∙ waits_gone t dues i below in
         let was : waits t dues x ≡ 1 = ap (waits t dues) e ∙ waits_now t dues i inside h in
@@ -117,7 +103,7 @@ took_one t dues items i inside h below = record {
     | inr ne ↦ (let none : bit x i ≡ 0 = bit_other x i ne in let same = waits_same t dues i x ne in omega arith)
   ];
   total = (let s = waiting-set t dues i inside h below in omega arith);
-  same_or_gone = λ j. elim (same_or_not j i) [
+  same_or_gone = λ j. elim (cases_eq j i) [
     | inl e ↦ inr (ap (λ (k : ℕ). get_or (set dues i never) k 0) e ∙ get_or-set_same dues i never 0 inside, (let at : get_or dues j 0 ≡ get_or dues i 0 = ap (λ (k : ℕ). get_or dues k 0) e in omega arith))
     | inr ne ↦ inl (get_or-set_other dues i j never 0 ne)
   ];
@@ -147,14 +133,14 @@ pub come_of : (t d : ℕ) → t < never → has_come t (due_of d) ≡ nat_le d t
 come_of t d below = grind (arith, nat_tests)
 
 kept_one : (t d : ℕ) → t < never → t < d → due_of d ≡ without t (due_of d)
-kept_one t d below above = sym (ap (λ (b : Bool). cond b None (due_of d)) (come_of t d below ∙ test_off t d above))
+kept_one t d below above = sym (ap (λ (b : Bool). cond b None (due_of d)) (come_of t d below ∙ lt-leb d t above))
 
 gone_one : (t d : ℕ) → t < never → d ≤ t → None ≡ without t (due_of d)
-gone_one t d below le = sym (ap (λ (b : Bool). cond b None (due_of d)) (come_of t d below ∙ test_of t d le))
+gone_one t d below le = sym (ap (λ (b : Bool). cond b None (due_of d)) (come_of t d below ∙ le-leb d t le))
 
 left_one : (t : ℕ) (dues dues2 : List ℕ) (k : ℕ) → t < never → k < length dues2 → (slice_index dues2 k ≡ slice_index dues k) ⊎ ((slice_index dues2 k ≡ never) × (slice_index dues k ≤ t)) → waits t dues2 k ≡ 0 → due_of (slice_index dues2 k) ≡ without t (due_of (slice_index dues k))
 left_one t dues dues2 k below inside same_or_gone none = elim same_or_gone [
-  | inl e ↦ elim (under_or_not t (slice_index dues2 k)) [
+  | inl e ↦ elim (cases_lt t (slice_index dues2 k)) [
     | inl above ↦ kept_one t (slice_index dues2 k) below above ∙ ap (λ (d : ℕ). without t (due_of d)) e
     | inr le ↦ absurd (let one = waits_now t dues2 k inside le in omega arith)
   ]
@@ -188,7 +174,7 @@ ids_rest t i id ids dues dues2 below near at each gone x =
     let next : times x (drop (i + 1) ids) ≡ times x (drop (suc i) ids) = ap (λ (k : ℕ). times x (drop k ids)) (add-one i) in
     let w = each x in
     let now_is : waits t dues2 x ≡ waits t (slice_set dues id never) x = ap (λ (ds : List ℕ). waits t ds x) gone in
-    elim (same_or_not x id) [
+    elim (cases_eq x id) [
       | inl e ↦ (let one : bit x (get_or ids i 0) ≡ 1 = ap (bit x) (at ∙ sym e) ∙ bit_same x in
           let was : waits t dues x ≡ 1 = ap (waits t dues) e ∙ waits_now t dues id first.0 first.1 in
           let is : waits t (slice_set dues id never) x ≡ 0 = ap (waits t (slice_set dues id never)) e ∙ waits_gone t dues id below in
@@ -199,7 +185,7 @@ ids_rest t i id ids dues dues2 below near at each gone x =
     ]
 
 pub same_or_gone_on : (t id : ℕ) (dues0 dues dues2 : List ℕ) → id < length dues → slice_index dues id ≤ t → t < never → dues2 ≡ slice_set dues id never → ((j : ℕ) → (slice_index dues j ≡ slice_index dues0 j) ⊎ ((slice_index dues j ≡ never) × (slice_index dues0 j ≤ t))) → (j : ℕ) → (slice_index dues2 j ≡ slice_index dues0 j) ⊎ ((slice_index dues2 j ≡ never) × (slice_index dues0 j ≤ t))
-same_or_gone_on t id dues0 dues dues2 inside le below gone before j = elim (same_or_not j id) [
+same_or_gone_on t id dues0 dues dues2 inside le below gone before j = elim (cases_eq j id) [
   | inl e ↦ inr (
     ap (λ (ds : List ℕ). get_or ds j 0) gone ∙ ap (λ (k : ℕ). get_or (set dues id never) k 0) e ∙ get_or-set_same dues id never 0 inside,
     elim (before j) [

@@ -2,11 +2,12 @@
 use Rattle.std.proofs.Common.{◌≡◌, ◌≢◌, ◌⊎◌, inl, inr, ℕ, zero, suc, ◌+◌, ◌<◌, ◌≤◌, cond, List, length, refl, sym, ◌∙◌, ap, subst, arith, nat_le, slice_index, slice_set}
 use Rattle.std.proofs.lemmas.List.{get_or-set_same, get_or-set_other, length-set}
 use Rattle.std.proofs.lemmas.Bool.Decides.{nat_tests}
+use Rattle.std.proofs.lemmas.Bool.{cases_eq, cases_lt}
 use Rattle.bfd_lanes.specs.Places.{never}
 use Rattle.bfd_wheel.specs.declared.links.Node.{Node}
 use Rattle.bfd_wheel.specs.Rings.{IsOn, Unlinks}
 use Rattle.bfd_wheel.specs.Wheel.{due_in, next_in, prev_in, place, home, IsWheel}
-use Rattle.bfd_wheel.proofs.Rings.{same_or_not, under_or_not, ring_without}
+use Rattle.bfd_wheel.proofs.Rings.{ring_without}
 use Rattle.bfd_wheel.proofs.Wheels.{home_id, home_head, home_same, head_on, id_on, out_of}
 
 -- ---- how many of the first k ids have a rank of at most m
@@ -15,16 +16,16 @@ pub upto : (ℕ → ℕ) → ℕ → ℕ → ℕ
 upto rank m zero = 0
 upto rank m (suc k) = cond (nat_le (rank k) m) 1 0 + upto rank m k
 
-counted : (r m : ℕ) → cond (nat_le r m) 1 0 ≤ 1
+pub counted : (r m : ℕ) → cond (nat_le r m) 1 0 ≤ 1
 counted r m = grind (arith, nat_tests)
 
 counted_more : (r l m : ℕ) → l ≤ m → cond (nat_le r l) 1 0 ≤ cond (nat_le r m) 1 0
 counted_more r l m h = grind (arith, nat_tests)
 
-counted_now : (r m : ℕ) → r ≤ m → ◌≡◌ {A = ℕ} (cond (nat_le r m) 1 0) 1
+pub counted_now : (r m : ℕ) → r ≤ m → ◌≡◌ {A = ℕ} (cond (nat_le r m) 1 0) 1
 counted_now r m h = grind (arith, nat_tests)
 
-counted_not : (r m : ℕ) → m < r → ◌≡◌ {A = ℕ} (cond (nat_le r m) 1 0) 0
+pub counted_not : (r m : ℕ) → m < r → ◌≡◌ {A = ℕ} (cond (nat_le r m) 1 0) 0
 counted_not r m h = grind (arith, nat_tests)
 
 pub upto-le : (rank : ℕ → ℕ) (m k : ℕ) → upto rank m k ≤ k
@@ -49,7 +50,7 @@ upto_up rank rank2 m (suc k) h = omega (arith, counted_up (rank2 k) (rank k) m (
 pub upto_one : (rank : ℕ → ℕ) (m c k : ℕ) → c < k → rank c ≤ m → 1 ≤ upto rank m k
 unfolding upto
 upto_one rank m c zero near h = absurd (omega arith)
-upto_one rank m c (suc k) near h = elim (same_or_not c k) [
+upto_one rank m c (suc k) near h = elim (cases_eq c k) [
   | inl e ↦ (let at : rank c ≡ rank k = ap rank e in let one = counted_now (rank k) m (omega arith) in omega arith)
   | inr ne ↦ (let rest = upto_one rank m c k (omega arith) h in omega arith)
 ]
@@ -57,7 +58,7 @@ upto_one rank m c (suc k) near h = elim (same_or_not c k) [
 pub upto_falls : (rank : ℕ → ℕ) (l m c k : ℕ) → c < k → rank c ≡ m → l < m → upto rank l k + 1 ≤ upto rank m k
 unfolding upto
 upto_falls rank l m c zero near at less = absurd (omega arith)
-upto_falls rank l m c (suc k) near at less = elim (same_or_not c k) [
+upto_falls rank l m c (suc k) near at less = elim (cases_eq c k) [
   | inl e ↦ (let here : rank c ≡ rank k = ap rank e in
       let one = counted_now (rank k) m (omega arith) in
       let none = counted_not (rank k) l (omega arith) in
@@ -80,7 +81,7 @@ pub record IsWalk (n now head t : ℕ) (dues : List ℕ) (nodes : List Node) (cu
 
 pub walk_begins : (n now head t : ℕ) (dues : List ℕ) (nodes : List Node) → IsWheel n now dues nodes → n ≤ head → head < n + 4097 → IsWalk n now head t dues nodes (next_in nodes head) 0
 walk_begins n now head t dues nodes w far near =
-    let on = head_on n dues head w.count far near in
+    let on = head_on n 4097 dues head w.count far near in
     let r = w.links.ring in
     let own = home_head n now (due_in dues) head far in
     record {
@@ -93,7 +94,7 @@ walk_begins n now head t dues nodes w far near =
 
 -- who isn't the head is an id
 pub walk_id : (n now head t : ℕ) (dues : List ℕ) (nodes : List Node) (cur i : ℕ) → IsWalk n now head t dues nodes cur i → cur ≢ head → cur < n
-walk_id n now head t dues nodes cur i w other = elim (under_or_not cur n) [
+walk_id n now head t dues nodes cur i w other = elim (cases_lt cur n) [
   | inl near ↦ near
   | inr far ↦ absurd (other (sym (home_head n now (due_in dues) cur far) ∙ w.same))
 ]
@@ -106,7 +107,7 @@ walk_past n now head t dues nodes cur i w near above =
       wheel = w.wheel;
       on = r.next_on cur w.on;
       same = r.next_home cur w.on ∙ w.same;
-      ahead = λ j close on at. elim (same_or_not j cur) [
+      ahead = λ j close on at. elim (cases_eq j cur) [
         | inl e ↦ inr (subst (λ (k : ℕ). t < slice_index dues k) (sym e) above)
         | inr ne ↦ elim (w.ahead j close on at) [
           | inl le ↦ inl (r.no_gap cur j w.on on (at ∙ sym w.same) (λ _. (let apart : rank j ≢ rank cur = λ q. ne (r.one j cur q close) in omega arith)))
@@ -155,7 +156,7 @@ walk_takes n now head t dues nodes nodes2 cur i w near size u =
 
 -- a step, by what the visit of cur did
 pub walk_on : (n now head t : ℕ) (dues dues2 : List ℕ) (nodes nodes2 : List Node) (cur i : ℕ) → IsWalk n now head t dues nodes cur i → cur < n → length nodes2 ≡ length nodes → (t < slice_index dues cur → dues2 ≡ dues) → (t < slice_index dues cur → nodes2 ≡ nodes) → (slice_index dues cur ≤ t → dues2 ≡ slice_set dues cur never) → (slice_index dues cur ≤ t → Unlinks cur (next_in nodes) (prev_in nodes) (next_in nodes2) (prev_in nodes2)) → IsWalk n now head t dues2 nodes2 (next_in nodes cur) (i + 1)
-walk_on n now head t dues dues2 nodes nodes2 cur i w near size dues_kept nodes_kept gone links = elim (under_or_not t (slice_index dues cur)) [
+walk_on n now head t dues dues2 nodes nodes2 cur i w near size dues_kept nodes_kept gone links = elim (cases_lt t (slice_index dues cur)) [
   | inl above ↦ subst (λ (ds : List ℕ). IsWalk n now head t ds nodes2 (next_in nodes cur) (i + 1)) (sym (dues_kept above))
       (subst (λ (ns : List Node). IsWalk n now head t dues ns (next_in nodes cur) (i + 1)) (sym (nodes_kept above)) (walk_past n now head t dues nodes cur i w near above))
   | inr le ↦ subst (λ (ds : List ℕ). IsWalk n now head t ds nodes2 (next_in nodes cur) (i + 1)) (sym (gone le)) (walk_takes n now head t dues nodes nodes2 cur i w near size (links le))
@@ -168,9 +169,9 @@ walk_ends n now head t dues nodes cur i w far done j close there at =
     let rank = w.wheel.links.rank in
     let at_head : n ≤ cur = elim done [
       | inl e ↦ omega arith
-      | inr steps ↦ elim (under_or_not cur n) [ inl near ↦ absurd (let one = upto_one rank (rank cur) cur n near (omega arith) in let l = w.left in omega arith) | inr h ↦ h ]
+      | inr steps ↦ elim (cases_lt cur n) [ inl near ↦ absurd (let one = upto_one rank (rank cur) cur n near (omega arith) in let l = w.left in omega arith) | inr h ↦ h ]
     ] in
-    elim (w.ahead j close (id_on n dues j close there) (home_id n now (due_in dues) j close ∙ at)) [
+    elim (w.ahead j close (id_on n 4097 dues j close there) (home_id n now (due_in dues) j close ∙ at)) [
       | inl le ↦ absurd (let zero_there = r.head_rank cur at_head in let more = r.id_rank j close in omega arith)
       | inr more ↦ more
     ]

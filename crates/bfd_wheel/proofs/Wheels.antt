@@ -2,27 +2,22 @@
 use Rattle.std.proofs.Common.{◌≡◌, ◌≢◌, inl, inr, ℕ, suc, ◌+◌, ◌%◌, ◌^◌, ◌<◌, ◌≤◌, Bool, true, false, cond, List, length, get_or, sym, ◌∙◌, ap, subst, arith, nat_lt, nat_le, nat_eq, slice_index, slice_set}
 use Rattle.std.proofs.lemmas.List.{get_or-set_same, get_or-set_other, length-set, get_or_past}
 use Rattle.std.proofs.lemmas.Bool.Decides.{nat_tests}
+use Rattle.std.proofs.lemmas.Bool.{cases_eq, cases_lt, lt-ltb, le-ltb}
 use Rattle.bfd_lanes.specs.Places.{never}
 use Rattle.bfd_wheel.specs.declared.links.Node.{Node}
-use Rattle.bfd_wheel.specs.Rings.{IsOn, Unlinks, Links}
+use Rattle.bfd_wheel.specs.Rings.{IsOn, IsRing, IsRanked, Unlinks, Links}
 use Rattle.bfd_wheel.specs.Wheel.{due_in, next_in, prev_in, place, home, IsWheel, IsLinked}
-use Rattle.bfd_wheel.proofs.Rings.{same_or_not, under_or_not, TakesOut, ring_without, ring_with, ring_moved}
+use Rattle.bfd_wheel.proofs.Rings.{TakesOut, ring_without, ring_with, ring_moved}
 
 -- ---- the list of a node
 
-pub below_true : (j n : ℕ) → j < n → nat_lt j n ≡ true
-below_true j n h = grind (arith, nat_tests)
-
-pub below_false : (j n : ℕ) → n ≤ j → nat_lt j n ≡ false
-below_false j n h = grind (arith, nat_tests)
-
 pub home_id : (n now : ℕ) (due : ℕ → ℕ) (j : ℕ) → j < n → home n now due j ≡ place n now (due j)
 unfolding home
-home_id n now due j h = ap (λ (b : Bool). cond b (place n now (due j)) j) (below_true j n h)
+home_id n now due j h = ap (λ (b : Bool). cond b (place n now (due j)) j) (lt-ltb j n h)
 
 pub home_head : (n now : ℕ) (due : ℕ → ℕ) (j : ℕ) → n ≤ j → home n now due j ≡ j
 unfolding home
-home_head n now due j h = ap (λ (b : Bool). cond b (place n now (due j)) j) (below_false j n h)
+home_head n now due j h = ap (λ (b : Bool). cond b (place n now (due j)) j) (le-ltb j n h)
 
 pub home_same : (n now : ℕ) (due due2 : ℕ → ℕ) (j : ℕ) → due2 j ≡ due j → home n now due2 j ≡ home n now due j
 unfolding home
@@ -36,12 +31,12 @@ place_by n due false = (omega arith, omega arith)
 pub place_head : (n now due : ℕ) → (n ≤ place n now due) × (place n now due < n + 4097)
 place_head n now due = place_by n due (nat_le due now)
 
--- a head is on its list
-pub head_on : (n : ℕ) (dues : List ℕ) (h : ℕ) → length dues ≡ n → n ≤ h → h < n + 4097 → IsOn (n + 4097) (due_in dues) h
-head_on n dues h count far near = record { below = near; there = λ e. absurd (let zero_there : get_or dues h 0 ≡ 0 = get_or_past dues h 0 (omega arith) in omega arith) }
+-- a head is on its list, of so many
+pub head_on : (n m : ℕ) (dues : List ℕ) (h : ℕ) → length dues ≡ n → n ≤ h → h < n + m → IsOn (n + m) (due_in dues) h
+head_on n m dues h count far near = record { below = near; there = λ e. absurd (let zero_there : get_or dues h 0 ≡ 0 = get_or_past dues h 0 (omega arith) in omega arith) }
 
-pub id_on : (n : ℕ) (dues : List ℕ) (j : ℕ) → j < n → slice_index dues j ≢ never → IsOn (n + 4097) (due_in dues) j
-id_on n dues j near there = record { below = omega arith; there = there }
+pub id_on : (n m : ℕ) (dues : List ℕ) (j : ℕ) → j < n → slice_index dues j ≢ never → IsOn (n + m) (due_in dues) j
+id_on n m dues j near there = record { below = omega arith; there = there }
 
 -- ---- a node is taken out
 
@@ -63,24 +58,25 @@ freed n now i dues nodes nodes2 w id there size u = record {
     rank = w.links.rank;
     top = w.links.top;
     below = w.links.below;
-    ring = ring_without n (n + 4097) i (due_in dues) (home n now (due_in dues)) (next_in nodes) (prev_in nodes) w.links.rank (due_in (slice_set dues i never)) (home n now (due_in (slice_set dues i never))) (next_in nodes2) (prev_in nodes2) w.links.ring id (id_on n dues i id there) (out_of n now i dues nodes nodes2 w.count id u);
+    ring = ring_without n (n + 4097) i (due_in dues) (home n now (due_in dues)) (next_in nodes) (prev_in nodes) w.links.rank (due_in (slice_set dues i never)) (home n now (due_in (slice_set dues i never))) (next_in nodes2) (prev_in nodes2) w.links.ring id (id_on n 4097 dues i id there) (out_of n now i dues nodes nodes2 w.count id u);
   };
 }
 
 -- what a node with a due tick is linked to are nodes
-pub linked : (n now i : ℕ) (dues : List ℕ) (nodes : List Node) → IsWheel n now dues nodes → i < n → slice_index dues i ≢ never → IsLinked i dues nodes
-linked n now i dues nodes w id there =
-    let on = id_on n dues i id there in
-    let c = w.count in
-    let s = w.size in
-    let f = (w.links.ring.next_on i on).below in
-    let b = (w.links.ring.prev_on i on).below in
+pub ring_linked : (n m i : ℕ) (at rank : ℕ → ℕ) (dues : List ℕ) (nodes : List Node) → IsRing n (n + m) (due_in dues) at (next_in nodes) (prev_in nodes) rank → length dues ≡ n → length nodes ≡ n + m → i < n → slice_index dues i ≢ never → IsLinked i dues nodes
+ring_linked n m i at rank dues nodes ring count size id there =
+    let on = id_on n m dues i id there in
+    let f = (ring.next_on i on).below in
+    let b = (ring.prev_on i on).below in
     record { inside = omega arith; node = omega arith; due = there; next = omega arith; prev = omega arith }
+
+pub linked : (n now i : ℕ) (dues : List ℕ) (nodes : List Node) → IsWheel n now dues nodes → i < n → slice_index dues i ≢ never → IsLinked i dues nodes
+linked n now i dues nodes w id there = ring_linked n 4097 i (home n now (due_in dues)) w.links.rank dues nodes w.links.ring w.count w.size id there
 
 -- what is first on a list is a node, and no id that is on no list
 pub first_linked : (n now i h : ℕ) (dues : List ℕ) (nodes : List Node) → IsWheel n now dues nodes → slice_index dues i ≡ never → n ≤ h → h < n + 4097 → (next_in nodes h < length nodes) × (next_in nodes h ≢ i)
 first_linked n now i h dues nodes w off far near =
-    let on = w.links.ring.next_on h (head_on n dues h w.count far near) in
+    let on = w.links.ring.next_on h (head_on n 4097 dues h w.count far near) in
     ((let s = w.size in let b = on.below in omega arith), λ e. on.there (ap (due_in dues) e ∙ off))
 
 -- ---- a node is put in
@@ -96,7 +92,7 @@ pub ranked_same : (i top : ℕ) (rank : ℕ → ℕ) (j : ℕ) → j ≢ i → r
 ranked_same i top rank j ne = ap (λ (b : Bool). cond b top (rank j)) (let other : nat_eq j i ≡ false = grind (arith, nat_tests) in other)
 
 pub ranked_below : (i top : ℕ) (rank : ℕ → ℕ) → ((j : ℕ) → rank j < top) → (j : ℕ) → ranked i top rank j < suc top
-ranked_below i top rank below j = elim (same_or_not j i) [
+ranked_below i top rank below j = elim (cases_eq j i) [
   | inl e ↦ (let own : ranked i top rank j ≡ top = ap (ranked i top rank) e ∙ ranked_own i top rank in omega arith)
   | inr ne ↦ (let own : ranked i top rank j ≡ rank j = ranked_same i top rank j ne in let b = below j in omega arith)
 ]
@@ -111,7 +107,7 @@ filled n now i due dues nodes nodes2 w id off there size u = record {
     rank = ranked i w.links.top w.links.rank;
     top = suc w.links.top;
     below = ranked_below i w.links.top w.links.rank w.links.below;
-    ring = ring_with n (n + 4097) i (place n now due) w.links.top (due_in dues) (home n now (due_in dues)) (next_in nodes) (prev_in nodes) w.links.rank (due_in (slice_set dues i due)) (home n now (due_in (slice_set dues i due))) (next_in nodes2) (prev_in nodes2) (ranked i w.links.top w.links.rank) w.links.ring w.links.below (omega arith) id off (place_head n now due).0 (head_on n dues (place n now due) w.count (place_head n now due).0 (place_head n now due).1)
+    ring = ring_with n (n + 4097) i (place n now due) w.links.top (due_in dues) (home n now (due_in dues)) (next_in nodes) (prev_in nodes) w.links.rank (due_in (slice_set dues i due)) (home n now (due_in (slice_set dues i due))) (next_in nodes2) (prev_in nodes2) (ranked i w.links.top w.links.rank) w.links.ring w.links.below (omega arith) id off (place_head n now due).0 (head_on n 4097 dues (place n now due) w.count (place_head n now due).0 (place_head n now due).1)
         (let own : due_in (slice_set dues i due) i ≡ due = get_or-set_same dues i due 0 (let c = w.count in omega arith) in
         record {
           on_now = λ e. there (sym own ∙ e);
@@ -143,7 +139,7 @@ moved n now t dues nodes w later early above = record {
     top = w.links.top;
     below = w.links.below;
     ring = ring_moved n (n + 4097) (due_in dues) (home n now (due_in dues)) (next_in nodes) (prev_in nodes) w.links.rank (home n t (due_in dues)) w.links.ring
-        (λ j on. elim (under_or_not j n) [
+        (λ j on. elim (cases_lt j n) [
           | inl near ↦ home_id n t (due_in dues) j near ∙ place_moved n now t (slice_index dues j) (above j near on.there) later ∙ sym (home_id n now (due_in dues) j near)
           | inr far ↦ home_head n t (due_in dues) j far ∙ sym (home_head n now (due_in dues) j far)
         ])
@@ -158,50 +154,48 @@ start_rank n j = cond (nat_lt j n) (suc j) 0
 
 pub start_id : (n j : ℕ) → j < n → start_rank n j ≡ suc j
 unfolding start_rank
-start_id n j h = ap (λ (b : Bool). cond b (suc j) 0) (below_true j n h)
+start_id n j h = ap (λ (b : Bool). cond b (suc j) 0) (lt-ltb j n h)
 
 pub start_head : (n j : ℕ) → n ≤ j → start_rank n j ≡ 0
 unfolding start_rank
-start_head n j h = ap (λ (b : Bool). cond b (suc j) 0) (below_false j n h)
+start_head n j h = ap (λ (b : Bool). cond b (suc j) 0) (le-ltb j n h)
 
 pub start_below : (n j : ℕ) → start_rank n j < n + 1
-start_below n j = elim (under_or_not j n) [
+start_below n j = elim (cases_lt j n) [
   | inl near ↦ (let e = start_id n j near in omega arith)
   | inr far ↦ (let e = start_head n j far in omega arith)
 ]
 
 pub start_one : (n j k : ℕ) → start_rank n j ≡ start_rank n k → j < n → j ≡ k
-start_one n j k same near = elim (under_or_not k n) [
+start_one n j k same near = elim (cases_lt k n) [
   | inl close ↦ (let e = start_id n j near in let f = start_id n k close in omega arith)
   | inr far ↦ absurd (let e = start_id n j near in let f = start_head n k far in omega arith)
 ]
 
 -- each node is linked to itself alone
-pub start : (n : ℕ) (dues : List ℕ) (nodes : List Node) → n ≤ 65536 → length dues ≡ n → ((j : ℕ) → j < n → slice_index dues j ≡ never) → length nodes ≡ n + 4097 → ((j : ℕ) → j < n + 4097 → next_in nodes j ≡ j) → ((j : ℕ) → j < n + 4097 → prev_in nodes j ≡ j) → IsWheel n 0 dues nodes
-start n dues nodes few count none size next prev =
-    let far : (j : ℕ) → IsOn (n + 4097) (due_in dues) j → n ≤ j = λ j on. elim (under_or_not j n) [ inl near ↦ absurd (on.there (none j near)) | inr h ↦ h ] in
+pub start_ranked : (n m : ℕ) (at : ℕ → ℕ) (dues : List ℕ) (nodes : List Node) → ((j : ℕ) → j < n → slice_index dues j ≡ never) → ((j : ℕ) → j < n + m → next_in nodes j ≡ j) → ((j : ℕ) → j < n + m → prev_in nodes j ≡ j) → ((j : ℕ) → n ≤ j → at j ≡ j) → IsRanked n (n + m) (due_in dues) at (next_in nodes) (prev_in nodes)
+start_ranked n m at dues nodes none next prev own =
+    let far : (j : ℕ) → IsOn (n + m) (due_in dues) j → n ≤ j = λ j on. elim (cases_lt j n) [ inl near ↦ absurd (on.there (none j near)) | inr h ↦ h ] in
     record {
-      few = few;
-      early = omega arith;
-      count = count;
-      size = size;
-      links = record {
-        rank = start_rank n;
-        top = n + 1;
-        below = start_below n;
-        ring = record {
-          next_on = λ j on. subst (IsOn (n + 4097) (due_in dues)) (sym (next j on.below)) on;
-          prev_on = λ j on. subst (IsOn (n + 4097) (due_in dues)) (sym (prev j on.below)) on;
-          next_home = λ j on. ap (home n 0 (due_in dues)) (next j on.below);
-          prev_home = λ j on. ap (home n 0 (due_in dues)) (prev j on.below);
-          back = λ j on. ap (prev_in nodes) (next j on.below) ∙ prev j on.below;
-          forth = λ j on. ap (next_in nodes) (prev j on.below) ∙ next j on.below;
-          head_home = home_head n 0 (due_in dues);
-          head_rank = start_head n;
-          id_rank = λ j near. (let e = start_id n j near in omega arith);
-          falls = λ j near on. absurd (on.there (none j near));
-          one = start_one n;
-          no_gap = λ c j onc on same under. (let e = start_head n j (far j on) in omega arith);
-        };
+      rank = start_rank n;
+      top = n + 1;
+      below = start_below n;
+      ring = record {
+        next_on = λ j on. subst (IsOn (n + m) (due_in dues)) (sym (next j on.below)) on;
+        prev_on = λ j on. subst (IsOn (n + m) (due_in dues)) (sym (prev j on.below)) on;
+        next_home = λ j on. ap at (next j on.below);
+        prev_home = λ j on. ap at (prev j on.below);
+        back = λ j on. ap (prev_in nodes) (next j on.below) ∙ prev j on.below;
+        forth = λ j on. ap (next_in nodes) (prev j on.below) ∙ next j on.below;
+        head_home = own;
+        head_rank = start_head n;
+        id_rank = λ j near. (let e = start_id n j near in omega arith);
+        falls = λ j near on. absurd (on.there (none j near));
+        one = start_one n;
+        no_gap = λ c j onc on same under. (let e = start_head n j (far j on) in omega arith);
       };
     }
+
+pub start : (n : ℕ) (dues : List ℕ) (nodes : List Node) → n ≤ 65536 → length dues ≡ n → ((j : ℕ) → j < n → slice_index dues j ≡ never) → length nodes ≡ n + 4097 → ((j : ℕ) → j < n + 4097 → next_in nodes j ≡ j) → ((j : ℕ) → j < n + 4097 → prev_in nodes j ≡ j) → IsWheel n 0 dues nodes
+start n dues nodes few count none size next prev =
+    record { few = few; early = omega arith; count = count; size = size; links = start_ranked n 4097 (home n 0 (due_in dues)) dues nodes none next prev (home_head n 0 (due_in dues)) }

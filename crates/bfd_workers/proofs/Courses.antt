@@ -1,8 +1,9 @@
 -- A worker on its way, through a queue and from shard to shard.
-use Rattle.std.proofs.Common.{◌≡◌, ◌≢◌, ◌⊎◌, inl, inr, ◌<◌, ◌≤◌, ◌+◌, ◌++◌, ◌∙◌, ◌∷◌, ℕ, suc, [], List, length, map, sym, ap, subst, refl, append_assoc, append-nil, arith, length-append}
+use Rattle.std.proofs.Common.{◌≡◌, ◌≢◌, inl, inr, ◌<◌, ◌≤◌, ◌+◌, ◌++◌, ◌∙◌, ◌∷◌, ℕ, suc, [], List, length, map, sym, ap, subst, refl, append_assoc, append-nil, arith, length-append}
 use Rattle.std.specs.Prelude.{slice_index_or}
 use Rattle.std.proofs.lemmas.List.{length-map, get_or_append_left}
 use Rattle.std.proofs.Math.Seq.{get_or-append_seam}
+use Rattle.std.proofs.lemmas.Bool.{cases_lt}
 use mathlib.Core.Logic.{dite}
 use native.Mathlib.Decide.{ℕ_discrete}
 use Rattle.bfd_engine.specs.declared.fault.EngineFault.{EngineFault}
@@ -140,12 +141,9 @@ over_more engine queues queue shard k l m parts parts2 part at is pushed o of th
 idle_used : (l : Knows) (r : ℕ) (queue : List Numbered) → IsIdle l r → HasUsed l r queue
 idle_used l r queue i = record { few = (let a = i.taken in omega (arith, a)); none = λ e. i }
 
-below_or : (r n : ℕ) → (r < n) ⊎ (n ≤ r)
-below_or r n = grind arith
-
 used_there : (engine : Shards) (queues : List (List Numbered)) (k l : Knows) (parts : List (List Piece)) → OverShards engine queues k l parts
     → (r : ℕ) → r < length engine.locks → HasUsed l r (slice_index_or queues r [])
-used_there engine queues k l parts o r inside = elim (below_or r (length parts)) [
+used_there engine queues k l parts o r inside = elim (cases_lt r (length parts)) [
   | inl front ↦ o.used r front
   | inr later ↦ idle_used l r (slice_index_or queues r []) (o.idle r later inside)
 ]

@@ -69,10 +69,9 @@ joining engine queues workers i v few d = record {
 
 same_numbers : (xs ys : List Work) → length xs ≡ length ys → ((i : ℕ) (d : Work) → i < length xs → number_of (get_or ys i d) ≡ number_of (get_or xs i d)) → map number_of ys ≡ map number_of xs
 same_numbers [] [] e same = refl
-same_numbers [] (y ∷ ys) e same = absurd (omega (arith, e))
-same_numbers (x ∷ xs) [] e same = absurd (omega (arith, e))
 same_numbers (x ∷ xs) (y ∷ ys) e same =
     ap (λ n. n ∷ map number_of ys) (same 0 x (omega arith)) ∙ ap (λ ns. number_of x ∷ ns) (same_numbers xs ys (omega (arith, e)) (λ i d h. same (suc i) d (omega (arith, h))))
+same_numbers xs ys e same = absurd (omega (arith, e))
 
 kept_numbers : (works : List Work) (s : ℕ) → numbers_of (map (λ (w : Work). (w.pass.0, mine w.pass s)) works) ≡ map number_of works
 kept_numbers [] s = refl
@@ -337,9 +336,6 @@ all_ready engine queues workers at l works some few long met jobs i d h =
       met = λ s inside. ready_own engine queues workers i s (get_or works i d).queues w.own (omega (arith, inside, long)) (met s inside);
       idle = w.idle;
     }
-
-ok_is : (a b : List (List Piece)) → ◌≡◌ {A = Result (List (List Piece)) EngineFault} (Ok a) (Ok b) → a ≡ b
-ok_is a b e = cc
 
 -- the parts of all workers
 pub told_all : (engine : Shards) (queues : List (List Numbered)) (workers : ℕ) (k l : Knows) (works : List Work) (shards : List Shard) (all : List (List (List Piece))) → AllClosed engine queues workers k l works shards

@@ -3,6 +3,7 @@ use Rattle.std.proofs.Common.{◌≡◌, ◌≢◌, ◌<◌, ◌≤◌, ◌+◌,
 use Rattle.std.specs.Prelude.{slice_get, slice_index_or}
 use Rattle.std.proofs.lemmas.List.{drop_all, map-append}
 use Rattle.std.proofs.lemmas.Bool.{ne_eqb}
+use Rattle.std.proofs.lemmas.Option.{slice_get_within, same_Some}
 use mathlib.Core.Logic.{dite}
 use native.Mathlib.Decide.{ℕ_discrete}
 use Rattle.bfd_turn.specs.Lists.{Begins}
@@ -11,37 +12,20 @@ use Rattle.bfd_engine.specs.Engines.{Shards, Knows, IsOf, AllThere}
 use Rattle.bfd_engine.specs.Calls.{seen_at, word_at, taken_at, kept_at, mine}
 use Rattle.bfd_engine.specs.Opening.{IsNewPass}
 use Rattle.bfd_engine.specs.Passes.{Parted, Joined}
+use Rattle.bfd_engine.proofs.Places.{last_here, front_here}
 use Rattle.bfd_gather.specs.declared.queue.Numbered.{Numbered}
 use Rattle.bfd_workers.specs.Jobs.{Work, AllJoined, AreJobs, AreJoined, AreOwn, IsJoining, IsNewJob, number_of, own_queue}
 
 module _ {A : Type 0} where
-  within : (xs : List A) (i : ℕ) (x : A) → slice_get xs i ≡ Some x → i < length xs
-  within [] zero x e = absurd (cc)
-  within [] (suc i) x e = absurd (cc)
-  within (y ∷ xs) zero x e = omega arith
-  within (y ∷ xs) (suc i) x e = let h = within xs i x e in omega (arith, h)
-
-  front_here : (xs : List A) (y : A) (i : ℕ) → i < length xs → slice_get (xs ++ y ∷ []) i ≡ slice_get xs i
-  front_here [] y i h = absurd (omega (arith, h))
-  front_here (x ∷ xs) y zero h = refl
-  front_here (x ∷ xs) y (suc i) h = front_here xs y i (omega (arith, h))
-
-  last_here : (xs : List A) (y : A) → slice_get (xs ++ y ∷ []) (length xs) ≡ Some y
-  last_here [] y = refl
-  last_here (x ∷ xs) y = last_here xs y
-
-  some_is : (x y : A) → Some x ≡ Some y → x ≡ y
-  some_is x y e = cc
-
   -- what is true of each, with one more
   pub each_more : (P : ℕ → A → Type 0) (xs ys : List A) (y : A) → ys ≡ xs ++ y ∷ [] → ((i : ℕ) (x : A) → slice_get xs i ≡ Some x → P i x) → P (length xs) y
       → (i : ℕ) (x : A) → slice_get ys i ≡ Some x → P i x
   each_more P xs ys y is each last i x e =
       let here : slice_get (xs ++ y ∷ []) i ≡ Some x = ap (λ zs. slice_get zs i) (sym is) ∙ e in
       dite (ℕ_discrete i (length xs))
-      (λ same. (let got : y ≡ x = some_is y x (sym (last_here xs y) ∙ (ap (slice_get (xs ++ y ∷ [])) (sym same) ∙ here)) in
+      (λ same. (let got : y ≡ x = same_Some y x (sym (last_here xs y (length xs) refl) ∙ (ap (slice_get (xs ++ y ∷ [])) (sym same) ∙ here)) in
       subst (λ j. P j x) (sym same) (subst (λ z. P (length xs) z) got last)))
-      (λ other. (let front : i < length xs = (let a = within (xs ++ y ∷ []) i x here in let b = length-append xs (y ∷ []) in omega (arith, a, b, other)) in
+      (λ other. (let front : i < length xs = (let a = slice_get_within (xs ++ y ∷ []) i x here in let b = length-append xs (y ∷ []) in omega (arith, a, b, other)) in
       each i x (sym (front_here xs y i front) ∙ here)))
 
   pub none_here : (i : ℕ) (x : A) → slice_get [] i ≡ Some x → ⊥

@@ -3,6 +3,7 @@ use Rattle.std.proofs.Common.{◌≡◌, ◌≢◌, ◌<◌, ◌≤◌, ◌+◌,
 use Rattle.std.specs.Prelude.{slice_get, slice_index_or}
 use Rattle.std.proofs.lemmas.List.{get_or-map, map-append, map-set, length-map, length-set, get_or_append_left}
 use Rattle.std.proofs.Math.Seq.{get_or-append_seam}
+use Rattle.bfd_gather.proofs.Queues.{put_other}
 use mathlib.Core.Logic.{dite}
 use native.Mathlib.Decide.{ℕ_discrete}
 
@@ -63,15 +64,12 @@ module _ {V A : Type 0} (f : V → List (List A)) where
   changed_at : (vs : List V) (at : ℕ) (v new : V) → at < length vs → get_or (map f (set vs at new)) at [] ≡ f new
   changed_at vs at v new h = ap (λ ls. get_or ls at []) (map-set f vs at new) ∙ get_or-set_same (map f vs) at (f new) [] (omega (arith, h, length-map vs f))
 
-  changed_else : (vs : List V) (at i : ℕ) (new : V) → i ≢ at → get_or (map f (set vs at new)) i [] ≡ get_or (map f vs) i []
-  changed_else vs at i new other = ap (λ ls. get_or ls i []) (map-set f vs at new) ∙ get_or-set_other (map f vs) at i (f new) [] other
-
   pub take_wide : (vs : List V) (at shard : ℕ) (v new : V) (x : List A) → at < length vs → v ≡ get_or vs at v → f new ≡ set (f v) shard x
       → (i : ℕ) → length (get_or (map f (set vs at new)) i []) ≡ length (get_or (map f vs) i [])
   take_wide vs at shard v new x h is put i = dite (ℕ_discrete i at)
       (λ same. subst (λ j. length (get_or (map f (set vs at new)) j []) ≡ length (get_or (map f vs) j [])) (sym same)
       (ap length (changed_at vs at v new h) ∙ (ap length put ∙ (length-set (f v) shard x ∙ ap length (sym (get_or-map f vs at v [] h ∙ ap f (sym is)))))))
-      (λ other. ap length (changed_else vs at i new other))
+      (λ other. ap length (put_other f vs at i new other))
 
   pub take_others : (vs : List V) (at shard : ℕ) (v new : V) (x : List A) → at < length vs → v ≡ get_or vs at v → f new ≡ set (f v) shard x
       → (i r : ℕ) → r ≢ shard → get_or (get_or (map f (set vs at new)) i []) r [] ≡ get_or (get_or (map f vs) i []) r []
@@ -79,4 +77,4 @@ module _ {V A : Type 0} (f : V → List (List A)) where
       (λ same. subst (λ j. get_or (get_or (map f (set vs at new)) j []) r [] ≡ get_or (get_or (map f vs) j []) r []) (sym same)
       (ap (λ l. get_or l r []) (changed_at vs at v new h) ∙ (ap (λ l. get_or l r []) put ∙ (get_or-set_other (f v) shard r x [] away
       ∙ ap (λ l. get_or l r []) (sym (get_or-map f vs at v [] h ∙ ap f (sym is)))))))
-      (λ other. ap (λ l. get_or l r []) (changed_else vs at i new other))
+      (λ other. ap (λ l. get_or l r []) (put_other f vs at i new other))

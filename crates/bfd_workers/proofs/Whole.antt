@@ -1,10 +1,10 @@
 -- A script on shards is the script on the whole table.
-use Rattle.std.proofs.Common.{◌≡◌, ◌⊎◌, inl, inr, ◌<◌, ◌≤◌, ◌+◌, ◌-◌, ◌*◌, ◌/◌, ◌%◌, ◌==◌, ◌∙◌, ◌∷◌, Bool, true, false, ℕ, zero, suc, [], List, length, map, get_or, refl, sym, ap, subst, arith, Some, None, Option, add_comm}
+use Rattle.std.proofs.Common.{◌≡◌, inl, inr, ◌<◌, ◌≤◌, ◌+◌, ◌-◌, ◌*◌, ◌/◌, ◌%◌, ◌==◌, ◌∙◌, ◌∷◌, Bool, true, false, ℕ, zero, suc, [], List, length, map, get_or, refl, sym, ap, subst, arith, Some, None, Option, add_comm}
 use Rattle.std.specs.Prelude.{slice_index_or, sum_by, if◌then◌else◌}
 use Rattle.std.specs.List.{AllByRecursion, cons_option}
-use Rattle.std.proofs.lemmas.Bool.Decides.{nat_tests}
 use Rattle.std.proofs.lemmas.List.{length-map}
 use Rattle.std.proofs.lemmas.Option.{slice_get-get_or, slice_get_within}
+use Rattle.std.proofs.lemmas.Bool.{eqb-true, cases_lt}
 use Rattle.bfd_session.specs.declared.event.Event.{Event}
 use Rattle.bfd_session.specs.declared.event.SessionConfig.{SessionConfig}
 use Rattle.bfd_session.specs.Kinds.{Running, configs_of}
@@ -58,14 +58,11 @@ short_share n (suc c) (x ∷ xs) = let a = short_share n c xs in omega (arith, a
 pub room_enough : (engine : Shards) (s room : ℕ) (configs : List SessionConfig) → engine.configs ≡ configs → room ≡ 5 * length configs + 5 → 5 * length (configs_at engine s) + 5 ≤ room
 room_enough engine s room configs is enough = let a = short_share (length engine.locks) s engine.configs in let b = ap length is in omega (arith, a, b, enough)
 
-is_own : (a b : ℕ) → (a == b) ≡ true → a ≡ b
-is_own a b h = grind (arith, nat_tests, h)
-
 -- the events of a queue may happen to its shard
 own_met : (b : Bool) (engine : Shards) (n s number k m : ℕ) (event : Event) (rest : List Numbered) → (k % n == s) ≡ b → n ≡ length engine.locks → 0 < n → CanHappen engine.configs (Own k m event)
     → AreMet engine s rest → AreMet engine s (cons_option (numbered number (if b then Some (Own (k / n) m event) else None)) rest)
 own_met true engine n s number k m event rest is locks some can met =
-    (subst (λ i. CanHappen (configs_at engine i) (Own (k / n) m event)) (is_own (k % n) s is) (dealt_event engine k n event locks some can), met)
+    (subst (λ i. CanHappen (configs_at engine i) (Own (k / n) m event)) (eqb-true (k % n) s is) (dealt_event engine k n event locks some can), met)
 own_met false engine n s number k m event rest is locks some can met = met
 
 pub met_in : (engine : Shards) (n s number : ℕ) (hs : List Happening) → n ≡ length engine.locks → 0 < n → AllByRecursion (IsMet engine.configs) hs → AreMet engine s (queue n s number hs)
@@ -88,11 +85,8 @@ past [] s h = refl
 past (x ∷ xs) zero h = absurd (omega (arith, h))
 past (x ∷ xs) (suc s) h = past xs s (omega (arith, h))
 
-below_or : (s n : ℕ) → (s < n) ⊎ (n ≤ s)
-below_or s n = grind arith
-
 pub short_queues : (shards : ℕ) (hs : List Happening) (queues : List (List Numbered)) (s : ℕ) → AreQueues shards hs queues → length (slice_index_or queues s []) ≤ length hs
-short_queues shards hs queues s are = elim (below_or s shards) [
+short_queues shards hs queues s are = elim (cases_lt s shards) [
   | inl inside ↦ (let a = ap length (are.each s inside) in let b = short_queue shards s 1 hs in omega (arith, a, b))
   | inr beyond ↦ (let a = ap length (past queues s (let b = are.long in omega (arith, b, beyond))) in omega (arith, a))
 ]

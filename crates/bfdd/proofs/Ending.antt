@@ -6,7 +6,7 @@ use Rattle.bfd_script.specs.Reading.{Lists}
 use Rattle.bfd_words.specs.declared.job.Job.{Job}
 use Rattle.bfd_words.specs.declared.job.Job.TheVariants.{Replay, Serve, Load, Pair, Watch}
 use Rattle.bfdd.specs.declared.status.Status.{Status}
-use Rattle.bfdd.specs.declared.status.Status.TheVariants.{Done, Usage, BadLine, ReadFault, WriteFault, PortFault, LinkFault, TooLarge, JournalFull, Turns, ClockFault, Memory, NoMember}
+use Rattle.bfdd.specs.declared.status.Status.TheVariants.{Done, Usage, ReadFault, WriteFault, Memory}
 use Rattle.bfdd.specs.Serving.{Comes, Edges, IsFaulty, IsOverlong, status_of}
 use Rattle.bfdd.specs.Status.{IsDecided, IsEndOf}
 use Rattle.bfdd.specs.Telling.{Tells, TellsBytes}
@@ -23,10 +23,7 @@ bytes_so job left right w (inr (reading, long)) = subst (λ (v : Wanted). IsEndO
 
 finish_so : (job : Job) → serves job ≡ true → (end : Finish) → IsEndOf (Some job) (status_of end)
 finish_so job serving finish.Done = tt
-finish_so job serving (finish.LinkFault number) = serving
-finish_so job serving finish.ClockFault = serving
-finish_so job serving (finish.JournalFull shard) = serving
-finish_so job serving (finish.Turns number) = serving
+finish_so job serving end = serving
 
 comes_so : (job : Job) (script : Lists) (old new : Edges) (w : Wanted) → serves job ≡ true → Comes job script old new w → IsEndOf (Some job) w.status
 comes_so job script old new w serving (inl served) =
@@ -53,23 +50,13 @@ ends_so (Serve hands turns ticks journal) left right old new w (inr none) =
 pub ended : (given : Option Job) (result want : Status) → IsDecided result want → (result ≡ ReadFault → ⊥) → IsEndOf given want → IsEndOf given result
 ended given Done want is reads fact = tt
 ended given Usage want is reads fact = tt
-ended given (BadLine line fault) want is reads fact = subst (λ (status : Status). IsEndOf given status) (sym is) fact
 ended given ReadFault want is reads fact = absurd (reads refl)
 ended given WriteFault want is reads fact = tt
-ended given PortFault want is reads fact = subst (λ (status : Status). IsEndOf given status) (sym is) fact
-ended given (LinkFault number) want is reads fact = subst (λ (status : Status). IsEndOf given status) (sym is) fact
-ended given (JournalFull shard) want is reads fact = subst (λ (status : Status). IsEndOf given status) (sym is) fact
-ended given (Turns number) want is reads fact = subst (λ (status : Status). IsEndOf given status) (sym is) fact
-ended given ClockFault want is reads fact = subst (λ (status : Status). IsEndOf given status) (sym is) fact
-ended given TooLarge want is reads fact = subst (λ (status : Status). IsEndOf given status) (sym is) fact
 ended given Memory want is reads fact = tt
-ended given (NoMember discr) want is reads fact = subst (λ (status : Status). IsEndOf given status) (sym is) fact
+ended given result want is reads fact = subst (λ (status : Status). IsEndOf given status) (sym is) fact
 
 -- a job that doesn't serve tells what its bytes decide
 pub closed_tells : (job : Job) (left right : Option (List ℕ)) (old new : Edges) (w : Wanted) → serves job ≡ false → TellsBytes job left right w
     → Tells job left right old new w
-closed_tells (Replay hands) left right old new w closed tells = tells
-closed_tells (Watch need members shards) left right old new w closed tells = tells
-closed_tells (Load sessions ticks seed hands) left right old new w closed tells = tells
-closed_tells (Pair events seed) left right old new w closed tells = tells
 closed_tells (Serve hands turns ticks journal) left right old new w closed tells = cc
+closed_tells job left right old new w closed tells = tells

@@ -9,7 +9,7 @@ use Rattle.bfd_script.specs.Reading.{Lists, script_of}
 use Rattle.bfd_serving.specs.declared.finish.Finish.{Finish}
 use Rattle.bfd_serving.specs.declared.finish.Finish.TheVariants as finish
 use Rattle.bfd_words.specs.declared.job.Job.{Job}
-use Rattle.bfd_words.specs.declared.job.Job.TheVariants.{Replay, Serve, Load, Pair, Watch}
+use Rattle.bfd_words.specs.declared.job.Job.TheVariants.{Serve}
 use Rattle.bfdd.specs.declared.status.Status.{Status}
 use Rattle.bfdd.specs.declared.status.Status.TheVariants.{Memory}
 use Rattle.bfdd.specs.Answers.{HasText}
@@ -21,18 +21,12 @@ use Rattle.bfdd.specs.Words.{OfServing, serves}
 -- the served text goes with every finish
 pub goes_with : (end : Finish) (text : List ℕ) → HasText (status_of end) text
 goes_with finish.Done text = tt
-goes_with (finish.LinkFault number) text = tt
-goes_with finish.ClockFault text = tt
-goes_with (finish.JournalFull shard) text = tt
-goes_with (finish.Turns number) text = tt
+goes_with end text = tt
 
 -- a fact about a job, where it serves
 pub of_serving : (job : Job) (P : Job → Type 0) → (serves job ≡ true → P job) → OfServing (Some job) P
-of_serving (Replay hands) P fact = tt
 of_serving (Serve hands turns ticks journal) P fact = fact refl
-of_serving (Load sessions ticks seed hands) P fact = tt
-of_serving (Pair events seed) P fact = tt
-of_serving (Watch need members shards) P fact = tt
+of_serving job P fact = tt
 
 -- the bytes that a source told are those that were read to its end
 read_whole : (bytes : List ℕ) (right : Option (List ℕ)) (more : List ℕ) → Consumes (Some bytes) right more → IsAtEnd right → bytes ≡ more
@@ -78,7 +72,4 @@ pub finished : (job : Job) (left right : Option (List ℕ)) (old new : Edges) (w
 finished job None right old new w result is ports tells serving = tt
 finished (Serve hands turns ticks journal) (Some bytes) right old new w result is ports tells serving =
     of_script (Serve hands turns ticks journal) bytes right old new w result is ports tells
-finished (Replay hands) (Some bytes) right old new w result is ports tells serving = cc
-finished (Load sessions ticks seed hands) (Some bytes) right old new w result is ports tells serving = cc
-finished (Pair events seed) (Some bytes) right old new w result is ports tells serving = cc
-finished (Watch need members shards) (Some bytes) right old new w result is ports tells serving = cc
+finished job (Some bytes) right old new w result is ports tells serving = cc

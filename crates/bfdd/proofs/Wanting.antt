@@ -3,7 +3,7 @@ use Rattle.std.proofs.Common.{◌≡◌, List, ℕ, Option, Some, None, ◌⊎�
 use Rattle.std.specs.Prelude.{IfSome}
 use Rattle.bfd_words.specs.declared.job.Job.{Job}
 use Rattle.bfdd.specs.declared.status.Status.{Status}
-use Rattle.bfdd.specs.declared.status.Status.TheVariants.{Done, Usage, BadLine, ReadFault, WriteFault, PortFault, LinkFault, TooLarge, JournalFull, Turns, ClockFault, Memory, NoMember}
+use Rattle.bfdd.specs.declared.status.Status.TheVariants.{ReadFault, WriteFault, Memory}
 use Rattle.bfdd.specs.Status.{IsDecided}
 use Rattle.bfdd.specs.Text.{Wanted, wanted, wanted_of}
 
@@ -25,16 +25,7 @@ of_job given job left P is fact = subst (λ (j : Option Job). IfSome (wanted j l
 -- a run that is decided, where neither source nor sink failed
 pub settled : (result want : Status) → IsDecided result want → (result ≡ ReadFault → ⊥) → (result ≡ WriteFault → ⊥)
     → (result ≡ want) ⊎ (result ≡ Memory)
-settled Done want is reads writes = inl is
-settled Usage want is reads writes = inl is
-settled (BadLine line fault) want is reads writes = inl is
 settled ReadFault want is reads writes = absurd (reads refl)
 settled WriteFault want is reads writes = absurd (writes refl)
-settled PortFault want is reads writes = inl is
-settled (LinkFault number) want is reads writes = inl is
-settled (JournalFull shard) want is reads writes = inl is
-settled (Turns number) want is reads writes = inl is
-settled ClockFault want is reads writes = inl is
-settled TooLarge want is reads writes = inl is
 settled Memory want is reads writes = inr refl
-settled (NoMember discr) want is reads writes = inl is
+settled result want is reads writes = inl is

@@ -21,16 +21,14 @@ is_read None fields packet e = record { passes = refl; multi = cc }
 is_read (Some test) fields packet e = cc
 
 same : (a b : Bool) → IsTrue (beq a b) → a ≡ b
-same true true h = refl
 same true false h = cc
 same false true h = cc
-same false false h = refl
+same a b h = refl
 
 alike : (a b : Bool) → a ≡ b → IsTrue (beq a b)
-alike true true h = refl
 alike true false h = cc
 alike false true h = cc
-alike false false h = refl
+alike a b h = refl
 
 decides : (port : Port) (multi : Bool) (arrival : Arrival) (packet : Control) → arrival.port ≡ port
     → Ok packet ≡ read_of arrival.port arrival.payload → IsTrue (beq packet.multi multi) ↔ IsFor port multi arrival

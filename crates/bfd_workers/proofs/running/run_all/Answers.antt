@@ -16,52 +16,40 @@ join_all-requires-clause-others g c =
     let before = c.in_ok-jobs.jobs.items in let after = c.work_all.new.jobs.items in
     let queues = map (λ q. q.items) c.args.queues.items in
     let long = length-map c.args.queues.items (λ q. q.items) ∙ c.requires.long in
-    let jobs = c.in_ok-jobs.ensures in
     λ i w e. joining c.args.engine queues c.args.workers i w (λ s. (let a = c.requires.short s in let b = c.requires.small in omega (arith, a, b)))
-    (done_jobs c.args.engine queues c.args.workers c.deal_jobs.new.first before after long jobs c.work_all.ensures.long c.work_all.ensures.worked i w e)
+    (done_jobs c.args.engine queues c.args.workers c.deal_jobs.new.first before after long c.in_ok-jobs.ensures c.work_all.ensures.long c.work_all.ensures.worked i w e)
 
 pub close-requires-clause-joined : goal.close-requires-clause-joined
 close-requires-clause-joined g c =
     let before = c.in_ok-jobs.jobs.items in let after = c.work_all.new.jobs.items in
     let queues = map (λ q. q.items) c.args.queues.items in
     let long = length-map c.args.queues.items (λ q. q.items) ∙ c.requires.long in
-    let jobs = c.in_ok-jobs.ensures in
-    let joined = c.in_ok-tolds.ensures.joined in
     each_joined c.args.engine queues c.args.workers c.deal_jobs.new.first c.join_all.new.first after
-    (at_end c.args.engine queues c.args.workers c.deal_jobs.new.first c.join_all.new.first before after c.requires.workers.0 c.requires.workers.1 long jobs c.work_all.ensures.long c.work_all.ensures.worked joined)
+    (at_end c.args.engine queues c.args.workers c.deal_jobs.new.first c.join_all.new.first before after c.requires.workers.0 c.requires.workers.1 long c.in_ok-jobs.ensures c.work_all.ensures.long c.work_all.ensures.worked c.in_ok-tolds.ensures.joined)
 
 pub all_told-requires : goal.all_told-requires
 all_told-requires g c =
     let before = c.in_ok-jobs.jobs.items in let after = c.work_all.new.jobs.items in
     let queues = map (λ q. q.items) c.args.queues.items in
     let long = length-map c.args.queues.items (λ q. q.items) ∙ c.requires.long in
-    let jobs = c.in_ok-jobs.ensures in
-    let joined = c.in_ok-tolds.ensures.joined in
-    let told = c.in_ok-tolds.ensures.told in
-    let closed = all_closed c.args.engine queues c.args.workers c.deal_jobs.new.first c.join_all.new.first before after c.in-Ok.states.items c.requires.workers.0 c.requires.workers.1 long jobs
-    c.work_all.ensures.long c.work_all.ensures.worked joined c.in-Ok.ensures.closed c.requires.short c.requires.small in
-    fine_ends c.args.engine queues c.args.workers c.deal_jobs.new.first c.join_all.new.first after c.in-Ok.states.items (map (seen_as (λ parts. parts.items)) c.in_ok-tolds.tolds.items) closed told
+    let closed = all_closed c.args.engine queues c.args.workers c.deal_jobs.new.first c.join_all.new.first before after c.in-Ok.states.items c.requires.workers.0 c.requires.workers.1 long c.in_ok-jobs.ensures
+    c.work_all.ensures.long c.work_all.ensures.worked c.in_ok-tolds.ensures.joined c.in-Ok.ensures.closed c.requires.short c.requires.small in
+    fine_ends c.args.engine queues c.args.workers c.deal_jobs.new.first c.join_all.new.first after c.in-Ok.states.items (map (seen_as (λ parts. parts.items)) c.in_ok-tolds.tolds.items) closed c.in_ok-tolds.ensures.told
 
 pub returns-in_ok-all-in-Ok-clause-states : goal.returns-in_ok-all-in-Ok-clause-states
 returns-in_ok-all-in-Ok-clause-states g c =
     let before = c.in_ok-jobs.jobs.items in let after = c.work_all.new.jobs.items in
     let queues = map (λ q. q.items) c.args.queues.items in
     let long = length-map c.args.queues.items (λ q. q.items) ∙ c.requires.long in
-    let jobs = c.in_ok-jobs.ensures in
-    let joined = c.in_ok-tolds.ensures.joined in
-    let told = c.in_ok-tolds.ensures.told in
-    let closed = all_closed c.args.engine queues c.args.workers c.deal_jobs.new.first c.join_all.new.first before after c.in-Ok.states.items c.requires.workers.0 c.requires.workers.1 long jobs
-    c.work_all.ensures.long c.work_all.ensures.worked joined c.in-Ok.ensures.closed c.requires.short c.requires.small in
-    states c.args.engine queues c.args.workers c.deal_jobs.new.first c.join_all.new.first after c.in-Ok.states.items (map (λ parts. parts.items) c.in_ok-all-in-Ok.all.items) closed (sym told ∙ c.in_ok-all-in-Ok.ensures)
+    let closed = all_closed c.args.engine queues c.args.workers c.deal_jobs.new.first c.join_all.new.first before after c.in-Ok.states.items c.requires.workers.0 c.requires.workers.1 long c.in_ok-jobs.ensures
+    c.work_all.ensures.long c.work_all.ensures.worked c.in_ok-tolds.ensures.joined c.in-Ok.ensures.closed c.requires.short c.requires.small in
+    states c.args.engine queues c.args.workers c.deal_jobs.new.first c.join_all.new.first after c.in-Ok.states.items (map (λ parts. parts.items) c.in_ok-all-in-Ok.all.items) closed (sym c.in_ok-tolds.ensures.told ∙ c.in_ok-all-in-Ok.ensures)
 
 pub returns-in_ok-all-in-Ok-clause-told : goal.returns-in_ok-all-in-Ok-clause-told
 returns-in_ok-all-in-Ok-clause-told g c =
     let before = c.in_ok-jobs.jobs.items in let after = c.work_all.new.jobs.items in
     let queues = map (λ q. q.items) c.args.queues.items in
     let long = length-map c.args.queues.items (λ q. q.items) ∙ c.requires.long in
-    let jobs = c.in_ok-jobs.ensures in
-    let joined = c.in_ok-tolds.ensures.joined in
-    let told = c.in_ok-tolds.ensures.told in
-    let closed = all_closed c.args.engine queues c.args.workers c.deal_jobs.new.first c.join_all.new.first before after c.in-Ok.states.items c.requires.workers.0 c.requires.workers.1 long jobs
-    c.work_all.ensures.long c.work_all.ensures.worked joined c.in-Ok.ensures.closed c.requires.short c.requires.small in
-    told_all c.args.engine queues c.args.workers c.deal_jobs.new.first c.join_all.new.first after c.in-Ok.states.items (map (λ parts. parts.items) c.in_ok-all-in-Ok.all.items) closed (sym told ∙ c.in_ok-all-in-Ok.ensures)
+    let closed = all_closed c.args.engine queues c.args.workers c.deal_jobs.new.first c.join_all.new.first before after c.in-Ok.states.items c.requires.workers.0 c.requires.workers.1 long c.in_ok-jobs.ensures
+    c.work_all.ensures.long c.work_all.ensures.worked c.in_ok-tolds.ensures.joined c.in-Ok.ensures.closed c.requires.short c.requires.small in
+    told_all c.args.engine queues c.args.workers c.deal_jobs.new.first c.join_all.new.first after c.in-Ok.states.items (map (λ parts. parts.items) c.in_ok-all-in-Ok.all.items) closed (sym c.in_ok-tolds.ensures.told ∙ c.in_ok-all-in-Ok.ensures)

@@ -1,17 +1,17 @@
 -- The pass of the turn that is given back is put in its place.
 use Rattle.std.proofs.Common.{rules, ◌≡◌, ◌<◌, ◌∙◌, get_or, length, vec_len, Some, slice_set, sym, ap, ap₂, subst, arith}
-use Rattle.std.proofs.lemmas.Option.{get_or_from_slice_get}
+use Rattle.std.proofs.lemmas.Option.{get_or_from_slice_get, slice_get_within}
 use Rattle.bfd_turn.specs.Passes.{having_done}
 use Rattle.bfd_engine.specs.Engines.{Shards, Knows, IsOf}
 use Rattle.bfd_engine.specs.Holds.{Holding}
-use Rattle.bfd_engine.proofs.Places.{K, within}
+use Rattle.bfd_engine.proofs.Places.{K}
 use Rattle.bfd_engine.proofs.Lending.{of_back, still}
 use Rattle.bfd_engine.proofs.engine.Engine.let_go.Goals as goal
 
 pub index-requires : goal.index-requires
 index-requires g c =
     let at : c.hold.inside.shard ≡ c.args.hold.0 = ap (λ (h : Holding). h.0) c.hold.view_is in
-    let w : c.args.hold.0 < length c.args.self.now.locks = within c.args.self.now.locks c.args.hold.0 c.args.hold.1 c.requires.held.lock_is in
+    let w : c.args.hold.0 < length c.args.self.now.locks = slice_get_within c.args.self.now.locks c.args.hold.0 c.args.hold.1 c.requires.held.lock_is in
     let v : length c.self.inside.locks.items ≡ length c.args.self.now.locks = ap (λ (e : Shards). length e.locks) c.self.view_is in
     let n : vec_len c.self.inside.locks ≡ length c.self.inside.locks.items = search rules in
     omega (arith, at, w, v, n)
@@ -33,7 +33,7 @@ put-requires-clause-callers g c =
 pub put-requires-clause-place : goal.put-requires-clause-place
 put-requires-clause-place g c =
     let at : c.hold.inside.shard ≡ c.args.hold.0 = ap (λ (h : Holding). h.0) c.hold.view_is in
-    let w : c.args.hold.0 < length c.args.self.now.locks = within c.args.self.now.locks c.args.hold.0 c.args.hold.1 c.requires.held.lock_is in
+    let w : c.args.hold.0 < length c.args.self.now.locks = slice_get_within c.args.self.now.locks c.args.hold.0 c.args.hold.1 c.requires.held.lock_is in
     let l = c.requires.of.long in omega (arith, at, w, l)
 
 pub returns-clause-pass : goal.returns-clause-pass
