@@ -9,7 +9,7 @@ use Rattle.bfd_packet.specs.Layout.{fields_of}
 use Rattle.bfd_num.specs.Numbers.{moment_bound, floor_tick}
 use Rattle.bfd_num.specs.Due.{has_come}
 use Rattle.bfd_rules.specs.declared.commands.Cmd.{Cmd}
-use Rattle.bfd_rules.specs.declared.commands.Cmd.TheVariants.{Disable, Enable, Reset, Path, Tx, Rx, Mult, Demand, EchoEvery, Key}
+use Rattle.bfd_rules.specs.declared.commands.Cmd.TheVariants.{Disable, Enable, Tx, Mult}
 use Rattle.bfd_rules.specs.declared.variables.Vars.{Vars}
 use Rattle.bfd_rules.specs.Quantities.{is_up, is_admin_down}
 use Rattle.bfd_rules.specs.EventFrame.{Course, changes, sends, stamped, enters, is_untold, based, redrawn}
