@@ -151,38 +151,6 @@ fn in_jumps<W: Timers, L: Ledger, R: Abort>(rt: &R, mut timers: W, mut out: Ids,
     }
 }
 
-/// The same with one advance per tick.
-fn tick_by_tick<W: Timers, L: Ledger, R: Abort>(rt: &R, mut timers: W, mut out: Ids, blank: Blank)
-    requires count { length (W.dues timers) ≡ 64 }
-    requires room { 64 ≤ room_of out }
-    requires name { blank.name ≡ L.name }
-    requires parts { blank.parts ≡ L.parts }
-    requires some { 0 < blank.parts }
-{
-    let mut steps = Steps::<L>::new(blank);
-    timers.set(0, 4095, &mut steps);
-    timers.set(1, 4096, &mut steps);
-    timers.set(2, 4097, &mut steps);
-    for t in 1..16385 {
-        play(&mut timers, Call::Advance(t), &mut out, &mut steps);
-        let taken: &[u32] = match t {
-            4095 | 5000 => &[0],
-            4096 | 9000 => &[1],
-            4097 => &[2],
-            _ => &[],
-        };
-        assert_eq!(*rt; out.items(), taken, "at {t}");
-        if t == 4096 {
-            play(&mut timers, Call::Set(0, 5000), &mut out, &mut steps);
-            play(&mut timers, Call::Set(1, 9000), &mut out, &mut steps);
-        }
-    }
-    play(&mut timers, Call::Set(2, 3), &mut out, &mut steps);
-    assert_eq!(*rt; timers.least(), Some(3));
-    play(&mut timers, Call::Advance(16384), &mut out, &mut steps);
-    assert_eq!(*rt; out.items(), [2].as_slice());
-}
-
 #[test]
 fn turns_of_the_hashed_wheel(rt: HostRuntime) {
     let plain = PlainTimers::make(rt.alloc(), 64).expect(&rt, "memory");
@@ -194,9 +162,6 @@ fn turns_of_the_hashed_wheel(rt: HostRuntime) {
     let levels = Levels::make(rt.alloc(), 64).expect(&rt, "memory");
     let out = Ids::make(rt.alloc(), 64).expect(&rt, "memory");
     in_jumps::<Levels, Brand, HostRuntime>(&rt, levels, out, Blank::new(1));
-    let wheel = HashedWheel::make(rt.alloc(), 64).expect(&rt, "memory");
-    let out = Ids::make(rt.alloc(), 64).expect(&rt, "memory");
-    tick_by_tick::<HashedWheel, Brand, HostRuntime>(&rt, wheel, out, Blank::new(1));
 }
 
 /// A drawn call: mostly sets around the tick `now`, near and far, some clears, and advances by a tick, by some hundred,

@@ -138,7 +138,7 @@ pub(crate) fn calm<'a>(words: &'a str, text: &'a str, written: &'a str) -> Case<
 
 /// How a run ended: its status, what was written, and which of the links 0 to 2 are shut.
 #[derive(Drop)]
-pub(crate) struct Ended {
+pub(crate) struct Outcome {
     pub(crate) status: Status,
     pub(crate) written: Vec<u8>,
     pub(crate) shut: (bool, bool, bool),
@@ -151,7 +151,7 @@ pub(crate) fn met<R: Threads + Wait + Sync, T: Ticker + Send, G: Gate + Sync>(
     case: &Case<'_>,
     ticker: &mut T,
     gate: &G,
-) -> Result<Ended, AllocError>
+) -> Result<Outcome, AllocError>
     requires clock { (T.told ticker.old).over ≡ false }
 {
     let words = split(alloc, case.words)?;
@@ -183,7 +183,7 @@ pub(crate) fn met<R: Threads + Wait + Sync, T: Ticker + Send, G: Gate + Sync>(
         ports.shut_link(1).is_some(),
         ports.shut_link(2).is_some(),
     );
-    Ok(Ended {
+    Ok(Outcome {
         status,
         written: sink.as_slice().to_vec(alloc)?,
         shut,
@@ -195,7 +195,7 @@ pub(crate) fn ended<R: Threads + Wait + Sync>(
     rt: &R,
     alloc: Global,
     case: &Case<'_>,
-) -> Result<Ended, AllocError> {
+) -> Result<Outcome, AllocError> {
     let mut ticks = Vec::new(alloc);
     for tick in case.ticks {
         ticks.push(Tick::new(*tick).ok_or(AllocError)?)?;

@@ -8,6 +8,3 @@ ghosts-in_jumps-2 g a = record { name = a.blank.name; parts = a.blank.parts }
 
 abbrev pub ghosts-in_jumps-3 : goal.ghosts-in_jumps-3
 ghosts-in_jumps-3 g a = record { name = a.blank.name; parts = a.blank.parts }
-
-abbrev pub ghosts-tick_by_tick : goal.ghosts-tick_by_tick
-ghosts-tick_by_tick g a = record { name = a.blank.name; parts = a.blank.parts }

@@ -1,6 +1,0 @@
-use Rattle.std.proofs.Common.{◌≡◌, ◌≤◌, length}
-use Rattle.bfd_lanes.specs.Held.{room_of}
-use Rattle.bfd_shard_tests.proofs.levels.tick_by_tick.Given as goal
-
-abbrev pub invariant-loop-t : goal.invariant-loop-t
-invariant-loop-t g l = record { count : length (g.W.Timers.dues l.timers) ≡ 64; room : 64 ≤ room_of l.out }
