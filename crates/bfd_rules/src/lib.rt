@@ -27,6 +27,6 @@ pub use quantities::{
     SLOW_TX, adv_tx, deadline, demand_here, demand_there, detection_time, is_admin_down, may_send,
     seq_deadline, tx_interval,
 };
-pub use renewal::{renew, renewed};
+pub use renewal::renew;
 pub use variables::{Mark, Poll, Vars};
 pub use verdict::Verdict;

@@ -91,19 +91,3 @@ pub fn renew(eff: u64, before: &Vars, v: &mut Vars)
     used_renewed(v);
     demand_renewed(eff, before, v);
 }
-
-/// The variables `v` that a rule made of the variables `before`, renewed.
-pub fn renewed(eff: u64, before: &Vars, v: Vars) -> Vars
-    requires { eff < moment_bound }
-    ensures value { result ≡ renewal.renewed eff before.now v }
-    ensures state { result.state ≡ v.state }
-    ensures heard { is_some result.heard ≡ is_some v.heard }
-    ensures plain { (c : Config) → IsPlain c v → IsPlain c result }
-    ensures renewed { IsRenewed result }
-    ensures peer { HasPeerMult v → HasPeerMult result }
-    ensures idle { IsRenewed v → adv_of v ≡ adv_of before.now → v.rx ≡ before.now.rx → demand_of v ≡ demand_of before.now → result ≡ v }
-{
-    let mut v = v;
-    renew(eff, before, &mut v);
-    v
-}
