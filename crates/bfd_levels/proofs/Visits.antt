@@ -14,7 +14,8 @@ use Rattle.bfd_levels.proofs.Walks.{IsWalk, cur_from, walk_stays, walk_takes, wa
 -- a visit takes no step back
 pub visit_rises : (n tick head id t : ℕ) (dues dues2 : List ℕ) (nodes nodes2 : List Node) (s s2 : ℕ) → Visit n tick head id t dues dues2 nodes nodes2 s s2 → s ≤ s2
 visit_rises n tick head id t dues dues2 nodes nodes2 s s2 (takes le is u cost) = omega arith
-visit_rises n tick head id t dues dues2 nodes nodes2 s s2 _ = omega arith
+visit_rises n tick head id t dues dues2 nodes nodes2 s s2 (moves above is other u cost) = omega arith
+visit_rises n tick head id t dues dues2 nodes nodes2 s s2 (stays above is same here cost) = omega arith
 
 module _ (n tick head t s s2 bound : ℕ) (from : ℕ → ℕ) (dues : List ℕ) (nodes : List Node) (cur i : ℕ) (w : IsWalk n 1026 head t s bound from (place n tick) dues nodes cur i) (near : cur < n) where
   pub walk_can_move : CanMove cur 1026 dues nodes
