@@ -41,14 +41,6 @@ module _ {S : Type 0} (f : S → List ℕ) where
       ∙ ap (λ members. found ++ members) (lead-some member_of (f word) (map f (drop (i + 1) words)) member (sym reads))
       ∙ sym (append_assoc found (member ∷ []) (leading (map f (drop (i + 1) words))))
 
-  -- no more members
-  pub leading-done : (words : List S) (i : ℕ) (word : S) (found : List ℕ) → i < length words → word ≡ get_or words i word
-      → None ≡ member_of (f word) → leading (map f words) ≡ found ++ leading (map f (drop i words)) → found ≡ leading (map f words)
-  leading-done words i word found below is reads all = sym (all
-      ∙ ap (λ rest. found ++ leading rest) (left-is words i word below is)
-      ∙ ap (λ members. found ++ members) (lead-none member_of (f word) (map f (drop (i + 1) words)) (sym reads))
-      ∙ append-nil found)
-
   -- more members than a watch has
   pub leading-many : (words : List S) (i : ℕ) (word : S) (member : ℕ) (found : List ℕ) → i < length words → word ≡ get_or words i word
       → Some member ≡ member_of (f word) → leading (map f words) ≡ found ++ leading (map f (drop i words)) → 64 ≤ length found
