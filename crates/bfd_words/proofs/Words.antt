@@ -1,5 +1,5 @@
 -- The words that a job begins with.
-use Rattle.std.proofs.Common.{◌≡◌, ℕ, ◌+◌, ◌-◌, ◌<◌, ◌≤◌, ◌++◌, List, [], ◌∷◌, length, map, take, drop, get_or, Option, None, Some, refl, sym, ap, ◌∙◌, arith, append_assoc, append-nil, drop-cons, length-append, suc}
+use Rattle.std.proofs.Common.{◌≡◌, ℕ, ◌+◌, ◌-◌, ◌<◌, ◌≤◌, ◌++◌, List, [], ◌∷◌, length, map, take, drop, get_or, Option, None, Some, refl, sym, ap, ◌∙◌, arith, append_assoc, drop-cons, length-append, suc}
 use Rattle.std.proofs.lemmas.Grind.{common_steps}
 use Rattle.std.proofs.lemmas.List.{drop-map, take_rest}
 use Rattle.std.proofs.lemmas.List.Sums.{take_while-cons}
@@ -16,9 +16,6 @@ module _ {X : Type 0} (read : X → Option ℕ) where
   lead-some : (word : X) (words : List X) (member : ℕ) → read word ≡ Some member → lead (word ∷ words) ≡ member ∷ lead words
   lead-some word words member is = ap (filter_map read) (take_while-cons (λ word. is_some (read word)) word words)
       ∙ (rw is (ap (λ first. cons_option first (lead words)) is))
-
-  lead-none : (word : X) (words : List X) → read word ≡ None → lead (word ∷ words) ≡ []
-  lead-none word words is = rw is refl
 
 module _ {S : Type 0} (f : S → List ℕ) where
   abbrev left : List S → ℕ → S → List (List ℕ)
