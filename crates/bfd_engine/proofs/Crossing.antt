@@ -3,9 +3,19 @@ use denote.RattleType.{RattleType}
 use denote.Param.Send.{sendable, IsSync, IsSend, view_sync}
 use denote.Param.SendFields.{declared_sync}
 use denote.Struct.Declared as S
+use denote.Struct.Tuple.{tuple_type}
 use mir.Syntax.{Dict}
+use Rattle.std.specs.Prelude.{[], ◌∷◌}
 use Rattle.std.proofs.Crossing.{crosses, Vec-sync}
-use Rattle.bfd_demux.proofs.demux.Demux.TheSendSync as demux
+use Rattle.bfd_demux.specs.contracts.demux.Demux as Demux
+use Rattle.bfd_demux.specs.contracts.demux.Demux.TheInside as inside
+use Rattle.std.specs.contracts.option.Option as Option
+use Rattle.bfd_packet.specs.contracts.arrival.Port as Port
+use Rattle.bfd_demux.specs.contracts.name.Name as Name
+use Rattle.bfd_demux.specs.contracts.row.RowKind as RowKind
+use denote.Builtin.{u32}
+use Rattle.bfd_demux.proofs.name.Name.TheSendSync as name
+use Rattle.bfd_demux.proofs.row.RowKind.TheSendSync as kind
 use Rattle.bfd_shard.specs.contracts.entry.Entry as Entry
 use Rattle.bfd_turn.specs.contracts.lock.TurnLock as TurnLock
 use Rattle.bfd_turn.proofs.lock.TurnLock.TheSendSync as turn
@@ -16,6 +26,19 @@ use Rattle.bfd_engine.specs.contracts.locked.LockedRecorded.TheImpl.{ghosts}
 use Rattle.bfd_engine.specs.contracts.engine.Engine.{the_row}
 use Rattle.bfd_engine.specs.contracts.engine.Engine.TheInside.{the_type}
 use Rattle.bfd_engine.proofs.locked.Locked.TheSendSync as kept
+
+-- a table owns lists of plain values, and of its rows nothing
+demux_sync : IsSync Demux.the_row
+demux_sync = view_sync _ _ _ _ _ (declared_sync inside.the_type (
+  search (sendable, crosses) depth 20,
+  (
+    Vec-sync _ (declared_sync (tuple_type (Name.the_row ∷ Option.the_row Port.the_row ∷ [])) (name.the_sync, (search (sendable, crosses) depth 20, tt))),
+    (
+      Vec-sync _ (declared_sync (tuple_type (RowKind.the_row ∷ u32 ∷ [])) (kind.the_sync, (search (sendable, crosses) depth 20, tt))),
+      (search (sendable, crosses) depth 20, tt),
+    ),
+  ),
+))
 
 module _ (W : RattleType) (g : Ghosts W.Denot) (d e : Dict) where
   abbrev lock : RattleType
@@ -28,7 +51,7 @@ module _ (W : RattleType) (g : Ghosts W.Denot) (d e : Dict) where
   inside_sync w = declared_sync (the_type W g) (
     Vec-sync lock (lock_sync w),
     (
-      demux.the_sync,
+      demux_sync,
       (
         search (sendable, crosses) depth 20,
         (search (sendable, crosses) depth 20, (search (sendable, crosses) depth 20, (search (sendable, crosses) depth 20, (search (sendable, crosses) depth 20, tt)))),
