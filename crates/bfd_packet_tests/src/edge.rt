@@ -8,6 +8,7 @@ use bfd_packet::{Addr, Arrival, Datagram, Payload, Port, Wire};
 use std::alloc::{AllocError, Global};
 use std::io;
 use std::io::{Cursor, Read, Write};
+use std::process::Abort;
 use std::test::Fail;
 
 /// A reader and a writer that fail always, or take nothing.
@@ -52,22 +53,34 @@ impl Read for Interrupted {
     }
 }
 
+/// How many bytes a read asks for at most, what it answers, and which bytes come.
+type Answered = (usize, Result<usize, Fault>, &'static str);
+
+/// Each read after the other answers so.
+fn check_reads<S: Source, R: Abort>(rt: &R, source: &mut S, reads: &[Answered]) {
+    for read in reads {
+        let (most, answer, bytes) = *read;
+        let mut buf = [0; 8];
+        assert!(*rt; most <= 8 && bytes.len() <= 8);
+        assert_eq!(*rt; source.read(&mut buf[..most]), answer, "{bytes}");
+        assert_eq!(*rt; &buf[..bytes.len()], bytes.as_bytes());
+    }
+}
+
 #[test]
 fn memory_source(rt: HostRuntime) -> Result<(), Fail> {
     let alloc = rt.alloc();
     let bytes = b"abcde".to_vec(alloc)?;
     let mut source = MemSource::make(bytes, 3, vec![in alloc; 1]?);
-    let mut buf = [0u8; 8];
-    assert_eq!(rt; source.read(&mut buf[..2]), Ok(2));
-    assert_eq!(rt; source.read(&mut buf), Err(Fault::Failed), "call 1 fails");
-    assert_eq!(rt;
-        source.as_slice(),
-        b"cde".as_slice(),
-        "and leaves the bytes"
-    );
-    assert_eq!(rt; source.read(&mut buf), Ok(3));
-    assert_eq!(rt; buf[..3] == b"cde"[..], true);
-    assert_eq!(rt; source.read(&mut buf), Ok(0), "the end");
+    // Call 1 fails and leaves the bytes; after the last comes the end.
+    let reads: [Answered; 4] = [
+        (2, Ok(2), "ab"),
+        (8, Err(Fault::Failed), ""),
+        (8, Ok(3), "cde"),
+        (8, Ok(0), ""),
+    ];
+    check_reads(&rt, &mut source, &reads);
+    assert_eq!(rt; source.as_slice().len(), 0);
     Ok(())
 }
 
@@ -75,39 +88,44 @@ fn memory_source(rt: HostRuntime) -> Result<(), Fail> {
 fn memory_sink(rt: HostRuntime) -> Result<(), Fail> {
     let alloc = rt.alloc();
     let mut sink = MemSink::make(alloc, 3, vec![in alloc; 1]?);
-    assert_eq!(rt; sink.write(b"abcde"), Ok(3));
-    assert_eq!(rt; sink.write(b"de"), Err(Fault::Failed), "call 1 fails");
-    assert_eq!(rt; sink.write(b"de"), Ok(2));
+    for (bytes, answer) in [("abcde", Ok(3)), ("de", Err(Fault::Failed)), ("de", Ok(2))] {
+        assert_eq!(rt; sink.write(bytes.as_bytes()), answer, "{bytes}");
+    }
     assert_eq!(rt; sink.as_slice(), b"abcde".as_slice());
     Ok(())
 }
 
+/// All is read to the end; a reader that fails; and one that is interrupted, by which no byte is lost.
 #[test]
-fn adapters(rt: HostRuntime) {
-    let mut buf = [0u8; 4];
-    let mut source = StdSource::make(Cursor::new(b"xyz".as_slice()));
-    assert_eq!(rt; source.read(&mut buf), Ok(3));
-    assert_eq!(rt; source.read(&mut buf), Ok(0), "the end");
-    let mut source = StdSource::make(Broken {
+fn adapted_sources(rt: HostRuntime) {
+    let mut whole = StdSource::make(Cursor::new(b"xyz".as_slice()));
+    check_reads(&rt, &mut whole, &[(4, Ok(3), "xyz"), (4, Ok(0), "")]);
+    let mut broken = StdSource::make(Broken {
         takes_nothing: false,
     });
-    assert_eq!(rt; source.read(&mut buf), Err(Fault::Failed));
-    let mut source = StdSource::make(Interrupted {
+    check_reads(&rt, &mut broken, &[(4, Err(Fault::Failed), "")]);
+    let mut interrupted = StdSource::make(Interrupted {
         bytes: Cursor::new(b"xyz".as_slice()),
         came: false,
     });
-    assert_eq!(rt; source.read(&mut buf), Err(Fault::Failed), "interrupted");
-    assert_eq!(rt; source.read(&mut buf[..2]), Ok(2), "and no byte is lost");
-    assert_eq!(rt; buf[..2] == b"xy"[..], true);
-    assert_eq!(rt; source.read(&mut buf), Ok(1));
-    let mut sink = StdSink::make(Broken {
-        takes_nothing: false,
-    });
-    assert_eq!(rt; sink.write(b"xyz"), Err(Fault::Failed));
-    let mut sink = StdSink::make(Broken {
-        takes_nothing: true,
-    });
-    assert_eq!(rt; sink.write(b"xyz"), Ok(0), "which is a fault too");
+    check_reads(
+        &rt,
+        &mut interrupted,
+        &[
+            (4, Err(Fault::Failed), ""),
+            (2, Ok(2), "xy"),
+            (4, Ok(1), "z"),
+        ],
+    );
+}
+
+#[test]
+fn adapted_sinks(rt: HostRuntime) {
+    // To take nothing is a fault too, which the count tells.
+    for (takes_nothing, answer) in [(false, Err(Fault::Failed)), (true, Ok(0))] {
+        let mut sink = StdSink::make(Broken { takes_nothing });
+        assert_eq!(rt; sink.write(b"xyz"), answer);
+    }
 }
 
 /// A packet with this payload.
@@ -139,46 +157,67 @@ fn datagram(bytes: [u8; 3]) -> Datagram {
 /// Moves to another thread.
 fn crosses<T: Send>(_value: &T) {}
 
-#[test]
-fn memory_link(rt: HostRuntime) -> Result<(), Fail> {
-    let alloc = rt.alloc();
-    let mut heard = Vec::new(alloc);
-    let Some(moment) = Moment::new(1500) else {
-        assert!(rt; false, "it is a moment");
-        return Ok(());
-    };
-    heard.push(Heard::Quiet)?;
-    heard.push(Heard::Got(moment, arrival(alloc, b"abc")?))?;
-    heard.push(Heard::Failed)?;
-    let mut link = MemLink::make(alloc, heard, vec![in alloc; 1]?);
-    crosses(&link);
-    assert!(rt; matches!(link.receive(), Received::Quiet));
+/// What a link gave, in short: a packet by its moment in microseconds and whether its payload is `abc`.
+#[derive(Clone, Copy, Debug, PartialEq, Eq)]
+enum Gave {
+    Packet(u64, bool),
+    Quiet,
+    Failed,
+    Ended,
+    Memory,
+}
+
+/// What the link gives next.
+fn gives(link: &mut MemLink) -> Gave {
     match link.receive() {
         Received::Got { moment, arrival } => {
-            assert_eq!(rt; moment.get(), 1500);
-            assert_eq!(rt; arrival.payload.as_slice(), b"abc".as_slice());
+            Gave::Packet(
+                moment.get(),
+                arrival.payload.as_slice() == b"abc".as_slice(),
+            )
         }
-        _ => assert!(rt; false, "the packet comes"),
+        Received::Quiet => Gave::Quiet,
+        Received::Failed => Gave::Failed,
+        Received::Ended => Gave::Ended,
+        Received::Memory => Gave::Memory,
     }
-    assert!(rt; matches!(link.receive(), Received::Failed));
-    assert!(rt;
-        matches!(link.receive(), Received::Ended),
-        "behind the list"
-    );
-    assert_eq!(rt; link.send(&datagram(*b"xyz")), Ok(()));
-    assert_eq!(rt;
-        link.send(&datagram(*b"uvw")),
-        Err(Fault::Failed),
-        "send 1 fails"
-    );
-    assert_eq!(rt; link.send(&datagram(*b"rst")), Ok(()));
-    match link.sent() {
-        [first, second] => {
-            assert_eq!(rt; first.bytes.as_slice(), b"xyz".as_slice());
-            assert_eq!(rt; second.bytes.as_slice(), b"rst".as_slice());
-        }
-        _ => assert!(rt; false, "two were sent"),
+}
+
+/// A link that gives a Quiet, a packet and a failure, and whose send 1 fails.
+fn link_of_three(alloc: Global) -> Option<MemLink> {
+    let mut heard = Vec::new(alloc);
+    heard.push(Heard::Quiet).ok()?;
+    heard
+        .push(Heard::Got(Moment::new(1500)?, arrival(alloc, b"abc").ok()?))
+        .ok()?;
+    heard.push(Heard::Failed).ok()?;
+    Some(MemLink::make(alloc, heard, vec![in alloc; 1].ok()?))
+}
+
+#[test]
+fn memory_link(rt: HostRuntime) -> Result<(), Fail> {
+    let mut link = link_of_three(rt.alloc()).ok_or("no memory")?;
+    crosses(&link);
+    for gave in [
+        Gave::Quiet,
+        Gave::Packet(1500, true),
+        Gave::Failed,
+        Gave::Ended,
+    ] {
+        assert_eq!(rt; gives(&mut link), gave);
     }
+    for (bytes, answer) in [
+        (*b"xyz", Ok(())),
+        (*b"uvw", Err(Fault::Failed)),
+        (*b"rst", Ok(())),
+    ] {
+        assert_eq!(rt; link.send(&datagram(bytes)), answer);
+    }
+    let mut sent = Vec::new(rt.alloc());
+    for datagram in link.sent() {
+        sent.extend_from_slice(datagram.bytes.as_slice())?;
+    }
+    assert_eq!(rt; sent.as_slice(), b"xyzrst".as_slice());
     Ok(())
 }
 
@@ -205,22 +244,26 @@ fn memory_ports(rt: HostRuntime) -> Result<(), Fail> {
     Ok(())
 }
 
+/// What the ticker gives next: a tick, or why there is none.
+fn next_of(ticker: &mut MemTicker) -> Result<u64, &'static str> {
+    match ticker.next() {
+        Next::Got(tick) => Ok(tick.get()),
+        Next::Failed => Err("failed"),
+        Next::Ended => Err("ended"),
+    }
+}
+
 #[test]
 fn memory_ticker(rt: HostRuntime) -> Result<(), Fail> {
     let alloc = rt.alloc();
     let mut ticks = Vec::new(alloc);
-    for tick in [Tick::new(3), Tick::new(5)].into_iter().flatten() {
-        ticks.push(tick)?;
+    for number in [3, 5] {
+        ticks.push(Tick::new(number).ok_or("a tick")?)?;
     }
     let mut ticker = MemTicker::make(ticks, vec![in alloc; 1]?);
     crosses(&ticker);
-    for want in [Some(3), None, Some(5)] {
-        match ticker.next() {
-            Next::Got(tick) => assert_eq!(rt; Some(tick.get()), want),
-            Next::Failed => assert_eq!(rt; None, want, "call 1 fails"),
-            Next::Ended => assert!(rt; false, "a tick is left"),
-        }
+    for next in [Ok(3), Err("failed"), Ok(5), Err("ended")] {
+        assert_eq!(rt; next_of(&mut ticker), next);
     }
-    assert!(rt; matches!(ticker.next(), Next::Ended));
     Ok(())
 }

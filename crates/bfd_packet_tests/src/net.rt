@@ -1,9 +1,10 @@
 // Links over the machine's own addresses, and its clock.
 use bfd_edge::{Fault, Link, Next, Ports, Received, Ticker};
-use bfd_net::{ClockTicker, UdpPorts, udp_port};
+use bfd_net::{ClockTicker, UdpLink, UdpPorts, udp_port};
 use bfd_packet::{Addr, Datagram, Port, Wire};
 use std::net::UdpSocket;
 use std::process;
+use std::process::Abort;
 use std::test::Fail;
 
 /// 127.0.0.1.
@@ -35,57 +36,62 @@ fn own_number(rt: &HostRuntime) -> u32 {
     6 + process::id(rt.process()) % 1000
 }
 
+/// Link 0 only sends: within this machine, and nowhere else.
+fn sends(rt: &impl Abort, zero: &mut UdpLink<HostRuntime>) {
+    assert!(rt; matches!(zero.receive(), Received::Ended));
+    for (address, answer) in [(LOCALHOST, Ok(())), (0xc000_0201, Err(Fault::Failed))] {
+        assert_eq!(rt; zero.send(&packet_to(address)), answer, "{address:x}");
+    }
+    assert_eq!(rt; zero.counts().send_faults, 1);
+}
+
+/// The packet comes as it was sent, from this machine on interface 1.
+fn hears(rt: &impl Abort, one: &mut UdpLink<HostRuntime>) {
+    let Received::Got { arrival, .. } = one.receive() else {
+        assert!(rt; false, "the packet comes");
+        return;
+    };
+    let local = Addr::V4(LOCALHOST);
+    assert_eq!(rt;
+        (arrival.port, arrival.iface, arrival.ttl),
+        (Port::Single, 1, 255)
+    );
+    assert_eq!(rt; (arrival.src, arrival.dst), (local, local));
+    assert_eq!(rt; arrival.payload.as_slice(), PACKET.as_slice());
+}
+
+/// How many of 65,000 bytes that are sent to link 1 come.
+fn hears_of_long(rt: HostRuntime, one: &mut UdpLink<HostRuntime>) -> Result<usize, Fail> {
+    let sender = UdpSocket::bind(&rt, "127.0.0.1:0")?;
+    let long = vec![in rt.alloc(); 7u8; 65_000]?;
+    sender.send_to(&long, ("127.0.0.1", udp_port(Port::Single)))?;
+    let Received::Got { arrival, .. } = one.receive() else {
+        return Err(Fail::from("the long packet comes"));
+    };
+    Ok(arrival.payload.as_slice().len())
+}
+
+/// Whether link 1 can be opened.
+fn is_free(rt: HostRuntime) -> bool {
+    UdpPorts::make(rt, rt.alloc()).open(1).is_ok()
+}
+
 #[test]
 fn loopback(rt: HostRuntime) -> Result<(), Fail> {
-    let alloc = rt.alloc();
-    let mut ports = UdpPorts::make(rt, alloc);
+    let mut ports = UdpPorts::make(rt, rt.alloc());
     let Ok(mut zero) = ports.open(0) else {
-        assert!(rt; false, "link 0 opens");
-        return Ok(());
+        return Err(Fail::from("link 0 opens"));
     };
     let Ok(mut one) = ports.open(1) else {
-        assert!(rt; false, "link 1 opens");
-        return Ok(());
+        return Err(Fail::from("link 1 opens"));
     };
     crosses(&one);
-    assert!(rt;
-        matches!(zero.receive(), Received::Ended),
-        "link 0 only sends"
-    );
-    assert_eq!(rt; zero.send(&packet_to(LOCALHOST)), Ok(()));
-    match one.receive() {
-        Received::Got { arrival, .. } => {
-            assert_eq!(rt; arrival.port, Port::Single);
-            assert_eq!(rt; (arrival.iface, arrival.ttl), (1, 255));
-            assert_eq!(rt;
-                (arrival.src, arrival.dst),
-                (Addr::V4(LOCALHOST), Addr::V4(LOCALHOST))
-            );
-            assert_eq!(rt; arrival.payload.as_slice(), PACKET.as_slice());
-        }
-        _ => assert!(rt; false, "the packet comes"),
-    }
-    assert_eq!(rt;
-        zero.send(&packet_to(0xc000_0201)),
-        Err(Fault::Failed),
-        "192.0.2.1"
-    );
-    assert_eq!(rt; zero.counts().send_faults, 1);
-    let sender = UdpSocket::bind(&rt, "127.0.0.1:0")?;
-    let long = vec![in alloc; 7u8; 65_000]?;
-    sender.send_to(&long, ("127.0.0.1", udp_port(Port::Single)))?;
-    match one.receive() {
-        Received::Got { arrival, .. } => assert_eq!(rt; arrival.payload.as_slice().len(), 256),
-        _ => assert!(rt; false, "the long packet comes"),
-    }
-    let mut others = UdpPorts::make(rt, alloc);
-    assert!(rt;
-        matches!(others.open(1), Err(Fault::Failed)),
-        "its port is taken"
-    );
+    sends(&rt, &mut zero);
+    hears(&rt, &mut one);
+    assert_eq!(rt; hears_of_long(rt, &mut one)?, 256);
+    assert!(rt; !is_free(rt), "its port is taken");
     drop(one);
-    let mut later = UdpPorts::make(rt, alloc);
-    assert!(rt; later.open(1).is_ok(), "and free again without the link");
+    assert!(rt; is_free(rt), "and free again without the link");
     Ok(())
 }
 
