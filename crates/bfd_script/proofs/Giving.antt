@@ -18,8 +18,9 @@ use Rattle.bfd_session.specs.Step.{IsFit}
 use Rattle.bfd_demux.specs.declared.row.RowKind.{RowKind}
 use Rattle.bfd_demux.specs.Rows.{same_selector as same_kind}
 use Rattle.bfd_script.specs.Rows.{by_discr, changed, has_selector, keyed_more, keyed_with, keys_in, keys_of, one_more}
-use Rattle.bfd_script.specs.Secrets.{key_fault}
-use Rattle.bfd_script.specs.Sound.{AreConfigs, AreKeys, AreNext, IsChain, IsKey, IsNext, IsRow}
+use Rattle.bfd_line.specs.Secrets.{key_fault}
+use Rattle.bfd_line.specs.Ranges.{AreKeys, AreNext, IsChain, IsKey, IsNext, IsRow}
+use Rattle.bfd_script.specs.Sound.{AreConfigs}
 use Rattle.bfd_script.specs.Tables.{IsTable}
 use Rattle.bfd_script.proofs.Elements.{each_to}
 use Rattle.bfd_script.proofs.Numbered.{values_by}

@@ -16,7 +16,8 @@ use Rattle.bfd_demux.specs.Rows.{has_addresses, same_selector as same_kind}
 use Rattle.bfd_demux.proofs.AlikeRows.{selector_level, unaddressed_back}
 use Rattle.bfd_session.proofs.Tables.{same_turned}
 use Rattle.bfd_script.specs.Rows.{has_discr, has_place, has_selector, inserted, by_discr}
-use Rattle.bfd_script.specs.Sound.{AreConfigs, IsRow}
+use Rattle.bfd_line.specs.Ranges.{IsRow}
+use Rattle.bfd_script.specs.Sound.{AreConfigs}
 use Rattle.bfd_script.specs.Tables.{IsTable}
 use Rattle.bfd_script.proofs.Elements.{each_to}
 use Rattle.bfd_script.proofs.Numbered.{any_inserted, each_inserted, entries_more, known_among, length_inserted, none_any}

@@ -16,7 +16,7 @@ use Rattle.bfd_shard.specs.Dealing.{history_of, share}
 use Rattle.bfd_shard.specs.History.{events_of, later, moved, runs}
 use Rattle.bfd_shard.specs.Shard.{Shard, CanHappen, IsShard}
 use Rattle.bfd_sbfd.specs.declared.reflecting.Reflector.{Reflector}
-use Rattle.bfd_script.specs.declared.entries.Line.{Line}
+use Rattle.bfd_line.specs.declared.entries.Line.{Line}
 use Rattle.bfd_script.specs.Reading.{Lists}
 use Rattle.bfd_script.specs.Sound.{IsScript}
 use Rattle.bfd_engine.specs.Engines.{Shards, configs_at}
