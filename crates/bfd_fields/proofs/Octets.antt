@@ -73,11 +73,12 @@ part_2 field rest long low high least most dot e = absurd (omega (arith, long))
 
 pub part_3 : (field rest : List ℕ) → 4 ≤ length field → 49 ≤ slice_index field 0 → slice_index field 0 ≤ 57 → 48 ≤ slice_index field 1
     → slice_index field 1 ≤ 57 → 48 ≤ slice_index field 2 → slice_index field 2 ≤ 57 → slice_index field 3 ≡ 46 → rest ≡ take (length field - 4) (drop 4 field)
-    → (slice_index field 0 - 48) * 100 + (slice_index field 1 - 48) * 10 + (slice_index field 2 - 48) < 256
-    → Part field ((slice_index field 0 - 48) * 100 + (slice_index field 1 - 48) * 10 + (slice_index field 2 - 48)) rest
-part_3 (a ∷ b ∷ c ∷ y ∷ bytes) rest long low high least most least' most' dot e small =
-    rw (e ∙ behind 4 (a ∷ b ∷ c ∷ y ∷ bytes), dot, no_dot a (omega (arith, low)), no_dot b least, no_dot c least') (octet_3 a b c low high least most least' most' small, refl)
-part_3 field rest long low high least most least' most' dot e small = absurd (omega (arith, long))
+    → {n : ℕ} → n ≡ (slice_index field 0 - 48) * 100 + (slice_index field 1 - 48) * 10 + (slice_index field 2 - 48) → n < 256
+    → Part field n rest
+part_3 (a ∷ b ∷ c ∷ y ∷ bytes) rest long low high least most least' most' dot e says small =
+    rw (says, e ∙ behind 4 (a ∷ b ∷ c ∷ y ∷ bytes), dot, no_dot a (omega (arith, low)), no_dot b least, no_dot c least')
+    (octet_3 a b c low high least most least' most' (omega (arith, says, small)), refl)
+part_3 field rest long low high least most least' most' dot e says small = absurd (omega (arith, long))
 
 -- ---- the last number
 
@@ -92,10 +93,11 @@ end_2 field long low high least most = absurd (omega (arith, long))
 
 pub end_3 : (field : List ℕ) → length field ≡ 3 → 49 ≤ slice_index field 0 → slice_index field 0 ≤ 57 → 48 ≤ slice_index field 1
     → slice_index field 1 ≤ 57 → 48 ≤ slice_index field 2 → slice_index field 2 ≤ 57
-    → (slice_index field 0 - 48) * 100 + (slice_index field 1 - 48) * 10 + (slice_index field 2 - 48) < 256
-    → octet_of field ≡ Ok ((slice_index field 0 - 48) * 100 + (slice_index field 1 - 48) * 10 + (slice_index field 2 - 48))
-end_3 (a ∷ b ∷ c ∷ []) long low high least most least' most' small = octet_3 a b c low high least most least' most' small
-end_3 field long low high least most least' most' small = absurd (omega (arith, long))
+    → {n : ℕ} → n ≡ (slice_index field 0 - 48) * 100 + (slice_index field 1 - 48) * 10 + (slice_index field 2 - 48) → n < 256
+    → octet_of field ≡ Ok n
+end_3 (a ∷ b ∷ c ∷ []) long low high least most least' most' says small =
+    rw says (octet_3 a b c low high least most least' most' (omega (arith, says, small)))
+end_3 field long low high least most least' most' says small = absurd (omega (arith, long))
 
 -- ---- all four
 

@@ -55,27 +55,36 @@ pub enum LineFault {
     SameKey = 16,
 }
 
+impl LineFault {
+    /// Its name, as a complaint has it.
+    fn name(self) -> &'static str
+        ensures { result.now ≡ fault_name self }
+    {
+        match self {
+            LineFault::NotAscii => "NotAscii",
+            LineFault::TooLong => "TooLong",
+            LineFault::UnknownWord => "UnknownWord",
+            LineFault::FieldCount => "FieldCount",
+            LineFault::BadNumber => "BadNumber",
+            LineFault::OutOfRange => "OutOfRange",
+            LineFault::BadHex => "BadHex",
+            LineFault::BadAddress => "BadAddress",
+            LineFault::SameDiscr => "SameDiscr",
+            LineFault::SameAddresses => "SameAddresses",
+            LineFault::NoSuchSession => "NoSuchSession",
+            LineFault::Order => "Order",
+            LineFault::MissingEnd => "MissingEnd",
+            LineFault::TooMany => "TooMany",
+            LineFault::SameKey => "SameKey",
+        }
+    }
+}
+
 impl fmt::Display for LineFault {
     ghost output = { λ fault. Some (fault_name fault) };
 
     fn fmt<W: fmt::Write>(&self, f: &mut fmt::Formatter<W>) -> fmt::Result {
-        match self {
-            LineFault::NotAscii => write!(f, "NotAscii"),
-            LineFault::TooLong => write!(f, "TooLong"),
-            LineFault::UnknownWord => write!(f, "UnknownWord"),
-            LineFault::FieldCount => write!(f, "FieldCount"),
-            LineFault::BadNumber => write!(f, "BadNumber"),
-            LineFault::OutOfRange => write!(f, "OutOfRange"),
-            LineFault::BadHex => write!(f, "BadHex"),
-            LineFault::BadAddress => write!(f, "BadAddress"),
-            LineFault::SameDiscr => write!(f, "SameDiscr"),
-            LineFault::SameAddresses => write!(f, "SameAddresses"),
-            LineFault::NoSuchSession => write!(f, "NoSuchSession"),
-            LineFault::Order => write!(f, "Order"),
-            LineFault::MissingEnd => write!(f, "MissingEnd"),
-            LineFault::TooMany => write!(f, "TooMany"),
-            LineFault::SameKey => write!(f, "SameKey"),
-        }
+        f.write_str(self.name())
     }
 }
 

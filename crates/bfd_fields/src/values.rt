@@ -1,5 +1,5 @@
 // Addresses and bytes.
-ghost use Rattle.std.specs.Prelude.{◌≡◌, ◌<◌, ◌≤◌, ◌%◌, ◌^◌, ◌==◌, ◌∷◌, [], IfOk, IfSome, MatchResult, Ok, length, take, string_bytes};
+ghost use Rattle.std.specs.Prelude.{◌≡◌, ◌*◌, ◌+◌, ◌-◌, ◌<◌, ◌≤◌, ◌%◌, ◌^◌, ◌==◌, ◌∷◌, [], IfOk, IfSome, MatchResult, Ok, length, take, string_bytes};
 ghost use Rattle.std.specs.List.{before_first, slice_split};
 ghost use Rattle.hex.specs.Hex.{IsBytes};
 ghost use Rattle.bfd_packet.specs.declared.arrival.Addr.TheVariants.{V4};
@@ -64,6 +64,16 @@ fn dotted(field: &[u8]) -> Result<Addr, LineFault>
     quad(a, b, c, d)
 }
 
+/// The number that three digits write.
+fn three_digits(a: u8, b: u8, c: u8) -> u32
+    requires first { (48 ≤ a) × (a ≤ 57) }
+    requires second { (48 ≤ b) × (b ≤ 57) }
+    requires third { (48 ≤ c) × (c ≤ 57) }
+    ensures { result ≡ (a - 48) * 100 + (b - 48) * 10 + (c - 48) }
+{
+    (a - b'0') as u32 * 100 + (b - b'0') as u32 * 10 + (c - b'0') as u32
+}
+
 /// The first number of an address where it has three digits, and what stands behind its dot.
 fn part_of_three(field: &[u8]) -> Option<(u32, &[u8])>
     ensures part { IfSome result (λ part. (octet_of (before_first (λ byte. byte == 46) field.now) ≡ Ok part.0) × (slice_split (λ byte. byte == 46) field.now ≡ before_first (λ byte. byte == 46) field.now ∷ slice_split (λ byte. byte == 46) part.1.now)) }
@@ -77,7 +87,7 @@ fn part_of_three(field: &[u8]) -> Option<(u32, &[u8])>
             b'.',
             rest @ ..,
         ] => {
-            let n = (*a - b'0') as u32 * 100 + (*b - b'0') as u32 * 10 + (*c - b'0') as u32;
+            let n = three_digits(*a, *b, *c);
             if n < 256 { Some((n, rest)) } else { None }
         }
         _ => None,
@@ -117,7 +127,7 @@ fn plain_end(field: &[u8]) -> Option<u32>
         [a @ b'0'..=b'9'] => Some((*a - b'0') as u32),
         [a @ b'1'..=b'9', b @ b'0'..=b'9'] => { Some((*a - b'0') as u32 * 10 + (*b - b'0') as u32) }
         [a @ b'1'..=b'2', b @ b'0'..=b'9', c @ b'0'..=b'9'] => {
-            let n = (*a - b'0') as u32 * 100 + (*b - b'0') as u32 * 10 + (*c - b'0') as u32;
+            let n = three_digits(*a, *b, *c);
             if n < 256 { Some(n) } else { None }
         }
         _ => None,
