@@ -1,14 +1,14 @@
 use Rattle.std.proofs.Common.{◌≡◌, ◌+◌, ◌-◌, ◌/◌, ◌<◌, arith, sym, ap, ◌∙◌, length}
 use Rattle.std.proofs.lemmas.List.{get_or_read}
 use Rattle.bfd_demux.proofs.Ascending.{lower_up_to, higher_from, place_found, place_missing, halves, few_steps}
-use Rattle.bfd_demux.proofs.table.place_of.Goals as goal
+use Rattle.bfd_demux.proofs.table.search.Goals as goal
 
 pub loop-low-preserved-in-Less : goal.loop-low-preserved-in-Less
 loop-low-preserved-in-Less g c =
     let middle = c.loop-low.low + (c.loop-low.high - c.loop-low.low) / 2 in
     let within : middle < length c.args.entries.now = omega arith in
     let t = c.loop-low.steps - c.args.steps.now in
-    let few = few_steps t (c.loop-low.high - c.loop-low.low) _ c.loop-low.invariant.6 (omega arith) c.requires.few in
+    let few = few_steps t (c.loop-low.high - c.loop-low.low) _ c.loop-low.invariant.6 (omega arith) (omega (arith, c.requires.few)) in
     let one_more : c.tick.new.self - c.args.steps.now ≡ t + 1 = omega (arith, c.tick.ensures) in (
       omega arith,
       omega arith,
@@ -31,7 +31,7 @@ returns-in-Equal-clause-found g c =
 
 pub returns-in-Equal-clause-cost : goal.returns-in-Equal-clause-cost
 returns-in-Equal-clause-cost g c =
-    let few = few_steps (c.loop-low.steps - c.args.steps.now) (c.loop-low.high - c.loop-low.low) _ c.loop-low.invariant.6 (omega arith) c.requires.few in
+    let few = few_steps (c.loop-low.steps - c.args.steps.now) (c.loop-low.high - c.loop-low.low) _ c.loop-low.invariant.6 (omega arith) (omega (arith, c.requires.few)) in
     omega (arith, c.tick.ensures)
 
 pub loop-low-preserved : goal.loop-low-preserved
@@ -39,7 +39,7 @@ loop-low-preserved g c =
     let middle = c.loop-low.low + (c.loop-low.high - c.loop-low.low) / 2 in
     let within : middle < length c.args.entries.now = omega arith in
     let t = c.loop-low.steps - c.args.steps.now in
-    let few = few_steps t (c.loop-low.high - c.loop-low.low) _ c.loop-low.invariant.6 (omega arith) c.requires.few in
+    let few = few_steps t (c.loop-low.high - c.loop-low.low) _ c.loop-low.invariant.6 (omega arith) (omega (arith, c.requires.few)) in
     let one_more : c.tick.new.self - c.args.steps.now ≡ t + 1 = omega (arith, c.tick.ensures) in (
       omega arith,
       omega arith,
