@@ -4,9 +4,11 @@ pub mod EchoKept
 pub mod Rest
 pub mod Soundness
 pub mod Machines
+pub mod Renewing
 pub mod Starting
 pub mod Tables
 pub mod Places
+pub mod Standing
 pub mod Ports
 pub mod Reach
 pub mod Naming

@@ -1,6 +1,7 @@
 -- What a binary search of sessions finds is the place of the session with the discriminator.
-use Rattle.std.proofs.Common.{◌≡◌, ◌<◌, ◌≤◌, ◌==◌, ◌+◌, ◌∙◌, ℕ, zero, suc, true, false, List, [], ◌∷◌, length, map, get_or, refl, sym, ap, arith, cond, not, Option, inl, inr, None, Some, Result, Ok, Err}
+use Rattle.std.proofs.Common.{◌≡◌, ◌<◌, ◌≤◌, ◌==◌, ◌+◌, ◌∙◌, ℕ, zero, suc, List, [], ◌∷◌, length, map, get_or, refl, sym, ap, arith, cond, not, Option, inl, inr, None, Some, Result, Ok, Err}
 use Rattle.std.proofs.Math.Nat.{eq-or-lt_of_le}
+use Rattle.std.proofs.lemmas.Bool.{eq-eqb, ne_eqb}
 use Rattle.std.proofs.lemmas.Bool.Decides.{nat_tests}
 use Rattle.std.proofs.lemmas.Cmp.{ranked}
 use Rattle.std.proofs.lemmas.List.{length-map}
@@ -17,14 +18,8 @@ use Rattle.bfd_session.specs.Rows.{Ascends, place_of}
 no_lower : (a b discr : ℕ) → a ≤ b → ordering_index (nat_cmp a discr) ≤ ordering_index (nat_cmp b discr)
 no_lower a b discr le = grind (arith, nat_tests)
 
-is_other : (a discr : ℕ) → (a ≡ discr → ⊥) → (discr == a) ≡ false
-is_other a discr differs = grind (arith, nat_tests)
-
-is_own : (a discr : ℕ) → a ≡ discr → (discr == a) ≡ true
-is_own a discr same = grind (arith, nat_tests)
-
 -- lower before a place and higher from it on: another
-differs : (a discr at k : ℕ) → (k < at → a < discr) → (at ≤ k → discr < a) → a ≡ discr → ⊥
+pub differs : (a discr at k : ℕ) → (k < at → a < discr) → (at ≤ k → discr < a) → a ≡ discr → ⊥
 differs a discr at k below above same = grind arith
 
 module _ {X : Type 0} (config : X → SessionConfig) where
@@ -60,8 +55,8 @@ module _ {X : Type 0} (config : X → SessionConfig) where
   place_found xs discr at d within below same =
       let is : position_or_len (λ (s : X). discr == discr_of (config s)) xs ≡ at =
       position_or_len_is (λ (s : X). discr == discr_of (config s)) xs at d (omega arith)
-      (λ k lt. is_other _ discr (let lower = below k lt in λ e. absurd (omega arith)))
-      (λ _. is_own _ discr same) in
+      (λ k lt. ne_eqb discr _ (let lower = below k lt in λ e. absurd (omega arith)))
+      (λ _. eq-eqb discr _ (sym same)) in
       rw is (grind (arith, nat_tests))
 
   -- no place has it
@@ -70,7 +65,7 @@ module _ {X : Type 0} (config : X → SessionConfig) where
   place_missing xs discr d differs =
       let is : position_or_len (λ (s : X). discr == discr_of (config s)) xs ≡ length xs =
       position_or_len_is (λ (s : X). discr == discr_of (config s)) xs (length xs) d (omega arith)
-      (λ k lt. is_other _ discr (differs k lt))
+      (λ k lt. ne_eqb discr _ (λ e. differs k lt (sym e)))
       (λ lt. absurd (omega arith)) in
       rw is (grind (arith, nat_tests))
 

@@ -5,3 +5,5 @@ pub mod Expiring
 pub mod OnTime
 pub mod Setting
 pub mod Dealing
+pub mod Sharing
+pub mod Lists

@@ -24,23 +24,6 @@ all_set P [] k s all one = tt
 all_set P (x ∷ ss) zero s all one = (one, all.1)
 all_set P (x ∷ ss) (suc k) s all one = (all.0, all_set P ss k s all.1 one)
 
--- the session at a place
-pub session_at : (ss : List Running) (k : ℕ) (s d : Running) → slice_get ss k ≡ Some s → get_or ss k d ≡ s
-session_at [] zero s d e = cc
-session_at [] (suc k) s d e = cc
-session_at (x ∷ ss) zero s d e = ap (λ o. unwrap_or o s) e
-session_at (x ∷ ss) (suc k) s d e = session_at ss k s d e
-
-pub stands_below : (ss : List Running) (k : ℕ) (s : Running) → slice_get ss k ≡ Some s → k < length ss
-stands_below [] zero s e = cc
-stands_below [] (suc k) s e = cc
-stands_below (x ∷ ss) zero s e = omega arith
-stands_below (x ∷ ss) (suc k) s e = let inner : k < length ss = stands_below ss k s e in omega arith
-
--- takes what was asked of it
-pub takes_at : (ss : List Running) (k : ℕ) (event : Event) (st : Stands ss k event) (d : Running) → CanTake (get_or ss k d).config event
-takes_at ss k event st d = subst (λ (s : Running). CanTake s.config event) (sym (session_at ss k st.session d st.there)) st.takes
-
 -- the session of a configuration stands at its place
 stands_of : (ss : List Running) (k : ℕ) (c : SessionConfig) (event : Event) → slice_get (configs_of ss) k ≡ Some c → CanTake c event → Stands ss k event
 stands_of [] zero c event e t = cc

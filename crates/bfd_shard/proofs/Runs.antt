@@ -5,18 +5,19 @@ use Rattle.std.specs.List.{AllByRecursion}
 use Rattle.std.proofs.lemmas.List.{get_or-map, length-map, map-append}
 use Rattle.std.proofs.lemmas.Bool.Decides.{nat_tests}
 use Rattle.std.proofs.lemmas.Bool.{cases_eq}
+use Rattle.std.proofs.lemmas.Option.{get_or_from_slice_get, slice_get_within}
 use Rattle.bfd_num.specs.Numbers.{greatest_tick}
 use Rattle.bfd_session.specs.declared.event.SessionConfig.{SessionConfig}
 use Rattle.bfd_session.specs.declared.event.Event.{Event}
 use Rattle.bfd_session.specs.Alone.{stepped, ticked}
 use Rattle.bfd_session.specs.Kinds.{Running, configs_of}
 use Rattle.bfd_session.specs.Step.{IsSound, started}
+use Rattle.bfd_session.proofs.Standing.{ticked_configs}
 use Rattle.bfd_shard.specs.declared.entry.ShardEvent.{ShardEvent}
 use Rattle.bfd_shard.specs.declared.entry.ShardEvent.TheVariants.{Own, Tick}
 use Rattle.bfd_shard.specs.declared.entry.Entry.{Entry}
 use Rattle.bfd_shard.specs.History.{events_of, later, last_from, last_tick, after, run_from, run, runs_from, runs, moved, own_moved}
 use Rattle.bfd_shard.specs.Shard.{shard_of, IsShard, IsHistory, IsOnTime, CanHappen}
-use Rattle.bfd_shard.proofs.Moves.{session_at, stands_below}
 use Rattle.bfd_shard.proofs.Ticks.{nobody}
 
 -- one session
@@ -68,8 +69,8 @@ own_at last q m ev ss (Some x) e k d h = by (cases_eq k q)
     by : (k ≡ q) ⊎ (k ≢ q) → get_or (set ss q (stepped m last ev x)) k d ≡ after k last (Own q m ev) (get_or ss k d)
     by (inl same) =
         ap (λ j. get_or (set ss q (stepped m last ev x)) j d) same
-        ∙ (get_or-set_same ss q (stepped m last ev x) d (stands_below ss q x e)
-        ∙ (ap (stepped m last ev) (sym (session_at ss q x d e) ∙ ap (λ j. get_or ss j d) (sym same))
+        ∙ (get_or-set_same ss q (stepped m last ev x) d (slice_get_within ss q x e)
+        ∙ (ap (stepped m last ev) (sym (get_or_from_slice_get ss q x d e) ∙ ap (λ j. get_or ss j d) (sym same))
         ∙ sym (chosen q k (stepped m last ev (get_or ss k d)) (get_or ss k d) (sym same))))
     by (inr other) =
         get_or-set_other ss q k (stepped m last ev x) d other
@@ -101,15 +102,11 @@ own_configs : (o : Option Running) (ss : List Running) (k m last : ℕ) (ev : Ev
 own_configs None ss k m last ev e = refl
 own_configs (Some x) ss k m last ev e = set_configs ss k m last ev x e
 
-tick_configs : (last : ℕ) (ss : List Running) → configs_of (map (ticked last) ss) ≡ configs_of ss
-tick_configs last [] = refl
-tick_configs last (x ∷ ss) = ap (λ cs. x.config ∷ cs) (tick_configs last ss)
-
 -- an event changes no configuration
 pub moved_configs : (last : ℕ) (e : ShardEvent) (ss : List Running) → configs_of (moved last e ss) ≡ configs_of ss
 unfolding moved
 moved_configs last (Own q m ev) ss = own_configs (slice_get ss q) ss q m last ev refl
-moved_configs last (Tick t) ss = tick_configs (max last t) ss
+moved_configs last (Tick t) ss = ticked_configs (max last t) ss
 
 -- one event more of a history is an event of the sessions that it left
 pub runs_more : (es : List ShardEvent) (e : ShardEvent) (cs : List SessionConfig) → runs (es ++ e ∷ []) cs ≡ moved (last_tick es) e (runs es cs)

@@ -7,6 +7,7 @@ use Rattle.bfd_session.specs.declared.event.SessionConfig.{SessionConfig}
 use Rattle.bfd_session.specs.Due.{due}
 use Rattle.bfd_session.specs.Kinds.{Running, configs_of}
 use Rattle.bfd_session.specs.Step.{IsSound, started}
+use Rattle.bfd_session.proofs.Starting.{started_configs}
 use Rattle.bfd_shard.specs.declared.entry.Entry.{Entry}
 use Rattle.bfd_shard.specs.History.{last_from, run_from, runs_from, runs}
 use Rattle.bfd_shard.specs.Shard.{shard_of, IsShard, IsTimed}
@@ -45,10 +46,6 @@ unfolding runs_from run_from
 runs_none p [] = refl
 runs_none p (c ∷ cs) = ap (λ ss. started c ∷ ss) (runs_none (p + 1) cs)
 
-configs_started : (cs : List SessionConfig) → configs_of (map started cs) ≡ cs
-configs_started [] = refl
-configs_started (c ∷ cs) = ap (λ ks. c ∷ ks) (configs_started cs)
-
 shard_at : (cs : List SessionConfig) (limit room : ℕ) → length cs ≤ 65536 → AllByRecursion IsSound (map started cs)
     → IsShard (shard_of (map started cs) 0 [] limit room)
 unfolding last_from
@@ -58,7 +55,7 @@ shard_at cs limit room few sound = record {
   history = tt;
   clock = refl;
   early = omega arith;
-  whole = sym (ap (runs []) (configs_started cs) ∙ runs_none 0 cs);
+  whole = sym (ap (runs []) (started_configs cs) ∙ runs_none 0 cs);
   sound = sound;
   timely = none_yet (configs_of (map started cs));
 }

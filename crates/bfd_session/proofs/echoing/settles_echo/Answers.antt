@@ -1,49 +1,29 @@
 -- An Echo function that nothing is due of, or that fails, is left as it is; and after a failure the session isn't Up.
-use Rattle.std.proofs.Common.{rules, ◌≡◌, ◌&&◌, ℕ, Bool, true, false, List, refl, sym, ap, ◌∙◌, subst, Option, Some, arith, if◌then◌else◌}
+use Rattle.std.proofs.Common.{rules, ◌≡◌, ℕ, Bool, true, false, List, refl, sym, ap, ◌∙◌, subst, Option, Some, if◌then◌else◌}
 use Rattle.bfd_packet.specs.declared.control.State.TheVariants.{Down}
 use Rattle.bfd_rules.specs.declared.config.Config.{Config}
 use Rattle.bfd_rules.specs.declared.variables.Vars.{Vars}
-use Rattle.bfd_rules.specs.Quantities.{is_up}
-use Rattle.bfd_rules.specs.Renewal.{poll_renewed, used_renewed, demand_renewed, renewed}
 use Rattle.bfd_rules.specs.EventFrame.{Course, course, changes}
 use Rattle.bfd_p2p.specs.Frame.{moves}
 use Rattle.bfd_p2p.specs.Machine.{failed}
-use Rattle.bfd_p2p.specs.Receive.{is_single}
 use Rattle.bfd_echo.specs.declared.echo.Echo.{Echo}
 use Rattle.bfd_echo.specs.declared.echo.EchoResult.{EchoResult}
 use Rattle.bfd_echo.specs.Rules.{outcome, settled}
-use Rattle.bfd_echo.specs.Timing.{is_echo_wanted, has_failed, is_sending}
+use Rattle.bfd_echo.specs.Timing.{has_failed, is_sending}
 use Rattle.bfd_session.specs.Echoing.{IsEchoOver, should_echo, interval_of, settles_echo}
 use Rattle.bfd_session.specs.Kinds.{flow}
+use Rattle.bfd_session.proofs.Renewing.{renewed_state}
+use Rattle.bfd_session.proofs.Starting.{down_silent}
 use Rattle.bfd_session.proofs.echoing.settles_echo.Goals as goal
 
 -- the state after a failure
-
-poll_state : (before v : Vars) → (poll_renewed before v).state ≡ v.state
-unfolding poll_renewed
-poll_state before v = grind arith
-
-demand_state : (eff : ℕ) (before v : Vars) → (demand_renewed eff before v).state ≡ v.state
-unfolding demand_renewed
-demand_state eff before v = grind arith
-
-renewed_state : (eff : ℕ) (before v : Vars) → (renewed eff before v).state ≡ v.state
-unfolding renewed used_renewed
-renewed_state eff before v = demand_state eff before _ ∙ poll_state before v
 
 moved_down : (discr eff diag : ℕ) (s : Course) → (moves discr eff (failed diag s.vars) s).vars.state ≡ Down
 unfolding moves changes
 moved_down discr eff diag s = renewed_state eff s.vars (failed diag s.vars)
 
-not_up : (single wanted : Bool) → (single && (false && wanted)) ≡ false
-not_up true wanted = refl
-not_up false wanted = refl
-
 down_over : (limit : ℕ) (c : Config) (v : Vars) (echo : Option Echo) → v.state ≡ Down → IsEchoOver limit c v echo
-down_over limit c v echo down =
-    let none : should_echo c v ≡ false =
-    ap (λ s. is_single c.role && (is_up s && is_echo_wanted v.echo_every v.remote_min_echo)) down ∙ not_up (is_single c.role) (is_echo_wanted v.echo_every v.remote_min_echo) in
-    rw none refl
+down_over limit c v echo down = let none : should_echo c v ≡ false = down_silent c v down in rw none refl
 
 -- where nothing was due, and where it failed, the Echo function is as before
 
