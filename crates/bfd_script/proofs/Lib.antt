@@ -17,3 +17,4 @@ pub mod Elements
 pub mod Naming
 pub mod Giving
 pub mod Faults
+pub mod Rising

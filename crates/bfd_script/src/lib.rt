@@ -11,7 +11,7 @@
 //! Layers, lowest first: `fault` (what can be wrong), `words` (the versions, the words and where they may stand), `fields`
 //! (lines, fields and numbers), `digits` (hexadecimal digits, side by side), `values` (addresses and bytes), `pairs`,
 //! `seamless` and `trees` (the values of a table line), `secrets`, `arrivals` and `verbs` (those of keys, of a packet and of
-//! a command), `entries` (what one line says), `places`, `table` and `pool` (the sessions and the reflectors so far), `state`
+//! a command), `entries` (what one line says), `places`, `rows`, `table` and `pool` (the sessions and the reflectors so far), `state`
 //! (what is kept from line to line), `reading` (the whole text); beside them `names` and `report`.
 //!
 //! It stands on `bfd_num`, `bfd_packet`, `bfd_rules`, `bfd_mp`, `bfd_sbfd`, `bfd_demux` and `bfd_session`, and on `byteorder`,
@@ -29,6 +29,7 @@ mod places;
 mod pool;
 mod reading;
 mod report;
+mod rows;
 mod script;
 mod seamless;
 mod secrets;
