@@ -124,7 +124,7 @@ ascends_cond : (f : SessionConfig → SessionConfig) → Keeps f → (same : Boo
 ascends_cond f kept true x cs rest all above more = (subst (λ k. AllByRecursion (λ d. k < discr_of d) cs) (sym (kept.discr x)) all.0, all.1)
 ascends_cond f kept false x cs rest all above more = (above, more)
 
-ascends_changed : (f : SessionConfig → SessionConfig) → Keeps f → (k : ℕ) (cs : List SessionConfig) → Ascends cs → Ascends (changed k f cs)
+pub ascends_changed : (f : SessionConfig → SessionConfig) → Keeps f → (k : ℕ) (cs : List SessionConfig) → Ascends cs → Ascends (changed k f cs)
 ascends_changed f kept k [] all = tt
 ascends_changed f kept k (c ∷ cs) all =
     ascends_cond f kept (k == discr_of c) c cs (changed k f cs) all

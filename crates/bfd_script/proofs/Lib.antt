@@ -6,3 +6,4 @@ pub mod Elements
 pub mod Naming
 pub mod Giving
 pub mod Faults
+pub mod Rising

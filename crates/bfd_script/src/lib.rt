@@ -8,7 +8,7 @@
 //! sessions have the same selecting addresses. [`lines`] appends the report lines of one event, which `specs/Report.antt`
 //! defines. The one spelling of a script is for `bfd_spelling`.
 //!
-//! Layers, lowest first: `places`, `table` and `pool` (the sessions and the reflectors so far), `state` (what is kept from line
+//! Layers, lowest first: `places`, `rows`, `table` and `pool` (the sessions and the reflectors so far), `state` (what is kept from line
 //! to line), `reading` (the whole text); beside them `names` and `report`.
 //!
 //! It stands on `bfd_fields` and `bfd_line`, on `bfd_packet`, `bfd_rules`, `bfd_sbfd`, `bfd_demux` and `bfd_session`, and on
@@ -20,6 +20,7 @@ mod places;
 mod pool;
 mod reading;
 mod report;
+mod rows;
 mod script;
 mod state;
 mod table;

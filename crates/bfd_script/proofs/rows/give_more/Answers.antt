@@ -2,7 +2,7 @@ use Rattle.std.proofs.Common.{sym, ap, ◌∙◌}
 use Rattle.std.specs.Option.{option_copied_mut}
 use Rattle.bfd_script.specs.Rows.{keyed_more}
 use Rattle.bfd_script.proofs.Giving.{entries_changed, entries_kept, found_room, more_keeps}
-use Rattle.bfd_script.proofs.table.give_more.Goals as goal
+use Rattle.bfd_script.proofs.rows.give_more.Goals as goal
 
 -- no session has the discriminator
 pub returns-in_default : goal.returns-in_default
