@@ -26,7 +26,7 @@ use Rattle.bfd_gather.specs.declared.queue.Numbered.{Numbered}
 use Rattle.bfd_gather.specs.Pieces.{Piece}
 use Rattle.bfd_gather.specs.Happenings.{Happening, Apart, Among, AreParts, in_shard, numbered, queue, told, told_apart}
 use Rattle.bfd_gather.specs.Happenings as gather
-use Rattle.bfd_gather.proofs.Sharing.{share_map}
+use Rattle.bfd_shard.proofs.Sharing.{share_map}
 use Rattle.bfd_gather.proofs.Histories.{queue_events, runs_share}
 use Rattle.bfd_replay.specs.World.{totals}
 use Rattle.bfd_replay.specs.Stage.{IsTable}
