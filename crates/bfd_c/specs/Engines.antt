@@ -10,8 +10,8 @@ use Rattle.bfd_session.specs.declared.event.Answer.{Answer}
 use Rattle.bfd_session.specs.declared.event.Answer.TheVariants.{Handled}
 use Rattle.bfd_session.specs.Due.{due}
 use Rattle.bfd_session.specs.Kinds.{Running}
-use Rattle.bfd_script.specs.declared.entries.Line.{Line}
-use Rattle.bfd_script.specs.declared.fault.BadLine.{BadLine}
+use Rattle.bfd_line.specs.declared.entries.Line.{Line}
+use Rattle.bfd_fields.specs.declared.fault.BadLine.{BadLine}
 use Rattle.bfd_script.specs.Reading.{Lists}
 use Rattle.bfd_replay.specs.World.{World, happens, opened}
 

@@ -4,11 +4,11 @@ ghost use Rattle.std.specs.Option.{option_copied};
 ghost use Rattle.bfd_replay.specs.Stage.{IsTable};
 ghost use Rattle.bfd_c.specs.Engines.{after, asked, first_of, soonest, started};
 
+use bfd_line::Line;
 use bfd_num::sooner;
 use bfd_replay::Progress;
 use bfd_rules::Out;
 use bfd_sbfd::Reflector;
-use bfd_script::Line;
 use bfd_session::{Answer, Session, SessionConfig};
 use std::alloc::{AllocError, Global};
 use std::marker::Model;

@@ -11,8 +11,9 @@ ghost use Rattle.bfd_c.specs.Telling as telling;
 use crate::engine::{DONE, EVENTS, Engine, MEMORY, RANGE, TEXT};
 use crate::fields::{Fields, config};
 use crate::handle::Handle;
+use bfd_fields::{BadLine, LineFault, ScriptFault};
 use bfd_sbfd::Reflector;
-use bfd_script::{BadLine, LineFault, ScriptFault, read};
+use bfd_script::read;
 use bfd_session::SessionConfig;
 use std::alloc::{AllocError, Global};
 

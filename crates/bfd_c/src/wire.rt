@@ -1,6 +1,6 @@
 //! Addresses and packets, as C gives and reads them.
 ghost use Rattle.std.specs.Prelude.{◌≡◌, ◌≢◌, None, IfOk, IfSome, OnErr};
-ghost use Rattle.bfd_script.specs.Values.{IsAddress};
+ghost use Rattle.bfd_fields.specs.Values.{IsAddress};
 ghost use Rattle.bfd_c.specs.Wire.{addr_of, address_of, arrival_of, port_of};
 
 use bfd_packet::{Addr, Arrival, Payload, Port};

@@ -67,13 +67,13 @@ halves t size half n all twice =
     let less = mul-le-mul_left (2 ^ t) twice in
     omega arith
 
--- 16 steps halve 65,536 entries to one
-pub few_steps : (t size n : ℕ) → 2 ^ t * size ≤ n → 0 < size → n ≤ 65536 → t ≤ 16
+-- 15 steps halve 65,535 entries to one
+pub few_steps : (t size n : ℕ) → 2 ^ t * size ≤ n → 0 < size → n < 65536 → t ≤ 15
 few_steps t size n all some few =
-    elim (le_or_lt t 16) [
+    elim (le_or_lt t 15) [
       | inl le ↦ le
       | inr gt ↦
-          let more : 2 ^ 17 ≤ 2 ^ t = pow-le-pow_right (omega arith) {i = 17} {j = t} gt in
+          let more : 2 ^ 16 ≤ 2 ^ t = pow-le-pow_right (omega arith) {i = 16} {j = t} gt in
           let times = mul-le-mul_left (2 ^ t) some in
           absurd (omega arith)
     ]

@@ -1,6 +1,6 @@
 //! The table: rows behind two sorted indices.
 
-ghost use Rattle.std.specs.Prelude.{[], false, OnOk, ◌≡◌, ◌≢◌, ◌+◌, ◌==◌, ◌≤◌, ◌&&◌, ◌||◌, if◌then◌else◌, position, true, not, None, Some, is_some, IfSome, IfOk, OnErr, MatchResult, ◌⊎◌};
+ghost use Rattle.std.specs.Prelude.{[], false, length, OnOk, ◌≡◌, ◌≢◌, ◌+◌, ◌==◌, ◌≤◌, ◌&&◌, ◌||◌, if◌then◌else◌, position, true, not, None, Some, is_some, IfSome, IfOk, OnErr, MatchResult, ◌⊎◌};
 ghost use Rattle.std.specs.List.{list_any};
 ghost use Rattle.std.specs.Option.{option_map};
 ghost use Rattle.std.specs.Result.{result_err};
@@ -17,7 +17,7 @@ use crate::fault::BuildFault;
 use crate::name::{Name, heard_on, is_heard, name_on, names_before, row_name};
 use crate::repeats::{addresses_of, repeated_addresses, repeated_discr};
 use crate::row::{Row, RowKind};
-use crate::table::{place_of, sort_by_key};
+use crate::table::{place_near, place_of, sort_by_key};
 use crate::target::Target;
 use bfd_num::Steps;
 use bfd_packet::{Arrival, Control, Port, Test, read};
@@ -120,7 +120,8 @@ impl Demux {
         ensures found { result ≡ option_map (λ row. index_on port self.now row.discr) (the_one (has_discr port discr) self.now) }
         ensures cost { steps.new ≤ steps.old + 17 }
     {
-        let place = place_of(self.names.as_slice(), &name_on(port, discr), steps)?;
+        let names = self.names.as_slice();
+        let place = place_near(names, guess_at(names, discr), &name_on(port, discr), steps)?;
         if !is_heard(port, self.names[place].1) {
             return None;
         }
@@ -136,7 +137,8 @@ impl Demux {
     {
         let place = place_of(self.addresses.as_slice(), &kind, steps)?;
         let discr = self.addresses[place].1;
-        let index = place_of(self.names.as_slice(), &Name::Session(discr), steps)?;
+        let names = self.names.as_slice();
+        let index = place_near(names, guess_at(names, discr), &Name::Session(discr), steps)?;
         Some(index as u32)
     }
 }
@@ -371,6 +373,23 @@ fn is_session(row: &Row) -> bool
     ensures { result ≡ is_session row.now.kind }
 {
     !matches!(row.kind, RowKind::Reflect)
+}
+
+// Where a name of this discriminator would stand if they grew evenly from the first name's to the last's, as they do where
+// sessions are numbered one after another.
+fn guess_at(names: &[(Name, Option<Port>)], discr: u32) -> usize
+    requires { length names.now ≤ 65536 }
+{
+    let (Some((first, _)), Some((last, _))) = (names.first(), names.last()) else {
+        return 0;
+    };
+    let (low, high) = (first.discr(), last.discr());
+    if high <= low || discr < low {
+        return 0;
+    }
+    let width = u64::from(high - low);
+    let places = u64::from(discr - low) * (names.len() as u64 - 1);
+    ((places + width / 2) / width) as usize
 }
 
 // The first row whose discriminator is 0.

@@ -13,6 +13,16 @@ pub enum Name {
     Reflector(u32),
 }
 
+impl Name {
+    /// The discriminator.
+    pub fn discr(&self) -> u32 {
+        match self {
+            Name::Session(discr) => *discr,
+            Name::Reflector(discr) => *discr,
+        }
+    }
+}
+
 /// The row's name.
 pub fn row_name(row: &Row) -> Name
     ensures { result ≡ name_of row.now }

@@ -1,9 +1,10 @@
 //! Sorted tables: entries by key in ascending order, and the search that counts each entry that it looks at.
 
-ghost use Rattle.std.specs.Prelude.{◌≡◌, ◌+◌, ◌<◌, ◌≤◌, length, false, true, IfSome, IfNone};
+ghost use Rattle.std.specs.Prelude.{ℕ, ◌≡◌, ◌+◌, ◌<◌, ◌≤◌, length, false, true, slice_index_or, IfSome, IfNone};
 ghost use Rattle.std.specs.List.{list_any};
 ghost use Rattle.std.specs.List.Sorted.{IsPermutation};
 ghost use Rattle.std.specs.Ordering.{is_eq};
+ghost use Rattle.std.specs.declared.cmp.Ordering.TheVariants.{Less, Greater};
 ghost use Rattle.bfd_demux.specs.Table.{HasKeysOnce, IsAscending, IsPlaceOf};
 
 use bfd_num::Steps;
@@ -38,8 +39,66 @@ pub fn sort_by_key<K: Ord + Copy, V>(entries: &mut Vec<(K, V)>) -> bool
     is_ascending(entries)
 }
 
+/// The place of the entry with this key among those from `low` up to `high`: all before are lower, and all from `high` on
+/// higher. Each entry that it looks at is one step.
+fn search<K: Ord, V, L: Ledger>(
+    entries: &[(K, V)],
+    low: usize,
+    high: usize,
+    key: &K,
+    steps: &mut Steps<L>,
+) -> Option<usize>
+    requires ascending { IsAscending K.cmp entries.now }
+    requires order { low ≤ high }
+    requires within { high ≤ length entries.now }
+    requires below { (k : ℕ) (d : _) → k < low → K.cmp (slice_index_or entries.now k d).0 key.now ≡ Less }
+    requires above { (k : ℕ) (d : _) → high ≤ k → k < length entries.now → K.cmp (slice_index_or entries.now k d).0 key.now ≡ Greater }
+    requires few { high < low + 65536 }
+    ensures found { IfSome result (IsPlaceOf K.cmp entries.now key.now) }
+    ensures none { IfNone result (list_any (λ entry. is_eq (K.cmp entry.0 key.now)) entries.now ≡ false) }
+    ensures cost { steps.new ≤ steps.old + 16 }
+{
+    let mut low = low;
+    let mut high = high;
+    while low < high {
+        let middle = low + (high - low) / 2;
+        steps.tick();
+        match entries[middle].0.cmp(key) {
+            Ordering::Less => low = middle + 1,
+            Ordering::Equal => return Some(middle),
+            Ordering::Greater => high = middle,
+        }
+    }
+    None
+}
+
 /// The place of the entry with this key, which is also the number of entries with a lower key, or None where
-/// no entry has it. Each entry that it looks at is one step.
+/// no entry has it. It looks first where it is guessed. Each entry that it looks at is one step.
+pub fn place_near<K: Ord, V, L: Ledger>(
+    entries: &[(K, V)],
+    guess: usize,
+    key: &K,
+    steps: &mut Steps<L>,
+) -> Option<usize>
+    requires ascending { IsAscending K.cmp entries.now }
+    requires few { length entries.now ≤ 65536 }
+    ensures found { IfSome result (IsPlaceOf K.cmp entries.now key.now) }
+    ensures none { IfNone result (list_any (λ entry. is_eq (K.cmp entry.0 key.now)) entries.now ≡ false) }
+    ensures cost { steps.new ≤ steps.old + 17 }
+{
+    let Some(last) = entries.len().checked_sub(1) else {
+        return None;
+    };
+    let middle = guess.min(last);
+    steps.tick();
+    match entries[middle].0.cmp(key) {
+        Ordering::Less => search(entries, middle + 1, entries.len(), key, steps),
+        Ordering::Equal => Some(middle),
+        Ordering::Greater => search(entries, 0, middle, key, steps),
+    }
+}
+
+/// The same, where nothing tells where it may be.
 pub fn place_of<K: Ord, V, L: Ledger>(
     entries: &[(K, V)],
     key: &K,
@@ -51,16 +110,5 @@ pub fn place_of<K: Ord, V, L: Ledger>(
     ensures none { IfNone result (list_any (λ entry. is_eq (K.cmp entry.0 key.now)) entries.now ≡ false) }
     ensures cost { steps.new ≤ steps.old + 17 }
 {
-    let mut low = 0;
-    let mut high = entries.len();
-    while low < high {
-        let middle = low + (high - low) / 2;
-        steps.tick();
-        match entries[middle].0.cmp(key) {
-            Ordering::Less => low = middle + 1,
-            Ordering::Equal => return Some(middle),
-            Ordering::Greater => high = middle,
-        }
-    }
-    None
+    place_near(entries, entries.len() / 2, key, steps)
 }

@@ -5,13 +5,10 @@ use Rattle.std.specs.List.{AllByRecursion}
 use Rattle.std.specs.Option.{option_map}
 use Rattle.std.proofs.lemmas.Bool.Decides.{nat_tests}
 use Rattle.std.proofs.lemmas.Bool.{lt-ltb, le-ltb}
-use Rattle.bfd_packet.specs.declared.arrival.Addr.{Addr}
 use Rattle.bfd_packet.specs.declared.arrival.Arrival.{Arrival}
 use Rattle.bfd_packet.specs.declared.arrival.Port.{Port}
 use Rattle.bfd_packet.specs.declared.arrival.Port.TheVariants.{Sbfd as SbfdPort}
 use Rattle.bfd_packet.specs.Layout.{fields_of}
-use Rattle.bfd_rules.specs.declared.config.Role.{Role}
-use Rattle.bfd_rules.specs.declared.config.Role.TheVariants.{Single, Multi}
 use Rattle.bfd_demux.specs.declared.row.Row.{Row}
 use Rattle.bfd_demux.specs.declared.target.Target.{Target}
 use Rattle.bfd_demux.specs.declared.target.Target.TheVariants.{Session, Reflector as ReflectorAt, Echo}
@@ -20,38 +17,19 @@ use Rattle.bfd_demux.specs.Selection.{is_session, names_on, reflector_index, tar
 use Rattle.bfd_sbfd.specs.declared.reflecting.Reflector.{Reflector}
 use Rattle.bfd_sbfd.specs.Reflect.{Ascends as PoolAscends}
 use Rattle.bfd_session.specs.declared.event.SessionConfig.{SessionConfig}
-use Rattle.bfd_session.specs.declared.event.SessionConfig.TheVariants.{Pair}
-use Rattle.bfd_session.specs.Rows.{kind_of, row_of, row_of_reflector, table_of}
-use Rattle.bfd_session.proofs.Places.{Standing, AsSession, AsReflector, Found, found}
+use Rattle.bfd_session.specs.Rows.{row_of, row_of_reflector, table_of}
+use Rattle.bfd_session.proofs.Places.{Standing, AsSession, AsReflector, Found, at_place, found, reflects_below, row_session}
 use Rattle.bfd_session.proofs.Ports.{unreflected}
 use Rattle.bfd_engine.specs.Inside.{IsNamed}
 
-kind_session : (role : Role) (iface : ℕ) (local remote : Addr) → is_session (kind_of role iface local remote) ≡ true
-kind_session Single iface local remote = refl
-kind_session Multi iface local remote = refl
-
-session_row : (c : SessionConfig) → is_session (row_of c).kind ≡ true
-session_row (Pair c) = kind_session c.role c.iface c.local c.remote
-session_row c = refl
-
--- a reflector's row counts as below a discriminator where its own is
-abbrev is_under : ℕ → Row → Bool
-is_under discr row = not (is_session row.kind) && nat_lt row.discr discr
-
-none_under : (discr : ℕ) (pool : List Reflector) → AllByRecursion (λ r. discr < r.discr) pool → how_many (is_under discr) (map row_of_reflector pool) ≡ 0
+none_under : (discr : ℕ) (pool : List Reflector) → AllByRecursion (λ r. discr < r.discr) pool → how_many (reflects_below discr) (map row_of_reflector pool) ≡ 0
 none_under discr [] h = refl
 none_under discr (r ∷ pool) h =
     let out : nat_lt r.discr discr ≡ false = le-ltb r.discr discr (omega (arith, h.0)) in
     rw out (none_under discr pool h.1)
 
-at_place : (P : Reflector → Type 0) (pool : List Reflector) (k : ℕ) (r : Reflector) → AllByRecursion P pool → slice_get pool k ≡ Some r → P r
-at_place P [] zero r h e = cc
-at_place P [] (suc k) r h e = cc
-at_place P (x ∷ pool) zero r h e = subst P (ap (λ o. unwrap_or o r) e) h.0
-at_place P (x ∷ pool) (suc k) r h e = at_place P pool k r h.1 e
-
 -- a reflector's place is the number of reflectors below it
-place_in : (pool : List Reflector) (k : ℕ) (r : Reflector) → PoolAscends pool → slice_get pool k ≡ Some r → how_many (is_under r.discr) (map row_of_reflector pool) ≡ k
+place_in : (pool : List Reflector) (k : ℕ) (r : Reflector) → PoolAscends pool → slice_get pool k ≡ Some r → how_many (reflects_below r.discr) (map row_of_reflector pool) ≡ k
 place_in [] zero r h e = cc
 place_in [] (suc k) r h e = cc
 place_in (x ∷ pool) zero r h e =
@@ -68,7 +46,7 @@ place_in (x ∷ pool) (suc k) r h e =
 index_is : (cs : List SessionConfig) (pool : List Reflector) (k : ℕ) (r : Reflector) → PoolAscends pool → slice_get pool k ≡ Some r
     → reflector_index (table_of cs pool) r.discr ≡ k
 index_is [] pool k r h e = place_in pool k r h e
-index_is (c ∷ cs) pool k r h e = let out : is_session (row_of c).kind ≡ true = session_row c in rw out (index_is cs pool k r h e)
+index_is (c ∷ cs) pool k r h e = let out : is_session (row_of c).kind ≡ true = row_session c in rw out (index_is cs pool k r h e)
 
 same_number : (a b : ℕ) (t : Bool) → t ≡ (a == b) → (if b == 0 then false else t) ≡ true → a ≡ b
 same_number a b true is h = grind (arith, nat_tests, is)

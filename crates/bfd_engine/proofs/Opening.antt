@@ -11,15 +11,17 @@ use Rattle.bfd_session.specs.declared.event.SessionConfig.{SessionConfig}
 use Rattle.bfd_session.specs.Kinds.{Running, configs_of, discr_of}
 use Rattle.bfd_session.specs.Step.{IsFit, started}
 use Rattle.bfd_session.specs.Rows.{AreFit, table_of}
+use Rattle.bfd_session.proofs.Starting.{started_configs}
 use Rattle.bfd_sbfd.specs.declared.reflecting.Reflector.{Reflector}
 use Rattle.bfd_turn.specs.Passes.{TableId, opened}
 use Rattle.bfd_demux.specs.declared.row.Row.{Row}
 use Rattle.bfd_engine.specs.declared.locked.Base.{Base}
-use Rattle.bfd_engine.specs.Engines.{IsCallers, Shards, Held, AllOf, IsOf, AllThere, IsEngine, share, configs_at}
+use Rattle.bfd_engine.specs.Engines.{IsCallers, Shards, Held, AllOf, IsOf, AllThere, IsEngine, configs_at}
 use Rattle.bfd_engine.specs.Calls.{seen_of, word_of, taken_of, made_of, kept_of}
 use Rattle.bfd_engine.specs.Opening.{IsSorted, IsNewPass, opened_base, IsNewShard, MayOpen, ArePassed, IsOpened, AreOpened}
 use Rattle.bfd_engine.proofs.Places.{K, last_here, front_here, same_held}
-use Rattle.bfd_engine.proofs.Sharing.{few_share, all_share}
+use Rattle.bfd_shard.specs.Dealing.{share}
+use Rattle.bfd_shard.proofs.Sharing.{few_share, all_share}
 use Rattle.bfd_engine.proofs.Tables.{few_rows, ascending, pool_ascending}
 
 pub none_opened : (limit : ℕ) (locks : List TableId) (passes : List Held) (sizes : List ℕ) → locks ≡ [] → passes ≡ [] → sizes ≡ [] → AreOpened limit [] locks passes sizes
@@ -64,10 +66,6 @@ pub more_parts : {V : Type 0} (f : V → List SessionConfig) (limit : ℕ) (yiel
 more_parts f limit yielded part locks locks2 passes passes2 sizes sizes2 lock pass size o new is e g h =
     subst (λ ps. AreOpened limit ps locks2 passes2 sizes2) (sym (map-append f yielded (part ∷ [])))
     (more_opened limit (map f yielded) (f part) locks locks2 passes passes2 sizes sizes2 lock pass size o new is e g h)
-
-started_configs : (cs : List SessionConfig) → configs_of (map started cs) ≡ cs
-started_configs [] = refl
-started_configs (c ∷ cs) = ap (λ xs. c ∷ xs) (started_configs cs)
 
 base_is : (ss : List Running) (cs : List SessionConfig) (l m : ℕ) → ss ≡ map started cs → l ≡ m → (let b : Base = record { configs = configs_of ss; limit = l } in b) ≡ opened_base m cs
 base_is ss cs l m same limit =

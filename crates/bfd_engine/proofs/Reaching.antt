@@ -16,15 +16,13 @@ use Rattle.bfd_session.specs.Step.{started}
 use Rattle.bfd_session.specs.Rows.{Ascends, table_of}
 use Rattle.bfd_session.specs.Reaching.{Stands, Reaches}
 use Rattle.bfd_session.proofs.Reach.{reaches}
+use Rattle.bfd_session.proofs.Starting.{started_configs}
+use Rattle.bfd_shard.specs.Dealing.{share}
 use Rattle.bfd_shard.specs.Shard.{IsTaken}
-use Rattle.bfd_engine.specs.Engines.{Shards, share, configs_at}
+use Rattle.bfd_shard.proofs.Sharing.{there}
+use Rattle.bfd_engine.specs.Engines.{Shards, configs_at}
 use Rattle.bfd_engine.specs.Inside.{Arrives}
-use Rattle.bfd_engine.proofs.Sharing.{share_at}
 use Rattle.bfd_engine.proofs.Mirrors.{Mirrored, mirrored}
-
-started_configs : (cs : List SessionConfig) → configs_of (map started cs) ≡ cs
-started_configs [] = refl
-started_configs (c ∷ cs) = ap (λ xs. c ∷ xs) (started_configs cs)
 
 config_at : (ss : List Running) (k : ℕ) (s : Running) → slice_get ss k ≡ Some s → slice_get (configs_of ss) k ≡ Some s.config
 config_at [] k s e = absurd (cc)
@@ -56,6 +54,6 @@ arrives cs pool arrival target ascends up header e =
 pub dealt_event : (engine : Shards) (k n : ℕ) (event : Event) → n ≡ length engine.locks → 0 < n → IsTaken engine.configs k event → IsTaken (configs_at engine (k % n)) (k / n) event
 dealt_event engine k n event is some h = record {
   config = h.config;
-  there = ap (λ m. slice_get (share m (k % n) engine.configs) (k / n)) (sym is) ∙ (share_at n (k % n) (k / n) engine.configs some ∙ (ap (slice_get engine.configs) (div-add-mod' k n) ∙ h.there));
+  there = ap (λ m. slice_get (share m (k % n) engine.configs) (k / n)) (sym is) ∙ (there n k engine.configs some ∙ h.there);
   takes = h.takes;
 }

@@ -5,7 +5,7 @@ use Rattle.std.specs.List.{AllByRecursion, position_from}
 use Rattle.std.specs.List.Sorted.{IsBinarySearchResult}
 use Rattle.std.specs.Ordering.{nat_cmp}
 use Rattle.std.proofs.Math.Nat.{eq-or-lt_of_le}
-use Rattle.std.proofs.lemmas.Bool.Decides.{nat_tests}
+use Rattle.std.proofs.lemmas.Bool.{eq-eqb, ne_eqb}
 use Rattle.std.proofs.lemmas.Iterator.Adapters.{position_from-zero}
 use Rattle.std.proofs.lemmas.List.Sorted.{searched}
 use Rattle.std.proofs.lemmas.List.{length-map}
@@ -14,6 +14,7 @@ use Rattle.bfd_session.specs.declared.event.Event.{Event}
 use Rattle.bfd_session.specs.Kinds.{discr_of}
 use Rattle.bfd_session.specs.Rows.{Ascends, place_of}
 use Rattle.bfd_session.specs.Step.{CanTake}
+use Rattle.bfd_session.proofs.Searches.{differs}
 use Rattle.bfd_shard.specs.Shard.{IsTaken}
 
 -- what is true of each discriminator is true of the one at a place
@@ -35,19 +36,13 @@ no_lower cs i j up le within = elim (eq-or-lt_of_le le) [
   | inr before ↦ (let r = rises cs i j up before (omega (arith, length-map cs discr_of, within)) in omega (arith, r))
 ]
 
-is_other : (a discr : ℕ) → (a ≡ discr → ⊥) → (discr == a) ≡ false
-is_other a discr differs = grind (arith, nat_tests)
-
-is_own : (a discr : ℕ) → a ≡ discr → (discr == a) ≡ true
-is_own a discr same = grind (arith, nat_tests)
-
 -- the first that has the discriminator, where a place has it and each before it another
 first_at : (cs : List SessionConfig) (discr n i : ℕ) → i < length cs → ((k : ℕ) → k < i → get_or (map discr_of cs) k 0 ≡ discr → ⊥)
     → get_or (map discr_of cs) i 0 ≡ discr → position_from (λ (c : SessionConfig). discr == discr_of c) n cs ≡ Some (n + i)
 first_at [] discr n i within other same = absurd (omega arith)
-first_at (c ∷ cs) discr n zero within other same = rw (is_own (discr_of c) discr same) (ap Some (omega arith))
+first_at (c ∷ cs) discr n zero within other same = rw (eq-eqb discr (discr_of c) (sym same)) (ap Some (omega arith))
 first_at (c ∷ cs) discr n (suc i) within other same =
-    rw (is_other (discr_of c) discr (other 0 (omega arith)))
+    rw (ne_eqb discr (discr_of c) (λ e. other 0 (omega arith) (sym e)))
     (first_at cs discr (n + 1) i (omega arith) (λ k lt. other (suc k) (omega arith)) same ∙ ap Some (omega arith))
 
 -- none, where each has another
@@ -55,10 +50,7 @@ none_at : (cs : List SessionConfig) (discr n : ℕ) → ((k : ℕ) → k < lengt
     → position_from (λ (c : SessionConfig). discr == discr_of c) n cs ≡ None
 none_at [] discr n other = refl
 none_at (c ∷ cs) discr n other =
-    rw (is_other (discr_of c) discr (other 0 (omega arith))) (none_at cs discr (n + 1) (λ k lt. other (suc k) (omega arith)))
-
-differs : (a discr at k : ℕ) → (k < at → a < discr) → (at ≤ k → discr < a) → a ≡ discr → ⊥
-differs a discr at k below above same = grind arith
+    rw (ne_eqb discr (discr_of c) (λ e. other 0 (omega arith) (sym e))) (none_at cs discr (n + 1) (λ k lt. other (suc k) (omega arith)))
 
 found : (cs : List SessionConfig) (discr i : ℕ) → Ascends cs → i < length (map discr_of cs) → get_or (map discr_of cs) i 0 ≡ discr
     → place_of discr cs ≡ Some i

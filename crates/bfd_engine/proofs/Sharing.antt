@@ -1,51 +1,10 @@
--- A list that is dealt out in turn.
-use Rattle.std.proofs.Common.{◌≡◌, ◌≢◌, ◌==◌, ℕ, zero, suc, ◌+◌, ◌-◌, ◌*◌, ◌<◌, ◌≤◌, List, [], ◌∷◌, ◌++◌, length, refl, ap, sym, ◌∙◌, append_assoc, append-nil, arith, if◌then◌else◌}
-use Rattle.std.specs.Prelude.{slice_get, nat_lt}
+-- A list that is dealt out in turn, one element after another.
+use Rattle.std.proofs.Common.{◌≡◌, ◌≢◌, ◌==◌, ℕ, zero, suc, ◌+◌, ◌-◌, ◌<◌, List, [], ◌∷◌, ◌++◌, refl, ap, sym, ◌∙◌, append_assoc, append-nil, arith, if◌then◌else◌}
+use Rattle.std.specs.Prelude.{nat_lt}
 use Rattle.std.proofs.lemmas.Bool.Decides.{nat_tests}
-use Rattle.std.specs.List.{AllByRecursion}
-use Rattle.bfd_engine.specs.Engines.{share}
+use Rattle.bfd_shard.specs.Dealing.{share}
 
 module _ {A : Type 0} where
-  none_at : (xs : List A) (p q : ℕ) → length xs ≡ 0 → slice_get xs p ≡ slice_get xs q
-  none_at [] zero zero h = refl
-  none_at [] zero (suc q) h = refl
-  none_at [] (suc p) zero h = refl
-  none_at [] (suc p) (suc q) h = refl
-  none_at (x ∷ xs) p q h = absurd (omega (arith, h))
-
-times_more : (p n : ℕ) → suc p * n ≡ p * n + n
-times_more p n = grind arith
-
-start_at : (n : ℕ) → 0 ≡ 0 * n + 0
-start_at n = grind arith
-
-next_at : (n p : ℕ) → 0 < n → suc (p * n + (n - 1)) ≡ suc p * n + 0
-next_at n p pos = let e = times_more p n in omega (arith, e, pos)
-
-skip_at : (a c : ℕ) → suc (a + c) ≡ a + suc c
-skip_at a c = omega arith
-
-module _ {A : Type 0} where
-  -- the element at a place of a share stands there in the whole list
-  pub share_at : (n c p : ℕ) (xs : List A) → 0 < n → slice_get (share n c xs) p ≡ slice_get xs (p * n + c)
-  unfolding share
-  share_at n c p [] pos = none_at [] p (p * n + c) refl
-  share_at n zero zero (x ∷ xs) pos = ap (slice_get (x ∷ xs)) (start_at n)
-  share_at n zero (suc p) (x ∷ xs) pos = share_at n (n - 1) p xs pos ∙ ap (slice_get (x ∷ xs)) (next_at n p pos)
-  share_at n (suc c) p (x ∷ xs) pos = share_at n c p xs pos ∙ ap (slice_get (x ∷ xs)) (skip_at (p * n) c)
-
-  pub all_share : (P : A → Type 0) (n c : ℕ) (xs : List A) → AllByRecursion P xs → AllByRecursion P (share n c xs)
-  unfolding share
-  all_share P n c [] h = tt
-  all_share P n zero (x ∷ xs) h = (h.0, all_share P n (n - 1) xs h.1)
-  all_share P n (suc c) (x ∷ xs) h = all_share P n c xs h.1
-
-  pub few_share : (n c : ℕ) (xs : List A) → length (share n c xs) ≤ length xs
-  unfolding share
-  few_share n c [] = omega arith
-  few_share n zero (x ∷ xs) = let r = few_share n (n - 1) xs in omega arith
-  few_share n (suc c) (x ∷ xs) = let r = few_share n c xs in omega arith
-
   share_none : (n c : ℕ) (xs : List A) → xs ≡ [] → share n c xs ≡ []
   unfolding share
   share_none n c [] e = refl

@@ -11,6 +11,7 @@ use Rattle.bfd_demux.specs.Rows.{same_discr, repeat_after, first_repeat, pair_fa
 use Rattle.bfd_session.specs.declared.event.SessionConfig.{SessionConfig}
 use Rattle.bfd_session.specs.Kinds.{discr_of}
 use Rattle.bfd_session.specs.Rows.{Ascends, row_of, rows_of, row_of_reflector, table_of}
+use Rattle.bfd_session.proofs.Tables.{Apart, Fresh}
 use Rattle.bfd_sbfd.specs.declared.reflecting.Reflector.{Reflector}
 use Rattle.bfd_sbfd.specs.Reflect.{Ascends as PoolAscends}
 use Rattle.bfd_engine.specs.Opening.{Climbs}
@@ -44,10 +45,6 @@ unlike : (same : Row → Bool) (n : ℕ) (rows : List Row) → position_from sam
 unlike same n [] e = tt
 unlike same n (x ∷ rows) e = let s = apart_found same x n rows (same x) refl e in (s.0, unlike same (n + 1) rows s.1)
 
--- no row is like one of those before
-abbrev Fresh : (Row → Row → Bool) → List Row → List Row → Type 0
-Fresh same earlier rows = AllByRecursion (λ row. AllByRecursion (λ other. same row other ≡ false) earlier) rows
-
 front : (P : Row → Type 0) (xs : List Row) (x : Row) → AllByRecursion P (xs ++ x ∷ []) → AllByRecursion P xs
 front P [] x h = tt
 front P (y ∷ xs) x h = (h.0, front P xs x h.1)
@@ -70,11 +67,6 @@ fresh_all same earlier (row ∷ rows) e =
     let here : position_from (same row) 0 earlier ≡ None = map_none _ (position_from (same row) 0 earlier) (or_first _ _ e) in
     let next : Fresh same (earlier ++ row ∷ []) rows = fresh_all same (earlier ++ row ∷ []) rows (or_second _ _ e) in
     (unlike (same row) 0 earlier here, fresh_front same earlier row rows next)
-
--- no row is like an earlier one
-abbrev Apart : (Row → Row → Bool) → List Row → Type 0
-Apart same [] = Unit {0}
-Apart same (row ∷ rows) = AllByRecursion (λ later. same later row ≡ false) rows × Apart same rows
 
 apart_all : (same : Row → Row → Bool) (earlier rows : List Row) → repeat_after same earlier rows ≡ None → Apart same rows
 apart_all same earlier [] e = tt

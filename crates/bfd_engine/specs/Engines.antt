@@ -1,5 +1,5 @@
 -- What clauses see of an engine, and of a caller's pass over its shards.
-use Rattle.std.specs.Prelude.{ℕ, zero, suc, ◌≡◌, ◌≤◌, ◌<◌, ◌+◌, ◌-◌, List, [], ◌∷◌, length, map, slice_get, Option, Some}
+use Rattle.std.specs.Prelude.{ℕ, ◌≡◌, ◌≤◌, ◌<◌, ◌+◌, List, length, map, slice_get, Option, Some}
 use Rattle.bfd_turn.specs.Passes.{TableId, IsNew}
 use Rattle.bfd_demux.specs.declared.row.Row.{Row}
 use Rattle.bfd_sbfd.specs.declared.reflecting.Reflector.{Reflector}
@@ -7,6 +7,7 @@ use Rattle.bfd_sbfd.specs.Reflect.{Ascends as PoolAscends}
 use Rattle.bfd_session.specs.declared.event.SessionConfig.{SessionConfig}
 use Rattle.bfd_session.specs.Kinds.{discr_of}
 use Rattle.bfd_session.specs.Rows.{Ascends, table_of}
+use Rattle.bfd_shard.specs.Dealing.{share}
 use Rattle.bfd_engine.specs.declared.locked.Base.{Base}
 use Rattle.bfd_engine.specs.Turned.{OfShard}
 
@@ -17,12 +18,6 @@ pub record Shards : Type 0 where
   pub configs : List SessionConfig
   pub pool : List Reflector
   pub limit : ℕ
-
--- of a list that is dealt out in turn, every n-th element, after the first c are passed over
-unfoldable pub share : {A : Type 0} → ℕ → ℕ → List A → List A
-share n c [] = []
-share n zero (x ∷ xs) = x ∷ share n (n - 1) xs
-share n (suc c) (x ∷ xs) = share n c xs
 
 -- the sessions of a shard: the session at place k of the table is that at place k / shards of shard k % shards
 abbrev pub configs_at : Shards → ℕ → List SessionConfig

@@ -1,6 +1,6 @@
 //! Sessions, dealt out to shards.
 ghost use Rattle.std.specs.Prelude.{◌≡◌, ◌+◌, ◌<◌, ◌++◌, ◌∷◌, ◌==◌, ℕ, [], IfOk, OnOk, length, map, slice_index_or, if◌then◌else◌};
-ghost use Rattle.bfd_engine.specs.Engines.{share};
+ghost use Rattle.bfd_shard.specs.Dealing.{share};
 
 use bfd_session::SessionConfig;
 use std::alloc::{AllocError, Global};

@@ -6,6 +6,7 @@ use Rattle.std.proofs.lemmas.List.{map-append}
 use Rattle.bfd_turn.specs.Lists.{Begins, has, numbers_of}
 use Rattle.bfd_turn.proofs.Beginnings.{begins_itself, begins_through}
 use Rattle.bfd_shard.specs.declared.entry.Entry.{Entry}
+use Rattle.bfd_shard.proofs.Lists.{all_next}
 use Rattle.bfd_engine.specs.Engines.{Shards, Knows, IsOf, AllThere}
 use Rattle.bfd_engine.specs.Calls.{seen_at, made_at, kept_at, mine}
 use Rattle.bfd_engine.specs.Opening.{IsNewPass}
@@ -69,15 +70,7 @@ module _ (engine : Shards) where
       (a.made s h ∙ (left.made s h ∙ (ap (λ ns. numbers_of (kept_at k s) ++ ns) (sym (numbers_kept s js))
       ∙ (sym (map-append (λ p. p.0) (kept_at k s) (map (kept_by s) js)) ∙ ap numbers_of (sym (a.kept s h))))))
 
-get_next : {X : Type 0} (xs ys : List X) (x : X) → get_or (xs ++ x ∷ ys) (length xs) x ≡ x
-get_next [] ys x = refl
-get_next (z ∷ zs) ys x = get_next zs ys x
-
--- what is true of all is true of the next
-pub all_next : {X : Type 0} (P : X → Type 0) (items xs ys : List X) (x : X) → xs ++ x ∷ ys ≡ items → All P items → P x
-all_next P items xs ys x is all = subst P (get_next xs ys x) (subst (λ l. All P l) (sym is) all (length xs) x (omega (arith, length-append xs (x ∷ ys))))
-
--- .. and what is true of what is made of each is true of what is made of the next
+-- what is true of what is made of each is true of what is made of the next
 pub all_made_next : {X Y : Type 0} (P : Y → Type 0) (f : X → Y) (items xs ys : List X) (x : X) → xs ++ x ∷ ys ≡ items → All P (map f items) → P (f x)
 all_made_next P f items xs ys x is all = all_next P (map f items) (map f xs) (map f ys) (f x) (sym (map-append f xs (x ∷ ys)) ∙ ap (map f) is) all
 

@@ -5,7 +5,6 @@ pub mod Scan
 pub mod Taking
 pub mod Alone
 pub mod Sharing
-pub mod Queues
 pub mod Histories
 pub mod Telling
 pub mod Whole

@@ -19,7 +19,7 @@ ghost use Rattle.bfd_gather.specs.Spread.{AreGathered};
 /// its events; the session at place k of the table stands at place k / shards of shard k % shards; an own event gives there
 /// what it gives of the table, and changes no session of another shard; the events of a shard's queue are its history; and
 /// one event more adds to the queue what the shard has of it.
-#[tactic(auto, using(crate::proofs::Sharing::there, crate::proofs::Sharing::own_gives, crate::proofs::Sharing::own_away, crate::proofs::Histories::runs_share, crate::proofs::Histories::queue_events, crate::proofs::Histories::queue_more))]
+#[tactic(auto, using(bfd_shard::proofs::Sharing::there, crate::proofs::Sharing::own_gives, crate::proofs::Sharing::own_away, crate::proofs::Histories::runs_share, crate::proofs::Histories::queue_events, crate::proofs::Histories::queue_more))]
 pub fn dealing_laws()
     ensures sessions { (shards shard : ℕ) (events : List ShardEvent) (configs : List SessionConfig) → shard < shards
         → runs (history_of shards shard events) (share shards shard configs) ≡ share shards shard (runs events configs) }

@@ -1,10 +1,11 @@
 -- Where a rule changes neither an interval nor whether Demand mode is active here, there is nothing to renew.
-use Rattle.std.proofs.Common.{◌≡◌, ◌≤◌, ◌==◌, ◌++◌, min, max, ℕ, Bool, true, false, List, [], refl, sym, ap, ◌∙◌, arith, append-nil, if◌then◌else◌}
+use Rattle.std.proofs.Common.{◌≡◌, ◌≤◌, ◌==◌, ◌++◌, min, max, ℕ, Bool, true, false, List, [], refl, sym, ap, ◌∙◌, arith, append-nil, if◌then◌else◌, Option, Some}
 use Rattle.std.proofs.lemmas.Grind.{common_steps}
 use Rattle.std.proofs.lemmas.Bool.Decides.{nat_tests}
 use Rattle.bfd_rules.specs.declared.outputs.Out.{Out}
 use Rattle.bfd_rules.specs.declared.variables.Vars.{Vars}
 use Rattle.bfd_rules.specs.Quantities.{adv_tx, demand_here, is_idle}
+use Rattle.bfd_packet.specs.declared.control.Control.{Control}
 use Rattle.bfd_packet.specs.declared.keys.SeqState.{SeqState}
 use Rattle.bfd_rules.specs.declared.variables.Mark.{Mark}
 use Rattle.bfd_rules.specs.EventFrame.{Course, course, changes, told}
@@ -72,3 +73,43 @@ pub renews_told : (eff : ℕ) (seq : SeqState) (v : Vars) (m : Mark) (os : List 
 unfolding renews
 renews_told eff seq v m os h =
     ap (λ (w : Vars). course w m os) (sym (renewed_idle eff v (record v { seq = seq; poll = poll_sent eff v.poll; base = eff }) h refl refl refl))
+
+-- nor does the sequence state that a packet leaves
+pub renews_sequence : (eff : ℕ) (seq : SeqState) (heard : Option ℕ) (v : Vars) (m : Mark) (os : List Out) → IsRenewed v
+    → course (record v { seq = seq; seq_heard = heard }) m os ≡ renews eff (record v { seq = seq; seq_heard = heard }) (course v m os)
+unfolding renews
+renews_sequence eff seq heard v m os h =
+    let renewed_still : IsRenewed (record v { seq = seq; seq_heard = heard }) = record {
+      settled_tx = h.settled_tx;
+      tx_at_most = h.tx_at_most;
+      settled_rx = h.settled_rx;
+      rx_at_least = h.rx_at_least;
+    } in
+    ap (λ (w : Vars). course w m os) (sym (renewed_idle eff v (record v { seq = seq; seq_heard = heard }) renewed_still refl refl refl))
+
+-- the variables with the peer's fields
+abbrev heard_from : ℕ → Control → Vars → Vars
+heard_from eff packet v = record v {
+  remote_discr = packet.my;
+  remote_state = packet.state;
+  remote_demand = packet.demand;
+  remote_min_rx = packet.min_rx;
+  remote_min_echo = packet.min_echo;
+  remote_mult = packet.mult;
+  remote_tx = packet.min_tx;
+  heard = Some eff;
+}
+
+-- nor, without Demand mode, the peer's fields
+pub renews_fields : (eff : ℕ) (packet : Control) (v : Vars) (m : Mark) (os : List Out) → IsRenewed v → v.demand ≡ false
+    → course (heard_from eff packet v) m os ≡ renews eff (heard_from eff packet v) (course v m os)
+unfolding renews
+renews_fields eff packet v m os h demand =
+    let renewed_still : IsRenewed (heard_from eff packet v) = record {
+      settled_tx = h.settled_tx;
+      tx_at_most = h.tx_at_most;
+      settled_rx = h.settled_rx;
+      rx_at_least = h.rx_at_least;
+    } in
+    let inactive : demand_here (heard_from eff packet v) ≡ demand_here v = rw demand refl in
+    ap (λ (w : Vars). course w m os) (sym (renewed_idle eff v (heard_from eff packet v) renewed_still refl refl inactive))

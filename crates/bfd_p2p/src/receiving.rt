@@ -1,5 +1,5 @@
 //! The reception of a control packet after settling (RFC 5880 section 6.8.6).
-ghost use Rattle.std.specs.Prelude.{◌≡◌, ◌≢◌, ◌<◌, ◌≤◌, ◌+◌, ◌^◌, false, true, None, IsSome, List, length, find};
+ghost use Rattle.std.specs.Prelude.{◌≡◌, ◌≢◌, ◌<◌, ◌≤◌, ◌+◌, ◌^◌, false, true, None, Some, IsSome, List, length, find};
 ghost use Rattle.bfd_num.specs.Numbers.{moment_bound};
 ghost use Rattle.bfd_packet.specs.declared.control.Control.{Control as ControlOf};
 ghost use Rattle.bfd_packet.specs.Layout.{fields_of};
@@ -9,7 +9,7 @@ ghost use Rattle.bfd_rules.specs.declared.variables.Mark.{Mark as MarkOf};
 ghost use Rattle.bfd_rules.specs.declared.variables.Vars.{Vars as VarsOf};
 ghost use Rattle.bfd_rules.specs.declared.outputs.Out.{Out};
 ghost use Rattle.bfd_rules.specs.EventFrame.{course};
-ghost use Rattle.bfd_rules.specs.Sound.{IsPlain, HasPeerMult, IsSteady};
+ghost use Rattle.bfd_rules.specs.Sound.{IsPlain, IsRenewed, HasPeerMult, IsSteady};
 ghost use Rattle.bfd_p2p.specs.Receive as receive;
 ghost use Rattle.bfd_p2p.specs.Receive.{IsSized};
 ghost use Rattle.bfd_p2p.specs.Port.{port_of};
@@ -80,32 +80,50 @@ fn has_sequence(keys: &Option<Keys>) -> bool
     }
 }
 
-/// The sequence state is kept (section 6.7).
-#[tactic(auto, unfolding(crate::specs::Receive::keeps_sequence))]
+/// The sequence state is kept (section 6.7). It leaves nothing to renew.
+#[tactic(auto, using(crate::proofs::Idle::renews_sequence), unfolding(crate::specs::Receive::keeps_sequence))]
 fn keeps_sequence(config: &Config, eff: u64, seq: SeqState, vars: &mut Vars)
-    requires plain { IsPlain config.now vars.old }
+    requires steady { IsSteady config.now vars.old }
     requires eff { eff < moment_bound }
     ensures plain { IsPlain config.now vars.new }
+    ensures renewed { IsRenewed vars.new }
     ensures state { vars.new.state ≡ vars.old.state }
     ensures course { (m : MarkOf) (os : List Out) → course vars.new m os ≡ receive.keeps_sequence config.now eff seq (course vars.old m os) }
 {
-    let seq_heard = if has_sequence(&config.keys) {
-        Some(eff)
-    } else {
-        vars.seq_heard
-    };
-    let after = Vars {
-        seq,
-        seq_heard,
-        ..*vars
-    };
-    renews(config, eff, after, vars);
+    vars.seq = seq;
+    if has_sequence(&config.keys) {
+        vars.seq_heard = Some(eff);
+    }
 }
 
-/// The peer's fields are kept (section 6.8.6).
-#[tactic(auto, unfolding(crate::specs::Receive::keeps_fields))]
+/// The variables with the peer's fields, and when they were heard.
+fn hears(eff: u64, packet: &Control, v: &mut Vars)
+    ensures { v.new ≡ record v.old {
+      remote_discr = packet.now.my;
+      remote_state = packet.now.state;
+      remote_demand = packet.now.demand;
+      remote_min_rx = packet.now.min_rx;
+      remote_min_echo = packet.now.min_echo;
+      remote_mult = packet.now.mult;
+      remote_tx = packet.now.min_tx;
+      heard = Some eff;
+    } }
+{
+    v.remote_discr = packet.my;
+    v.remote_state = packet.state;
+    v.remote_demand = packet.demand;
+    v.remote_min_rx = packet.min_rx;
+    v.remote_min_echo = packet.min_echo;
+    v.remote_mult = packet.mult;
+    v.remote_tx = packet.min_tx;
+    v.heard = Some(eff);
+}
+
+/// The peer's fields are kept (section 6.8.6). Without Demand mode they leave nothing to renew.
+#[tactic(auto, using(crate::proofs::Idle::renews_fields), unfolding(crate::specs::Receive::keeps_fields))]
 fn keeps_fields(config: &Config, eff: u64, packet: &Control, vars: &mut Vars)
     requires plain { IsPlain config.now vars.old }
+    requires renewed { IsRenewed vars.old }
     requires eff { eff < moment_bound }
     requires mult { packet.now.mult ≢ 0 }
     requires sized { IsSized packet.now }
@@ -114,17 +132,11 @@ fn keeps_fields(config: &Config, eff: u64, packet: &Control, vars: &mut Vars)
     ensures heard { IsSome vars.new.heard }
     ensures course { (m : MarkOf) (os : List Out) → course vars.new m os ≡ receive.keeps_fields eff packet.now (course vars.old m os) }
 {
-    let after = Vars {
-        remote_discr: packet.my,
-        remote_state: packet.state,
-        remote_demand: packet.demand,
-        remote_min_rx: packet.min_rx,
-        remote_min_echo: packet.min_echo,
-        remote_mult: packet.mult,
-        remote_tx: packet.min_tx,
-        heard: Some(eff),
-        ..*vars
-    };
+    if !vars.demand {
+        return hears(eff, packet, vars);
+    }
+    let mut after = *vars;
+    hears(eff, packet, &mut after);
     renews(config, eff, after, vars);
 }
 
@@ -160,7 +172,7 @@ fn ends_poll(config: &Config, eff: u64, packet: &Control, vars: &mut Vars)
 /// What a packet that passes the tests leaves, up to the test on AdminDown.
 #[tactic(auto, unfolding(crate::specs::Receive::kept))]
 fn keeps(config: &Config, eff: u64, packet: &Control, seq: SeqState, vars: &mut Vars)
-    requires plain { IsPlain config.now vars.old }
+    requires steady { IsSteady config.now vars.old }
     requires eff { eff < moment_bound }
     requires mult { packet.now.mult ≢ 0 }
     requires sized { IsSized packet.now }

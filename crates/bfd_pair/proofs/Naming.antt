@@ -23,23 +23,8 @@ use Rattle.bfd_session.specs.declared.event.Event.TheVariants.{Packet}
 use Rattle.bfd_session.specs.Kinds.{discr_of}
 use Rattle.bfd_session.specs.Rows.{kind_of, row_of}
 use Rattle.bfd_session.specs.Step.{CanTake}
+use Rattle.bfd_session.proofs.Ports.{each_passes}
 use Rattle.bfd_pair.specs.Run.{arrival_to, screened}
-
--- where no test is found that fails, each passes
-
-here_passes : (t : Test) (fails : Bool) (later : Option Test) → (if fails then Some t else later) ≡ None → fails ≡ false
-here_passes t true later h = cc
-here_passes t false later h = refl
-
-later_passes : (t : Test) (fails : Bool) (later : Option Test) → (if fails then Some t else later) ≡ None → later ≡ None
-later_passes t true later h = cc
-later_passes t false later h = h
-
-passes : (fails : Test → Bool) (before : List Test) (t : Test) (after : List Test) → find fails (before ++ t ∷ after) ≡ None
-    → fails t ≡ false
-passes fails [] t after h = here_passes t (fails t) (find fails after) h
-passes fails (x ∷ before) t after h =
-    passes fails before t after (later_passes x (fails x) (find fails (before ++ t ∷ after)) h)
 
 never : true ≡ false → ⊥
 never h = cc
@@ -58,7 +43,7 @@ single_plain : (discr iface : ℕ) (local remote : Addr) (arrival : Arrival) (m 
     ++ (if m then MultipointYour ∷ NoTail ∷ [] else YourUnknown ∷ YourZeroState ∷ NoSession ∷ [])) ≡ None
     → m ≡ false
 single_plain discr iface local remote arrival true is h =
-    let none = passes (λ test. table_fails SinglePort test (row Single discr iface local remote ∷ []) arrival)
+    let none = each_passes (λ test. table_fails SinglePort test (row Single discr iface local remote ∷ []) arrival)
     (Short ∷ Version ∷ LengthMin ∷ LengthOver ∷ DetectMult ∷ MyDiscr ∷ MultipointYour ∷ []) NoTail [] h in
     absurd (never (ap (λ (b : Bool). b && true) (sym is) ∙ none))
 single_plain discr iface local remote arrival false is h = refl
@@ -72,8 +57,8 @@ names_single : (discr iface : ℕ) (local remote : Addr) (arrival : Arrival) (m 
 names_single discr iface local remote arrival true plain state h = absurd (never plain)
 names_single discr iface local remote arrival false plain state h =
     let fails : Test → Bool = λ test. table_fails SinglePort test (row Single discr iface local remote ∷ []) arrival in
-    let zero = passes fails (Short ∷ Version ∷ LengthMin ∷ LengthOver ∷ DetectMult ∷ MyDiscr ∷ YourUnknown ∷ []) YourZeroState (NoSession ∷ []) h in
-    let unknown = passes fails (Short ∷ Version ∷ LengthMin ∷ LengthOver ∷ DetectMult ∷ MyDiscr ∷ []) YourUnknown (YourZeroState ∷ NoSession ∷ []) h in
+    let zero = each_passes fails (Short ∷ Version ∷ LengthMin ∷ LengthOver ∷ DetectMult ∷ MyDiscr ∷ YourUnknown ∷ []) YourZeroState (NoSession ∷ []) h in
+    let unknown = each_passes fails (Short ∷ Version ∷ LengthMin ∷ LengthOver ∷ DetectMult ∷ MyDiscr ∷ []) YourUnknown (YourZeroState ∷ NoSession ∷ []) h in
     named (fields_of arrival.payload).your discr
     (ap (λ (b : Bool). ((fields_of arrival.payload).your == 0) && b) (sym state) ∙ zero) unknown
 
@@ -82,8 +67,8 @@ names_multi : (discr iface : ℕ) (local remote : Addr) (arrival : Arrival) → 
     → (fields_of arrival.payload).your ≡ discr
 names_multi discr iface local remote arrival state h =
     let fails : Test → Bool = λ test. table_fails MultiPort test (row Multi discr iface local remote ∷ []) arrival in
-    let zero = passes fails (Short ∷ Version ∷ LengthMin ∷ LengthOver ∷ DetectMult ∷ Multipoint ∷ MyDiscr ∷ YourUnknown ∷ []) YourZeroState (NoSession ∷ []) h in
-    let unknown = passes fails (Short ∷ Version ∷ LengthMin ∷ LengthOver ∷ DetectMult ∷ Multipoint ∷ MyDiscr ∷ []) YourUnknown (YourZeroState ∷ NoSession ∷ []) h in
+    let zero = each_passes fails (Short ∷ Version ∷ LengthMin ∷ LengthOver ∷ DetectMult ∷ Multipoint ∷ MyDiscr ∷ YourUnknown ∷ []) YourZeroState (NoSession ∷ []) h in
+    let unknown = each_passes fails (Short ∷ Version ∷ LengthMin ∷ LengthOver ∷ DetectMult ∷ Multipoint ∷ MyDiscr ∷ []) YourUnknown (YourZeroState ∷ NoSession ∷ []) h in
     named (fields_of arrival.payload).your discr
     (ap (λ (b : Bool). ((fields_of arrival.payload).your == 0) && b) (sym state) ∙ zero) unknown
 
@@ -126,7 +111,7 @@ plain_by : (role : Role) (discr iface : ℕ) (local remote : Addr) (arrival : Ar
 plain_by Single discr iface local remote arrival h =
     single_plain discr iface local remote arrival (is_multipoint SinglePort arrival) refl h
 plain_by Multi discr iface local remote arrival h =
-    passes (λ test. table_fails MultiPort test (row Multi discr iface local remote ∷ []) arrival)
+    each_passes (λ test. table_fails MultiPort test (row Multi discr iface local remote ∷ []) arrival)
     (Short ∷ Version ∷ LengthMin ∷ LengthOver ∷ DetectMult ∷ []) Multipoint
     (MyDiscr ∷ YourUnknown ∷ YourZeroState ∷ NoSession ∷ []) h
 

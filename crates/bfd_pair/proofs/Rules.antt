@@ -17,30 +17,13 @@ use Rattle.bfd_rules.specs.declared.variables.Vars.{Vars}
 use Rattle.bfd_rules.specs.Quantities.{may_send, deadline, seq_deadline, is_idle, is_admin_down}
 use Rattle.bfd_rules.specs.Renewal.{poll_renewed, used_renewed, demand_renewed, renewed}
 use Rattle.bfd_rules.specs.EventFrame.{Course, course, changes, sends, enters, tells, is_untold, based, drawn, redrawn}
+use Rattle.bfd_session.proofs.Renewing.{renewed_state, drawn_state}
 use Rattle.bfd_p2p.specs.Frame.{renews, moves}
 use Rattle.bfd_p2p.specs.Transmit.{transmits}
 use Rattle.bfd_p2p.specs.Settle as settling
 use Rattle.bfd_p2p.specs.Receive as receiving
 use Rattle.bfd_p2p.specs.Command.{refusal, commanded, done}
 use Rattle.bfd_p2p.specs.Finish as finishing
-
--- Renewal and drawing leave the state
-
-poll_state : (before v : Vars) → (poll_renewed before v).state ≡ v.state
-unfolding poll_renewed
-poll_state before v = grind arith
-
-demand_state : (eff : ℕ) (before v : Vars) → (demand_renewed eff before v).state ≡ v.state
-unfolding demand_renewed
-demand_state eff before v = grind arith
-
-pub renewed_state : (eff : ℕ) (before v : Vars) → (renewed eff before v).state ≡ v.state
-unfolding renewed used_renewed
-renewed_state eff before v = demand_state eff before _ ∙ poll_state before v
-
-pub drawn_state : (active : Bool) (m : Mark) (v : Vars) → (drawn active m v).state ≡ v.state
-unfolding drawn
-drawn_state active m v = grind arith
 
 -- the state stays, or becomes an allowed one
 abbrev pub Goes : (State → Bool) → Vars → Vars → Type 0

@@ -10,7 +10,7 @@ use Rattle.bfd_session.specs.declared.event.Answer.{Answer}
 use Rattle.bfd_session.specs.Kinds.{Running, configs_of}
 use Rattle.bfd_demux.specs.declared.row.Row.{Row}
 use Rattle.bfd_demux.specs.Rows.{build_fault}
-use Rattle.bfd_script.specs.declared.entries.Line.{Line}
+use Rattle.bfd_line.specs.declared.entries.Line.{Line}
 use Rattle.bfd_session.specs.Rows.{Ascends, table_of}
 use Rattle.bfd_session.proofs.Starting.{started_configs}
 use Rattle.bfd_script.proofs.Faults as script

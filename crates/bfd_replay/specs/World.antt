@@ -15,7 +15,7 @@ use Rattle.bfd_session.specs.declared.event.Answer.TheVariants.{Handled, Ticked,
 use Rattle.bfd_session.specs.Kinds.{Running, configs_of}
 use Rattle.bfd_session.specs.Step.{started}
 use Rattle.bfd_session.specs.Alone.{Outcome, stepped, step_outcome, ticked, tick_items}
-use Rattle.bfd_script.specs.declared.entries.Line.{Line}
+use Rattle.bfd_line.specs.declared.entries.Line.{Line}
 use Rattle.bfd_script.specs.Doing.{Doing, Rests, Reflects, Happens, Passes, doing}
 use Rattle.bfd_script.specs.Reading.{Lists}
 use Rattle.bfd_script.specs.Report.{sent, dropped, report}

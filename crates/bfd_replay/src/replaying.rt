@@ -8,9 +8,9 @@ ghost use Rattle.bfd_replay.specs.World as world;
 
 use crate::world::happen;
 use bfd_demux::{BuildFault, Demux};
+use bfd_line::Line;
 use bfd_rules::{Out, Outs};
 use bfd_sbfd::Reflector;
-use bfd_script::Line;
 use bfd_session::{Answer, Session, SessionConfig, table_of};
 use std::alloc::{AllocError, Global};
 use std::marker::Model;

@@ -1,7 +1,7 @@
 //! Playing a schedule, and the line of it.
 ghost use Rattle.std.specs.Prelude.{◌≡◌, ◌<◌, ◌≤◌, ◌+◌, ◌*◌, ℕ, IfOk, OnOk, count_by, length, string_bytes};
 ghost use Rattle.bfd_pair.specs.Run.{Both, end_of, pair_run, turn};
-ghost use Rattle.bfd_script.specs.Spelling.{state_name};
+ghost use Rattle.bfd_fields.specs.Spelling.{state_name};
 ghost use Rattle.bfd_schedule.specs.Schedule as schedule;
 ghost use Rattle.bfd_schedule.specs.Line as line;
 ghost use Rattle.bfd_schedule.specs.Inside.{IsPlayed};

@@ -9,7 +9,8 @@ use Rattle.bfd_session.specs.Rows.{table_of}
 use Rattle.bfd_session.proofs.Tables.{IsElsewhere, no_fault_with}
 use Rattle.bfd_demux.specs.Rows.{build_fault}
 use Rattle.bfd_script.specs.Rows.{has_discr}
-use Rattle.bfd_script.specs.Sound.{AreApart, AreConfigs, ArePool, IsReflector}
+use Rattle.bfd_line.specs.Ranges.{IsReflector}
+use Rattle.bfd_script.specs.Sound.{AreApart, AreConfigs, ArePool}
 
 -- no reflector has a session's discriminator, told for the sessions
 

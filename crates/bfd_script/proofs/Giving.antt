@@ -18,8 +18,9 @@ use Rattle.bfd_session.specs.Step.{IsFit}
 use Rattle.bfd_demux.specs.declared.row.RowKind.{RowKind}
 use Rattle.bfd_demux.specs.Rows.{same_selector as same_kind}
 use Rattle.bfd_script.specs.Rows.{by_discr, changed, has_selector, keyed_more, keyed_with, keys_in, keys_of, one_more}
-use Rattle.bfd_script.specs.Secrets.{key_fault}
-use Rattle.bfd_script.specs.Sound.{AreConfigs, AreKeys, AreNext, IsChain, IsKey, IsNext, IsRow}
+use Rattle.bfd_line.specs.Secrets.{key_fault}
+use Rattle.bfd_line.specs.Ranges.{AreKeys, AreNext, IsChain, IsKey, IsNext, IsRow}
+use Rattle.bfd_script.specs.Sound.{AreConfigs}
 use Rattle.bfd_script.specs.Tables.{IsTable}
 use Rattle.bfd_script.proofs.Elements.{each_to}
 use Rattle.bfd_script.proofs.Numbered.{values_by}
@@ -123,7 +124,7 @@ ascends_cond : (f : SessionConfig → SessionConfig) → Keeps f → (same : Boo
 ascends_cond f kept true x cs rest all above more = (subst (λ k. AllByRecursion (λ d. k < discr_of d) cs) (sym (kept.discr x)) all.0, all.1)
 ascends_cond f kept false x cs rest all above more = (above, more)
 
-ascends_changed : (f : SessionConfig → SessionConfig) → Keeps f → (k : ℕ) (cs : List SessionConfig) → Ascends cs → Ascends (changed k f cs)
+pub ascends_changed : (f : SessionConfig → SessionConfig) → Keeps f → (k : ℕ) (cs : List SessionConfig) → Ascends cs → Ascends (changed k f cs)
 ascends_changed f kept k [] all = tt
 ascends_changed f kept k (c ∷ cs) all =
     ascends_cond f kept (k == discr_of c) c cs (changed k f cs) all

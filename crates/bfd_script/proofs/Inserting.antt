@@ -16,7 +16,8 @@ use Rattle.bfd_demux.specs.Rows.{has_addresses, same_selector as same_kind}
 use Rattle.bfd_demux.proofs.AlikeRows.{selector_level, unaddressed_back}
 use Rattle.bfd_session.proofs.Tables.{same_turned}
 use Rattle.bfd_script.specs.Rows.{has_discr, has_place, has_selector, inserted, by_discr}
-use Rattle.bfd_script.specs.Sound.{AreConfigs, IsRow}
+use Rattle.bfd_line.specs.Ranges.{IsRow}
+use Rattle.bfd_script.specs.Sound.{AreConfigs}
 use Rattle.bfd_script.specs.Tables.{IsTable}
 use Rattle.bfd_script.proofs.Elements.{each_to}
 use Rattle.bfd_script.proofs.Numbered.{any_inserted, each_inserted, entries_more, known_among, length_inserted, none_any}
@@ -48,7 +49,7 @@ ascends_cond false false has c d ds l s none all more =
     let high : discr_of d < discr_of c = grind (arith, nat_tests) in
     (each_inserted discr_of (λ x. discr_of d < discr_of x) c ds high all.0, more none)
 
-ascends_inserted : (c : SessionConfig) (cs : List SessionConfig) → has_discr (discr_of c) cs ≡ false → Ascends cs → Ascends (inserted c cs)
+pub ascends_inserted : (c : SessionConfig) (cs : List SessionConfig) → has_discr (discr_of c) cs ≡ false → Ascends cs → Ascends (inserted c cs)
 ascends_inserted c [] none all = (tt, tt)
 ascends_inserted c (d ∷ ds) none all =
     ascends_cond (nat_lt (discr_of c) (discr_of d)) (discr_of c == discr_of d) (has_discr (discr_of c) ds) c d ds refl refl none all (λ h. ascends_inserted c ds h all.1)

@@ -4,8 +4,8 @@ use Rattle.std.proofs.lemmas.Bool.Decides.{nat_tests}
 use Rattle.std.proofs.lemmas.Bool.{or_right, or_parts}
 use Rattle.bfd_session.specs.declared.event.SessionConfig.{SessionConfig}
 use Rattle.bfd_session.specs.Kinds.{discr_of}
-use Rattle.bfd_script.specs.declared.entries.Line.{Line}
-use Rattle.bfd_script.specs.declared.entries.Line.TheVariants as events
+use Rattle.bfd_line.specs.declared.entries.Line.{Line}
+use Rattle.bfd_line.specs.declared.entries.Line.TheVariants as events
 use Rattle.bfd_script.specs.Reading.{is_named}
 use Rattle.bfd_script.specs.Rows.{changed, has_discr, inserted}
 use Rattle.bfd_sbfd.specs.declared.reflecting.Reflector.{Reflector}

@@ -36,7 +36,7 @@ entry_step number false true has x y ys rest es none next = cc
 entry_step number false false has x y ys rest es none next = ap (λ t. (number y, y) ∷ t) (next none)
 
 -- the map's insertion is that of the list
-entry_inserted : {X : Type 0} (number : X → ℕ) (x : X) (xs : List X) → has_number number (number x) xs ≡ false
+pub entry_inserted : {X : Type 0} (number : X → ℕ) (x : X) (xs : List X) → has_number number (number x) xs ≡ false
     → insert_entry nat_cmp (by_number number xs) (number x) x ≡ by_number number (insert_by number x xs)
 entry_inserted number x [] none = refl
 entry_inserted number x (y ∷ ys) none =

@@ -11,7 +11,8 @@ use Rattle.bfd_sbfd.specs.declared.reflecting.Reflector.{Reflector}
 use Rattle.bfd_session.specs.declared.event.SessionConfig.{SessionConfig}
 use Rattle.bfd_session.specs.Kinds.{discr_of}
 use Rattle.bfd_script.specs.Rows.{has_discr, has_reflector, inserted, number_of, pool_by_discr, pooled}
-use Rattle.bfd_script.specs.Sound.{AreApart, ArePool, IsReflector}
+use Rattle.bfd_line.specs.Ranges.{IsReflector}
+use Rattle.bfd_script.specs.Sound.{AreApart, ArePool}
 use Rattle.bfd_script.specs.Tables.{IsPool}
 use Rattle.bfd_script.proofs.Elements.{each_to}
 use Rattle.bfd_script.proofs.Numbered.{any_inserted, each_inserted, entries_more, is_above, known_among}

@@ -10,7 +10,7 @@ use Rattle.bfd_rules.specs.declared.outputs.Out.TheVariants.{Changed, Sent}
 use Rattle.bfd_session.specs.declared.event.Answer.{Answer}
 use Rattle.bfd_session.specs.declared.event.Answer.TheVariants.{Handled, Ticked, Dropped, Refused, Shown as Showing}
 use Rattle.bfd_session.specs.Alone.{Outcome}
-use Rattle.bfd_script.specs.Spelling.{line, hex_field, state_name}
+use Rattle.bfd_fields.specs.Spelling.{line, hex_field, state_name}
 
 -- the name of a refusal of a command
 abbrev pub refusal_name : Refusal → List ℕ

@@ -1,14 +1,13 @@
 // The whole text.
 ghost use Rattle.std.specs.Prelude.{IfOk};
-ghost use Rattle.bfd_script.specs.Gives.{Gives, GivesScript};
+ghost use Rattle.bfd_fields.specs.Gives.{Gives, GivesScript};
 ghost use Rattle.bfd_script.specs.Reading.{script_of, step};
 ghost use Rattle.bfd_script.specs.Sound.{IsScript};
 
-use crate::entries::read_line;
-use crate::fault::{BadLine, ReadFault, ScriptFault};
-use crate::fields::first_line;
 use crate::script::Script;
 use crate::state::Reading;
+use bfd_fields::{BadLine, ReadFault, ScriptFault, first_line};
+use bfd_line::read_line;
 use std::alloc::Global;
 
 /// Takes in one more line. `fields` is room for its fields.

@@ -1,5 +1,5 @@
 // A script.
-use crate::entries::Line;
+use bfd_line::Line;
 use bfd_sbfd::Reflector;
 use bfd_session::SessionConfig;
 use std::marker::Model;

@@ -9,38 +9,39 @@ ghost use Rattle.std.specs.Map.{lookup, values_of};
 ghost use Rattle.std.specs.Ordering.{nat_cmp};
 ghost use Rattle.std.specs.Option.{option_copied};
 ghost use Rattle.bfd_script.specs.Rows.{by_discr, changed, given, given_more, has_discr, has_keys, has_pair, has_place, inserted, is_pair, keyed_more, keyed_with, keys_in, keys_of, one_more};
-ghost use Rattle.bfd_script.specs.Secrets.{key_fault};
-ghost use Rattle.bfd_script.specs.Sound.{AreConfigs, IsChain, IsKey, IsRow};
+ghost use Rattle.bfd_line.specs.Secrets.{key_fault};
+ghost use Rattle.bfd_line.specs.Ranges.{IsChain, IsKey, IsRow};
+ghost use Rattle.bfd_script.specs.Sound.{AreConfigs};
 ghost use Rattle.bfd_script.specs.Tables.{among};
 
-use crate::fault::LineFault;
 use crate::places::Places;
-use crate::secrets::key_fault;
+use crate::rows::Rows;
 use bfd_demux::RowKind;
+use bfd_fields::LineFault;
+use bfd_line::key_fault;
 use bfd_packet::{Key, Keys};
 use bfd_session::{SessionConfig, row_of};
 use std::alloc::{AllocError, Global};
-use std::collections::BTreeMap;
 use std::marker::Model;
 
 /// Sessions. Contracts see the list of them, ascending by discriminator.
 #[derive(Drop)]
 pub(crate) struct Table {
-    rows: BTreeMap<u32, SessionConfig>,
+    rows: Rows,
     places: Places,
 }
 
 impl Model for Table {
     ghost use Rattle.std.specs.Prelude.{List};
-    ghost use Rattle.std.specs.BTreeMap.{values};
+    ghost use Rattle.std.specs.Map.{values_of};
     ghost use Rattle.bfd_session.specs.declared.event.SessionConfig.{SessionConfig};
     ghost use Rattle.bfd_script.specs.Tables.{IsTable, among};
 
     ghost Value = { List SessionConfig };
 
-    ghost view = { λ t. values t.rows };
+    ghost view = { λ t. values_of t.rows };
 
-    ghost invariant = { λ t. IsTable t.rows.entries (among t.places) };
+    ghost invariant = { λ t. IsTable t.rows (among t.places) };
 }
 
 /// The keys of a session.
@@ -53,73 +54,11 @@ pub fn keys_in(config: &SessionConfig) -> Option<&Keys>
     }
 }
 
-/// Whether a session has this discriminator. One above all others is new, as one comparison tells.
-fn is_in(rows: &BTreeMap<u32, SessionConfig>, discr: u32) -> bool
-    ensures { result ≡ is_some (lookup (is_at (nat_cmp discr)) rows.now.entries) }
-{
-    match rows.last_key_value() {
-        Some((last, _)) if *last < discr => false,
-        _ => rows.contains_key(&discr),
-    }
-}
-
 /// Whether the session may have keys: a point-to-point one alone may.
 fn may_have_keys(config: &SessionConfig) -> bool
     ensures { result ≡ is_pair (Some config.now) }
 {
     matches!(config, SessionConfig::Pair(_))
-}
-
-/// A session gets these keys, where it may have some.
-fn set_keys(config: &mut SessionConfig, keys: Keys)
-    ensures { config.new ≡ keyed_with keys config.old }
-{
-    if let SessionConfig::Pair(pair) = config {
-        pair.keys = Some(keys);
-    }
-}
-
-/// One more key behind these, where there are some with room for it.
-fn add_to(keys: &mut Option<Keys>, key: Key)
-    requires { key_fault keys.old key ≡ None }
-    ensures { keys.new ≡ one_more key keys.old }
-{
-    if let Some(keys) = keys {
-        keys.add(key);
-    }
-}
-
-/// A session gets one more key, where it has some with room for it.
-fn add_key(config: &mut SessionConfig, key: Key)
-    requires { key_fault (keys_in (Some config.old)) key ≡ None }
-    ensures { config.new ≡ keyed_more key config.old }
-{
-    if let SessionConfig::Pair(pair) = config {
-        add_to(&mut pair.keys, key);
-    }
-}
-
-/// The session of this discriminator gets these keys.
-fn give(rows: &mut BTreeMap<u32, SessionConfig>, discr: u32, keys: Keys)
-    requires { rows.old.entries ≡ by_discr (values_of rows.old.entries) }
-    ensures { rows.new.entries ≡ by_discr (given discr keys (values_of rows.old.entries)) }
-{
-    let Some(config) = rows.get_mut(&discr) else {
-        return;
-    };
-    set_keys(config, keys);
-}
-
-/// The session of this discriminator gets one more key, where it has some with room for it.
-fn give_more(rows: &mut BTreeMap<u32, SessionConfig>, discr: u32, key: Key)
-    requires entries { rows.old.entries ≡ by_discr (values_of rows.old.entries) }
-    requires room { key_fault (keys_of discr (values_of rows.old.entries)) key ≡ None }
-    ensures { rows.new.entries ≡ by_discr (given_more discr key (values_of rows.old.entries)) }
-{
-    let Some(config) = rows.get_mut(&discr) else {
-        return;
-    };
-    add_key(config, key);
 }
 
 /// The addresses of one more session, where it has some: a session without addresses is like no other.
@@ -139,7 +78,7 @@ impl Table {
         ensures { result ≡ [] }
     {
         Table {
-            rows: BTreeMap::new(alloc),
+            rows: Rows::new(alloc),
             places: Places::new(alloc),
         }
     }
@@ -156,7 +95,7 @@ impl Table {
     pub(crate) fn has_discr(&self, discr: u32) -> bool
         ensures { result ≡ has_discr discr self.now }
     {
-        is_in(&self.rows, discr)
+        self.rows.has(discr)
     }
 
     /// Whether the session of this discriminator is there and may have keys.
@@ -164,7 +103,7 @@ impl Table {
     pub(crate) fn has_pair(&self, discr: u32) -> bool
         ensures { result ≡ has_pair discr self.now }
     {
-        match self.rows.get(&discr) {
+        match self.rows.get(discr) {
             Some(config) => may_have_keys(config),
             None => false,
         }
@@ -175,7 +114,7 @@ impl Table {
     pub(crate) fn has_keys(&self, discr: u32) -> bool
         ensures { result ≡ has_keys discr self.now }
     {
-        match self.rows.get(&discr) {
+        match self.rows.get(discr) {
             Some(config) => keys_in(config).is_some(),
             None => false,
         }
@@ -186,7 +125,7 @@ impl Table {
     pub(crate) fn key_fault(&self, discr: u32, key: &Key) -> Option<LineFault>
         ensures { result ≡ key_fault (keys_of discr self.now) key.now }
     {
-        match self.rows.get(&discr) {
+        match self.rows.get(discr) {
             Some(config) => key_fault(keys_in(config), key),
             None => key_fault(None, key),
         }
@@ -208,9 +147,9 @@ impl Table {
         requires row { IsRow config }
         ensures { IfOk result (λ table. table ≡ inserted config self) }
     {
-        let Table { mut rows, places } = self;
+        let Table { rows, places } = self;
         let places = note(places, row_of(&config).kind)?;
-        rows.insert(config.discr(), config)?;
+        let rows = rows.with(config)?;
         Ok(Table { rows, places })
     }
 
@@ -220,7 +159,7 @@ impl Table {
         ensures { result ≡ given discr keys self }
     {
         let Table { mut rows, places } = self;
-        give(&mut rows, discr, keys);
+        rows.give(discr, keys);
         Table { rows, places }
     }
 
@@ -231,7 +170,7 @@ impl Table {
         ensures { result ≡ given_more discr key self }
     {
         let Table { mut rows, places } = self;
-        give_more(&mut rows, discr, key);
+        rows.give_more(discr, key);
         Table { rows, places }
     }
 
@@ -240,6 +179,6 @@ impl Table {
         ensures rows { IfOk result (λ rows. rows.items ≡ self) }
         ensures sound { AreConfigs self }
     {
-        self.rows.into_values().collect(alloc)
+        self.rows.into_rows(alloc)
     }
 }

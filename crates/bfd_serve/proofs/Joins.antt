@@ -57,7 +57,3 @@ taken_in_none engine k of there number = record { of = of; there = there; number
 pub taken_in_more : (engine : Shards) (k l m o : Knows) (os : List Knows) → AreTakenIn engine k os l → IsOf engine m.1 → AllThere m.1 → m.0 ≡ 0
     → ((s : ℕ) → s < length engine.locks → Joined l o m s) → AreTakenIn engine k (os ++ o ∷ []) m
 taken_in_more engine k l m o os t of there number joined = record { of = of; there = there; number = number; joined = λ s h. joined_one k l m o os s (t.joined s h) (joined s h) }
-
--- what is true of all is true of the next
-pub all_next : {X : Type 0} (P : X → Type 0) (items xs ys : List X) (x : X) → xs ++ x ∷ ys ≡ items → All P items → P x
-all_next P items xs ys x is all = subst P (get_or-append_seam xs x ys x) (subst (λ l. All P l) (sym is) all (length xs) x (omega (arith, length-append xs (x ∷ ys))))

@@ -11,7 +11,7 @@ use native.Mathlib.Decide.{dec_lt}
 use Rattle.bfd_packet.specs.declared.arrival.Arrival.{Arrival}
 use Rattle.bfd_packet.specs.declared.arrival.Datagram.{Datagram}
 use Rattle.bfd_shard.specs.declared.entry.Entry.{Entry}
-use Rattle.bfd_script.specs.declared.entries.Line.{Line}
+use Rattle.bfd_line.specs.declared.entries.Line.{Line}
 use Rattle.bfd_turn.specs.Lists.{Begins, calls, numbers_of}
 use Rattle.bfd_turn.proofs.Beginnings.{begins_length}
 use Rattle.bfd_edge.specs.Faults.{risen}

@@ -7,7 +7,7 @@ use Rattle.std.proofs.lemmas.Bool.Decides.{nat_tests}
 use Rattle.bfd_packet.specs.declared.arrival.Arrival.{Arrival}
 use Rattle.bfd_shard.specs.declared.entry.ShardEvent.{ShardEvent}
 use Rattle.bfd_shard.specs.declared.entry.ShardEvent.TheVariants.{Tick as TickEvent}
-use Rattle.bfd_script.specs.declared.entries.Line.{Line}
+use Rattle.bfd_line.specs.declared.entries.Line.{Line}
 use Rattle.bfd_engine.specs.Engines.{Shards}
 use Rattle.bfd_engine.specs.Calls.{Act, Turns, Rests}
 use Rattle.bfd_serve.specs.Calls.{act_at, worker_acts}

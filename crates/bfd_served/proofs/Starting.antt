@@ -1,17 +1,10 @@
 -- A shard made anew.
 use Rattle.std.proofs.Common.{◌≡◌, ℕ, List, [], ◌∷◌, ◌++◌, map, refl, sym, ◌∙◌, ap, subst, append_assoc}
 use Rattle.bfd_session.specs.declared.event.SessionConfig.{SessionConfig}
-use Rattle.bfd_session.specs.Kinds.{configs_of}
-use Rattle.bfd_session.specs.Step.{started}
 use Rattle.bfd_shard.specs.declared.entry.Entry.{Entry}
 use Rattle.bfd_shard.specs.History.{events_of}
 use Rattle.bfd_shard.specs.Shard.{IsHistory}
 use Rattle.bfd_served.specs.Served.{entries_text, shard_line}
-
--- its sessions have the configurations that were given
-pub started_configs : (cs : List SessionConfig) → configs_of (map started cs) ≡ cs
-started_configs [] = refl
-started_configs (c ∷ cs) = ap (λ xs. c ∷ xs) (started_configs cs)
 
 -- a history of shards with these configurations
 pub history_same : (cs own : List SessionConfig) (js ks : List Entry) → own ≡ cs → ks ≡ js → IsHistory cs (events_of js) → IsHistory own (events_of ks)

@@ -10,7 +10,7 @@ use Rattle.bfd_shard.specs.declared.entry.ShardEvent.TheVariants.{Own, Tick}
 use Rattle.bfd_shard.specs.History.{events_of, last_tick, outcome_of, runs}
 use Rattle.bfd_shard.specs.Shard.{Shard}
 use Rattle.bfd_script.specs.Report.{event_lines, sent}
-use Rattle.bfd_script.specs.Spelling.{line, spaced}
+use Rattle.bfd_fields.specs.Spelling.{line, spaced}
 use Rattle.bfd_spelling.specs.Happening.{happening_fields}
 
 -- what a shard's text is made from: the configurations of its sessions, and its journal

@@ -12,7 +12,7 @@ use Rattle.bfd_turn.specs.Lists.{calls, has, numbers_of}
 use Rattle.bfd_turn.specs.Plays.{AllKept}
 use Rattle.bfd_shard.specs.declared.entry.Entry.{Entry}
 use Rattle.bfd_shard.specs.Shard.{Shard, IsShard}
-use Rattle.bfd_script.specs.declared.entries.Line.{Line}
+use Rattle.bfd_line.specs.declared.entries.Line.{Line}
 use Rattle.bfd_edge.specs.Links.{LinkTold}
 use Rattle.bfd_edge.specs.Tickers.{TickerTold}
 use Rattle.bfd_packet.specs.declared.arrival.Datagram.{Datagram}

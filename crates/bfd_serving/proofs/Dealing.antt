@@ -11,8 +11,9 @@ use Rattle.bfd_session.specs.Kinds.{configs_of}
 use Rattle.bfd_session.specs.Rows.{AreFit}
 use Rattle.bfd_session.specs.Step.{IsFit}
 use Rattle.bfd_shard.specs.Shard.{Shard}
-use Rattle.bfd_engine.specs.Engines.{Shards, share}
-use Rattle.bfd_engine.proofs.Sharing.{all_share}
+use Rattle.bfd_shard.specs.Dealing.{share}
+use Rattle.bfd_engine.specs.Engines.{Shards}
+use Rattle.bfd_shard.proofs.Sharing.{all_share}
 use Rattle.bfd_serving.specs.Runs.{AreDealt, AreClosedShards}
 use Rattle.bfd_serving.proofs.Shuts.{get_last}
 use Rattle.bfd_serving.proofs.Closings.{there_is}

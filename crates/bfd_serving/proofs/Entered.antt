@@ -31,8 +31,8 @@ use Rattle.bfd_shard.specs.declared.entry.ShardEvent.TheVariants.{Own, Tick as T
 use Rattle.bfd_shard.specs.Expired.{expired, forgotten}
 use Rattle.bfd_shard.specs.History.{events_of, last_tick, runs}
 use Rattle.bfd_shard.specs.Shard.{Shard, CanHappen, IsHistory, IsOnTime, IsTaken, NoneDue}
-use Rattle.bfd_script.specs.declared.entries.Line.{Line}
-use Rattle.bfd_script.specs.declared.entries.Line.TheVariants.{Cmd as CmdLine, Show}
+use Rattle.bfd_line.specs.declared.entries.Line.{Line}
+use Rattle.bfd_line.specs.declared.entries.Line.TheVariants.{Cmd as CmdLine, Show}
 use Rattle.bfd_turn.specs.Lists.{calls}
 use Rattle.bfd_edge.specs.Links.{LinkTold}
 use Rattle.bfd_edge.specs.Tickers.{TickerTold}

@@ -6,7 +6,7 @@ use Rattle.bfd_session.specs.Rows.{table_of}
 use Rattle.bfd_demux.specs.Rows.{build_fault}
 use Rattle.bfd_engine.specs.Opening.{IsSorted}
 use Rattle.bfd_engine.proofs.Ordered as ordered
-use Rattle.bfd_script.specs.declared.entries.Line.{Line}
+use Rattle.bfd_line.specs.declared.entries.Line.{Line}
 use Rattle.bfd_script.specs.Sound.{IsScript}
 use Rattle.bfd_script.proofs.Faults as script
 use Rattle.bfd_serving.specs.Runs.{script_of}

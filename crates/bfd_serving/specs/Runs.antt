@@ -7,13 +7,14 @@ use Rattle.bfd_session.specs.declared.event.SessionConfig.{SessionConfig}
 use Rattle.bfd_session.specs.Kinds.{configs_of}
 use Rattle.bfd_shard.specs.declared.entry.Entry.{Entry}
 use Rattle.bfd_shard.specs.Shard.{Shard, IsShard}
-use Rattle.bfd_script.specs.declared.entries.Line.{Line}
+use Rattle.bfd_line.specs.declared.entries.Line.{Line}
 use Rattle.bfd_script.specs.Reading.{Lists}
 use Rattle.bfd_edge.specs.Faults.{risen}
 use Rattle.bfd_edge.specs.Links.{LinkTold}
 use Rattle.bfd_edge.specs.Tickers.{TickerTold}
 use Rattle.bfd_engine.specs.Turned.{by}
-use Rattle.bfd_engine.specs.Engines.{Shards, configs_at, share}
+use Rattle.bfd_shard.specs.Dealing.{share}
+use Rattle.bfd_engine.specs.Engines.{Shards, configs_at}
 use Rattle.bfd_engine.specs.Calls.{Act}
 use Rattle.bfd_serve.specs.declared.ending.End.{End}
 use Rattle.bfd_serve.specs.declared.ending.End.TheVariants.{Ended}

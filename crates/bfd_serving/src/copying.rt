@@ -1,6 +1,6 @@
 //! The sessions of a script, copied and dealt out to shards.
 ghost use Rattle.std.specs.Prelude.{◌≡◌, ◌<◌, ◌≤◌, ◌+◌, ◌*◌, ◌++◌, [], IfOk, length, map, drop};
-ghost use Rattle.bfd_engine.specs.Engines.{share};
+ghost use Rattle.bfd_shard.specs.Dealing.{share};
 ghost use Rattle.bfd_serving.specs.Runs.{AreDealt};
 
 use bfd_packet::{Key, KeyList, Keys, Secret};

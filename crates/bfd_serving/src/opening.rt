@@ -5,8 +5,8 @@ ghost use Rattle.bfd_engine.specs.Opening.{IsNewPass};
 ghost use Rattle.bfd_serving.specs.Runs.{IsOpened, script_of};
 
 use bfd_engine::{Engine, EnginePass, OpenFault};
+use bfd_line::Line;
 use bfd_sbfd::Reflector;
-use bfd_script::Line;
 use bfd_session::SessionConfig;
 use bfd_wheel::Timers;
 use std::alloc::{AllocError, Global};

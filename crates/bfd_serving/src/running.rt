@@ -9,7 +9,7 @@ ghost use Rattle.bfd_serving.specs.Runs.{AreClosedShards, HaveRun, history_at, t
 
 use bfd_edge::{Gate, Link, Ticker};
 use bfd_engine::{Engine, EnginePass, Unclosed};
-use bfd_script::Line;
+use bfd_line::Line;
 use bfd_serve::{End, Limits, Served, serve};
 use bfd_shard::ShardState;
 use bfd_wheel::Timers;

@@ -16,23 +16,23 @@ use Rattle.bfd_packet.specs.declared.keys.AuthType.TheVariants as kinds
 use Rattle.bfd_packet.specs.declared.keys.Key.{Key}
 use Rattle.bfd_rules.specs.declared.commands.Cmd.{Cmd}
 use Rattle.bfd_rules.specs.declared.commands.Cmd.TheVariants as commands
-use Rattle.bfd_script.specs.declared.fault.LineFault.TheVariants.{FieldCount, OutOfRange}
-use Rattle.bfd_script.specs.declared.entries.Entry.TheVariants as entries
-use Rattle.bfd_script.specs.declared.entries.Line.{Line}
-use Rattle.bfd_script.specs.declared.entries.Line.TheVariants as events
-use Rattle.bfd_script.specs.declared.verbs.Verb.{Verb}
-use Rattle.bfd_script.specs.declared.verbs.Verb.TheVariants as verbs
-use Rattle.bfd_script.specs.declared.words.Place.TheVariants as places
-use Rattle.bfd_script.specs.declared.words.Version.{Version}
-use Rattle.bfd_script.specs.declared.words.Version.TheVariants.{One, Two}
-use Rattle.bfd_script.specs.Arrivals.{arrival_of, port_of}
-use Rattle.bfd_script.specs.Entries.{commanded, entry_of, numbered_of, plain_of, received_of, shown_of}
-use Rattle.bfd_script.specs.Fields.{number_in}
-use Rattle.bfd_script.specs.Gives.{◌>>=◌}
-use Rattle.bfd_script.specs.Secrets.{chain_of, fitting, key_of, kind_by, kind_of, one_key, secret_of}
-use Rattle.bfd_script.specs.Sound.{IsAsked, IsEvent, IsKey, IsReceived}
-use Rattle.bfd_script.specs.Spelling.{hex_field, spaced}
-use Rattle.bfd_script.specs.Verbs.{command, fits, number_of, verb_of}
+use Rattle.bfd_fields.specs.declared.fault.LineFault.TheVariants.{FieldCount, OutOfRange}
+use Rattle.bfd_line.specs.declared.entries.Entry.TheVariants as entries
+use Rattle.bfd_line.specs.declared.entries.Line.{Line}
+use Rattle.bfd_line.specs.declared.entries.Line.TheVariants as events
+use Rattle.bfd_line.specs.declared.verbs.Verb.{Verb}
+use Rattle.bfd_line.specs.declared.verbs.Verb.TheVariants as verbs
+use Rattle.bfd_line.specs.declared.words.Place.TheVariants as places
+use Rattle.bfd_line.specs.declared.words.Version.{Version}
+use Rattle.bfd_line.specs.declared.words.Version.TheVariants.{One, Two}
+use Rattle.bfd_line.specs.Arrivals.{arrival_of, port_of}
+use Rattle.bfd_line.specs.Entries.{commanded, entry_of, numbered_of, plain_of, received_of, shown_of}
+use Rattle.bfd_fields.specs.Fields.{number_in}
+use Rattle.bfd_fields.specs.Gives.{◌>>=◌}
+use Rattle.bfd_line.specs.Secrets.{chain_of, fitting, key_of, kind_by, kind_of, one_key, secret_of}
+use Rattle.bfd_line.specs.Ranges.{IsAsked, IsEvent, IsKey, IsReceived}
+use Rattle.bfd_fields.specs.Spelling.{hex_field, spaced}
+use Rattle.bfd_line.specs.Verbs.{command, fits, number_of, verb_of}
 use Rattle.bfd_spelling.specs.Written.{address_field, auth_fields, event_fields, is_new_line, key_fields, port_field, verb_fields}
 use Rattle.bfd_spelling.proofs.Numerals.{number_again, number_field, number_short}
 use Rattle.bfd_spelling.proofs.Rereading.{address_again, address_is_field, address_short, bytes_again, hex_is_field, hex_short, payload_again}

@@ -7,8 +7,8 @@ use Rattle.std.specs.Prelude.{slice_index}
 use Rattle.std.specs.Char.{is_ascii_digit}
 use Rattle.std.specs.Fmt.{decimal}
 use Rattle.std.specs.List.{list_all, AllByRecursion}
-use Rattle.bfd_script.specs.Fields.{is_number, number_in}
-use Rattle.bfd_script.proofs.Decimal.{own}
+use Rattle.bfd_fields.specs.Fields.{is_number, number_in}
+use Rattle.bfd_fields.proofs.Decimal.{own}
 use Rattle.bfd_spelling.proofs.Visible.{IsField}
 
 -- a decimal digit

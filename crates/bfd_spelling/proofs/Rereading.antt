@@ -17,8 +17,8 @@ use Rattle.hex.specs.declared.error.FromHexError.TheVariants.{OddLength, Invalid
 use Rattle.hex.proofs.HexLemmas.{decode_of-encode_lower, decode_sized-encode_lower, length-encode_with}
 use Rattle.bfd_packet.specs.declared.arrival.Addr.{Addr}
 use Rattle.bfd_packet.specs.declared.arrival.Addr.TheVariants.{V4, V6}
-use Rattle.bfd_script.specs.Spelling.{hex_field}
-use Rattle.bfd_script.specs.Values.{IsAddress, address_by, address_of, bytes_of, dotted_of, octet_of, part_of, payload_of, quad_of}
+use Rattle.bfd_fields.specs.Spelling.{hex_field}
+use Rattle.bfd_fields.specs.Values.{IsAddress, address_by, address_of, bytes_of, dotted_of, octet_of, part_of, payload_of, quad_of}
 use Rattle.bfd_spelling.specs.Written.{address_field, dotted_field}
 use Rattle.bfd_spelling.proofs.Numerals.{number_again, number_dotless, number_field, octet_short}
 use Rattle.bfd_script.proofs.Elements.{each_more}

@@ -17,17 +17,17 @@ use Rattle.bfd_sbfd.specs.declared.reflecting.Reflector.{Reflector}
 use Rattle.bfd_session.specs.declared.event.SessionConfig.{SessionConfig}
 use Rattle.bfd_session.specs.declared.event.SessionConfig.TheVariants.{Pair, Seek, Head, Tail}
 use Rattle.bfd_session.specs.Step.{IsFit}
-use Rattle.bfd_script.specs.declared.fault.LineFault.TheVariants.{OutOfRange}
-use Rattle.bfd_script.specs.declared.entries.Entry.TheVariants as entries
-use Rattle.bfd_script.specs.declared.words.Place.TheVariants as places
-use Rattle.bfd_script.specs.declared.words.Version.{Version}
-use Rattle.bfd_script.specs.Entries.{entry_of}
-use Rattle.bfd_script.specs.Gives.{◌>>=◌}
-use Rattle.bfd_script.specs.Pairs.{active_of, config_by, echo_of, ends_of, pair_of, pair_with, role_of, timing_of}
-use Rattle.bfd_script.specs.Seamless.{initiator_of, reflecting_of, up_of}
-use Rattle.bfd_script.specs.Sound.{IsHeadRow, IsPairRow, IsReflector, IsRow, IsSeekRow, IsTailRow}
-use Rattle.bfd_script.specs.Spelling.{spaced}
-use Rattle.bfd_script.specs.Trees.{listener_of, sender_of}
+use Rattle.bfd_fields.specs.declared.fault.LineFault.TheVariants.{OutOfRange}
+use Rattle.bfd_line.specs.declared.entries.Entry.TheVariants as entries
+use Rattle.bfd_line.specs.declared.words.Place.TheVariants as places
+use Rattle.bfd_line.specs.declared.words.Version.{Version}
+use Rattle.bfd_line.specs.Entries.{entry_of}
+use Rattle.bfd_fields.specs.Gives.{◌>>=◌}
+use Rattle.bfd_line.specs.Pairs.{active_of, config_by, echo_of, ends_of, pair_of, pair_with, role_of, timing_of}
+use Rattle.bfd_line.specs.Seamless.{initiator_of, reflecting_of, up_of}
+use Rattle.bfd_line.specs.Ranges.{IsHeadRow, IsPairRow, IsReflector, IsRow, IsSeekRow, IsTailRow}
+use Rattle.bfd_fields.specs.Spelling.{spaced}
+use Rattle.bfd_line.specs.Trees.{listener_of, sender_of}
 use Rattle.bfd_spelling.specs.Written.{address_field, mode_field, reflector_fields, role_field, row_fields, up_field}
 use Rattle.bfd_spelling.proofs.Numerals.{number_again, number_field, number_short}
 use Rattle.bfd_spelling.proofs.Rereading.{address_again, address_is_field, address_short}

@@ -5,7 +5,7 @@ use Rattle.bfd_session.specs.declared.event.Event.{Event}
 use Rattle.bfd_session.specs.declared.event.Event.TheVariants.{Packet, Returned, Command, Show}
 use Rattle.bfd_shard.specs.declared.entry.ShardEvent.{ShardEvent}
 use Rattle.bfd_shard.specs.declared.entry.ShardEvent.TheVariants.{Own, Tick}
-use Rattle.bfd_script.specs.declared.entries.Line.TheVariants as events
+use Rattle.bfd_line.specs.declared.entries.Line.TheVariants as events
 use Rattle.bfd_spelling.specs.Written.{event_fields}
 
 -- an own event of the session with this discriminator: as a packet file has it, or `back MOMENT DISCR SEQ` for an echo packet

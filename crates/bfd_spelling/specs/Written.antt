@@ -19,13 +19,13 @@ use Rattle.bfd_rules.specs.declared.config.Role.TheVariants as roles
 use Rattle.bfd_session.specs.declared.event.SessionConfig.{SessionConfig}
 use Rattle.bfd_session.specs.declared.event.SessionConfig.TheVariants.{Pair, Seek, Head, Tail}
 use Rattle.bfd_session.specs.Kinds.{discr_of}
-use Rattle.bfd_script.specs.declared.entries.Line.{Line}
-use Rattle.bfd_script.specs.declared.entries.Line.TheVariants as events
-use Rattle.bfd_script.specs.declared.words.Version.{Version}
-use Rattle.bfd_script.specs.declared.words.Version.TheVariants.{One, Two}
+use Rattle.bfd_line.specs.declared.entries.Line.{Line}
+use Rattle.bfd_line.specs.declared.entries.Line.TheVariants as events
+use Rattle.bfd_line.specs.declared.words.Version.{Version}
+use Rattle.bfd_line.specs.declared.words.Version.TheVariants.{One, Two}
 use Rattle.bfd_script.specs.Reading.{Lists}
 use Rattle.bfd_script.specs.Rows.{keys_in}
-use Rattle.bfd_script.specs.Spelling.{line, hex_field}
+use Rattle.bfd_fields.specs.Spelling.{line, hex_field}
 
 -- four numbers with dots
 abbrev pub dotted_field : ℕ → ℕ → ℕ → ℕ → List ℕ

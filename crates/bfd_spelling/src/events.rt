@@ -1,13 +1,14 @@
 //! The lines of events.
 ghost use Rattle.std.specs.Prelude.{◌≡◌, [], ◌∷◌, IfOk, codes, string_bytes};
 ghost use Rattle.std.specs.Fmt.{decimal};
-ghost use Rattle.bfd_script.specs.Spelling.{line};
+ghost use Rattle.bfd_fields.specs.Spelling.{line};
 ghost use Rattle.bfd_spelling.specs.Written.{event_fields, events_text};
 
 use crate::fields::{address_text, port_text};
+use bfd_fields::hex_text;
+use bfd_line::Line;
 use bfd_packet::Arrival;
 use bfd_rules::Cmd;
-use bfd_script::{Line, hex_text};
 use std::alloc::{AllocError, Global};
 use std::fmt::Write;
 

@@ -1,7 +1,7 @@
 //! The line of an event of a shard.
 ghost use Rattle.std.specs.Prelude.{◌≡◌, ◌++◌, [], ◌∷◌, IfOk, OnOk, OnErr, codes, string_bytes};
 ghost use Rattle.std.specs.Fmt.{decimal};
-ghost use Rattle.bfd_script.specs.Spelling.{line};
+ghost use Rattle.bfd_fields.specs.Spelling.{line};
 ghost use Rattle.bfd_spelling.specs.Happening.{happening_fields};
 
 use crate::events::{command_text, packet_text, show_text, tick_text};

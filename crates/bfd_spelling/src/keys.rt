@@ -1,11 +1,11 @@
 //! The lines of a session's keys.
 ghost use Rattle.std.specs.Prelude.{◌≡◌, IfOk, string_bytes};
 ghost use Rattle.std.specs.Option.{option_copied};
-ghost use Rattle.bfd_script.specs.Spelling.{line};
+ghost use Rattle.bfd_fields.specs.Spelling.{line};
 ghost use Rattle.bfd_spelling.specs.Written.{auth_fields, key_fields, keys_text, list_text, more_text};
 
+use bfd_fields::hex_text;
 use bfd_packet::{AuthType, Key, Keys};
-use bfd_script::hex_text;
 use std::alloc::{AllocError, Global};
 
 /// The `auth` line of a key.

@@ -1,6 +1,6 @@
 //! The rows of sessions and reflectors.
 ghost use Rattle.std.specs.Prelude.{◌≡◌, IfOk, string_bytes};
-ghost use Rattle.bfd_script.specs.Spelling.{line};
+ghost use Rattle.bfd_fields.specs.Spelling.{line};
 ghost use Rattle.bfd_spelling.specs.Written.{reflector_fields, row_fields};
 
 use crate::fields::{address_text, mode_text, role_text, up_text};

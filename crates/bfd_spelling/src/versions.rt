@@ -4,9 +4,10 @@ ghost use Rattle.std.specs.List.{list_any};
 ghost use Rattle.std.specs.Option.{option_copied};
 ghost use Rattle.bfd_spelling.specs.Written.{has_second, is_new_line, is_new_row, version_field, version_of};
 
+use bfd_line::Line;
 use bfd_packet::Keys;
 use bfd_rules::Cmd;
-use bfd_script::{Line, Script, keys_in};
+use bfd_script::{Script, keys_in};
 use bfd_session::SessionConfig;
 
 /// Whether a session has a second key.

@@ -1,5 +1,6 @@
 //! Live scripts, and the one spelling.
-use bfd_script::{BadLine, LineFault, ScriptFault, read};
+use bfd_fields::{BadLine, LineFault, ScriptFault};
+use bfd_script::read;
 use bfd_spelling::write;
 use std::test::Fail;
 

@@ -8,10 +8,10 @@ ghost use Rattle.bfd_engine.specs.Opening.{IsSorted, IsNewPass};
 
 use bfd_edge::{Heard, MemLink, MemTicker, OpenGate};
 use bfd_engine::{Engine, EnginePass};
+use bfd_line::Line;
 use bfd_num::{Moment, Tick};
 use bfd_packet::Addr;
 use bfd_rules::{Config, Role};
-use bfd_script::Line;
 use bfd_serve::{End, Limits, serve, timer};
 use bfd_session::SessionConfig;
 use bfd_shard::{Entry, ShardEvent};

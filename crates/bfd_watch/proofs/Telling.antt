@@ -7,6 +7,7 @@ use Rattle.bfd_session.specs.declared.event.SessionConfig.{SessionConfig}
 use Rattle.bfd_session.specs.Alone.{Outcome}
 use Rattle.bfd_session.specs.Kinds.{Running, configs_of}
 use Rattle.bfd_session.specs.Step.{started}
+use Rattle.bfd_session.proofs.Starting.{started_configs}
 use Rattle.bfd_shard.specs.declared.entry.ShardEvent.{ShardEvent}
 use Rattle.bfd_shard.specs.declared.entry.Entry.{Entry}
 use Rattle.bfd_shard.specs.History.{events_of, last_tick, runs, outcome_of}
@@ -90,10 +91,6 @@ whole_more configs configs2 js js2 entry told more same grown added before so_fa
     ∙ ap (λ cs. before ++ changes cs (events_of js2)) (sym same)))))))
 
 -- a watch at the start
-
-started_configs : (cs : List SessionConfig) → configs_of (map started cs) ≡ cs
-started_configs [] = refl
-started_configs (c ∷ cs) = ap (λ xs. c ∷ xs) (started_configs cs)
 
 pub made : (cs : List SessionConfig) (ss : List Running) (js : List Entry) (limit : ℕ) → ss ≡ map started cs → js ≡ []
     → watching (configs_of ss) js limit ≡ watching cs [] limit

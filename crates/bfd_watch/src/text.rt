@@ -1,7 +1,7 @@
 //! The watched text.
 ghost use Rattle.std.specs.Prelude.{◌≡◌, ◌++◌, IfOk, OnErr, OnOk, string_bytes};
 ghost use Rattle.std.specs.List.{flat_map};
-ghost use Rattle.bfd_script.specs.Spelling.{state_name};
+ghost use Rattle.bfd_fields.specs.Spelling.{state_name};
 ghost use Rattle.bfd_watch.specs.Groups.{group_after, is_group_up};
 ghost use Rattle.bfd_watch.specs.Watched.{change_line, event_lines, group_line, if_moved, up_word, watched_line};
 

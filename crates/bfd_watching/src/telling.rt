@@ -6,8 +6,9 @@ ghost use Rattle.bfd_replay.specs.World as world;
 ghost use Rattle.bfd_watching.specs.Members.{watched_of};
 
 use crate::members::group;
+use bfd_line::Line;
 use bfd_replay::Progress;
-use bfd_script::{Line, Script};
+use bfd_script::Script;
 use bfd_watch::{LinkGroup, changes_of};
 use std::alloc::{AllocError, Global};
 

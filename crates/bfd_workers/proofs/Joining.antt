@@ -129,7 +129,3 @@ own_of_left workers at all left own long same are = record {
       (λ e. ap (own_queue workers at s) (same s e))
       (λ other. own_away workers at s (slice_index_or left s []) other ∙ sym (own_away workers at s (slice_index_or all s []) other));
 }
-
--- what a Vec is after its slice was changed
-pub whole_back : (new items : List Work) (n : ℕ) → length new ≡ length items → n ≡ length items → take n (new ++ drop (length new) items) ≡ new
-whole_back new items n same long = ap (λ w. take n (new ++ w)) (drop_all (length new) items (omega (arith, same))) ∙ (ap (take n) (append-nil new) ∙ take_all n new (omega (arith, same, long)))

@@ -16,7 +16,7 @@ use Rattle.bfd_shard.specs.Dealing.{history_of, share}
 use Rattle.bfd_shard.specs.History.{events_of, later, moved, runs}
 use Rattle.bfd_shard.specs.Shard.{Shard, CanHappen, IsShard}
 use Rattle.bfd_sbfd.specs.declared.reflecting.Reflector.{Reflector}
-use Rattle.bfd_script.specs.declared.entries.Line.{Line}
+use Rattle.bfd_line.specs.declared.entries.Line.{Line}
 use Rattle.bfd_script.specs.Reading.{Lists}
 use Rattle.bfd_script.specs.Sound.{IsScript}
 use Rattle.bfd_engine.specs.Engines.{Shards, configs_at}
@@ -26,7 +26,7 @@ use Rattle.bfd_gather.specs.declared.queue.Numbered.{Numbered}
 use Rattle.bfd_gather.specs.Pieces.{Piece}
 use Rattle.bfd_gather.specs.Happenings.{Happening, Apart, Among, AreParts, in_shard, numbered, queue, told, told_apart}
 use Rattle.bfd_gather.specs.Happenings as gather
-use Rattle.bfd_gather.proofs.Sharing.{share_map}
+use Rattle.bfd_shard.proofs.Sharing.{share_map}
 use Rattle.bfd_gather.proofs.Histories.{queue_events, runs_share}
 use Rattle.bfd_replay.specs.World.{totals}
 use Rattle.bfd_replay.specs.Stage.{IsTable}

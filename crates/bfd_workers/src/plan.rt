@@ -12,9 +12,9 @@ use crate::routing::{Route, route_of};
 use crate::shrinking::next_of;
 use bfd_demux::{BuildFault, Demux};
 use bfd_gather::{Numbered, Part, queue_event};
+use bfd_line::Line;
 use bfd_rules::Out;
 use bfd_sbfd::Reflector;
-use bfd_script::Line;
 use bfd_session::{Answer, SessionConfig, table_of};
 use std::alloc::{AllocError, Global};
 

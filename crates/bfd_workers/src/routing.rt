@@ -10,16 +10,16 @@ ghost use Rattle.bfd_session.specs.declared.event.SessionConfig.{SessionConfig};
 ghost use Rattle.bfd_sbfd.specs.declared.reflecting.Reflector.{Reflector as ReflectorIn};
 ghost use Rattle.bfd_script.specs.Doing.{arriving, asking};
 ghost use Rattle.bfd_engine.specs.Inside.{Arrives};
-ghost use Rattle.bfd_script.specs.declared.entries.Line.TheVariants.{Rx};
+ghost use Rattle.bfd_line.specs.declared.entries.Line.TheVariants.{Rx};
 ghost use Rattle.bfd_gather.specs.Happenings.{Apart};
 ghost use Rattle.bfd_workers.specs.Planned.{route_is, happening, happening_by, reflecting, IsMet};
 
 use bfd_demux::{Demux, Target};
+use bfd_line::Line;
 use bfd_num::{Moment, Steps};
 use bfd_packet::{Arrival, Datagram, Test};
 use bfd_rules::Refusal;
 use bfd_sbfd::{Reflector, reflect};
-use bfd_script::Line;
 use bfd_session::{Answer, Event, SessionConfig as Config};
 use bfd_shard::ShardEvent;
 use std::marker::Brand;

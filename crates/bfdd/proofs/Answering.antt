@@ -1,6 +1,6 @@
 -- What a job has to write, by the branches of `answer_to`.
 use Rattle.std.proofs.Common.{◌≡◌, ℕ, List, true, false, Option, Some, None, Result, Ok, Err, refl, subst}
-use Rattle.bfd_script.specs.declared.fault.BadLine.{BadLine as FaultyLine}
+use Rattle.bfd_fields.specs.declared.fault.BadLine.{BadLine as FaultyLine}
 use Rattle.bfd_script.specs.Reading.{Lists, script_of}
 use Rattle.bfd_replay.specs.World.{replayed, totals}
 use Rattle.bfd_load.specs.Load.{script}

@@ -4,7 +4,7 @@ use Rattle.std.specs.Io.KnownBytes.{Consumes, IsAtEnd}
 use Rattle.bfd_edge.specs.Faults.{Rose}
 use Rattle.bfd_edge.specs.Ports.{PortsTold}
 use Rattle.bfd_edge.specs.Tickers.{TickerTold}
-use Rattle.bfd_script.specs.declared.fault.BadLine.{BadLine as FaultyLine}
+use Rattle.bfd_fields.specs.declared.fault.BadLine.{BadLine as FaultyLine}
 use Rattle.bfd_script.specs.Reading.{Lists, script_of}
 use Rattle.bfd_serve.specs.declared.serving.Limits.{Limits}
 use Rattle.bfd_serving.specs.declared.finish.Finish.{Finish}

@@ -1,10 +1,10 @@
 -- What a run does with the text of its source.
 use Rattle.std.specs.Prelude.{true, false, ℕ, List, [], ◌∷◌, ◌++◌, length, nat_lt, codes, Option, Some, None, Result, Ok, Err, if◌then◌else◌}
 use Rattle.std.specs.Fmt.{decimal}
-use Rattle.bfd_script.specs.declared.fault.BadLine.{BadLine as FaultyLine}
-use Rattle.bfd_script.specs.Complaints.{complaint}
+use Rattle.bfd_fields.specs.declared.fault.BadLine.{BadLine as FaultyLine}
+use Rattle.bfd_fields.specs.Complaints.{complaint}
 use Rattle.bfd_script.specs.Reading.{Lists, script_of}
-use Rattle.bfd_script.specs.Spelling.{line}
+use Rattle.bfd_fields.specs.Spelling.{line}
 use Rattle.bfd_replay.specs.World.{Totals, replayed, totals}
 use Rattle.bfd_load.specs.Load.{script}
 use Rattle.bfd_schedule.specs.Schedule.{schedule}

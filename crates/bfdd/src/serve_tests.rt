@@ -1,7 +1,7 @@
 //! Runs of `serve` over links and a ticker of memory: the text where one order alone is possible, and each status.
 use crate::Status;
 use crate::tests::{Case, Hears, calm, ended};
-use bfd_script::LineFault;
+use bfd_fields::LineFault;
 use std::test::Fail;
 
 /// A table whose session waits for its peer, and one that sends by itself.

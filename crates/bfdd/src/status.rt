@@ -2,7 +2,7 @@
 ghost use Rattle.std.specs.Prelude.{◌≡◌};
 ghost use Rattle.bfdd.specs.Status.{code_of};
 
-use bfd_script::LineFault;
+use bfd_fields::LineFault;
 
 /// How a run ended. Where several are true, the first in the order `Usage`, `ReadFault`, `TooLarge`, `BadLine`, `NoMember`,
 /// `PortFault`, then the first fault of the timer and of the workers in ascending order (`LinkFault`, `JournalFull`, `Turns`,

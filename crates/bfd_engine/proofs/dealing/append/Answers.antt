@@ -1,5 +1,5 @@
 -- One list has grown.
-use Rattle.bfd_engine.proofs.Parts.{put_own, put_other}
+use Rattle.bfd_shard.proofs.Lists.{put_own, put_other}
 use Rattle.bfd_engine.proofs.dealing.append.Goals as goal
 
 pub returns-clause-own : goal.returns-clause-own

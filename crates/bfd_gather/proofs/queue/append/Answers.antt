@@ -1,5 +1,5 @@
 -- One queue has grown.
-use Rattle.bfd_gather.proofs.Queues.{put_own, put_other}
+use Rattle.bfd_shard.proofs.Lists.{put_own, put_other}
 use Rattle.bfd_gather.proofs.queue.append.Goals as goal
 
 pub returns-clause-own : goal.returns-clause-own

@@ -1,6 +1,6 @@
 use Rattle.std.proofs.Common.{arith, ap, ◌++◌, ◌∙◌}
 use Rattle.std.proofs.lemmas.Bool.Decides.{nat_tests}
-use Rattle.bfd_script.proofs.Nibbles.{encode_more, some_hex}
+use Rattle.bfd_fields.proofs.Nibbles.{encode_more, some_hex}
 use Rattle.bfd_script.proofs.report.put_hex.Goals as goal
 
 -- the digits of one run more

@@ -6,7 +6,7 @@ use Rattle.bfd_serve.specs.declared.ending.End.{End}
 use Rattle.bfd_serve.specs.Jobs.{pass_of, link_of, end_of_job, lost_of, IsOpen}
 use Rattle.bfd_serve.specs.Joins.{IsOther, IsFresh, HasSplit, AreJoined}
 use Rattle.bfd_serve.specs.Serves.{HasServed}
-use Rattle.bfd_serve.proofs.Moves.{whole_back}
+use Rattle.bfd_shard.proofs.Lists.{whole_back}
 use Rattle.bfd_serve.proofs.Summing.{served, others_after, all_ready}
 use Rattle.bfd_serve.proofs.serving.run_all.Goals as goal
 

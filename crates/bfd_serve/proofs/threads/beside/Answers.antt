@@ -13,7 +13,7 @@ use denote.Struct.Field.{row_field}
 use denote.Struct.Tuple.{type_at, TupleAt}
 use Rattle.std.proofs.Crossing as heap
 use Rattle.bfd_engine.proofs.pass.EnginePass.TheSendSync as pass
-use Rattle.bfd_script.proofs.entries.Line.TheSendSync as line
+use Rattle.bfd_line.proofs.entries.Line.TheSendSync as line
 use Rattle.bfd_engine.proofs.Crossing.{engine_sync}
 use Rattle.bfd_serve.proofs.threads.beside.Goals as goal
 

@@ -4,7 +4,8 @@ use Rattle.bfd_session.specs.declared.event.SessionConfig.{SessionConfig}
 use Rattle.bfd_session.specs.Kinds.{configs_of}
 use Rattle.bfd_shard.specs.declared.entry.Entry.{Entry}
 use Rattle.bfd_served.specs.Served.{entries_sent}
-use Rattle.bfd_served.proofs.Starting.{started_configs, history_same, shard_told}
+use Rattle.bfd_session.proofs.Starting.{started_configs}
+use Rattle.bfd_served.proofs.Starting.{history_same, shard_told}
 use Rattle.bfd_served.proofs.serving.tell_shard.Goals as goal
 
 pub tell_entries-requires-clause-can : goal.tell_entries-requires-clause-can

@@ -1,6 +1,6 @@
 -- With what is left, the part is the shard's share.
 use Rattle.std.proofs.Common.{◌≡◌, ◌≤◌, ◌+◌, ◌-◌, ◌++◌, length, drop}
-use Rattle.bfd_engine.specs.Engines.{share}
+use Rattle.bfd_shard.specs.Dealing.{share}
 use Rattle.bfd_serving.proofs.copying.dealt_to.Given as goal
 
 abbrev pub invariant-loop-at : goal.invariant-loop-at

@@ -1,16 +1,12 @@
 -- The jobs are those that came back, and the first pass is open after the last poll.
-use Rattle.std.proofs.Common.{◌≡◌, ◌++◌, ℕ, List, length, map, take, take_all, drop, ap, sym, subst, ◌∙◌, append-nil, arith}
-use Rattle.std.proofs.lemmas.List.{drop_all}
+use Rattle.std.proofs.Common.{List, length, map, ap, sym, subst, ◌∙◌}
 use Rattle.std.specs.List.{All}
 use Rattle.bfd_engine_use.specs.declared.threads.Job.{Job}
 use Rattle.bfd_engine_use.specs.Joining.{HasOpen}
 use Rattle.bfd_engine_use.specs.Ready.{IsReady, number_of}
+use Rattle.bfd_shard.proofs.Lists.{whole_back}
 use Rattle.bfd_thread_tests.proofs.Following.{open_grown}
 use Rattle.bfd_thread_tests.proofs.clients.told_beside.Goals as goal
-
--- what a Vec is after its slice was changed
-whole_back : (new items : List Job) (n : ℕ) → length new ≡ length items → n ≡ length items → take n (new ++ drop (length new) items) ≡ new
-whole_back new items n same long = ap (λ w. take n (new ++ w)) (drop_all (length new) items (omega (arith, same))) ∙ (ap (take n) (append-nil new) ∙ take_all n new (omega (arith, same, long)))
 
 pub finish-requires-clause-passes : goal.finish-requires-clause-passes
 finish-requires-clause-passes g c =

@@ -3,7 +3,7 @@ use Rattle.std.proofs.Common.{◌≡◌, ◌+◌, List, [], ◌∷◌, length, a
 use Rattle.std.proofs.lemmas.List.{nil_from_length}
 use Rattle.bfd_rules.specs.declared.outputs.Out.{Out}
 use Rattle.bfd_session.specs.Alone.{Outcome}
-use Rattle.bfd_script.specs.declared.entries.Line.{Line}
+use Rattle.bfd_line.specs.declared.entries.Line.{Line}
 use Rattle.bfd_watch.specs.declared.change.Change.{Change}
 use Rattle.bfd_watch.specs.Changes.{changes_in}
 use Rattle.bfd_replay.specs.World.{outcomes}

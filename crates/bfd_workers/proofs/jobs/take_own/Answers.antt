@@ -1,5 +1,5 @@
 -- The other queues stay.
-use Rattle.bfd_engine.proofs.Parts.{put_other}
+use Rattle.bfd_shard.proofs.Lists.{put_other}
 use Rattle.bfd_workers.proofs.jobs.take_own.Goals as goal
 
 pub returns-then-own-clause-others : goal.returns-then-own-clause-others

@@ -8,8 +8,11 @@ use Rattle.bfd_demux.proofs.demux.Demux.by_addresses.Goals as goal
 pub place_of-requires-clause-few : goal.place_of-requires-clause-few
 place_of-requires-clause-few g c = rw c.as_slice.ensures.value (few_addresses c.self.invariant)
 
-pub place_of-requires-2-clause-few : goal.place_of-requires-2-clause-few
-place_of-requires-2-clause-few g c = rw c.as_slice-2.ensures.value (few_names c.self.invariant)
+pub guess_at-requires : goal.guess_at-requires
+guess_at-requires g c = rw c.as_slice-names.ensures.value (few_names c.self.invariant)
+
+pub place_near-requires-clause-few : goal.place_near-requires-clause-few
+place_near-requires-clause-few g c = rw c.as_slice-names.ensures.value (few_names c.self.invariant)
 
 pub returns-in_err-place-clause-known : goal.returns-in_err-place-clause-known
 returns-in_err-place-clause-known g c =
@@ -25,18 +28,18 @@ pub returns-in_err-index-clause-known : goal.returns-in_err-index-clause-known
 returns-in_err-index-clause-known g c =
     let at = found_by c.as_slice.ensures.value refl c.in_ok-place.ensures.found in
     absurd (address_session c.self.invariant c.args.kind c.in_ok-place.place c.index.result.now c.requires at
-    (missing_by name_order.ghosts.cmp c.as_slice-2.ensures.value (ap (λ entry. Session entry.1) c.index.ensures) c.in_err-index.ensures.none))
+    (missing_by name_order.ghosts.cmp c.as_slice-names.ensures.value (ap (λ entry. Session entry.1) c.index.ensures) c.in_err-index.ensures.none))
 
 pub returns-in_err-index-clause-found : goal.returns-in_err-index-clause-found
 returns-in_err-index-clause-found g c =
     let at = found_by c.as_slice.ensures.value refl c.in_ok-place.ensures.found in
     absurd (address_session c.self.invariant c.args.kind c.in_ok-place.place c.index.result.now c.requires at
-    (missing_by name_order.ghosts.cmp c.as_slice-2.ensures.value (ap (λ entry. Session entry.1) c.index.ensures) c.in_err-index.ensures.none))
+    (missing_by name_order.ghosts.cmp c.as_slice-names.ensures.value (ap (λ entry. Session entry.1) c.index.ensures) c.in_err-index.ensures.none))
 
 pub overflow_cast-result : goal.overflow_cast-result
 overflow_cast-result g c =
     let few = few_names c.self.invariant in
-    let at = found_by c.as_slice-2.ensures.value refl c.in_ok-index.ensures.found in
+    let at = found_by c.as_slice-names.ensures.value refl c.in_ok-index.ensures.found in
     omega (arith, at.within)
 
 pub returns-clause-known : goal.returns-clause-known
@@ -47,6 +50,6 @@ returns-clause-known g c =
 pub returns-clause-found : goal.returns-clause-found
 returns-clause-found g c =
     let at = found_by c.as_slice.ensures.value refl c.in_ok-place.ensures.found in
-    let index_at = found_by c.as_slice-2.ensures.value (ap (λ entry. Session entry.1) c.index.ensures) c.in_ok-index.ensures.found in
+    let index_at = found_by c.as_slice-names.ensures.value (ap (λ entry. Session entry.1) c.index.ensures) c.in_ok-index.ensures.found in
     let index = place_of_session c.self.invariant _ c.in_ok-index.index index_at in
     rw (← c.self.view_is) (ap Some index ∙ sym (address_index c.self.invariant c.args.kind c.in_ok-place.place c.index.result.now c.requires at))

@@ -1,0 +1,21 @@
+-- Hexadecimal digits that are decoded into room of their own size.
+use Rattle.std.proofs.Common.{◌≡◌, ℕ, ◌*◌, ◌≤◌, ◌==◌, false, List, ◌∷◌, length, take, Ok, refl, arith}
+use Rattle.std.proofs.lemmas.Bool.Decides.{nat_tests}
+use Rattle.std.specs.Prelude.{codes}
+use Rattle.std.specs.Str.{bytes_eq}
+use Rattle.std.proofs.Math.Bool.{and-false}
+use Rattle.hex.specs.Hex.{decode_sized}
+use Rattle.hex.proofs.HexLemmas.{decode_sized-twice}
+use Rattle.bfd_fields.specs.Gives.{◌>>=◌}
+use Rattle.bfd_fields.specs.Values.{decoded, payload_of}
+
+no_dash : (field : List ℕ) → 2 ≤ length field → bytes_eq field (codes "-") ≡ false
+no_dash (a ∷ b ∷ field) some = and-false (a == 45)
+no_dash field some = absurd (omega (arith, some))
+
+-- a payload of two digits or more
+pub payload_by_room : (field : List ℕ) (n : ℕ) → 2 ≤ length field → length field ≡ 2 * n
+    → payload_of field ≡ (decoded (decode_sized field n) >>= λ bytes. Ok (take 256 bytes))
+payload_by_room field n some twice =
+    let not_empty : (length field == 0) ≡ false = grind (arith, nat_tests) in
+    rw (no_dash field some, not_empty, decode_sized-twice field n twice) refl

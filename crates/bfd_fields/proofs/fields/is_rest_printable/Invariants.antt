@@ -1,0 +1,11 @@
+use Rattle.std.proofs.Common.{◌≡◌, ◌&&◌, length}
+use Rattle.std.specs.List.{list_all}
+use Rattle.bfd_fields.specs.Fields.{is_printable}
+use Rattle.bfd_fields.proofs.fields.is_rest_printable.Given as goal
+
+-- what was seen and what is left are the line
+abbrev pub invariant-loop-rest : goal.invariant-loop-rest
+invariant-loop-rest l = (l.printable && list_all is_printable l.rest) ≡ list_all is_printable l.line
+
+abbrev pub decreases-loop-rest : goal.decreases-loop-rest
+decreases-loop-rest l = length l.rest

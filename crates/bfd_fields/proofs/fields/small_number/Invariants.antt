@@ -1,0 +1,14 @@
+use Rattle.std.proofs.Common.{◌≡◌, length}
+use Rattle.std.specs.Char.{is_ascii_digit}
+use Rattle.std.specs.List.{list_all}
+use Rattle.std.specs.Str.Parse.{digits_value, digits_value_after}
+use Rattle.bfd_fields.proofs.fields.small_number.Given as goal
+
+-- the digits so far, and then those that are left, write the number
+abbrev pub invariant-loop-rest : goal.invariant-loop-rest
+invariant-loop-rest l =
+    (digits_value_after 10 l.n l.rest ≡ digits_value 10 l.field)
+    × (list_all is_ascii_digit l.rest ≡ list_all is_ascii_digit l.field)
+
+abbrev pub decreases-loop-rest : goal.decreases-loop-rest
+decreases-loop-rest l = length l.rest

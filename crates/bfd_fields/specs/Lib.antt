@@ -1,0 +1,5 @@
+pub mod Complaints
+pub mod Fields
+pub mod Gives
+pub mod Values
+pub mod Spelling

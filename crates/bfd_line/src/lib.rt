@@ -1,0 +1,27 @@
+//! bfd_line: what one line of a packet file says.
+//!
+//! [`read_line`] answers the [`Entry`] that a line spells where the text stands, or the line's first fault:
+//! `specs/Entries.antt` says which, and `specs/Ranges.antt` what is true of each. An entry is a row of the table (a session
+//! or a reflector), keys of a session, or an event, a [`Line`]; a line between them has its word alone.
+//!
+//! Layers, lowest first: `words` (the versions, the words and where they may stand), `pairs`, `seamless` and `trees` (the
+//! values of a table line), `secrets`, `arrivals` and `verbs` (those of keys, of a packet and of a command), `entries` (the
+//! whole line).
+//!
+//! It stands on `bfd_fields`, and on `bfd_num`, `bfd_packet`, `bfd_rules`, `bfd_mp`, `bfd_sbfd` and `bfd_session` for what
+//! a line gives.
+#![tactic(auto)]
+
+mod arrivals;
+mod entries;
+mod pairs;
+mod seamless;
+mod secrets;
+mod trees;
+mod verbs;
+mod words;
+
+pub use entries::{Entry, Line, read_line};
+pub use secrets::key_fault;
+pub use verbs::Verb;
+pub use words::{Place, Version};

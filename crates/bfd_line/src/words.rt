@@ -1,0 +1,93 @@
+// The versions, the words that begin a line, and where they may stand.
+ghost use Rattle.std.specs.Prelude.{◌≡◌};
+ghost use Rattle.bfd_line.specs.Words.{word_of, stands};
+
+/// The version of a packet file. Before its first line the words of version 1 are known.
+#[derive(Clone, Copy, PartialEq, Eq)]
+pub enum Version {
+    /// A session has one key at most.
+    One,
+
+    /// A session may have up to four keys, and a command chooses the one that it sends with.
+    Two,
+}
+
+/// The word that begins a line.
+#[derive(Clone, Copy)]
+pub(crate) enum Word {
+    Bfd,
+    P2p,
+    Auth,
+    Key,
+    Sbfd,
+    Reflector,
+    Head,
+    Tail,
+    Run,
+    Rx,
+    Tick,
+    Cmd,
+    Show,
+    End,
+}
+
+/// How far the text is read: what may come next.
+#[derive(Clone, Copy, PartialEq, Eq)]
+pub enum Place {
+    /// The line with the version.
+    Version,
+
+    /// Table lines, and `run`.
+    Table,
+
+    /// Event lines, and `end`.
+    Events,
+
+    /// Nothing.
+    Over,
+}
+
+/// The word that a field spells; `key` is one of version 2 alone.
+pub(crate) fn word_named(version: Version, field: &[u8]) -> Option<Word>
+    ensures { result ≡ word_of version field.now }
+{
+    match field {
+        b"bfd" => Some(Word::Bfd),
+        b"p2p" => Some(Word::P2p),
+        b"auth" => Some(Word::Auth),
+        b"sbfd" => Some(Word::Sbfd),
+        b"reflector" => Some(Word::Reflector),
+        b"head" => Some(Word::Head),
+        b"tail" => Some(Word::Tail),
+        b"run" => Some(Word::Run),
+        b"rx" => Some(Word::Rx),
+        b"tick" => Some(Word::Tick),
+        b"cmd" => Some(Word::Cmd),
+        b"show" => Some(Word::Show),
+        b"end" => Some(Word::End),
+        b"key" if version == Version::Two => Some(Word::Key),
+        _ => None,
+    }
+}
+
+impl Place {
+    /// Whether a line of this word may come next. In a live script packets and ticks may not stand at all: they come from
+    /// outside.
+    pub(crate) fn takes(self, live: bool, word: Word) -> bool
+        ensures { result ≡ stands self live word }
+    {
+        match word {
+            Word::Bfd => self == Place::Version,
+            Word::P2p
+            | Word::Auth
+            | Word::Key
+            | Word::Sbfd
+            | Word::Reflector
+            | Word::Head
+            | Word::Tail
+            | Word::Run => { self == Place::Table }
+            Word::Rx | Word::Tick => self == Place::Events && !live,
+            Word::Cmd | Word::Show | Word::End => self == Place::Events,
+        }
+    }
+}

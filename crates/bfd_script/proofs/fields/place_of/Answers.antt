@@ -1,7 +1,0 @@
-use Rattle.std.proofs.Common.{arith}
-use Rattle.bfd_script.proofs.Cuts.{near}
-use Rattle.bfd_script.proofs.fields.place_of.Goals as goal
-
-pub returns-then-place-lt-RUN : goal.returns-then-place-lt-RUN
-returns-then-place-lt-RUN c =
-    near c.args.byte c.args.text.now c.in-Some.run'.now 32 c.place_in_run-place.result c.in-Some.ensures.cases.0 c.place_in_run-place.ensures (omega arith)

@@ -1,0 +1,10 @@
+use Rattle.std.proofs.Common.{◌∙◌, ap, sym}
+use Rattle.std.specs.Option.{option_copied}
+use Rattle.bfd_script.proofs.Rising.{below_last}
+use Rattle.bfd_script.proofs.rows.are_below.Goals as goal
+
+-- the last is above all others
+pub returns-in-Some : goal.returns-in-Some
+returns-in-Some c =
+    below_last c.args.discr c.discr.result c.args.rows.now c.in-Some.last.now c.requires
+    (sym c.last.ensures.value ∙ ap (λ r. option_copied r) c.in-Some.is) c.discr.ensures

@@ -1,0 +1,23 @@
+use Rattle.std.proofs.Common.{sym, ap, ◌∙◌}
+use Rattle.std.specs.Option.{option_copied_mut}
+use Rattle.bfd_script.specs.Rows.{keyed_more}
+use Rattle.bfd_script.proofs.Giving.{entries_changed, entries_kept, found_room, more_keeps}
+use Rattle.bfd_script.proofs.rows.give_more.Goals as goal
+
+-- no session has the discriminator
+pub returns-in_default : goal.returns-in_default
+returns-in_default c =
+    rw (c.get_mut.follows.holds-at-none)
+    (entries_kept (keyed_more c.args.key) c.args.discr c.args.rows.now.entries c.requires.entries (sym (ap (λ r. option_copied_mut r) c.in_default.is) ∙ c.get_mut.ensures.value))
+
+-- the session that has it got one more key
+pub returns : goal.returns
+returns c =
+    entries_changed (keyed_more c.args.key) (more_keeps c.args.key) c.args.discr c.in-Some.config.now c.add_key.new.config c.args.rows.now.entries _ c.requires.entries
+    (sym (ap (λ r. option_copied_mut r) c.in-Some.is) ∙ c.get_mut.ensures.value) c.add_key.ensures (c.get_mut.follows.holds c.add_key.new.config).0
+
+-- it has room for the key
+pub add_key-requires : goal.add_key-requires
+add_key-requires c =
+    found_room c.args.discr c.args.key c.in-Some.config.now c.args.rows.now.entries c.requires.entries
+    (sym (ap (λ r. option_copied_mut r) c.in-Some.is) ∙ c.get_mut.ensures.value) c.requires.room

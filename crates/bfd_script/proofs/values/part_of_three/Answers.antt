@@ -1,6 +1,0 @@
-use Rattle.std.proofs.Common.{arith, refl}
-use Rattle.bfd_script.proofs.Octets.{part_3}
-use Rattle.bfd_script.proofs.values.part_of_three.Goals as goal
-
-pub returns-then-n-lt256-clause-part : goal.returns-then-n-lt256-clause-part
-returns-then-n-lt256-clause-part c = part_3 c.args.field.now _ (omega arith) (omega arith) (omega arith) (omega arith) (omega arith) (omega arith) (omega arith) (omega arith) refl (omega arith)
