@@ -17,7 +17,8 @@ use Rattle.bfd_shard.proofs.Ticks.{nobody}
 use Rattle.bfd_gather.specs.declared.queue.Numbered.{Numbered}
 use Rattle.bfd_gather.specs.Pieces.{event_pieces, whole_piece}
 use Rattle.bfd_gather.specs.Happenings.{Happening, Apart, Among, among, in_shard, numbered, queue, told, told_apart}
-use Rattle.bfd_gather.proofs.Sharing.{own_here, own_away, tick_here, share_map}
+use Rattle.bfd_shard.proofs.Sharing.{share_map}
+use Rattle.bfd_gather.proofs.Sharing.{own_here, own_away, tick_here}
 
 -- sessions after events, from these sessions and this last tick on
 abbrev pub left_by : ℕ → List ShardEvent → List Running → List Running

@@ -37,7 +37,8 @@ use Rattle.bfd_session.specs.Step.{begun, settled, acted, finished, step, step_f
 use Rattle.bfd_pair.specs.Run.{packets_in}
 use Rattle.bfd_pair.proofs.Points.{IsPoint}
 use Rattle.bfd_pair.proofs.Packets.{Each, each_append, packets-append, told_packets}
-use Rattle.bfd_pair.proofs.Rules.{Goes, renewed_state, settle_keeps, commanded_keeps, finish_keeps, kept_keeps}
+use Rattle.bfd_session.proofs.Renewing.{renewed_state}
+use Rattle.bfd_pair.proofs.Rules.{Goes, settle_keeps, commanded_keeps, finish_keeps, kept_keeps}
 
 -- the packet isn't in Init or Up
 abbrev pub IsCold : List ℕ → Type 0

@@ -17,7 +17,7 @@ use Rattle.bfd_pair.specs.Run.{End, Both, end_of, packet_at, after, pair_run, tu
 use Rattle.bfd_pair.specs.Handshake.{Heard, sent_by_then}
 use Rattle.bfd_pair.proofs.Points.{IsPoint, run_point}
 use Rattle.bfd_pair.proofs.Packets.{each_at, Later, first_or_later}
-use Rattle.bfd_pair.proofs.Rules.{drawn_state}
+use Rattle.bfd_session.proofs.Renewing.{drawn_state}
 use Rattle.bfd_pair.proofs.Cold.{IsCold}
 use Rattle.bfd_pair.proofs.Sides.{Grows, Quiet, Hears, hears_or_quiet}
 

@@ -15,7 +15,7 @@ use Rattle.bfd_rules.specs.declared.config.Config.{Config}
 use Rattle.bfd_rules.specs.declared.variables.Mark.{Mark}
 use Rattle.bfd_rules.specs.declared.variables.Vars.{Vars}
 use Rattle.bfd_rules.specs.Quantities.{may_send, deadline, seq_deadline, is_idle, is_admin_down}
-use Rattle.bfd_rules.specs.Renewal.{poll_renewed, used_renewed, demand_renewed, renewed}
+use Rattle.bfd_rules.specs.Renewal.{renewed}
 use Rattle.bfd_rules.specs.EventFrame.{Course, course, changes, sends, enters, tells, is_untold, based, drawn, redrawn}
 use Rattle.bfd_session.proofs.Renewing.{renewed_state, drawn_state}
 use Rattle.bfd_p2p.specs.Frame.{renews, moves}
