@@ -1,20 +1,21 @@
 // What one line says.
 ghost use Rattle.std.specs.Prelude.{◌≡◌, Err, IfOk, false, if◌then◌else◌, map, true};
-ghost use Rattle.bfd_script.specs.Entries.{added, added_of, alone, commanded, entry_of, keyed, keyed_of, numbered_of, plain_of, received, received_fields, received_of, shown, shown_of, ticked, valued, version_by, versioned, worded};
+ghost use Rattle.bfd_script.specs.Entries.{added, added_of, alone, commanded, keyed, keyed_of, numbered_of, plain_of, received, received_fields, received_of, shown, shown_of, ticked, valued, version_by, versioned};
 ghost use Rattle.bfd_script.specs.Gives.{Gives};
-ghost use Rattle.bfd_script.specs.Sound.{IsEntry};
+ghost use Rattle.bfd_script.specs.Sound.{IsEntry, IsEvent};
 ghost use Rattle.bfd_script.specs.Verbs.{fits, verb_of};
+ghost use Rattle.bfd_script.specs.declared.entries.Entry.TheVariants.{Event};
 ghost use Rattle.bfd_script.specs.declared.fault.LineFault.TheVariants.{FieldCount};
 
 use crate::arrivals::{port_named, read_arrival};
 use crate::fault::{LineFault, ReadFault};
-use crate::fields::{line_text, number, split_fields};
+use crate::fields::number;
 use crate::pairs::read_pair;
 use crate::seamless::{read_reflector, read_seek};
 use crate::secrets::{read_chain, read_key};
 use crate::trees::{read_head, read_tail};
 use crate::verbs::{commanding, known_verb, may_fit, verb_named};
-use crate::words::{Place, Version, Word, word_named};
+use crate::words::{Version, Word};
 use bfd_num::{GREATEST_TICK, MOMENT_BOUND, Moment, Tick};
 use bfd_packet::{Arrival, Key, Keys};
 use bfd_rules::Cmd;
@@ -116,24 +117,24 @@ fn received_of(
     port: &[u8],
     iface: &[u8],
     rest: &[&[u8]],
-) -> Result<Entry, ReadFault>
-    ensures value { Gives (λ entry. entry) result (received_of moment.now port.now iface.now (map (λ value. value.now) rest.now)) }
-    ensures sound { IfOk result IsEntry }
+) -> Result<Line, ReadFault>
+    ensures value { Gives (λ line. Event line) result (received_of moment.now port.now iface.now (map (λ value. value.now) rest.now)) }
+    ensures sound { IfOk result IsEvent }
 {
     let moment = number(moment, 0, MOMENT_BOUND - 1)?;
     let port = port_named(port)?;
     let iface = number(iface, 0, 65_535)? as u32;
     let arrival = read_arrival(alloc, port, iface, rest)?;
-    Ok(Entry::Event(Line::Rx {
+    Ok(Line::Rx {
         moment: Moment::new(moment).unwrap(),
         arrival,
-    }))
+    })
 }
 
 /// The values of an `rx` line, of which there are seven.
-fn received_fields(alloc: Global, values: &[&[u8]]) -> Result<Entry, ReadFault>
-    ensures value { Gives (λ entry. entry) result (received_fields (map (λ value. value.now) values.now)) }
-    ensures sound { IfOk result IsEntry }
+fn received_fields(alloc: Global, values: &[&[u8]]) -> Result<Line, ReadFault>
+    ensures value { Gives (λ line. Event line) result (received_fields (map (λ value. value.now) values.now)) }
+    ensures sound { IfOk result IsEvent }
 {
     match values {
         [moment, port, iface, rest @ ..] => received_of(alloc, moment, port, iface, rest),
@@ -142,9 +143,9 @@ fn received_fields(alloc: Global, values: &[&[u8]]) -> Result<Entry, ReadFault>
 }
 
 /// `rx MOMENT single|multi|echo|sbfd|answer IFACE SRC DST TTL HEX`
-fn received(alloc: Global, values: &[&[u8]]) -> Result<Entry, ReadFault>
-    ensures value { Gives (λ entry. entry) result (received (map (λ value. value.now) values.now)) }
-    ensures sound { IfOk result IsEntry }
+pub(crate) fn received(alloc: Global, values: &[&[u8]]) -> Result<Line, ReadFault>
+    ensures value { Gives (λ line. Event line) result (received (map (λ value. value.now) values.now)) }
+    ensures sound { IfOk result IsEvent }
 {
     if values.len() != RECEIVED_VALUES {
         return Err(ReadFault::Fault(LineFault::FieldCount));
@@ -310,7 +311,7 @@ fn added(alloc: Global, values: &[&[u8]]) -> Result<Entry, ReadFault>
 }
 
 /// What the values of a word say.
-fn read_values(
+pub(crate) fn read_values(
     alloc: Global,
     version: Version,
     word: Word,
@@ -329,50 +330,10 @@ fn read_values(
         Word::Auth => keyed(alloc, values),
         Word::Key => added(alloc, values),
         Word::Run => Ok(alone(Entry::Run, values)?),
-        Word::Rx => received(alloc, values),
+        Word::Rx => Ok(Entry::Event(received(alloc, values)?)),
         Word::Tick => Ok(ticked(values)?),
         Word::Cmd => Ok(commanded(version, values)?),
         Word::Show => Ok(shown(values)?),
         Word::End => Ok(alone(Entry::End, values)?),
     }
-}
-
-/// What the fields of a line say.
-fn read_fields(
-    alloc: Global,
-    version: Version,
-    place: Place,
-    live: bool,
-    fields: &[&[u8]],
-) -> Result<Entry, ReadFault>
-    ensures value { Gives (λ entry. entry) result (worded version place live (map (λ field. field.now) fields.now)) }
-    ensures sound { IfOk result IsEntry }
-{
-    let Some((name, values)) = fields.split_first() else {
-        return Err(ReadFault::Fault(LineFault::UnknownWord));
-    };
-    let Some(word) = word_named(version, name) else {
-        return Err(ReadFault::Fault(LineFault::UnknownWord));
-    };
-    if !place.takes(live, word) {
-        return Err(ReadFault::Fault(LineFault::Order));
-    }
-    read_values(alloc, version, word, values)
-}
-
-/// What a line says by itself, or the first of its faults that it has by itself. `fields` is room for its fields.
-pub(crate) fn read_line<'a>(
-    alloc: Global,
-    version: Version,
-    place: Place,
-    live: bool,
-    line: &'a [u8],
-    fields: &mut Vec<&'a [u8]>,
-) -> Result<Entry, ReadFault>
-    ensures value { Gives (λ entry. entry) result (entry_of version place live line.now) }
-    ensures sound { IfOk result IsEntry }
-{
-    let text = line_text(line)?;
-    split_fields(text, fields)?;
-    read_fields(alloc, version, place, live, fields)
 }
