@@ -150,7 +150,7 @@ are_changed : (f : SessionConfig → SessionConfig) → Keeps f → (k : ℕ) (x
 are_changed f kept k xs ys es fs were keyed e =
     let long : length (ys ++ values_of fs) ≡ length (xs ++ values_of es) = ap (λ l. length l) (sym e) ∙ length_changed f k (xs ++ values_of es) in
     let both : length (by_discr ys ++ fs) ≡ length (by_discr xs ++ es) =
-        length_values (by_discr ys ++ fs) ∙ ap (λ l. length l) (values_more ys fs) ∙ long ∙ ap (λ l. length l) (sym (values_more xs es)) ∙ sym (length_values (by_discr xs ++ es)) in
+    length_values (by_discr ys ++ fs) ∙ ap (λ l. length l) (values_more ys fs) ∙ long ∙ ap (λ l. length l) (sym (values_more xs es)) ∙ sym (length_values (by_discr xs ++ es)) in
     let few = were.few in
     let a = length_by ys fs in
     let b = length_by xs es in
@@ -232,7 +232,7 @@ pushed_last c k xs seen ys (e ∷ es) before were view empty same low key room n
 pushed_last c k xs seen ys [] before were view empty same low key room none new =
     let is : before ≡ by_discr xs = sym view ∙ append-nil (by_discr xs) in
     let below : AllByRecursion (λ x. discr_of x < discr_of c) xs =
-        subst (λ n. AllByRecursion (λ x. discr_of x < n) xs) key (subst (λ l. AllByRecursion (λ x. discr_of x < k) l) same low) in
+    subst (λ n. AllByRecursion (λ x. discr_of x < n) xs) key (subst (λ l. AllByRecursion (λ x. discr_of x < k) l) same low) in
     are_more c xs before ys [] is (subst Ascends (append-nil xs) were.ascends) room
     (ap (has_discr (discr_of c)) (sym (ap (λ es. values_of es) is ∙ values_by discr_of xs)) ∙ none) refl
     (append-nil ys ∙ new ∙ sym (inserted_last c xs below))
@@ -270,7 +270,7 @@ popped c k all xs es fs were last key e =
     let whole : all ++ vs ≡ xs ++ c ∷ vs = ap (λ t. t ++ vs) last ∙ append_assoc xs (c ∷ []) vs in
     let up : Ascends (xs ++ c ∷ vs) = subst Ascends whole were.ascends in
     let is : fs ≡ (discr_of c, c) ∷ es = e ∙ ap (λ j. insert_entry nat_cmp es j c) key ∙ ap (λ t. insert_entry nat_cmp t (discr_of c) c) were.keyed
-        ∙ insert_first c vs (behind xs (c ∷ vs) up).0 ∙ ap (λ t. (discr_of c, c) ∷ t) (sym were.keyed) in
+    ∙ insert_first c vs (behind xs (c ∷ vs) up).0 ∙ ap (λ t. (discr_of c, c) ∷ t) (sym were.keyed) in
     let values : values_of fs ≡ c ∷ vs = ap (λ t. values_of t) is in
     let long = ap (λ l. length l) last ∙ length-append xs (c ∷ []) in
     let more : length fs ≡ suc (length es) = ap (λ l. length l) is in
