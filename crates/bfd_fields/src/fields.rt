@@ -189,12 +189,13 @@ fn split_front<'a>(line: &'a [u8], fields: &mut Vec<&'a [u8]>) -> Result<&'a [u8
     let Some((front, _)) = line.split_first_chunk::<FRONT>() else {
         return Ok(line);
     };
+    fields.reserve(FRONT)?;
     let mut rest = line;
     let mut marked = FRONT;
     let mut marks = marks_of(front);
     while marks != 0 {
         let (field, after, others) = cut_marked(rest, marked, marks);
-        fields.push(field)?;
+        fields.push_reserved(field);
         marked -= field.len() + 1;
         rest = after;
         marks = others;

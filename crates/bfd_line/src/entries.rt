@@ -1,9 +1,10 @@
 // What one line says.
 ghost use Rattle.std.specs.Prelude.{◌≡◌, Err, IfOk, false, if◌then◌else◌, map, true};
-ghost use Rattle.bfd_line.specs.Entries.{added, added_of, alone, commanded, entry_of, keyed, keyed_of, numbered_of, plain_of, received, received_fields, received_of, shown, shown_of, ticked, valued, version_by, versioned, worded};
+ghost use Rattle.bfd_line.specs.Entries.{added, added_of, alone, commanded, keyed, keyed_of, numbered_of, plain_of, received, received_fields, received_of, shown, shown_of, ticked, valued, version_by, versioned};
 ghost use Rattle.bfd_fields.specs.Gives.{Gives};
-ghost use Rattle.bfd_line.specs.Ranges.{IsEntry};
+ghost use Rattle.bfd_line.specs.Ranges.{IsEntry, IsEvent};
 ghost use Rattle.bfd_line.specs.Verbs.{fits, verb_of};
+ghost use Rattle.bfd_line.specs.declared.entries.Entry.TheVariants.{Event};
 ghost use Rattle.bfd_fields.specs.declared.fault.LineFault.TheVariants.{FieldCount};
 
 use crate::arrivals::{port_named, read_arrival};
@@ -12,8 +13,8 @@ use crate::seamless::{read_reflector, read_seek};
 use crate::secrets::{read_chain, read_key};
 use crate::trees::{read_head, read_tail};
 use crate::verbs::{commanding, known_verb, may_fit, verb_named};
-use crate::words::{Place, Version, Word, word_named};
-use bfd_fields::{LineFault, ReadFault, line_text, number, split_fields};
+use crate::words::{Version, Word};
+use bfd_fields::{LineFault, ReadFault, number};
 use bfd_num::{GREATEST_TICK, MOMENT_BOUND, Moment, Tick};
 use bfd_packet::{Arrival, Key, Keys};
 use bfd_rules::Cmd;
@@ -115,24 +116,24 @@ fn received_of(
     port: &[u8],
     iface: &[u8],
     rest: &[&[u8]],
-) -> Result<Entry, ReadFault>
-    ensures value { Gives (λ entry. entry) result (received_of moment.now port.now iface.now (map (λ value. value.now) rest.now)) }
-    ensures sound { IfOk result IsEntry }
+) -> Result<Line, ReadFault>
+    ensures value { Gives (λ line. Event line) result (received_of moment.now port.now iface.now (map (λ value. value.now) rest.now)) }
+    ensures sound { IfOk result IsEvent }
 {
     let moment = number(moment, 0, MOMENT_BOUND - 1)?;
     let port = port_named(port)?;
     let iface = number(iface, 0, 65_535)? as u32;
     let arrival = read_arrival(alloc, port, iface, rest)?;
-    Ok(Entry::Event(Line::Rx {
+    Ok(Line::Rx {
         moment: Moment::new(moment).unwrap(),
         arrival,
-    }))
+    })
 }
 
 /// The values of an `rx` line, of which there are seven.
-fn received_fields(alloc: Global, values: &[&[u8]]) -> Result<Entry, ReadFault>
-    ensures value { Gives (λ entry. entry) result (received_fields (map (λ value. value.now) values.now)) }
-    ensures sound { IfOk result IsEntry }
+fn received_fields(alloc: Global, values: &[&[u8]]) -> Result<Line, ReadFault>
+    ensures value { Gives (λ line. Event line) result (received_fields (map (λ value. value.now) values.now)) }
+    ensures sound { IfOk result IsEvent }
 {
     match values {
         [moment, port, iface, rest @ ..] => received_of(alloc, moment, port, iface, rest),
@@ -141,9 +142,9 @@ fn received_fields(alloc: Global, values: &[&[u8]]) -> Result<Entry, ReadFault>
 }
 
 /// `rx MOMENT single|multi|echo|sbfd|answer IFACE SRC DST TTL HEX`
-fn received(alloc: Global, values: &[&[u8]]) -> Result<Entry, ReadFault>
-    ensures value { Gives (λ entry. entry) result (received (map (λ value. value.now) values.now)) }
-    ensures sound { IfOk result IsEntry }
+pub fn received(alloc: Global, values: &[&[u8]]) -> Result<Line, ReadFault>
+    ensures value { Gives (λ line. Event line) result (received (map (λ value. value.now) values.now)) }
+    ensures sound { IfOk result IsEvent }
 {
     if values.len() != RECEIVED_VALUES {
         return Err(ReadFault::Fault(LineFault::FieldCount));
@@ -309,7 +310,7 @@ fn added(alloc: Global, values: &[&[u8]]) -> Result<Entry, ReadFault>
 }
 
 /// What the values of a word say.
-fn read_values(
+pub fn read_values(
     alloc: Global,
     version: Version,
     word: Word,
@@ -328,50 +329,10 @@ fn read_values(
         Word::Auth => keyed(alloc, values),
         Word::Key => added(alloc, values),
         Word::Run => Ok(alone(Entry::Run, values)?),
-        Word::Rx => received(alloc, values),
+        Word::Rx => Ok(Entry::Event(received(alloc, values)?)),
         Word::Tick => Ok(ticked(values)?),
         Word::Cmd => Ok(commanded(version, values)?),
         Word::Show => Ok(shown(values)?),
         Word::End => Ok(alone(Entry::End, values)?),
     }
-}
-
-/// What the fields of a line say.
-fn read_fields(
-    alloc: Global,
-    version: Version,
-    place: Place,
-    live: bool,
-    fields: &[&[u8]],
-) -> Result<Entry, ReadFault>
-    ensures value { Gives (λ entry. entry) result (worded version place live (map (λ field. field.now) fields.now)) }
-    ensures sound { IfOk result IsEntry }
-{
-    let Some((name, values)) = fields.split_first() else {
-        return Err(ReadFault::Fault(LineFault::UnknownWord));
-    };
-    let Some(word) = word_named(version, name) else {
-        return Err(ReadFault::Fault(LineFault::UnknownWord));
-    };
-    if !place.takes(live, word) {
-        return Err(ReadFault::Fault(LineFault::Order));
-    }
-    read_values(alloc, version, word, values)
-}
-
-/// What a line says by itself, or the first of its faults that it has by itself. `fields` is room for its fields.
-pub fn read_line<'a>(
-    alloc: Global,
-    version: Version,
-    place: Place,
-    live: bool,
-    line: &'a [u8],
-    fields: &mut Vec<&'a [u8]>,
-) -> Result<Entry, ReadFault>
-    ensures value { Gives (λ entry. entry) result (entry_of version place live line.now) }
-    ensures sound { IfOk result IsEntry }
-{
-    let text = line_text(line)?;
-    split_fields(text, fields)?;
-    read_fields(alloc, version, place, live, fields)
 }

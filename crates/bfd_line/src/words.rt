@@ -14,20 +14,47 @@ pub enum Version {
 
 /// The word that begins a line.
 #[derive(Clone, Copy)]
-pub(crate) enum Word {
+pub enum Word {
+    /// The version.
     Bfd,
+
+    /// A point-to-point session.
     P2p,
+
+    /// The first key of a point-to-point session.
     Auth,
+
+    /// One more key of it.
     Key,
+
+    /// An initiator of seamless BFD.
     Sbfd,
+
+    /// A reflector.
     Reflector,
+
+    /// A head of a multipoint tree.
     Head,
+
+    /// A tail of one.
     Tail,
+
+    /// The table is whole.
     Run,
+
+    /// A packet that arrives.
     Rx,
+
+    /// The time.
     Tick,
+
+    /// A command to a session.
     Cmd,
+
+    /// A question to a session.
     Show,
+
+    /// The text is whole.
     End,
 }
 
@@ -48,7 +75,7 @@ pub enum Place {
 }
 
 /// The word that a field spells; `key` is one of version 2 alone.
-pub(crate) fn word_named(version: Version, field: &[u8]) -> Option<Word>
+pub fn word_named(version: Version, field: &[u8]) -> Option<Word>
     ensures { result ≡ word_of version field.now }
 {
     match field {
@@ -73,7 +100,7 @@ pub(crate) fn word_named(version: Version, field: &[u8]) -> Option<Word>
 impl Place {
     /// Whether a line of this word may come next. In a live script packets and ticks may not stand at all: they come from
     /// outside.
-    pub(crate) fn takes(self, live: bool, word: Word) -> bool
+    pub fn takes(self, live: bool, word: Word) -> bool
         ensures { result ≡ stands self live word }
     {
         match word {

@@ -1,14 +1,57 @@
 // The whole text.
-ghost use Rattle.std.specs.Prelude.{IfOk};
-ghost use Rattle.bfd_fields.specs.Gives.{Gives, GivesScript};
-ghost use Rattle.bfd_script.specs.Reading.{script_of, step};
+ghost use Rattle.std.specs.Prelude.{IfOk, map};
+ghost use Rattle.bfd_line.specs.Entries.{valued, worded};
+ghost use Rattle.bfd_fields.specs.Gives.{◌>>=◌ as on_to, Gives, GivesScript};
+ghost use Rattle.bfd_script.specs.Reading.{accepted, script_of, step};
 ghost use Rattle.bfd_script.specs.Sound.{IsScript};
 
 use crate::script::Script;
 use crate::state::Reading;
-use bfd_fields::{BadLine, ReadFault, ScriptFault, first_line};
-use bfd_line::read_line;
+use bfd_fields::{BadLine, LineFault, ReadFault, ScriptFault, first_line, line_text, split_fields};
+use bfd_line::{Word, read_values, received, word_named};
 use std::alloc::Global;
+
+/// Takes in one more line of these values. An `rx` line, which most lines are, goes to the others as it is read.
+fn take_values(
+    alloc: Global,
+    reading: &mut Reading,
+    word: Word,
+    values: &[&[u8]],
+) -> Result<(), ReadFault>
+    ensures { Gives (λ _. reading.new) result (on_to (valued reading.old.version word (map (λ value. value.now) values.now)) (λ entry. accepted entry reading.old)) }
+{
+    match word {
+        Word::Rx => {
+            let line = received(alloc, values)?;
+            reading.push(line)
+        }
+        other => {
+            let entry = read_values(alloc, reading.version(), other, values)?;
+            reading.accept(alloc, entry)
+        }
+    }
+}
+
+/// Takes in one more line of these fields.
+fn take_fields(
+    alloc: Global,
+    live: bool,
+    reading: &mut Reading,
+    fields: &[&[u8]],
+) -> Result<(), ReadFault>
+    ensures { Gives (λ _. reading.new) result (on_to (worded reading.old.version reading.old.place live (map (λ field. field.now) fields.now)) (λ entry. accepted entry reading.old)) }
+{
+    let Some((name, values)) = fields.split_first() else {
+        return Err(ReadFault::Fault(LineFault::UnknownWord));
+    };
+    let Some(word) = word_named(reading.version(), name) else {
+        return Err(ReadFault::Fault(LineFault::UnknownWord));
+    };
+    if !reading.place().takes(live, word) {
+        return Err(ReadFault::Fault(LineFault::Order));
+    }
+    take_values(alloc, reading, word, values)
+}
 
 /// Takes in one more line. `fields` is room for its fields.
 fn read_step<'a>(
@@ -20,15 +63,9 @@ fn read_step<'a>(
 ) -> Result<(), ReadFault>
     ensures { Gives (λ _. reading.new) result (step live reading.old line.now) }
 {
-    let entry = read_line(
-        alloc,
-        reading.version(),
-        reading.place(),
-        live,
-        line,
-        fields,
-    )?;
-    reading.accept(alloc, entry)
+    let text = line_text(line)?;
+    split_fields(text, fields)?;
+    take_fields(alloc, live, reading, fields)
 }
 
 /// Reads a packet file: the script that it spells, or its first faulty line with that line's first fault.

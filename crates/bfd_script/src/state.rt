@@ -167,7 +167,7 @@ impl Reading {
     }
 
     /// One more event line: refused where the session that it names isn't there, and where there are 200,000.
-    fn push(&mut self, line: Line) -> Result<(), ReadFault>
+    pub(crate) fn push(&mut self, line: Line) -> Result<(), ReadFault>
         requires { IsEvent line }
         ensures { Gives (λ _. self.new) result (with_event line self.old) }
     {
