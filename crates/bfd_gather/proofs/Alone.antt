@@ -1,5 +1,5 @@
 -- A part that has all pieces.
-use Rattle.std.proofs.Common.{◌≡◌, ◌≢◌, ◌⊎◌, inl, inr, ◌<◌, ◌+◌, ◌++◌, ℕ, List, [], ◌∷◌, length, take, drop, map, get_or, refl, sym, ap, ◌∙◌, arith, length-drop, take-append-drop, take_all, ◌-◌, None, Some}
+use Rattle.std.proofs.Common.{◌≡◌, ◌≢◌, ◌⊎◌, inl, inr, ◌<◌, ◌++◌, ℕ, List, [], ◌∷◌, length, take, drop, map, get_or, refl, sym, ap, ◌∙◌, arith, length-drop, take-append-drop, None, Some}
 use Rattle.std.specs.List.{AllByRecursion, sum_by}
 use Rattle.std.proofs.lemmas.List.{get_or_default}
 use Rattle.std.proofs.lemmas.List.Sums.{sum_by-cons}
@@ -89,7 +89,3 @@ all_txs ms t next at ps v = ap (sum_by (λ (p : Piece). p.txs)) (sym v) ∙ txs_
 pub all_drops : (ms : List Mark) (t : List ℕ) (next at : ℕ) (ps : List Piece) → pieces_at (drop next ms) (drop at t) ≡ ps
     → sum_by (λ (p : Piece). p.drops) ps ≡ sum_by (λ (m : Mark). m.drops) (drop next ms)
 all_drops ms t next at ps v = ap (sum_by (λ (p : Piece). p.drops)) (sym v) ∙ drops_at (drop next ms) (drop at t)
-
--- a text from a place on, as a slice
-pub rest_of : (t : List ℕ) (at : ℕ) → take (length t - at) (drop at t) ≡ drop at t
-rest_of t at = take_all (length t - at) (drop at t) (omega (arith, length-drop at t))

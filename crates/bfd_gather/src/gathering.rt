@@ -44,6 +44,18 @@ fn least(parts: &[Part]) -> Option<usize>
     }
 }
 
+/// The most bytes of a report's last line: a word, and three numbers of at most 20 digits.
+const MOST_OF_LAST: usize = 68;
+
+/// How much room the text that the parts have left takes, and the last line behind it, or the most that there can be.
+fn room_of(parts: &[Part]) -> usize {
+    let mut count = MOST_OF_LAST;
+    for part in parts {
+        count = count.saturating_add(part.left());
+    }
+    count
+}
+
 /// Takes all pieces off the parts, in the order of a report: by event, and then by discriminator. Appends their text, and
 /// gives how many packets they tell were sent and were dropped. The one refusal is want of memory.
 pub(crate) fn gather(parts: &mut Vec<Part>, text: &mut Vec<u8>) -> Result<(u64, u64), AllocError>
@@ -83,7 +95,7 @@ fn sole(parts: &[Part]) -> Option<usize>
     }
 }
 
-/// The same as `gather`; the text of a part that has all pieces is taken at once.
+/// The same as `gather`, with room made once for all text; that of a part that has all pieces is taken at once.
 pub(crate) fn gather_all(
     parts: &mut Vec<Part>,
     text: &mut Vec<u8>,
@@ -94,6 +106,9 @@ pub(crate) fn gather_all(
 {
     match sole(parts) {
         Some(s) => parts[s].take_all(text),
-        None => gather(parts, text),
+        None => {
+            text.reserve(room_of(parts))?;
+            gather(parts, text)
+        }
     }
 }

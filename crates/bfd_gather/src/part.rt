@@ -12,6 +12,7 @@ use bfd_script::lines;
 use bfd_session::Answer;
 use std::alloc::{AllocError, Global};
 use std::marker::Model;
+use std::mem;
 
 /// What one shard tells of its events, or what is told of the events of no session: text in pieces, of which the first are
 /// taken off again. Its value is the pieces that are left.
@@ -156,6 +157,19 @@ fn copy(from: &[u8], at: usize, long: usize, text: &mut Vec<u8>) -> Result<(), A
     text.extend_from_slice(&from[at..at + long])
 }
 
+/// Appends the text from `at` on; all of it is handed over as it lies where it comes behind no text.
+fn hand_over(from: &mut Vec<u8>, at: usize, text: &mut Vec<u8>) -> Result<(), AllocError>
+    requires { at ≤ length from.old.items }
+    ensures text { OnOk result (text.new.items ≡ text.old.items ++ drop at from.old.items) }
+    ensures same { OnErr result (from.new.items ≡ from.old.items) }
+{
+    if at == 0 && text.is_empty() {
+        mem::swap(from, text);
+        return Ok(());
+    }
+    text.extend_from_slice(&from[at..])
+}
+
 /// How many packets the marks from this place on say were sent, and were dropped. Each has a byte of text, so the sums fit.
 fn counts_from(marks: &[Mark], first: usize) -> (u64, u64)
     requires inside { first ≤ length marks.now }
@@ -210,6 +224,13 @@ impl Part {
         append_items(&mut self.marks, &mut self.text, number, outs)
     }
 
+    /// How many bytes of text the pieces have that are left.
+    pub(crate) fn left(&self) -> usize
+        ensures { result ≡ length (texts self.now) }
+    {
+        self.text.len() - self.at
+    }
+
     /// The key of the first piece that is left.
     pub(crate) fn first(&self) -> Option<Key>
         ensures { result ≡ first_key self.now }
@@ -241,8 +262,8 @@ impl Part {
         Ok(mark.counts())
     }
 
-    /// Takes all pieces off, appends their text, and gives how many packets they tell were sent and were dropped. The one
-    /// refusal is want of memory.
+    /// Takes all pieces off, appends their text, and gives how many packets they tell were sent and were dropped. Behind no text
+    /// its own is handed over as it lies. The one refusal is want of memory.
     pub(crate) fn take_all(&mut self, text: &mut Vec<u8>) -> Result<(u64, u64), AllocError>
         ensures rest { OnOk result (self.new ≡ []) }
         ensures text { OnOk result (text.new.items ≡ text.old.items ++ texts self.old) }
@@ -250,7 +271,7 @@ impl Part {
         ensures drops { IfOk result (λ counts. counts.1 ≡ sum_by (λ p. p.drops) self.old) }
     {
         let counts = counts_from(&self.marks, self.next);
-        text.extend_from_slice(&self.text[self.at..])?;
+        hand_over(&mut self.text, self.at, text)?;
         self.next = self.marks.len();
         self.at = self.text.len();
         Ok(counts)

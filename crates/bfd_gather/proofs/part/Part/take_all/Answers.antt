@@ -2,15 +2,13 @@
 use Rattle.std.proofs.Common.{◌∙◌, ◌++◌, List, ap, sym, drop}
 use Rattle.std.specs.List.{sum_by}
 use Rattle.bfd_gather.specs.declared.key.Mark.{Mark}
-use Rattle.bfd_gather.proofs.Alone.{all_text, all_txs, all_drops, rest_of}
+use Rattle.bfd_gather.proofs.Alone.{all_text, all_txs, all_drops}
 use Rattle.bfd_gather.proofs.part.Part.take_all.Goals as goal
 
 pub returns-clause-text : goal.returns-clause-text
 returns-clause-text c =
-    c.in_ok-extend_from_slice.ensures.items
-    ∙ ap (λ t. c.args.text.now.items ++ t) (rest_of c.deref-2.result.now c.self.inside.at
-    ∙ (ap (drop c.self.inside.at) c.deref-2.ensures.value
-    ∙ sym (all_text c.self.inside.marks.items c.self.inside.text.items c.self.inside.next c.self.inside.at c.args.self.now c.self.invariant c.self.view_is)))
+    c.in_ok-hand_over.ensures.text
+    ∙ ap (λ t. c.args.text.now.items ++ t) (sym (all_text c.self.inside.marks.items c.self.inside.text.items c.self.inside.next c.self.inside.at c.args.self.now c.self.invariant c.self.view_is))
 
 pub returns-clause-txs : goal.returns-clause-txs
 returns-clause-txs c =
