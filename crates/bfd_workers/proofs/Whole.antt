@@ -13,6 +13,7 @@ use Rattle.bfd_session.specs.Step.{started}
 use Rattle.bfd_session.proofs.Starting.{started_configs}
 use Rattle.bfd_shard.specs.declared.entry.ShardEvent.TheVariants.{Own, Tick}
 use Rattle.bfd_shard.specs.Dealing.{history_of, share}
+use Rattle.bfd_shard.proofs.Sharing.{few_share}
 use Rattle.bfd_shard.specs.History.{events_of, later, moved, runs}
 use Rattle.bfd_shard.specs.Shard.{Shard, CanHappen, IsShard}
 use Rattle.bfd_sbfd.specs.declared.reflecting.Reflector.{Reflector}
@@ -20,7 +21,6 @@ use Rattle.bfd_line.specs.declared.entries.Line.{Line}
 use Rattle.bfd_script.specs.Reading.{Lists}
 use Rattle.bfd_script.specs.Sound.{IsScript}
 use Rattle.bfd_engine.specs.Engines.{Shards, configs_at}
-use Rattle.bfd_engine.specs.Engines as engines
 use Rattle.bfd_engine.proofs.Reaching.{dealt_event}
 use Rattle.bfd_gather.specs.declared.queue.Numbered.{Numbered}
 use Rattle.bfd_gather.specs.Pieces.{Piece}
@@ -42,21 +42,8 @@ use Rattle.bfd_workers.proofs.Worlds.{left_is, world_is}
 pub is_table : (script : Lists) → IsScript script → IsTable script.configs script.pool
 is_table script s = record { configs = s.configs; pool = s.pool; apart = s.apart; few = s.few }
 
--- the one definition of what a shard is dealt is the other
-pub same_share : {A : Type 0} (n c : ℕ) (xs : List A) → engines.share n c xs ≡ share n c xs
-unfolding engines.share share
-same_share n c [] = refl
-same_share n zero (x ∷ xs) = ap (λ ys. x ∷ ys) (same_share n (n - 1) xs)
-same_share n (suc c) (x ∷ xs) = same_share n c xs
-
-short_share : {A : Type 0} (n c : ℕ) (xs : List A) → length (engines.share n c xs) ≤ length xs
-unfolding engines.share
-short_share n c [] = omega arith
-short_share n zero (x ∷ xs) = let a = short_share n (n - 1) xs in omega (arith, a)
-short_share n (suc c) (x ∷ xs) = let a = short_share n c xs in omega (arith, a)
-
 pub room_enough : (engine : Shards) (s room : ℕ) (configs : List SessionConfig) → engine.configs ≡ configs → room ≡ 5 * length configs + 5 → 5 * length (configs_at engine s) + 5 ≤ room
-room_enough engine s room configs is enough = let a = short_share (length engine.locks) s engine.configs in let b = ap length is in omega (arith, a, b, enough)
+room_enough engine s room configs is enough = let a = few_share (length engine.locks) s engine.configs in let b = ap length is in omega (arith, a, b, enough)
 
 -- the events of a queue may happen to its shard
 own_met : (b : Bool) (engine : Shards) (n s number k m : ℕ) (event : Event) (rest : List Numbered) → (k % n == s) ≡ b → n ≡ length engine.locks → 0 < n → CanHappen engine.configs (Own k m event)
@@ -108,10 +95,9 @@ are_parts engine shards workers hs configs queues all parts apart some locks is 
       ∙ (ap (λ n. slice_index_or (slice_index_or all (s % n) []) s []) told_are.long
       ∙ (told_are.each s (omega (arith, h, locks))
       ∙ (ap (λ q. told 0 q (map started (configs_at engine s))) (are.each s h)
-      ∙ (ap (λ n. told 0 (queue shards s 1 hs) (map started (engines.share n s engine.configs))) (sym locks)
-      ∙ (ap (λ cs. told 0 (queue shards s 1 hs) (map started (engines.share shards s cs))) is
-      ∙ (ap (λ cs. told 0 (queue shards s 1 hs) (map started cs)) (same_share shards s configs)
-      ∙ ap (told 0 (queue shards s 1 hs)) (sym (share_map started shards s configs))))))));
+      ∙ (ap (λ n. told 0 (queue shards s 1 hs) (map started (share n s engine.configs))) (sym locks)
+      ∙ (ap (λ cs. told 0 (queue shards s 1 hs) (map started (share shards s cs))) is
+      ∙ ap (told 0 (queue shards s 1 hs)) (sym (share_map started shards s configs)))))));
   others = last ∙ apart_is;
   ascends = subst Ascends (sym (started_configs configs)) ascends;
 }
@@ -123,7 +109,7 @@ have_replayed engine script shards workers queues states locks is are all = reco
   long = all.long ∙ sym locks;
   each = λ s state e. (let one = all.each s state e in
       let inside : s < shards = (let a = slice_get_within states s state e in let b = all.long in omega (arith, a, b, locks)) in record {
-        configs = one.configs ∙ (ap (λ n. engines.share n s engine.configs) (sym locks) ∙ (ap (engines.share shards s) is ∙ same_share shards s script.configs));
+        configs = one.configs ∙ (ap (λ n. share n s engine.configs) (sym locks) ∙ ap (share shards s) is);
         journal = one.journal
             ∙ (ap (λ q. entries (s % workers + 1) (events_in q)) (are.each s inside)
             ∙ (ap (entries (s % workers + 1)) (queue_events shards s 1 (happenings script.configs script.pool script.events))
