@@ -13,11 +13,10 @@ pub struct Base {
     pub limit: u64,
 }
 
-/// A shard as the value of a lock: its notes are its journal, and each names the caller that brought the event. It lies in a
-/// box, since a turn moves the value out of the lock and in again.
+/// A shard as the value of a lock: its notes are its journal, and each names the caller that brought the event.
 #[derive(Drop)]
 pub struct Locked<W: Timers> {
-    pub(crate) shard: Box<ShardState<W>>,
+    pub(crate) shard: ShardState<W>,
 }
 
 impl<W: Timers> Recorded for Locked<W> {
@@ -27,11 +26,11 @@ impl<W: Timers> Recorded for Locked<W> {
 
     ghost use Rattle.bfd_session.specs.Kinds.{configs_of};
 
-    ghost noted = { λ kept. kept.shard.value.journal };
+    ghost noted = { λ kept. kept.shard.journal };
 
     ghost caller = { λ entry. entry.caller };
 
-    ghost base = { λ kept. record { configs = configs_of kept.shard.value.sessions; limit = kept.shard.value.limit } };
+    ghost base = { λ kept. record { configs = configs_of kept.shard.sessions; limit = kept.shard.limit } };
 
     fn notes(&self) -> &[Entry] {
         self.shard.journal()
