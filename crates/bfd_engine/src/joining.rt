@@ -73,7 +73,7 @@ impl<W: Timers> Engine<W> {
         for lock in locks {
             let own = pass.lift(shards.len());
             let Locked { shard } = lock.close(own);
-            shards.push_reserved(shard);
+            shards.push_reserved(Box::into_inner(shard));
         }
         Ok(shards)
     }

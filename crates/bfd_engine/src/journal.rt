@@ -48,9 +48,9 @@ fn read_with<W: Timers, R: Wait>(
     match lock.turn(rt, pass) {
         Err(Spent { pass, word }) => (pass, Err(TurnFault::Spent(word))),
         Ok(mut turn) => {
-            let kept = turn.value();
-            kept.shard.sessions();
-            let copied = copy_from(alloc, kept.shard.journal(), from);
+            let shard = &*turn.value().shard;
+            shard.sessions();
+            let copied = copy_from(alloc, shard.journal(), from);
             let back = lock.done(turn);
             match copied {
                 Ok(list) => (back, Ok(list)),

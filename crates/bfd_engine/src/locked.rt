@@ -13,10 +13,11 @@ pub struct Base {
     pub limit: u64,
 }
 
-/// A shard as the value of a lock: its notes are its journal, and each names the caller that brought the event.
+/// A shard as the value of a lock: its notes are its journal, and each names the caller that brought the event. It lies in a
+/// box, since a turn moves the value out of the lock and in again.
 #[derive(Drop)]
 pub struct Locked<W: Timers> {
-    pub(crate) shard: ShardState<W>,
+    pub(crate) shard: Box<ShardState<W>>,
 }
 
 impl<W: Timers> Recorded for Locked<W> {
@@ -26,11 +27,11 @@ impl<W: Timers> Recorded for Locked<W> {
 
     ghost use Rattle.bfd_session.specs.Kinds.{configs_of};
 
-    ghost noted = { λ kept. kept.shard.journal };
+    ghost noted = { λ kept. kept.shard.value.journal };
 
     ghost caller = { λ entry. entry.caller };
 
-    ghost base = { λ kept. record { configs = configs_of kept.shard.sessions; limit = kept.shard.limit } };
+    ghost base = { λ kept. record { configs = configs_of kept.shard.value.sessions; limit = kept.shard.value.limit } };
 
     fn notes(&self) -> &[Entry] {
         self.shard.journal()

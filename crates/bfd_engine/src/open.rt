@@ -3,6 +3,7 @@ ghost use Rattle.std.specs.Prelude.{◌≡◌, ◌≤◌, ◌<◌, None, IfOk, M
 ghost use Rattle.bfd_demux.specs.Rows.{build_fault};
 ghost use Rattle.bfd_session.specs.Kinds.{discr_of};
 ghost use Rattle.bfd_session.specs.Rows as rows;
+ghost use Rattle.bfd_session.specs.Step.{started};
 ghost use Rattle.bfd_session.specs.Rows.{AreFit};
 ghost use Rattle.bfd_engine.specs.Opening.{IsSorted, IsNewPass, IsOpenFault, IsNewShard, ArePassed, AreOpened};
 
@@ -48,6 +49,22 @@ type Opened<W> = (
     Vec<usize>,
 );
 
+/// A shard of these sessions, in a box.
+fn made<W: Timers>(
+    alloc: Global,
+    configs: Vec<SessionConfig>,
+    limit: usize,
+) -> Result<Box<ShardState<W>>, AllocError>
+    requires few { length configs.items ≤ 65536 }
+    requires fit { AreFit configs.items }
+    ensures sessions { IfOk result (λ b. b.value.sessions ≡ map started configs.items) }
+    ensures journal { IfOk result (λ b. b.value.journal ≡ []) }
+    ensures limit { IfOk result (λ b. b.value.limit ≡ limit) }
+{
+    let shard = ShardState::make(alloc, configs, limit)?;
+    Ok(Box::new(alloc, shard)?)
+}
+
 /// A shard of these sessions, behind its lock.
 fn open_shard<W: Timers>(
     alloc: Global,
@@ -58,7 +75,7 @@ fn open_shard<W: Timers>(
     requires fit { AreFit configs.items }
     ensures { IfOk result (λ r. IsNewShard limit configs.items r.0 r.1) }
 {
-    let shard = ShardState::make(alloc, configs, limit)?;
+    let shard = made(alloc, configs, limit)?;
     TurnLock::new(alloc, Locked { shard }, 0)
 }
 
@@ -109,16 +126,37 @@ impl<W: Timers> Engine<W> {
         ensures fault { MatchResult result (λ _. build_fault (rows.table_of configs.items pool.items) ≡ None) (IsOpenFault (rows.table_of configs.items pool.items)) }
     {
         let demux = plan(alloc, configs.as_slice(), pool.as_slice())?;
-        let Ok(discrs) = discrs_of(alloc, configs.as_slice()) else {
-            return Err(OpenFault::Memory);
-        };
+        match Engine::open_with(alloc, demux, configs, pool, shards, limit) {
+            Ok(opened) => Ok(opened),
+            Err(_) => Err(OpenFault::Memory),
+        }
+    }
+
+    /// The same with a table that is there already: that of the sessions and the reflectors, which has no fault. The one refusal
+    /// is want of memory.
+    pub fn open_with(
+        alloc: Global,
+        demux: Demux,
+        configs: Vec<SessionConfig>,
+        pool: Vec<Reflector>,
+        shards: u32,
+        limit: usize,
+    ) -> Result<(Engine<W>, EnginePass), AllocError>
+        requires shards { (0 < shards) × (shards ≤ 64) }
+        requires table { demux ≡ rows.table_of configs.items pool.items }
+        requires sound { build_fault (rows.table_of configs.items pool.items) ≡ None }
+        requires sorted { IsSorted configs.items pool.items }
+        requires fit { AreFit configs.items }
+        ensures shards { IfOk result (λ r. length r.0.locks ≡ shards) }
+        ensures configs { IfOk result (λ r. r.0.configs ≡ configs.items) }
+        ensures pool { IfOk result (λ r. r.0.pool ≡ pool.items) }
+        ensures limit { IfOk result (λ r. r.0.limit ≡ limit) }
+        ensures pass { IfOk result (λ r. IsNewPass r.0 r.1) }
+    {
+        let discrs = discrs_of(alloc, configs.as_slice())?;
         let known = Snapshot::of(&configs);
-        let Ok(parts) = deal_sessions(alloc, configs, shards as usize) else {
-            return Err(OpenFault::Memory);
-        };
-        let Ok((locks, passes, sizes)) = open_shards(alloc, parts, limit) else {
-            return Err(OpenFault::Memory);
-        };
+        let parts = deal_sessions(alloc, configs, shards as usize)?;
+        let (locks, passes, sizes) = open_shards(alloc, parts, limit)?;
         let engine = Engine {
             locks,
             demux,

@@ -51,12 +51,12 @@ pub(crate) fn turn_with<W: Timers, R: Wait, L: Ledger>(
     match lock.turn(rt, pass) {
         Err(Spent { pass, word }) => (pass, Err(TurnFault::Spent(word))),
         Ok(mut turn) => {
-            let kept = turn.value();
-            if kept.shard.prepare().is_err() {
+            let shard = &mut *turn.value().shard;
+            if shard.prepare().is_err() {
                 return (lock.done(turn), Err(TurnFault::Memory));
             }
-            kept.shard.sessions();
-            match kept.shard.apply(caller, event, outs, steps) {
+            shard.sessions();
+            match shard.apply(caller, event, outs, steps) {
                 Err(full) => (lock.done(turn), Err(TurnFault::Full(full.0))),
                 Ok(answer) => (lock.done(turn), Ok(answer)),
             }

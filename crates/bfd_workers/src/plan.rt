@@ -22,11 +22,11 @@ use std::alloc::{AllocError, Global};
 #[tactic(auto, using(bfd_replay::proofs::Stages::no_fault))]
 pub(crate) fn table(
     alloc: Global,
-    configs: &[SessionConfig],
-    pool: &[Reflector],
+    configs: &Vec<SessionConfig>,
+    pool: &Vec<Reflector>,
 ) -> Result<Demux, AllocError>
-    requires { IsTable configs.now pool.now }
-    ensures { IfOk result (λ demux. demux ≡ table_in configs.now pool.now) }
+    requires { IsTable configs.now.items pool.now.items }
+    ensures { IfOk result (λ demux. demux ≡ table_in configs.now.items pool.now.items) }
 {
     let rows = table_of(alloc, configs, pool)?;
     match Demux::build(alloc, &rows) {
@@ -128,21 +128,22 @@ pub(crate) fn plan(
     Ok((queues, apart))
 }
 
-/// The same, of sessions and reflectors that make a table.
+/// The same, of sessions and reflectors that make this table.
 pub(crate) fn planned(
     alloc: Global,
+    demux: &Demux,
     configs: &Vec<SessionConfig>,
     pool: &Vec<Reflector>,
     events: Vec<Line>,
     shards: u32,
 ) -> Result<(Vec<Vec<Numbered>>, Part), AllocError>
     requires table { IsTable configs.now.items pool.now.items }
+    requires rows { demux.now ≡ table_in configs.now.items pool.now.items }
     requires shards { (0 < shards) × (shards ≤ 64) }
     requires events { length events.items ≤ 200000 }
     ensures queues { IfOk result (λ r. AreQueues shards (happenings configs.now.items pool.now.items events.items) (map (λ q. q.items) r.0.items)) }
     ensures apart { IfOk result (λ r. r.1 ≡ told_apart 1 (happenings configs.now.items pool.now.items events.items)) }
     ensures met { IfOk result (λ r. AllByRecursion (IsMet configs.now.items) (happenings configs.now.items pool.now.items events.items)) }
 {
-    let demux = table(alloc, configs, pool)?;
-    plan(alloc, &demux, configs, pool, events, shards)
+    plan(alloc, demux, configs, pool, events, shards)
 }

@@ -10,7 +10,7 @@ ghost use Rattle.bfd_workers.specs.Replayed.{HaveReplayed};
 
 use crate::counting::{up_all, up_at_last};
 use crate::finish::in_order;
-use crate::plan::{longest, planned};
+use crate::plan::{longest, planned, table};
 use crate::running::{opened, run_all};
 use bfd_edge::Gate;
 use bfd_gather::{Part, report};
@@ -75,9 +75,10 @@ fn worked<W: Timers + Send, R: Threads + Wait + Sync, G: Gate + Sync>(
     ensures states { IfOk result (λ r. HaveReplayed (script_of configs.items pool.items events.items) shards workers r.1.items) }
 {
     let room = 5 * configs.len() + 5;
-    let (queues, apart) = planned(alloc, &configs, &pool, events, shards)?;
+    let demux = table(alloc, &configs, &pool)?;
+    let (queues, apart) = planned(alloc, &demux, &configs, &pool, events, shards)?;
     let most = longest(&queues);
-    let (engine, first) = opened(alloc, configs, pool, shards, most)?;
+    let (engine, first) = opened(alloc, demux, configs, pool, shards, most)?;
     let (states, all) = run_all(rt, alloc, engine, first, queues, workers, room, gate)?;
     let parts = in_order(alloc, all, shards, apart)?;
     Ok((parts, states))

@@ -3,14 +3,16 @@ ghost use Rattle.std.specs.Prelude.{ℕ, ◌≡◌, ◌≤◌, ◌<◌, ◌+◌,
 ghost use Rattle.bfd_engine.specs.Engines.{configs_at};
 ghost use Rattle.bfd_engine.specs.Opening.{IsNewPass};
 ghost use Rattle.bfd_workers.specs.Ends.{AreStates, AreTold};
+ghost use Rattle.bfd_session.specs.Rows.{table_of as table_in};
 ghost use Rattle.bfd_replay.specs.Stage.{IsTable};
 ghost use Rattle.bfd_workers.specs.Working.{AreMet};
 
 use crate::finish::all_told;
 use crate::jobs::work_all;
 use crate::passes::{deal_jobs, join_all};
+use bfd_demux::Demux;
 use bfd_edge::Gate;
-use bfd_engine::{Engine, EnginePass, OpenFault, Unclosed};
+use bfd_engine::{Engine, EnginePass, Unclosed};
 use bfd_gather::{Numbered, Part};
 use bfd_sbfd::Reflector;
 use bfd_session::SessionConfig;
@@ -20,10 +22,11 @@ use std::alloc::{AllocError, Global};
 use std::sync::Wait;
 use std::thread::Threads;
 
-/// An engine of the sessions and the pool, which make a table.
+/// An engine of the sessions and the pool, which make this table.
 #[tactic(auto, using(bfd_replay::proofs::Stages::no_fault, crate::proofs::Sorting::sorted))]
 pub(crate) fn opened<W: Timers>(
     alloc: Global,
+    demux: Demux,
     configs: Vec<SessionConfig>,
     pool: Vec<Reflector>,
     shards: u32,
@@ -31,16 +34,13 @@ pub(crate) fn opened<W: Timers>(
 ) -> Result<(Engine<W>, EnginePass), AllocError>
     requires shards { (0 < shards) × (shards ≤ 64) }
     requires table { IsTable configs.items pool.items }
+    requires rows { demux ≡ table_in configs.items pool.items }
     ensures shards { IfOk result (λ r. length r.0.locks ≡ shards) }
     ensures configs { IfOk result (λ r. r.0.configs ≡ configs.items) }
     ensures limit { IfOk result (λ r. r.0.limit ≡ limit) }
     ensures pass { IfOk result (λ r. IsNewPass r.0 r.1) }
 {
-    match Engine::open(alloc, configs, pool, shards, limit) {
-        Ok(opened) => Ok(opened),
-        Err(OpenFault::Memory) => Err(AllocError),
-        Err(OpenFault::Build(_)) => unreachable!(),
-    }
+    Engine::open_with(alloc, demux, configs, pool, shards, limit)
 }
 
 /// The queues of an engine's shards, done by so many workers: the closed shards, and what each worker told of each shard. The

@@ -9,7 +9,7 @@ use Rattle.bfd_engine.proofs.journal.read_with.Goals as goal
 pub returns-in-Ok-copied-clause-given : goal.returns-in-Ok-copied-clause-given
 returns-in-Ok-copied-clause-given g c =
     let kept = c.sessions.ensures.kept in
-    let are : configs_of c.value-kept.result.now.shard.sessions ≡ configs_in c.args.pass.1.base =
-    ap (λ k. configs_of k.shard.sessions) c.value-kept.ensures.value ∙ ap configs_in c.in-Ok.ensures.1.base_is in
-    given_from (configs_of c.value-kept.result.now.shard.sessions) (configs_in c.args.pass.1.base) c.args.from c.value-kept.result.now.shard.journal c.in-Ok-copied.list.items
+    let are : configs_of c.deref-shard.result.now.sessions ≡ configs_in c.args.pass.1.base =
+    ap (λ s. configs_of s.sessions) c.deref-shard.ensures ∙ (ap (λ k. configs_of k.shard.value.sessions) c.value.ensures.value ∙ ap configs_in c.in-Ok.ensures.1.base_is) in
+    given_from (configs_of c.deref-shard.result.now.sessions) (configs_in c.args.pass.1.base) c.args.from c.deref-shard.result.now.journal c.in-Ok-copied.list.items
     kept.history are (c.in-Ok-copied.ensures ∙ ap (λ (xs : List Entry). drop c.args.from xs) c.journal.ensures)

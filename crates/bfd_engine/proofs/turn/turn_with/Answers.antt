@@ -9,32 +9,32 @@ use Rattle.bfd_engine.proofs.turn.turn_with.Goals as goal
 
 pub apply-requires-clause-room : goal.apply-requires-clause-room
 apply-requires-clause-room g c =
-    let same : c.prepare.new.self.sessions ≡ c.in-Ok.turn.2.shard.sessions = c.prepare.ensures.sessions ∙ ap (λ k. k.shard.sessions) c.value-kept.ensures.value in
+    let same : c.prepare.new.self.sessions ≡ c.in-Ok.turn.2.shard.value.sessions = c.prepare.ensures.sessions ∙ (ap (λ s. s.sessions) c.deref_mut-shard.ensures.value ∙ ap (λ k. k.shard.value.sessions) c.value.ensures.value) in
     let is : room_in (configs_in c.args.pass.1.base) c.args.event ≡ room_for c.prepare.new.self.sessions c.args.event =
-    room_by c.prepare.new.self.sessions c.in-Ok.turn.2.shard.sessions c.in-Ok.turn.2.shard.limit c.args.pass.1.base c.args.event same c.in-Ok.ensures.1.base_is in
+    room_by c.prepare.new.self.sessions c.in-Ok.turn.2.shard.value.sessions c.in-Ok.turn.2.shard.value.limit c.args.pass.1.base c.args.event same c.in-Ok.ensures.1.base_is in
     omega (arith, is, c.requires.room)
 
 pub returns-in-Ok-apply-clause-spare : goal.returns-in-Ok-apply-clause-spare
 returns-in-Ok-apply-clause-spare g c =
-    let same : c.prepare.new.self.sessions ≡ c.in-Ok.turn.2.shard.sessions = c.prepare.ensures.sessions ∙ ap (λ k. k.shard.sessions) c.value-kept.ensures.value in
+    let same : c.prepare.new.self.sessions ≡ c.in-Ok.turn.2.shard.value.sessions = c.prepare.ensures.sessions ∙ (ap (λ s. s.sessions) c.deref_mut-shard.ensures.value ∙ ap (λ k. k.shard.value.sessions) c.value.ensures.value) in
     let is : room_in (configs_in c.args.pass.1.base) c.args.event ≡ room_for c.prepare.new.self.sessions c.args.event =
-    room_by c.prepare.new.self.sessions c.in-Ok.turn.2.shard.sessions c.in-Ok.turn.2.shard.limit c.args.pass.1.base c.args.event same c.in-Ok.ensures.1.base_is in
+    room_by c.prepare.new.self.sessions c.in-Ok.turn.2.shard.value.sessions c.in-Ok.turn.2.shard.value.limit c.args.pass.1.base c.args.event same c.in-Ok.ensures.1.base_is in
     omega (arith, is, c.in-Ok-apply.ensures.spare)
 
 pub returns-then-is_err-clause-fault : goal.returns-then-is_err-clause-fault
 returns-then-is_err-clause-fault g c =
     let l = c.in-Ok.ensures.1 in
-    let kept : c.prepare.new.self.journal ≡ c.in-Ok.turn.2.shard.journal = c.prepare.ensures.journal ∙ ap (λ k. k.shard.journal) c.value-kept.ensures.value in
+    let kept : c.prepare.new.self.journal ≡ c.in-Ok.turn.2.shard.value.journal = c.prepare.ensures.journal ∙ (ap (λ s. s.journal) c.deref_mut-shard.ensures.value ∙ ap (λ k. k.shard.value.journal) c.value.ensures.value) in
     let seen : c.done.result.1.seen ≡ c.prepare.new.self.journal = ap (λ p. p.1.seen) c.done.ensures in
     let bound : limit_in c.done.result.1.base ≡ c.prepare.new.self.limit =
     ap (λ p. limit_in p.1.base) c.done.ensures ∙ (ap (λ w. limit_in w.base) l.same ∙ (ap limit_in (sym l.base_is)
-    ∙ (ap (λ k. k.shard.limit) (sym c.value-kept.ensures.value) ∙ sym c.prepare.ensures.limit))) in
+    ∙ (ap (λ k. k.shard.value.limit) (sym c.value.ensures.value) ∙ (ap (λ s. s.limit) (sym c.deref_mut-shard.ensures.value) ∙ sym c.prepare.ensures.limit)))) in
     let below : length c.prepare.new.self.journal < c.prepare.new.self.limit = search rules in
     (record { between = l.adds.0; others = l.adds.2; seen = seen ∙ (kept ∙ l.adds.1) }, omega (arith, ap length seen, bound, below))
 
 pub returns-in-Ok-apply-clause-timely : goal.returns-in-Ok-apply-clause-timely
 returns-in-Ok-apply-clause-timely g c =
-    let same : c.prepare.new.self.sessions ≡ c.in-Ok.turn.2.shard.sessions = c.prepare.ensures.sessions ∙ ap (λ k. k.shard.sessions) c.value-kept.ensures.value in
+    let same : c.prepare.new.self.sessions ≡ c.in-Ok.turn.2.shard.value.sessions = c.prepare.ensures.sessions ∙ (ap (λ s. s.sessions) c.deref_mut-shard.ensures.value ∙ ap (λ k. k.shard.value.sessions) c.value.ensures.value) in
     let are : configs_of c.prepare.new.self.sessions ≡ configs_in c.args.pass.1.base = ap configs_of same ∙ ap configs_in c.in-Ok.ensures.1.base_is in
     let more : c.apply.new.self.journal ≡ c.prepare.new.self.journal ++ entry_of c.args.pass.1.number c.args.event ∷ [] =
     c.in-Ok-apply.ensures.journal ∙ ap (λ n. c.prepare.new.self.journal ++ entry_of n c.args.event ∷ []) c.caller-caller.ensures in

@@ -40,9 +40,9 @@ loop-lock-preserved g c =
     (ap (λ l. c.loop-lock.yielded ++ l) (sym c.in-Some.ensures.steps.0) ∙ i.all) i.long c.requires.of c.requires.there i.left in
     let own = lifted c.args.self c.args.pass.1 c.loop-lock.pass.1 c.in-Some.lock (length c.loop-lock.shards.items) c.lift-own.result n
     (ap (slice_get c.loop-lock.pass.1) (sym len) ∙ c.lift-own.ensures.pass) in
-    let more = c.push_reserved.ensures.items in
+    let more = c.push_reserved.ensures.items ∙ ap (λ s. c.loop-lock.shards.items ++ s ∷ []) c.into_inner.ensures in
     let longer : length c.push_reserved.new.self.items ≡ length c.loop-lock.shards.items + 1 =
-    (let a = ap length more in let b = length-append c.loop-lock.shards.items (c.close-shard.result.shard ∷ []) in omega (arith, a, b)) in record {
+    (let a = ap length more in let b = length-append c.loop-lock.shards.items (c.close-shard.result.shard.value ∷ []) in omega (arith, a, b)) in record {
       can = tt;
       ends = tt;
       all = append_assoc c.loop-lock.yielded (c.in-Some.lock ∷ []) c.next.new.self.rest.items ∙ (ap (λ l. c.loop-lock.yielded ++ l) (sym c.in-Some.ensures.steps.0) ∙ i.all);
@@ -52,7 +52,7 @@ loop-lock-preserved g c =
       left = subst (λ (ps : List Held). LeftFrom (length c.push_reserved.new.self.items) c.args.pass.1 ps)
           (sym (ap (λ k. k.1) c.lift-own.ensures.rest ∙ ap (λ (m : ℕ). slice_set c.loop-lock.pass.1 m None) len))
           (left_more (length c.loop-lock.shards.items) (length c.push_reserved.new.self.items) c.args.pass.1 c.loop-lock.pass.1 None longer i.left);
-      ended = ended_more c.args.self c.args.pass (length c.loop-lock.shards.items) c.lift-own.result c.loop-lock.shards.items c.push_reserved.new.self.items c.close-shard.result.shard
+      ended = ended_more c.args.self c.args.pass (length c.loop-lock.shards.items) c.lift-own.result c.loop-lock.shards.items c.push_reserved.new.self.items c.close-shard.result.shard.value
           own.1 own.3
           (record { notes = c.close-shard.ensures.notes; base = c.close-shard.ensures.base; word = c.close-shard.ensures.word; kept = c.close-shard.ensures.kept; unmade = c.close-shard.ensures.unmade })
           refl more i.ended;

@@ -18,7 +18,7 @@ returns-in-Ok-clause-hold g c =
     let lock : c.lift-own.result.0 ≡ c.index.result.now =
     sym (get_or_from_slice_get c.args.self.now.locks c.args.shard c.lift-own.result.0 c.index.result.now (c.requires.of.lock c.args.shard c.lift-own.result c.lift-own.ensures.pass))
     ∙ (ap (λ (e : Shards). get_or e.locks c.args.shard c.index.result.now) (sym c.self.view_is) ∙ sym c.index.ensures) in
-    has_taken c.args.self.now c.args.shard c.args.pass.now c.lift-own.new.self c.lift-own.result c.in-Ok.turn.0 c.in-Ok.turn.1 c.in-Ok.turn.2.shard.journal c.requires.of
+    has_taken c.args.self.now c.args.shard c.args.pass.now c.lift-own.new.self c.lift-own.result c.in-Ok.turn.0 c.in-Ok.turn.1 c.in-Ok.turn.2.shard.value.journal c.requires.of
     c.lift-own.ensures.pass c.lift-own.ensures.callers c.lift-own.ensures.rest (c.in-Ok.ensures.0 ∙ sym lock) c.in-Ok.ensures.1.same c.in-Ok.ensures.1.later c.in-Ok.ensures.1.adds
 
 pub returns-in-Err-Busy-clause-of : goal.returns-in-Err-Busy-clause-of
