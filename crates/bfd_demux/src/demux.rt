@@ -14,10 +14,11 @@ ghost use Rattle.bfd_demux.specs.Index.{names_of};
 ghost use Rattle.bfd_demux.specs.Table.{how_many};
 
 use crate::fault::BuildFault;
+use crate::guess::{guess_by_discr, guess_by_peer};
 use crate::name::{Name, heard_on, is_heard, name_on, names_before, row_name};
 use crate::repeats::{addresses_of, repeated_addresses, repeated_discr};
 use crate::row::{Row, RowKind};
-use crate::table::{place_near, place_of, sort_by_key};
+use crate::table::{place_near, sort_by_key};
 use crate::target::Target;
 use bfd_num::Steps;
 use bfd_packet::{Arrival, Control, Port, Test, read};
@@ -121,7 +122,7 @@ impl Demux {
         ensures cost { steps.new ≤ steps.old + 17 }
     {
         let names = self.names.as_slice();
-        let place = place_near(names, guess_at(names, discr), &name_on(port, discr), steps)?;
+        let place = place_near(names, guess_by_discr(names, discr), &name_on(port, discr), steps)?;
         if !is_heard(port, self.names[place].1) {
             return None;
         }
@@ -135,10 +136,11 @@ impl Demux {
         ensures found { result ≡ option_map (λ row. session_index self.now row.discr) (the_one (λ row. same_selector kind row.kind) self.now) }
         ensures cost { steps.new ≤ steps.old + 34 }
     {
-        let place = place_of(self.addresses.as_slice(), &kind, steps)?;
+        let addresses = self.addresses.as_slice();
+        let place = place_near(addresses, guess_by_peer(addresses, &kind), &kind, steps)?;
         let discr = self.addresses[place].1;
         let names = self.names.as_slice();
-        let index = place_near(names, guess_at(names, discr), &Name::Session(discr), steps)?;
+        let index = place_near(names, guess_by_discr(names, discr), &Name::Session(discr), steps)?;
         Some(index as u32)
     }
 }
@@ -373,23 +375,6 @@ fn is_session(row: &Row) -> bool
     ensures { result ≡ is_session row.now.kind }
 {
     !matches!(row.kind, RowKind::Reflect)
-}
-
-// Where a name of this discriminator would stand if they grew evenly from the first name's to the last's, as they do where
-// sessions are numbered one after another.
-fn guess_at(names: &[(Name, Option<Port>)], discr: u32) -> usize
-    requires { length names.now ≤ 65536 }
-{
-    let (Some((first, _)), Some((last, _))) = (names.first(), names.last()) else {
-        return 0;
-    };
-    let (low, high) = (first.discr(), last.discr());
-    if high <= low || discr < low {
-        return 0;
-    }
-    let width = u64::from(high - low);
-    let places = u64::from(discr - low) * (names.len() as u64 - 1);
-    ((places + width / 2) / width) as usize
 }
 
 // The first row whose discriminator is 0.

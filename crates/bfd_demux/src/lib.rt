@@ -13,6 +13,7 @@
 
 mod demux;
 mod fault;
+mod guess;
 mod name;
 mod repeats;
 mod row;

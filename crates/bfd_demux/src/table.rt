@@ -97,18 +97,3 @@ pub fn place_near<K: Ord, V, L: Ledger>(
         Ordering::Greater => search(entries, 0, middle, key, steps),
     }
 }
-
-/// The same, where nothing tells where it may be.
-pub fn place_of<K: Ord, V, L: Ledger>(
-    entries: &[(K, V)],
-    key: &K,
-    steps: &mut Steps<L>,
-) -> Option<usize>
-    requires ascending { IsAscending K.cmp entries.now }
-    requires few { length entries.now ≤ 65536 }
-    ensures found { IfSome result (IsPlaceOf K.cmp entries.now key.now) }
-    ensures none { IfNone result (list_any (λ entry. is_eq (K.cmp entry.0 key.now)) entries.now ≡ false) }
-    ensures cost { steps.new ≤ steps.old + 17 }
-{
-    place_near(entries, entries.len() / 2, key, steps)
-}

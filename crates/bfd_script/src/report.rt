@@ -41,13 +41,16 @@ fn put_number(line: &mut Draft, n: u64)
     put(line, digits.format(n).as_bytes());
 }
 
-/// Puts the digits of bytes that are fewer than a run.
+/// Puts the digits of bytes that are fewer than a run, and often none.
 fn put_few(line: &mut Draft, bytes: &[u8])
     requires few { length bytes.now ≤ 7 }
     requires room { array_vec_len line.old + 2 * length bytes.now ≤ 160 }
     ensures text { line.new.items ≡ line.old.items ++ encode_lower bytes.now }
     ensures long { array_vec_len line.new ≡ array_vec_len line.old + 2 * length bytes.now }
 {
+    if bytes.is_empty() {
+        return;
+    }
     let mut room = [0; 2 * BYTES];
     let digits = &mut room[..2 * bytes.len()];
     match hex::encode_to_slice(bytes, digits) {
@@ -87,41 +90,39 @@ fn put_states(line: &mut Draft, old: State, new: State)
     put(line, b" ");
 }
 
-/// The line of a packet that was sent.
-fn sent_line(number: &[u8], discr: u32, bytes: &[u8]) -> Draft
+/// Makes the draft the line of a packet that was sent.
+fn make_sent(draft: &mut Draft, number: &[u8], discr: u32, bytes: &[u8])
     requires short { length number.now ≤ 20 }
     requires few { length bytes.now ≤ 52 }
-    ensures { result.items ≡ line (number.now ∷ codes "tx" ∷ decimal discr ∷ hex_field bytes.now ∷ []) }
+    ensures { draft.new.items ≡ line (number.now ∷ codes "tx" ∷ decimal discr ∷ hex_field bytes.now ∷ []) }
 {
-    let mut line = Draft::new();
-    put(&mut line, number);
-    put(&mut line, b" tx ");
-    put_number(&mut line, discr as u64);
-    put(&mut line, b" ");
-    put_hex(&mut line, bytes);
-    put(&mut line, b"\n");
-    line
+    draft.clear();
+    put(draft, number);
+    put(draft, b" tx ");
+    put_number(draft, discr as u64);
+    put(draft, b" ");
+    put_hex(draft, bytes);
+    put(draft, b"\n");
 }
 
-/// The line of a change of state.
-fn changed_line(number: &[u8], discr: u32, old: State, new: State, diag: u8) -> Draft
+/// Makes the draft the line of a change of state.
+fn make_changed(draft: &mut Draft, number: &[u8], discr: u32, old: State, new: State, diag: u8)
     requires { length number.now ≤ 20 }
-    ensures { result.items ≡ line (number.now ∷ codes "state" ∷ decimal discr ∷ state_name old ∷ state_name new ∷ decimal diag ∷ []) }
+    ensures { draft.new.items ≡ line (number.now ∷ codes "state" ∷ decimal discr ∷ state_name old ∷ state_name new ∷ decimal diag ∷ []) }
 {
-    let mut line = Draft::new();
-    put(&mut line, number);
-    put(&mut line, b" state ");
-    put_number(&mut line, discr as u64);
-    put_states(&mut line, old, new);
-    put_number(&mut line, diag as u64);
-    put(&mut line, b"\n");
-    line
+    draft.clear();
+    put(draft, number);
+    put(draft, b" state ");
+    put_number(draft, discr as u64);
+    put_states(draft, old, new);
+    put_number(draft, diag as u64);
+    put(draft, b"\n");
 }
 
-/// The line of one output of the event whose number is written so.
-fn line_of(number: &[u8], out: &Out) -> Draft
+/// Makes the draft the line of one output of the event whose number is written so.
+fn make_line(draft: &mut Draft, number: &[u8], out: &Out)
     requires { length number.now ≤ 20 }
-    ensures { (n : ℕ) → number.now ≡ decimal n → result.items ≡ item_line n out.now }
+    ensures { (n : ℕ) → number.now ≡ decimal n → draft.new.items ≡ item_line n out.now }
 {
     match out {
         Out::Changed {
@@ -129,8 +130,10 @@ fn line_of(number: &[u8], out: &Out) -> Draft
             old,
             new,
             diag,
-        } => changed_line(number, *discr, *old, *new, *diag),
-        Out::Sent { discr, datagram } => sent_line(number, *discr, datagram.bytes.as_slice()),
+        } => make_changed(draft, number, *discr, *old, *new, *diag),
+        Out::Sent { discr, datagram } => {
+            make_sent(draft, number, *discr, datagram.bytes.as_slice());
+        }
     }
 }
 
@@ -144,8 +147,10 @@ fn push_items(number: u64, outs: &[Out], text: &mut Vec<u8>) -> Result<(), Alloc
     }
     let mut digits = Buffer::new();
     let head = digits.format(number).as_bytes();
+    let mut draft = Draft::new();
     for out in outs {
-        text.extend_from_slice(line_of(head, out).as_slice())?;
+        make_line(&mut draft, head, out);
+        text.extend_from_slice(draft.as_slice())?;
     }
     Ok(())
 }

@@ -5,34 +5,37 @@ use Rattle.bfd_demux.specs.contracts.row.RowKindOrd.TheImpl as kind_order
 use Rattle.bfd_demux.proofs.Lookups.{missing_by, found_by, few_names, few_addresses, address_unknown, address_named, address_index, address_session, none_addressed, place_of_session}
 use Rattle.bfd_demux.proofs.demux.Demux.by_addresses.Goals as goal
 
-pub place_of-requires-clause-few : goal.place_of-requires-clause-few
-place_of-requires-clause-few g c = rw c.as_slice.ensures.value (few_addresses c.self.invariant)
-
-pub guess_at-requires : goal.guess_at-requires
-guess_at-requires g c = rw c.as_slice-names.ensures.value (few_names c.self.invariant)
+pub guess_by_peer-requires : goal.guess_by_peer-requires
+guess_by_peer-requires g c = rw c.as_slice-addresses.ensures.value (few_addresses c.self.invariant)
 
 pub place_near-requires-clause-few : goal.place_near-requires-clause-few
-place_near-requires-clause-few g c = rw c.as_slice-names.ensures.value (few_names c.self.invariant)
+place_near-requires-clause-few g c = rw c.as_slice-addresses.ensures.value (few_addresses c.self.invariant)
+
+pub guess_by_discr-requires : goal.guess_by_discr-requires
+guess_by_discr-requires g c = rw c.as_slice-names.ensures.value (few_names c.self.invariant)
+
+pub place_near-requires-2-clause-few : goal.place_near-requires-2-clause-few
+place_near-requires-2-clause-few g c = rw c.as_slice-names.ensures.value (few_names c.self.invariant)
 
 pub returns-in_err-place-clause-known : goal.returns-in_err-place-clause-known
 returns-in_err-place-clause-known g c =
-    let unknown = address_unknown c.self.invariant c.args.kind c.requires (missing_by kind_order.ghosts.cmp c.as_slice.ensures.value refl c.in_err-place.ensures.none) in
+    let unknown = address_unknown c.self.invariant c.args.kind c.requires (missing_by kind_order.ghosts.cmp c.as_slice-addresses.ensures.value refl c.in_err-place.ensures.none) in
     rw (c.from_residual.ensures, ← c.self.view_is) unknown
 
 pub returns-in_err-place-clause-found : goal.returns-in_err-place-clause-found
 returns-in_err-place-clause-found g c =
-    let unknown = address_unknown c.self.invariant c.args.kind c.requires (missing_by kind_order.ghosts.cmp c.as_slice.ensures.value refl c.in_err-place.ensures.none) in
+    let unknown = address_unknown c.self.invariant c.args.kind c.requires (missing_by kind_order.ghosts.cmp c.as_slice-addresses.ensures.value refl c.in_err-place.ensures.none) in
     rw (c.from_residual.ensures, ← c.self.view_is, none_addressed c.self.invariant c.args.kind unknown) refl
 
 pub returns-in_err-index-clause-known : goal.returns-in_err-index-clause-known
 returns-in_err-index-clause-known g c =
-    let at = found_by c.as_slice.ensures.value refl c.in_ok-place.ensures.found in
+    let at = found_by c.as_slice-addresses.ensures.value refl c.in_ok-place.ensures.found in
     absurd (address_session c.self.invariant c.args.kind c.in_ok-place.place c.index.result.now c.requires at
     (missing_by name_order.ghosts.cmp c.as_slice-names.ensures.value (ap (λ entry. Session entry.1) c.index.ensures) c.in_err-index.ensures.none))
 
 pub returns-in_err-index-clause-found : goal.returns-in_err-index-clause-found
 returns-in_err-index-clause-found g c =
-    let at = found_by c.as_slice.ensures.value refl c.in_ok-place.ensures.found in
+    let at = found_by c.as_slice-addresses.ensures.value refl c.in_ok-place.ensures.found in
     absurd (address_session c.self.invariant c.args.kind c.in_ok-place.place c.index.result.now c.requires at
     (missing_by name_order.ghosts.cmp c.as_slice-names.ensures.value (ap (λ entry. Session entry.1) c.index.ensures) c.in_err-index.ensures.none))
 
@@ -44,12 +47,12 @@ overflow_cast-result g c =
 
 pub returns-clause-known : goal.returns-clause-known
 returns-clause-known g c =
-    let at = found_by c.as_slice.ensures.value refl c.in_ok-place.ensures.found in
+    let at = found_by c.as_slice-addresses.ensures.value refl c.in_ok-place.ensures.found in
     rw (← c.self.view_is) (address_named c.self.invariant c.args.kind c.in_ok-place.place c.index.result.now c.requires at)
 
 pub returns-clause-found : goal.returns-clause-found
 returns-clause-found g c =
-    let at = found_by c.as_slice.ensures.value refl c.in_ok-place.ensures.found in
+    let at = found_by c.as_slice-addresses.ensures.value refl c.in_ok-place.ensures.found in
     let index_at = found_by c.as_slice-names.ensures.value (ap (λ entry. Session entry.1) c.index.ensures) c.in_ok-index.ensures.found in
     let index = place_of_session c.self.invariant _ c.in_ok-index.index index_at in
     rw (← c.self.view_is) (ap Some index ∙ sym (address_index c.self.invariant c.args.kind c.in_ok-place.place c.index.result.now c.requires at))

@@ -4,8 +4,8 @@ use Rattle.bfd_demux.specs.contracts.name.NameOrd.TheImpl as name_order
 use Rattle.bfd_demux.proofs.Lookups.{missing_by, found_by, few_names, name_known, name_unknown, none_named, some_named, place_of_name}
 use Rattle.bfd_demux.proofs.demux.Demux.by_discr.Goals as goal
 
-pub guess_at-requires : goal.guess_at-requires
-guess_at-requires g c = rw c.as_slice-names.ensures.value (few_names c.self.invariant)
+pub guess_by_discr-requires : goal.guess_by_discr-requires
+guess_by_discr-requires g c = rw c.as_slice-names.ensures.value (few_names c.self.invariant)
 
 pub place_near-requires-clause-few : goal.place_near-requires-clause-few
 place_near-requires-clause-few g c = rw c.as_slice-names.ensures.value (few_names c.self.invariant)
