@@ -122,7 +122,12 @@ impl Demux {
         ensures cost { steps.new ≤ steps.old + 17 }
     {
         let names = self.names.as_slice();
-        let place = place_near(names, guess_by_discr(names, discr), &name_on(port, discr), steps)?;
+        let place = place_near(
+            names,
+            guess_by_discr(names, discr),
+            &name_on(port, discr),
+            steps,
+        )?;
         if !is_heard(port, self.names[place].1) {
             return None;
         }
@@ -140,7 +145,12 @@ impl Demux {
         let place = place_near(addresses, guess_by_peer(addresses, &kind), &kind, steps)?;
         let discr = self.addresses[place].1;
         let names = self.names.as_slice();
-        let index = place_near(names, guess_by_discr(names, discr), &Name::Session(discr), steps)?;
+        let index = place_near(
+            names,
+            guess_by_discr(names, discr),
+            &Name::Session(discr),
+            steps,
+        )?;
         Some(index as u32)
     }
 }

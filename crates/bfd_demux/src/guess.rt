@@ -53,5 +53,10 @@ pub fn guess_by_peer(addresses: &[(RowKind, u32)], kind: &RowKind) -> usize
     let (Some((first, _)), Some((last, _))) = (addresses.first(), addresses.last()) else {
         return 0;
     };
-    evenly(neighbour(first), neighbour(last), neighbour(kind), addresses.len())
+    evenly(
+        neighbour(first),
+        neighbour(last),
+        neighbour(kind),
+        addresses.len(),
+    )
 }
