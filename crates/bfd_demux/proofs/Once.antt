@@ -95,7 +95,8 @@ once_after same test alike earlier (row ∷ rows) none few =
         rw (how_many-append, is) (omega arith)
     go false is new = rw (how_many-append, is) (omega arith)
 
-unmapped : {X Y : Type 0} (f : X → Y) (o : Option X) → option_map f o ≡ None → o ≡ None
+-- what gives nothing was given nothing
+pub unmapped : {X Y : Type 0} (f : X → Y) (o : Option X) → option_map f o ≡ None → o ≡ None
 unmapped f None e = refl
 unmapped f (Some x) e = cc
 

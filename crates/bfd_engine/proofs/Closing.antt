@@ -24,9 +24,6 @@ next_here xs ys x i e = absurd (omega arith)
 pub record LeftFrom (at : ℕ) (before after : List Held) : Type 0 where
   pub left : (k : ℕ) → at ≤ k → slice_get after k ≡ slice_get before k
 
-pub left_start : (ps : List Held) → LeftFrom 0 ps ps
-left_start ps = record { left = λ k h. refl }
-
 pub left_more : (at at2 : ℕ) (before after : List Held) (h : Held) → at2 ≡ at + 1 → LeftFrom at before after → LeftFrom at2 before (set after at h)
 left_more at at2 before after h is l = record { left = λ k le. set_else after at k h (λ same. omega (arith, same, le, is)) ∙ l.left k (omega (arith, le, is)) }
 
@@ -87,9 +84,6 @@ closed_here engine k at p shard here base e = record {
 -- the shards that were taken out
 pub record AreEnded (engine : Shards) (k : Knows) (shards : List Shard) : Type 0 where
   pub each : (number : ℕ) (shard : Shard) → slice_get shards number ≡ Some shard → IsClosed engine k number shard
-
-pub ended_start : (engine : Shards) (k : Knows) → AreEnded engine k []
-ended_start engine k = record { each = λ number shard e. absurd (let i = slice_get_within [] number shard e in omega (arith, i)) }
 
 pub ended_more : (engine : Shards) (k : Knows) (at : ℕ) (p : K) (shards more : List Shard) (shard : Shard) → slice_get k.1 at ≡ Some (Some p) → p.1.base ≡ Some (base_at engine at)
     → IsEnd p shard → at ≡ length shards → more ≡ shards ++ shard ∷ [] → AreEnded engine k shards → AreEnded engine k more

@@ -1,8 +1,6 @@
 -- Passes that are joined, shard by shard.
-use Rattle.std.proofs.Common.{◌≡◌, ◌<◌, ◌≤◌, ◌+◌, ◌++◌, ◌∷◌, [], ℕ, List, length, set, Option, Some, None, slice_get, refl, ap, ap₂, sym, ◌∙◌, subst, arith}
+use Rattle.std.proofs.Common.{◌≡◌, ◌<◌, ◌≤◌, ◌+◌, ◌++◌, ◌∷◌, [], ℕ, List, length, set, Some, None, slice_get, ap, ap₂, sym, ◌∙◌, subst, arith}
 use Rattle.std.proofs.lemmas.Option.{slice_get_within}
-use mathlib.Core.Logic.{dite}
-use native.Mathlib.Decide.{ℕ_discrete}
 use Rattle.bfd_turn.specs.Lists.{Begins, longer, calls}
 use Rattle.bfd_turn.specs.Passes.{TableId, having_joined}
 use Rattle.bfd_shard.specs.declared.entry.Entry.{Entry}
@@ -45,41 +43,6 @@ glue_here number at ps qs id p q r here theirs is j =
       left = λ k other. set_else ps at k (Some r) other;
       theirs_left = λ k other. set_else qs at k None other;
     }
-
-pub glue_start : (number : ℕ) (ps qs : List Held) → AreGlued number 0 ps qs ps qs
-glue_start number ps qs = record { below = λ k h. absurd (omega (arith, h)); left = λ k h. refl; theirs_left = λ k h. refl }
-
--- the same, of what was before
-glued_as : (number : ℕ) (before before2 theirs theirs2 after after2 : Option Held) → before2 ≡ before → theirs2 ≡ theirs → after2 ≡ after
-    → IsGlued number before theirs after → IsGlued number before2 theirs2 after2
-glued_as number before before2 theirs theirs2 after after2 e f h g = record {
-  pass = g.pass;
-  other = g.other;
-  word = g.word;
-  before_is = e ∙ g.before_is;
-  theirs_is = f ∙ g.theirs_is;
-  after_is = h ∙ g.after_is;
-  number_is = g.number_is;
-  later = g.later;
-  later_theirs = g.later_theirs;
-  begins = g.begins;
-  begins_theirs = g.begins_theirs;
-  own = g.own;
-}
-
--- one shard more
-pub glue_more : (number at : ℕ) (before theirs after rest after2 rest2 : List Held) → AreGlued number at before theirs after rest
-    → GluesAt number at after rest after2 rest2 → AreGlued number (at + 1) before theirs after2 rest2
-glue_more number at before theirs after rest after2 rest2 all one = record {
-  below = λ k h. dite (ℕ_discrete k at)
-      (λ same. subst (λ n. IsGlued number (slice_get before n) (slice_get theirs n) (slice_get after2 n)) (sym same)
-      (glued_as number (slice_get after at) (slice_get before at) (slice_get rest at) (slice_get theirs at) (slice_get after2 at) (slice_get after2 at)
-      (sym (all.left at (omega arith))) (sym (all.theirs_left at (omega arith))) refl one.glued))
-      (λ other. glued_as number (slice_get before k) (slice_get before k) (slice_get theirs k) (slice_get theirs k) (slice_get after k) (slice_get after2 k)
-      refl refl (one.left k other) (all.below k (omega (arith, h, other))));
-  left = λ k h. one.left k (λ same. omega (arith, same, h)) ∙ all.left k (omega (arith, h));
-  theirs_left = λ k h. one.theirs_left k (λ same. omega (arith, same, h)) ∙ all.theirs_left k (omega (arith, h));
-}
 
 -- the other's pass of a shard that isn't joined yet
 pub theirs_there : (number at : ℕ) (before theirs after rest : List Held) → AreGlued number at before theirs after rest → AllThere theirs → at < length theirs

@@ -1,7 +1,6 @@
 pub mod Rooms
 pub mod Places
 pub mod Sharing
-pub mod Parts
 pub mod Tables
 pub mod Mirrors
 pub mod Reaching

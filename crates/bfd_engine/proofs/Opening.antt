@@ -24,14 +24,6 @@ use Rattle.bfd_shard.specs.Dealing.{share}
 use Rattle.bfd_shard.proofs.Sharing.{few_share, all_share}
 use Rattle.bfd_engine.proofs.Tables.{few_rows, ascending, pool_ascending}
 
-pub none_opened : (limit : ℕ) (locks : List TableId) (passes : List Held) (sizes : List ℕ) → locks ≡ [] → passes ≡ [] → sizes ≡ [] → AreOpened limit [] locks passes sizes
-none_opened limit locks passes sizes e f g = record {
-  locks_long = ap length e;
-  passes_long = ap length f;
-  sizes_long = ap length g;
-  each = λ k configs h. absurd (let i = slice_get_within [] k configs h in omega (arith, i));
-}
-
 pub more_opened : (limit : ℕ) (parts : List (List SessionConfig)) (part : List SessionConfig) (locks locks2 : List TableId) (passes passes2 : List Held) (sizes sizes2 : List ℕ) (lock : TableId) (pass : K) (size : ℕ)
     → AreOpened limit parts locks passes sizes → pass ≡ (lock, opened (opened_base limit part) 0) → size ≡ length part
     → locks2 ≡ locks ++ lock ∷ [] → passes2 ≡ passes ++ Some pass ∷ [] → sizes2 ≡ sizes ++ size ∷ []
@@ -183,8 +175,3 @@ pub pass_is : (limit n : ℕ) (configs known : List SessionConfig) (parts : List
     → AreShares n configs parts → AreOpened limit parts locks passes sizes → known ≡ configs → IsNewPass (record { locks = locks; configs = known; pool = pool; limit = limit }) (0, passes, 0)
 pass_is limit n configs known parts locks passes sizes pool s o same =
     subst (λ cs. IsNewPass (record { locks = locks; configs = cs; pool = pool; limit = limit }) (0, passes, 0)) (sym same) (new_pass limit n configs parts locks passes sizes s o pool)
-
--- the same for the lists that were handed on
-pub planned : (rows : List Row) (cs cs2 : List SessionConfig) (ps ps2 : List Reflector) → cs2 ≡ cs → ps2 ≡ ps → (rows ≡ table_of cs2 ps2) × (build_fault (table_of cs2 ps2) ≡ None)
-    → (rows ≡ table_of cs ps) × (build_fault (table_of cs ps) ≡ None)
-planned rows cs cs2 ps ps2 e f h = subst (λ (x : List SessionConfig × List Reflector). (rows ≡ table_of x.0 x.1) × (build_fault (table_of x.0 x.1) ≡ None)) (λ i. (e i, f i)) h

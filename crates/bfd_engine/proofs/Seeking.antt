@@ -14,7 +14,7 @@ use Rattle.bfd_session.specs.declared.event.Event.{Event}
 use Rattle.bfd_session.specs.Kinds.{discr_of}
 use Rattle.bfd_session.specs.Rows.{Ascends, place_of}
 use Rattle.bfd_session.specs.Step.{CanTake}
-use Rattle.bfd_session.proofs.Searches.{differs}
+use Rattle.bfd_sbfd.proofs.Searching.{differs}
 use Rattle.bfd_shard.specs.Shard.{IsTaken}
 
 -- what is true of each discriminator is true of the one at a place

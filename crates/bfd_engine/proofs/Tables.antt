@@ -7,6 +7,7 @@ use Rattle.std.proofs.lemmas.Bool.Decides.{nat_tests}
 use Rattle.bfd_demux.specs.declared.row.Row.{Row}
 use Rattle.bfd_demux.specs.declared.fault.BuildFault.{BuildFault}
 use Rattle.bfd_demux.specs.declared.fault.BuildFault.TheVariants.{SameDiscr, ZeroDiscr, TooMany}
+use Rattle.bfd_demux.proofs.Once.{unmapped}
 use Rattle.bfd_demux.specs.Rows.{same_discr, repeat_after, first_repeat, pair_fault, early_fault, build_fault}
 use Rattle.bfd_session.specs.declared.event.SessionConfig.{SessionConfig}
 use Rattle.bfd_session.specs.Kinds.{discr_of}
@@ -23,10 +24,6 @@ or_first (Some x) b e = cc
 or_second : {A : Type 0} (a b : Option A) → option_or a b ≡ None → b ≡ None
 or_second None b e = e
 or_second (Some x) b e = cc
-
-map_none : {A B : Type 0} (f : A → B) (o : Option A) → option_map f o ≡ None → o ≡ None
-map_none f None e = refl
-map_none f (Some x) e = cc
 
 few_by : (n : ℕ) (b : Bool) (o : Option BuildFault) → nat_lt 65536 n ≡ b → (if b then Some (TooMany n) else o) ≡ None → n ≤ 65536
 few_by n true o is e = cc
@@ -64,7 +61,7 @@ fresh_front same earlier x (row ∷ rows) h = (front (λ other. same row other �
 fresh_all : (same : Row → Row → Bool) (earlier rows : List Row) → repeat_after same earlier rows ≡ None → Fresh same earlier rows
 fresh_all same earlier [] e = tt
 fresh_all same earlier (row ∷ rows) e =
-    let here : position_from (same row) 0 earlier ≡ None = map_none _ (position_from (same row) 0 earlier) (or_first _ _ e) in
+    let here : position_from (same row) 0 earlier ≡ None = unmapped _ (position_from (same row) 0 earlier) (or_first _ _ e) in
     let next : Fresh same (earlier ++ row ∷ []) rows = fresh_all same (earlier ++ row ∷ []) rows (or_second _ _ e) in
     (unlike (same row) 0 earlier here, fresh_front same earlier row rows next)
 
@@ -77,7 +74,7 @@ apart_all same earlier (row ∷ rows) e =
 apart_discrs : (rows : List Row) → build_fault rows ≡ None → Apart same_discr rows
 apart_discrs rows e =
     let pairs : pair_fault SameDiscr (first_repeat same_discr rows) ≡ None = or_first _ _ (or_second (early_fault rows) _ e) in
-    apart_all same_discr [] rows (map_none _ (first_repeat same_discr rows) pairs)
+    apart_all same_discr [] rows (unmapped _ (first_repeat same_discr rows) pairs)
 
 lower : (d e : ℕ) → d ≤ e → (e == d) ≡ false → d < e
 lower d e le differs = grind (arith, nat_tests)

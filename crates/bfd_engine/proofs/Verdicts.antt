@@ -1,5 +1,5 @@
 -- The answer to an arrival tells the first test that it fails.
-use Rattle.std.proofs.Common.{◌≡◌, ◌<◌, ◌+◌, ◌/◌, ◌%◌, ◌++◌, ◌∷◌, [], ℕ, zero, suc, List, length, Option, None, Some, Result, Ok, Err, IfOk, refl, sym, ap, ◌∙◌, subst}
+use Rattle.std.proofs.Common.{◌≡◌, ◌<◌, ◌+◌, ◌/◌, ◌%◌, ◌++◌, ◌∷◌, [], ℕ, zero, suc, List, length, Option, None, Some, Result, Ok, Err, IfOk, refl, sym, ap, ◌∙◌}
 use Rattle.std.specs.Prelude.{slice_get}
 use Rattle.std.specs.Option.{option_or}
 use Rattle.std.specs.Result.{result_err}
@@ -12,12 +12,11 @@ use Rattle.bfd_demux.specs.declared.target.Target.TheVariants.{Session, Reflecto
 use Rattle.bfd_demux.specs.Selection.{first_table_failing}
 use Rattle.bfd_sbfd.specs.Reflect.{reflect}
 use Rattle.bfd_session.specs.declared.event.Answer.{Answer}
-use Rattle.bfd_session.specs.declared.event.Answer.TheVariants.{Dropped}
 use Rattle.bfd_session.specs.declared.event.Event.{Event}
 use Rattle.bfd_session.specs.declared.event.Event.TheVariants.{Packet, Returned}
 use Rattle.bfd_session.specs.declared.event.SessionConfig.{SessionConfig}
 use Rattle.bfd_session.specs.Alone.{effective}
-use Rattle.bfd_session.specs.Arrivals.{coming_by, coming_to}
+use Rattle.bfd_session.specs.Arrivals.{coming_to}
 use Rattle.bfd_session.specs.Discards.{answer_by, first_discarding, first_own_failing, judging}
 use Rattle.bfd_session.specs.Kinds.{Running}
 use Rattle.bfd_session.specs.Rows.{table_of}
@@ -98,16 +97,3 @@ judged_target (Echo place sequence) engine moment arrival k l outs outs2 (Ok ans
     (λ eff s. return_is sequence eff s)
     (dealt_event engine place (length engine.locks) (Returned sequence) refl some arrives) h
 judged_target target engine moment arrival k l outs outs2 (Err fault) some none arrives h = tt
-
--- of what it comes to in the table
-pub judged_goes : (failing : Option Test) (chosen : Option Target) (engine : Shards) (moment : ℕ) (arrival : Arrival) (l : Knows) (result : Result Answer EngineFault) (target : Target)
-    → None ≡ failing → Some target ≡ chosen → IfOk result (λ answer. judged_by engine moment arrival (coming_to (Some target) arrival) l answer)
-    → IfOk result (λ answer. judged_by engine moment arrival (coming_by failing chosen arrival) l answer)
-judged_goes failing chosen engine moment arrival l result target is its h =
-    subst (λ (f : Option Test). IfOk result (λ answer. judged_by engine moment arrival (coming_by f chosen arrival) l answer)) is
-    (subst (λ (t : Option Target). IfOk result (λ answer. judged_by engine moment arrival (coming_to t arrival) l answer)) its h)
-
-pub judged_screened : (failing : Option Test) (chosen : Option Target) (engine : Shards) (moment : ℕ) (arrival : Arrival) (l : Knows) (test : Test)
-    → Some test ≡ failing → judged_by engine moment arrival (coming_by failing chosen arrival) l (Dropped test)
-judged_screened failing chosen engine moment arrival l test is =
-    subst (λ (f : Option Test). judged_by engine moment arrival (coming_by f chosen arrival) l (Dropped test)) is refl

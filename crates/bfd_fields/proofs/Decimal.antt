@@ -1,9 +1,9 @@
 -- Digits that `parse` refuses write a number that is too large.
-use Rattle.std.proofs.Common.{◌≡◌, ℕ, ◌<◌, ◌≤◌, ◌^◌, true, List, length, Result, Ok, Err, inl, inr, rules}
+use Rattle.std.proofs.Common.{◌≡◌, ℕ, ◌<◌, ◌≤◌, ◌^◌, true, List, length, Result, Err, inl, inr, rules}
 use Rattle.std.specs.Char.{is_ascii_digit}
 use Rattle.std.specs.List.{list_all}
 use Rattle.std.specs.Str.Parse.{digits_value, ParsesUnsigned}
-use Rattle.std.proofs.lemmas.Result.{OkIff-at_err, OkIff-at_ok}
+use Rattle.std.proofs.lemmas.Result.{OkIff-at_err}
 use Rattle.std.proofs.lemmas.Str.Parse.{IsNumeralModel, numerals_by_value, parse_digits}
 use Rattle.std.proofs.lemmas.Bool.{cases_lt}
 
@@ -19,8 +19,3 @@ pub too_large : {E : Type 0} (e : E) (field : List ℕ) (r : Result ℕ E) → r
 too_large e field r refused parsed digits some =
     let none = OkIff-at_err r _ _ e (parse_digits own 64 field r parsed digits) refused in
     not_below (digits_value 10 field) (λ low. none (some, low))
-
--- what parse gives is the number that the digits write
-pub the_value : {E : Type 0} (n : ℕ) (field : List ℕ) (r : Result ℕ E) → r ≡ Ok n → ParsesUnsigned 64 10 field r
-    → list_all is_ascii_digit field ≡ true → n ≡ digits_value 10 field
-the_value n field r given parsed digits = (OkIff-at_ok r _ _ n (parse_digits own 64 field r parsed digits) given).1

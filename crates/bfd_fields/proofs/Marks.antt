@@ -3,7 +3,7 @@ use Rattle.std.proofs.Common.{◌≡◌, ℕ, zero, suc, ◌+◌, ◌-◌, ◌*�
 use Rattle.std.proofs.lemmas.List.{drop-map, drop-take, length-take-le}
 use Rattle.std.proofs.lemmas.Nat.{shr-shr}
 use Rattle.std.proofs.lemmas.Simd.{trailing_mask_l}
-use Rattle.std.specs.List.{position_or_len, prefix_len}
+use Rattle.std.specs.List.{position_or_len}
 use Rattle.std.specs.Simd.Lanes.{mask_l}
 use lib.Count.{count_trailing_zeros}
 use Rattle.bfd_fields.proofs.Cuts.{near}

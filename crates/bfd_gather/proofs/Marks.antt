@@ -8,12 +8,13 @@ use Rattle.bfd_rules.specs.declared.outputs.Out.{Out}
 use Rattle.bfd_session.specs.declared.event.Answer.TheVariants.{Handled}
 use Rattle.bfd_session.specs.Alone.{Outcome}
 use Rattle.std.proofs.lemmas.Grind.{flat_map-append}
-use Rattle.bfd_session.specs.Names.{named}
+use Rattle.bfd_rules.specs.Names.{named}
 use Rattle.bfd_script.specs.Report.{event_lines, item_line, sent_by}
 use Rattle.bfd_gather.specs.declared.key.Mark.{Mark}
 use Rattle.bfd_gather.specs.Pieces.{Piece, texts, key, whole_piece, item_piece}
 use Rattle.bfd_gather.specs.Inside.{pieces_at, key_of, mark, mark_of, IsPart}
-use Rattle.bfd_gather.proofs.Sizes.{item_some, event_some}
+use Rattle.bfd_script.proofs.Sizes.{item_some}
+use Rattle.bfd_gather.proofs.Sizes.{event_some}
 
 -- each packet that the piece counts has a byte of text
 abbrev pub HasText : Piece → Type 0
@@ -134,11 +135,6 @@ module _ {T E : Type 0} where
       → OnOk r (ms2 ≡ ms ++ map mark_of ps) → OnOk r (t2 ≡ t ++ texts ps) → OnOk r (pieces_at (drop next ms2) (drop at t2) ≡ before ++ ps)
   told_by (Ok x) ms ms2 t t2 next at ps before s v m e = told_more ms ms2 t t2 next at ps s m e ∙ ap (λ qs. qs ++ ps) v
   told_by (Err x) ms ms2 t t2 next at ps before s v m e = tt
-
-  pub same_by : (r : Result T E) (ms ms2 : List Mark) (t t2 : List ℕ) (next at : ℕ) (before : List Piece) → pieces_at (drop next ms) (drop at t) ≡ before
-      → OnErr r (ms2 ≡ ms) → OnErr r (t2 ≡ t) → OnErr r (pieces_at (drop next ms2) (drop at t2) ≡ before)
-  same_by (Ok x) ms ms2 t t2 next at before v n f = tt
-  same_by (Err x) ms ms2 t t2 next at before v n f = ap (λ xs. pieces_at (drop next xs) (drop at t2)) n ∙ (ap (λ ys. pieces_at (drop next ms) (drop at ys)) f ∙ v)
 
   -- one piece's text is the text of it alone
   pub single : (r : Result T E) (t t2 : List ℕ) (p : Piece) → OnOk r (t2 ≡ t ++ p.text) → OnOk r (t2 ≡ t ++ texts (p ∷ []))

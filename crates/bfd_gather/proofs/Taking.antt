@@ -1,6 +1,7 @@
 -- The least first piece of the parts is the first of what is left.
 use Rattle.std.proofs.Common.{◌≡◌, ◌≢◌, ◌⊎◌, inl, inr, ◌<◌, ◌+◌, ◌==◌, ◌++◌, ℕ, Bool, true, false, List, [], ◌∷◌, length, drop, get_or, set, get_or-set_same, get_or-set_other, length-set, refl, sym, ap, ◌∙◌, subst, append_assoc, append-nil, arith, None, Some}
 use Rattle.std.specs.List.{AllByRecursion, sum_by}
+use Rattle.std.proofs.lemmas.Bool.{eq-eqb}
 use Rattle.std.proofs.lemmas.Bool.Decides.{nat_tests}
 use Rattle.std.proofs.lemmas.List.Sums.{sum_by-cons}
 use Rattle.bfd_gather.specs.declared.key.Key.{Key}
@@ -26,15 +27,12 @@ pub record Going (all : List Dealt) (parts : List (List Piece)) (before text : L
 pub same_or_not : (a b : ℕ) → (a ≡ b) ⊎ (a ≢ b)
 same_or_not a b = grind arith
 
-is_same : (a b : ℕ) → a ≡ b → (a == b) ≡ true
-is_same a b e = grind (arith, nat_tests)
-
 not_same : (a b : ℕ) → a ≢ b → (a == b) ≡ false
 not_same a b e = grind (arith, nat_tests)
 
 -- a part has the first piece that is dealt to it, and passes over another's
 pub here : (d : Dealt) (ds : List Dealt) (s : ℕ) → d.part ≡ s → pieces_in s (d ∷ ds) ≡ d.piece ∷ pieces_in s ds
-here d ds s e = rw (is_same d.part s e) refl
+here d ds s e = rw (eq-eqb d.part s e) refl
 
 pub away : (d : Dealt) (ds : List Dealt) (s : ℕ) → d.part ≢ s → pieces_in s (d ∷ ds) ≡ pieces_in s ds
 away d ds s e = rw (not_same d.part s e) refl

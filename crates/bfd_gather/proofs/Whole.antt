@@ -8,7 +8,7 @@ use Rattle.std.proofs.Math.Nat.{mod-lt}
 use Rattle.bfd_rules.specs.declared.outputs.Out.{Out}
 use Rattle.bfd_session.specs.Alone.{Outcome, tick_items}
 use Rattle.bfd_session.specs.Kinds.{Running, discr_of, configs_of}
-use Rattle.bfd_session.specs.Names.{named}
+use Rattle.bfd_rules.specs.Names.{named}
 use Rattle.bfd_session.specs.Rows.{Ascends}
 use Rattle.bfd_session.proofs.Naming.{tick_named}
 use Rattle.bfd_shard.specs.declared.entry.ShardEvent.{ShardEvent}

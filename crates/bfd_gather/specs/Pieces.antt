@@ -3,7 +3,7 @@ use Rattle.std.specs.Prelude.{ℕ, ◌&&◌, ◌||◌, ◌==◌, Bool, List, [],
 use Rattle.std.specs.List.{flat_map}
 use Rattle.bfd_rules.specs.declared.outputs.Out.{Out}
 use Rattle.bfd_session.specs.Alone.{Outcome}
-use Rattle.bfd_session.specs.Names.{named}
+use Rattle.bfd_rules.specs.Names.{named}
 use Rattle.bfd_shard.specs.declared.entry.ShardEvent.{ShardEvent}
 use Rattle.bfd_shard.specs.declared.entry.ShardEvent.TheVariants.{Own, Tick}
 use Rattle.bfd_script.specs.Report.{item_line, event_lines, sent, sent_by, dropped}

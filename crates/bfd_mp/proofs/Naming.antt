@@ -1,5 +1,5 @@
 -- Each output of a head or a tail names its discriminator: what is true of each output that does stays true of all outputs.
-use Rattle.std.proofs.Common.{◌≡◌, ℕ, Bool, true, false, List, refl, is_some}
+use Rattle.std.proofs.Common.{ℕ, Bool, true, false, List, is_some}
 use Rattle.std.specs.List.{AllByRecursion}
 use Rattle.bfd_packet.specs.declared.control.Control.{Control}
 use Rattle.bfd_packet.specs.Layout.{fields_of}
@@ -9,7 +9,7 @@ use Rattle.bfd_rules.specs.declared.commands.Cmd.{Cmd}
 use Rattle.bfd_rules.specs.declared.outputs.Out.{Out}
 use Rattle.bfd_rules.specs.Quantities.{is_admin_down}
 use Rattle.bfd_rules.specs.EventFrame.{Course, changes, is_untold, based, redrawn}
-use Rattle.bfd_rules.proofs.Courses.{OfOwn, chosen_names, changes_names, sends_names}
+use Rattle.bfd_rules.proofs.Courses.{OfOwn, own_name, chosen_names, changes_names, sends_names}
 use Rattle.bfd_mp.specs.declared.config.HeadConfig.{HeadConfig}
 use Rattle.bfd_mp.specs.declared.config.TailConfig.{TailConfig}
 use Rattle.bfd_mp.specs.Waiting.{deadline}
@@ -19,7 +19,7 @@ use Rattle.bfd_mp.specs.HeadFinish as finishing
 use Rattle.bfd_mp.specs.TailSettle as tail
 use Rattle.bfd_mp.specs.TailReceive as receiving
 use Rattle.bfd_mp.specs.Command.{head_refusal, head_commanded, head_done, tail_refusal, tail_commanded, tail_done}
-use Rattle.bfd_mp.specs.Names.{named, AllNamed}
+use Rattle.bfd_rules.specs.Names.{AllNamed}
 
 -- a head
 
@@ -75,9 +75,6 @@ tail_commanded_names c P cmd s own h =
     chosen_names P (is_some (tail_refusal s.vars cmd)) s (changes c.discr (tail_done cmd s.vars) s) h (changes_names c.discr P (tail_done cmd s.vars) s own h)
 
 -- so the discriminators that they name are the session's
-
-own_name : (discr : ℕ) → OfOwn discr (λ out. named out ≡ discr)
-own_name discr = record { of_changes = (λ old new diag. refl); of_packets = (λ datagram. refl) }
 
 pub head_settle_named : (c : HeadConfig) (limit eff : ℕ) (s : Course) → AllNamed c.discr s.outs → AllNamed c.discr (head.settle c limit eff s).outs
 head_settle_named c limit eff s h = head_settle_names c _ limit eff s (own_name c.discr) h

@@ -9,4 +9,3 @@ pub mod TailReceive
 pub mod Command
 pub mod Machine
 pub mod Over
-pub mod Names

@@ -17,7 +17,7 @@ ghost use Rattle.bfd_mp.specs.HeadFinish.{finish};
 ghost use Rattle.bfd_mp.specs.TailSettle as tail;
 ghost use Rattle.bfd_mp.specs.TailReceive.{IsSized, received};
 ghost use Rattle.bfd_mp.specs.Command.{head_commanded, tail_commanded};
-ghost use Rattle.bfd_mp.specs.Names.{AllNamed};
+ghost use Rattle.bfd_rules.specs.Names.{AllNamed};
 
 /// Laws of a head, and no work. With sound variables a tick by which nothing is due leaves the variables as they are and puts
 /// nothing out, so a caller may hand a tick to the due sessions alone. A tick and a command keep variables sound. And each

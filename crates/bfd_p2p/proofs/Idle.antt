@@ -1,7 +1,7 @@
 -- Where a rule changes neither an interval nor whether Demand mode is active here, there is nothing to renew.
-use Rattle.std.proofs.Common.{◌≡◌, ◌≤◌, ◌==◌, ◌++◌, min, max, ℕ, Bool, true, false, List, [], refl, sym, ap, ◌∙◌, arith, append-nil, if◌then◌else◌, Option, Some}
+use Rattle.std.proofs.Common.{◌≡◌, ◌≤◌, ◌++◌, min, max, ℕ, Bool, true, false, List, [], refl, sym, ap, ◌∙◌, arith, append-nil, if◌then◌else◌, Option, Some}
 use Rattle.std.proofs.lemmas.Grind.{common_steps}
-use Rattle.std.proofs.lemmas.Bool.Decides.{nat_tests}
+use Rattle.std.proofs.lemmas.Bool.{eq-eqb}
 use Rattle.bfd_rules.specs.declared.outputs.Out.{Out}
 use Rattle.bfd_rules.specs.declared.variables.Vars.{Vars}
 use Rattle.bfd_rules.specs.Quantities.{adv_tx, demand_here, is_idle}
@@ -15,13 +15,9 @@ use Rattle.bfd_rules.proofs.Still.{same_itself}
 use Rattle.bfd_p2p.specs.Frame.{moves, renews}
 use Rattle.bfd_p2p.specs.Settle.{poll_sent}
 
--- a number is the same as an equal one
-equal : (a b : ℕ) → a ≡ b → (a == b) ≡ true
-equal a b e = grind (arith, nat_tests)
-
 poll_stands : (before v : Vars) → adv_tx v ≡ adv_tx before → v.rx ≡ before.rx → poll_renewed before v ≡ v
 unfolding poll_renewed
-poll_stands before v adv rx = rw (equal (adv_tx v) (adv_tx before) adv, equal v.rx before.rx rx) refl
+poll_stands before v adv rx = rw (eq-eqb (adv_tx v) (adv_tx before) adv, eq-eqb v.rx before.rx rx) refl
 
 -- an interval in use that follows is the one that it follows
 tx_stands : (b : Bool) (used adv : ℕ) → (b ≡ true → used ≡ adv) → used ≤ adv → (if b then adv else min used adv) ≡ used

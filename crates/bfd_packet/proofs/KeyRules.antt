@@ -1,5 +1,6 @@
 -- A list of keys that gains one.
-use Rattle.std.proofs.Common.{◌≡◌, ◌∙◌, ◌<◌, ◌++◌, ◌&&◌, ◌||◌, List, [], ◌∷◌, ℕ, Bool, true, false, not, IsTrue, zero, suc, Some, length, refl, sym, subst, arith, length-append, nat_eq}
+use Rattle.std.proofs.Common.{◌≡◌, ◌∙◌, ◌<◌, ◌++◌, List, [], ◌∷◌, ℕ, true, false, not, IsTrue, zero, suc, Some, length, refl, sym, subst, arith, length-append, nat_eq}
+use Rattle.std.proofs.lemmas.Bool.{and_parts, or_parts}
 use Rattle.std.proofs.lemmas.List.Folds.{list_any-append, list_all-append}
 use Rattle.bfd_packet.specs.declared.keys.Key.{Key}
 use Rattle.bfd_packet.specs.KeyChain.{KeyChain, IsKeyChain, fits_kind, has_id, distinct_ids, key_at, key_named}
@@ -8,22 +9,12 @@ use Rattle.bfd_packet.specs.KeyChain.{KeyChain, IsKeyChain, fits_kind, has_id, d
 eq_id-comm : (a b : ℕ) → nat_eq a b ≡ nat_eq b a
 eq_id-comm a b = grind (arith)
 
--- neither part of an "or" that is false is true
-or-false : (a b : Bool) → (a || b) ≡ false → (a ≡ false) × (b ≡ false)
-or-false true b h = cc
-or-false false b h = (refl, h)
-
--- both parts of an "and" that is true are true
-and-true : (a b : Bool) → (a && b) ≡ true → (a ≡ true) × (b ≡ true)
-and-true true b h = (refl, h)
-and-true false b h = cc
-
 -- a key with a new id leaves the ids distinct
 distinct_ids-push : (keys : List Key) (key : Key) → distinct_ids keys ≡ true → has_id key.id keys ≡ false → distinct_ids (keys ++ key ∷ []) ≡ true
 distinct_ids-push [] key d h = refl
 distinct_ids-push (first ∷ keys) key d h =
-    let old = and-true (not (has_id first.id keys)) (distinct_ids keys) d in
-    let new = or-false (nat_eq key.id first.id) (has_id key.id keys) h in
+    let old = and_parts (not (has_id first.id keys)) (distinct_ids keys) d in
+    let new = or_parts (nat_eq key.id first.id) (has_id key.id keys) h in
     let rest = distinct_ids-push keys key old.1 new.1 in
     let apart : nat_eq first.id key.id ≡ false = eq_id-comm first.id key.id ∙ new.0 in
     let seen = list_any-append (λ (other : Key). nat_eq first.id other.id) keys (key ∷ []) in
@@ -52,15 +43,15 @@ gains_key keys now key same chain room fresh fits =
 -- no key of the list has an id that no key has
 other_id : (id : ℕ) (keys : List Key) (place : ℕ) → has_id id keys ≡ false → place < length keys → nat_eq id (key_at place keys).id ≡ false
 other_id id [] place h lt = absurd (omega arith)
-other_id id (first ∷ keys) zero h lt = (or-false (nat_eq id first.id) (has_id id keys) h).0
-other_id id (first ∷ keys) (suc place) h lt = other_id id keys place (or-false (nat_eq id first.id) (has_id id keys) h).1 (omega arith)
+other_id id (first ∷ keys) zero h lt = (or_parts (nat_eq id first.id) (has_id id keys) h).0
+other_id id (first ∷ keys) (suc place) h lt = other_id id keys place (or_parts (nat_eq id first.id) (has_id id keys) h).1 (omega arith)
 
 -- a key's id names it
 key_named-key_at : (keys : List Key) (place : ℕ) → distinct_ids keys ≡ true → place < length keys → key_named (key_at place keys).id keys ≡ Some (key_at place keys)
 key_named-key_at [] place d lt = absurd (omega arith)
 key_named-key_at (first ∷ keys) zero d lt = let e : nat_eq first.id first.id ≡ true = grind arith in rw e refl
 key_named-key_at (first ∷ keys) (suc place) d lt =
-    let both = and-true (not (has_id first.id keys)) (distinct_ids keys) d in
+    let both = and_parts (not (has_id first.id keys)) (distinct_ids keys) d in
     let lower : place < length keys = omega arith in
     let fresh : has_id first.id keys ≡ false = grind (arith, both.0) in
     let apart : nat_eq (key_at place keys).id first.id ≡ false = eq_id-comm (key_at place keys).id first.id ∙ other_id first.id keys place fresh lower in

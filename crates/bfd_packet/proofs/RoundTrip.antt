@@ -78,6 +78,11 @@ flag-of n place b e = rw e (is_one-digit b)
 state-of : (n : ℕ) (state : State) → n / 64 ≡ state_number state → state_of (n / 64) ≡ state
 state-of n state e = rw e (state_of-state_number state)
 
+-- the state that is written is the state that is read
+pub reads_state : (c : Control) (section : List ℕ) → (fields_of (text_of c section)).state ≡ c.state
+unfolding text_of
+reads_state c section = state-of (flag_byte c section) c.state (digits-flag_byte c section).state
+
 -- the fields of what is written
 fields_of-text_of : (c : Control) (section : List ℕ) → c.diag < 32 → HasWords c → fields_of (text_of c section) ≡ as_sent c section
 unfolding text_of

@@ -17,6 +17,7 @@ use Rattle.bfd_rules.specs.declared.variables.Mark.{Mark}
 use Rattle.bfd_rules.specs.declared.variables.Vars.{Vars}
 use Rattle.bfd_rules.specs.Quantities.{is_up, same_state}
 use Rattle.bfd_rules.specs.EventFrame.{Course, course, changes, sends, told}
+use Rattle.bfd_rules.proofs.Still.{same_itself}
 use Rattle.bfd_p2p.specs.Transmit.{transmits}
 use Rattle.bfd_p2p.specs.Receive as receiving
 use Rattle.bfd_echo.specs.declared.echo.Echo.{Echo}
@@ -47,10 +48,6 @@ tells-append (Changed discr old new diag ∷ xs) ys h k =
     (tells-append xs ys (or_parts (is_up new) (tells_up xs) h).1 k)
 tells-append (Sent discr datagram ∷ xs) ys h k = tells-append xs ys h k
 
-same_is : (a : State) → same_state a a ≡ true
-same_is AdminDown = refl
-same_is a = refl
-
 told_low : (discr diag : ℕ) (a b : State) → not (is_up b) ≡ true → (same : Bool)
     → tells_up (if same then [] else Changed discr a b diag ∷ []) ≡ false
 told_low discr diag a AdminDown low true = refl
@@ -60,7 +57,7 @@ told_low discr diag a Up low same = cc
 told_low discr diag a b low same = refl
 
 told_calm : (discr : ℕ) (v w : Vars) → Goes low_state v w → tells_up (told discr v w) ≡ false
-told_calm discr v w (inl same) = rw (same, same_is v.state) refl
+told_calm discr v w (inl same) = rw (same, same_itself v.state) refl
 told_calm discr v w (inr allowed) = told_low discr w.diag v.state w.state allowed (same_state v.state w.state)
 
 -- what the rules ask

@@ -1,18 +1,19 @@
 -- A session outside Init and Up that handles no packet stays there, and sends no packet in Init or Up.
-use Rattle.std.proofs.Common.{◌≡◌, inl, inr, ◌≤◌, ◌++◌, ◌^◌, ◌+◌, ◌*◌, ◌/◌, not, ℕ, Bool, true, false, List, [], refl, sym, ap, ◌∙◌, subst, Option, None, Some, Result, Ok, Err, if◌then◌else◌, arith}
+use Rattle.std.proofs.Common.{◌≡◌, inl, inr, ◌++◌, ◌+◌, not, ℕ, Bool, true, false, List, [], refl, sym, ap, ◌∙◌, subst, Option, None, Some, Result, Ok, Err, if◌then◌else◌}
 use Rattle.std.proofs.lemmas.Bool.{not-true}
 use Rattle.std.proofs.Math.Bool.{and-false}
 use Rattle.bfd_auth.specs.Sealed.{sealed, section_of}
 use Rattle.bfd_packet.specs.declared.arrival.Arrival.{Arrival}
 use Rattle.bfd_packet.specs.declared.control.Control.{Control}
 use Rattle.bfd_packet.specs.declared.control.State.{State}
-use Rattle.bfd_packet.specs.declared.control.State.TheVariants.{AdminDown, Init, Up}
+use Rattle.bfd_packet.specs.declared.control.State.TheVariants.{Init, Up}
 use Rattle.bfd_packet.specs.declared.discard.Test.{Test}
 use Rattle.bfd_packet.specs.declared.discard.Test.TheVariants.{AdminDown as DiscardAdminDown}
 use Rattle.bfd_packet.specs.declared.keys.SeqState.{SeqState}
 use Rattle.bfd_packet.specs.KeyChain.{KeyChain, key_at}
-use Rattle.bfd_packet.specs.Layout.{fields_of, text_of, bit_of, state_of, state_number, has_section}
+use Rattle.bfd_packet.specs.Layout.{fields_of}
 use Rattle.bfd_packet.specs.States.{is_init_or_up}
+use Rattle.bfd_packet.proofs.RoundTrip.{reads_state}
 use Rattle.bfd_rules.specs.declared.commands.Cmd.{Cmd}
 use Rattle.bfd_rules.specs.declared.config.Config.{Config}
 use Rattle.bfd_rules.specs.declared.outputs.Out.{Out}
@@ -52,34 +53,11 @@ pub record Cold (s : Course) : Type 0 where
 abbrev cold_state : State → Bool
 cold_state state = not (is_init_or_up state)
 
--- the state of a packet reads back
-
-bit-le : (b : Bool) (place : ℕ) → bit_of b place ≤ 2 ^ place
-bit-le true place = omega arith
-bit-le false place = omega arith
-
-high_bits : (s p f i a d m : ℕ) → p ≤ 32 → f ≤ 16 → i ≤ 8 → a ≤ 4 → d ≤ 2 → m ≤ 1
-    → (s * 64 + (p + (f + (i + (a + (d + m)))))) / 64 ≡ s
-high_bits s p f i a d m hp hf hi ha hd hm = omega arith
-
-number_back : (state : State) → state_of (state_number state) ≡ state
-number_back AdminDown = refl
-number_back state = refl
-
-text_state : (packet : Control) (section : List ℕ) → (fields_of (text_of packet section)).state ≡ packet.state
-unfolding text_of
-text_state packet section =
-    ap state_of (high_bits (state_number packet.state) (bit_of packet.poll 5) (bit_of packet.fin 4) (bit_of packet.cpi 3)
-    (bit_of (has_section section) 2) (bit_of packet.demand 1) (bit_of packet.multi 0)
-    (bit-le packet.poll 5) (bit-le packet.fin 4) (bit-le packet.cpi 3) (bit-le (has_section section) 2) (bit-le packet.demand 1)
-    (bit-le packet.multi 0))
-    ∙ number_back packet.state
-
 bytes_state : (keys : Option KeyChain) (with : ℕ) (seq : SeqState) (packet : Control)
     → (fields_of (bytes_of keys with seq packet)).state ≡ packet.state
 unfolding sealed
-bytes_state None with seq packet = text_state packet []
-bytes_state (Some keys) with seq packet = text_state packet (section_of keys.kind (key_at with keys.list) seq.xmit packet)
+bytes_state None with seq packet = reads_state packet []
+bytes_state (Some keys) with seq packet = reads_state packet (section_of keys.kind (key_at with keys.list) seq.xmit packet)
 
 -- what the rules ask
 

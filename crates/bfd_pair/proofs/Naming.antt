@@ -1,5 +1,5 @@
 -- A packet that fails no test up to selection over a session's one row: the session takes it, and in Init or Up it names the session.
-use Rattle.std.proofs.Common.{◌≡◌, ◌==◌, ◌&&◌, ◌||◌, ◌++◌, not, ℕ, Bool, true, false, List, [], ◌∷◌, refl, sym, ap, ◌∙◌, subst, Option, None, Some, if◌then◌else◌, arith}
+use Rattle.std.proofs.Common.{◌≡◌, ◌==◌, ◌&&◌, ◌||◌, ◌++◌, not, ℕ, Bool, true, false, List, [], ◌∷◌, refl, sym, ap, ◌∙◌, subst, None, Some, if◌then◌else◌, arith}
 use Rattle.std.specs.Prelude.{find, unwrap_or}
 use Rattle.std.proofs.lemmas.Bool.Decides.{nat_tests}
 use Rattle.bfd_packet.specs.declared.arrival.Addr.{Addr}

@@ -1,7 +1,7 @@
 -- What every rule of a point-to-point session keeps, but for the state machine's answer to a packet in Init or Up: a fact of a
 -- session's state and its outputs which holds on where variables change and the state doesn't, where the state changes to one of the
 -- allowed ones and is told, and where a packet with the present state is sent.
-use Rattle.std.proofs.Common.{◌≡◌, ◌⊎◌, inl, inr, ◌&&◌, ℕ, not, Bool, true, false, refl, ap, ◌∙◌, arith, is_some, if◌then◌else◌}
+use Rattle.std.proofs.Common.{◌≡◌, ◌⊎◌, inl, inr, ◌&&◌, ℕ, not, Bool, true, false, refl, ap, ◌∙◌, is_some, if◌then◌else◌}
 use Rattle.bfd_num.specs.Numbers.{floor_tick}
 use Rattle.bfd_num.specs.Due.{has_come}
 use Rattle.bfd_packet.specs.declared.control.Control.{Control}

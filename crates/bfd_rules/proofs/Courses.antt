@@ -8,6 +8,7 @@ use Rattle.bfd_rules.specs.declared.outputs.Out.TheVariants.{Changed, Sent}
 use Rattle.bfd_rules.specs.declared.variables.Vars.{Vars}
 use Rattle.bfd_rules.specs.Quantities.{same_state}
 use Rattle.bfd_rules.specs.EventFrame.{Course, changes, sends}
+use Rattle.bfd_rules.specs.Names.{named}
 
 -- the course with these outputs in front
 abbrev pub after : List Out → Course → Course
@@ -33,6 +34,10 @@ sends-after discr datagram os s = rw append_assoc refl
 pub record OfOwn (discr : ℕ) (P : Out → Type 0) : Type 0 where
   pub of_changes : (old new : State) (diag : ℕ) → P (Changed discr old new diag)
   pub of_packets : (datagram : Datagram) → P (Sent discr datagram)
+
+-- that an output names the discriminator is true of each that does
+pub own_name : (discr : ℕ) → OfOwn discr (λ out. named out ≡ discr)
+own_name discr = record { of_changes = (λ old new diag. refl); of_packets = (λ datagram. refl) }
 
 one_more : (P : Out → Type 0) (os : List Out) (o : Out) → AllByRecursion P os → P o → AllByRecursion P (os ++ o ∷ [])
 one_more P [] o h own = (own, tt)

@@ -1,5 +1,5 @@
 -- Each output of an initiator names its discriminator: what is true of each output that does stays true of all outputs.
-use Rattle.std.proofs.Common.{◌≡◌, ◌&&◌, ℕ, true, List, refl, is_some}
+use Rattle.std.proofs.Common.{◌&&◌, ℕ, true, List, is_some}
 use Rattle.std.specs.List.{AllByRecursion}
 use Rattle.bfd_packet.specs.declared.control.Control.{Control}
 use Rattle.bfd_packet.specs.Layout.{fields_of}
@@ -10,7 +10,7 @@ use Rattle.bfd_rules.specs.declared.outputs.Out.{Out}
 use Rattle.bfd_rules.specs.declared.variables.Vars.{Vars}
 use Rattle.bfd_rules.specs.Quantities.{may_send, is_admin_down}
 use Rattle.bfd_rules.specs.EventFrame.{Course, is_untold, based, redrawn}
-use Rattle.bfd_rules.proofs.Courses.{OfOwn, chosen_names, changes_names, sends_names}
+use Rattle.bfd_rules.proofs.Courses.{OfOwn, own_name, chosen_names, changes_names, sends_names}
 use Rattle.bfd_sbfd.specs.declared.config.SeekConfig.{SeekConfig}
 use Rattle.bfd_sbfd.specs.Waiting.{deadline}
 use Rattle.bfd_sbfd.specs.Frame.{moves}
@@ -19,7 +19,7 @@ use Rattle.bfd_sbfd.specs.Settle as settling
 use Rattle.bfd_sbfd.specs.Receive as receiving
 use Rattle.bfd_sbfd.specs.Command.{refusal, commanded, done}
 use Rattle.bfd_sbfd.specs.Finish as finishing
-use Rattle.bfd_sbfd.specs.Names.{named, AllNamed}
+use Rattle.bfd_rules.specs.Names.{AllNamed}
 
 moves_names : (discr : ℕ) (P : Out → Type 0) (v : Vars) (s : Course) → OfOwn discr P → AllByRecursion P s.outs → AllByRecursion P (moves discr v s).outs
 unfolding moves
@@ -73,9 +73,6 @@ unfolding finishing.finish redrawn
 finish_names c P eff s own h = extra_names c P eff s own h
 
 -- so the discriminators that they name are the initiator's
-
-own_name : (discr : ℕ) → OfOwn discr (λ out. named out ≡ discr)
-own_name discr = record { of_changes = (λ old new diag. refl); of_packets = (λ datagram. refl) }
 
 pub settle_named : (c : SeekConfig) (limit eff : ℕ) (s : Course) → AllNamed c.discr s.outs → AllNamed c.discr (settling.settle c limit eff s).outs
 settle_named c limit eff s h = settle_names c _ limit eff s (own_name c.discr) h

@@ -23,7 +23,8 @@ ascend (x ∷ xs) i zero d up before within = absurd (omega arith)
 ascend (x ∷ xs) zero (suc j) d up before within = each_at (λ later. x.discr < later.discr) xs j d up.0 (omega arith)
 ascend (x ∷ xs) (suc i) (suc j) d up before within = ascend xs i j d up.1 (omega arith) (omega arith)
 
-no_lower : (a b discr : ℕ) → a ≤ b → ordering_index (nat_cmp a discr) ≤ ordering_index (nat_cmp b discr)
+-- a lower number is no higher to a discriminator
+pub no_lower : (a b discr : ℕ) → a ≤ b → ordering_index (nat_cmp a discr) ≤ ordering_index (nat_cmp b discr)
 no_lower a b discr le = grind (arith, nat_tests)
 
 -- so the comparisons with a discriminator rise, as a binary search asks
@@ -55,7 +56,7 @@ lower : (a discr : ℕ) → a < discr → a ≡ discr → ⊥
 lower a discr less same = grind arith
 
 -- lower before a place and higher from it on: another
-differs : (a discr at k : ℕ) → (k < at → a < discr) → (at ≤ k → discr < a) → a ≡ discr → ⊥
+pub differs : (a discr at k : ℕ) → (k < at → a < discr) → (at ≤ k → discr < a) → a ≡ discr → ⊥
 differs a discr at k below above same = grind arith
 
 found : (xs : List Reflector) (discr at : ℕ) (d : Reflector) → Ascends xs → IsSearchInRange (Ok at) (length xs)

@@ -8,5 +8,4 @@ pub mod Command
 pub mod Finish
 pub mod Machine
 pub mod Over
-pub mod Names
 pub mod Reflect

@@ -14,7 +14,7 @@ ghost use Rattle.bfd_sbfd.specs.Settle.{settle};
 ghost use Rattle.bfd_sbfd.specs.Receive.{received};
 ghost use Rattle.bfd_sbfd.specs.Command.{commanded};
 ghost use Rattle.bfd_sbfd.specs.Finish.{finish};
-ghost use Rattle.bfd_sbfd.specs.Names.{AllNamed};
+ghost use Rattle.bfd_rules.specs.Names.{AllNamed};
 
 /// Laws, and no work. With sound variables a tick by which nothing is due leaves the variables as they are and puts nothing
 /// out, so a caller may hand a tick to the due sessions alone. A tick, a packet and a command keep variables sound. A

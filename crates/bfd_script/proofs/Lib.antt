@@ -7,3 +7,4 @@ pub mod Naming
 pub mod Giving
 pub mod Faults
 pub mod Rising
+pub mod Sizes

@@ -1,5 +1,5 @@
 -- Sessions that rise before a map of others: what a look-up finds, and what a change of one does.
-use Rattle.std.proofs.Common.{◌≡◌, ℕ, ◌+◌, ◌-◌, ◌<◌, ◌≤◌, ◌==◌, Bool, true, false, cond, not, List, [], ◌∷◌, ◌++◌, length, get_or, set, Option, Some, None, zero, suc, refl, sym, ap, ◌∙◌, arith, nat_lt, subst, append-nil, append_assoc, length-append}
+use Rattle.std.proofs.Common.{◌≡◌, ℕ, ◌+◌, ◌-◌, ◌<◌, ◌==◌, Bool, true, false, cond, not, List, [], ◌∷◌, ◌++◌, length, get_or, set, Some, None, zero, suc, refl, sym, ap, ◌∙◌, arith, nat_lt, subst, append-nil, append_assoc, length-append}
 use Rattle.std.proofs.lemmas.Bool.Decides.{nat_tests}
 use Rattle.std.proofs.lemmas.Bool.{ltb-true}
 use Rattle.std.proofs.lemmas.List.Quantifiers.{position-Some}
@@ -8,15 +8,14 @@ use Rattle.std.specs.Prelude.{find}
 use Rattle.std.specs.List.{AllByRecursion, position_or_len, slice_get}
 use Rattle.std.specs.Map.{values_of, lookup}
 use Rattle.std.specs.BTreeMap.{is_at, insert_entry}
-use Rattle.std.specs.Ordering.{nat_cmp, match_ordering}
-use Rattle.std.specs.declared.cmp.Ordering.TheVariants.{Less, Equal, Greater}
+use Rattle.std.specs.Ordering.{nat_cmp}
 use Rattle.bfd_demux.proofs.AlikeRows.{nat_level}
 use Rattle.bfd_session.specs.Rows.{Ascends, place_of}
+use Rattle.bfd_session.proofs.Tables.{numbers_differ}
 use Rattle.bfd_session.specs.declared.event.SessionConfig.{SessionConfig}
 use Rattle.bfd_session.specs.Kinds.{discr_of}
 use Rattle.bfd_script.specs.Rows.{by_discr, changed, has_discr, inserted}
 use Rattle.bfd_script.specs.Tables.{AreRows}
-use Rattle.bfd_script.proofs.Elements.{each_more, each_to}
 use Rattle.bfd_script.proofs.Giving.{Keeps, ascends_changed, length_changed}
 use Rattle.bfd_script.proofs.Inserting.{ascends_inserted}
 use Rattle.bfd_script.proofs.Numbered.{entry_inserted, length_inserted, values_by}
@@ -69,9 +68,6 @@ below_last k n (x ∷ xs) l up is e low =
     let same : discr_of (get_or (x ∷ xs) (length xs) l) ≡ n = ap discr_of last ∙ sym e in
     all_below k x xs l up (omega (arith, less, same))
 
-is_other : (a k : ℕ) → a < k → (k == a) ≡ false
-is_other a k low = grind (arith, nat_tests)
-
 -- ---- the place of a discriminator
 
 missed_here : (same : Bool) (a b : ℕ) → cond (nat_lt (cond (not same) (1 + a) 0) (suc b)) (Some (cond (not same) (1 + a) 0)) None ≡ None → same ≡ false
@@ -100,7 +96,7 @@ below_step false a b other e = grind (arith, nat_tests)
 pub above_place : (k : ℕ) (xs : List SessionConfig) → AllByRecursion (λ x. discr_of x < k) xs → place_of k xs ≡ None
 above_place k [] all = refl
 above_place k (x ∷ xs) all =
-    below_step (k == discr_of x) (position_or_len (λ c. k == discr_of c) xs) (length xs) (is_other (discr_of x) k all.0) (above_place k xs all.1)
+    below_step (k == discr_of x) (position_or_len (λ c. k == discr_of c) xs) (length xs) (numbers_differ (discr_of x) k all.0) (above_place k xs all.1)
 
 -- ---- a look-up
 
@@ -199,7 +195,8 @@ find_at k i xs es d e =
 
 -- ---- one more
 
-inserted_last : (c : SessionConfig) (xs : List SessionConfig) → AllByRecursion (λ x. discr_of x < discr_of c) xs → inserted c xs ≡ xs ++ c ∷ []
+-- a session above all others goes to the end
+pub inserted_last : (c : SessionConfig) (xs : List SessionConfig) → AllByRecursion (λ x. discr_of x < discr_of c) xs → inserted c xs ≡ xs ++ c ∷ []
 inserted_last c [] all = refl
 inserted_last c (x ∷ xs) all =
     let lower : discr_of x < discr_of c = all.0 in

@@ -1,9 +1,8 @@
 -- One pass more is taken in.
-use Rattle.std.proofs.Common.{◌≡◌, ℕ, ◌<◌, ◌≤◌, List, [], ◌∷◌, ◌++◌, length, get_or, Some, refl, ap, sym, ◌∙◌, subst, append_assoc, append-nil, length-append, le_refl, arith}
+use Rattle.std.proofs.Common.{◌≡◌, ℕ, ◌<◌, ◌≤◌, List, [], ◌∷◌, ◌++◌, length, get_or, Some, refl, ap, sym, ◌∙◌, subst, append_assoc, append-nil, le_refl, arith}
 use Rattle.std.specs.List.{All}
 use Rattle.std.proofs.lemmas.List.Elements.{All-push, All-pop, All-nil}
 use Rattle.std.proofs.lemmas.List.Sums.{sum_by-append}
-use Rattle.std.proofs.Math.Seq.{get_or-append_seam}
 use Rattle.bfd_turn.specs.Lists.{Begins}
 use Rattle.bfd_turn.proofs.Beginnings.{begins_itself, begins_through, longer_begins}
 use Rattle.bfd_engine.specs.Engines.{Shards, Knows, IsOf, AllThere}

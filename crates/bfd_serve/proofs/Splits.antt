@@ -97,14 +97,3 @@ module _ (engine : Shards) where
     kept = λ s h. subst (All HasNoCalls) (sym ((joined s h).kept ∙ ap (λ w. w ++ calls_kept s os) (p.kept s h))) (none_kept s os h p.each);
     made = λ s h. (joined s h).made ∙ (p.made s h ∙ (sym p.numbers_are ∙ (sym (kept_numbers s os) ∙ ap numbers_of (sym ((joined s h).kept ∙ ap (λ w. w ++ calls_kept s os) (p.kept s h))))));
   }
-
-  pub unserved_new : (k : Knows) → IsNewPass engine k → IsUnserved engine k
-  unserved_new k new = record {
-    of = new.of;
-    there = new.there;
-    number = new.number;
-    seen = new.seen;
-    taken = new.taken;
-    kept = λ s h. subst (All HasNoCalls) (sym (new.kept s h)) (All-nil HasNoCalls);
-    made = λ s h. new.made s h ∙ ap numbers_of (sym (new.kept s h));
-  }

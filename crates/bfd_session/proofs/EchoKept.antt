@@ -11,7 +11,7 @@ use Rattle.bfd_rules.specs.EventFrame.{Course, sends, is_untold, based, draws, d
 use Rattle.bfd_p2p.specs.Transmit.{transmits}
 use Rattle.bfd_p2p.specs.Finish.{extra, finish}
 use Rattle.bfd_echo.specs.declared.echo.Echo.{Echo}
-use Rattle.bfd_session.specs.Echoing.{should_echo, interval_of, echo_due, IsEchoOver}
+use Rattle.bfd_session.specs.Echoing.{echo_due, IsEchoOver}
 
 -- the variables that it runs by are the same
 pub record IsEchoKept (v w : Vars) : Type 0 where
@@ -31,14 +31,7 @@ then_kept u v w h k = record {
   mult = k.mult ∙ h.mult;
 }
 
--- so it should run where it should before, by the same interval, and is due at the same tick
-
-pub should_kept : (c : Config) (v w : Vars) → IsEchoKept v w → should_echo c w ≡ should_echo c v
-should_kept c v w h = rw (h.state, h.echo_every, h.remote_min_echo) refl
-
-pub interval_kept : (v w : Vars) → IsEchoKept v w → interval_of w ≡ interval_of v
-interval_kept v w h = rw (h.echo_every, h.remote_min_echo) refl
-
+-- so it is due at the same tick
 pub due_kept : (c : Config) (v w : Vars) (echo : Option Echo) → IsEchoKept v w → echo_due c w echo ≡ echo_due c v echo
 due_kept c v w echo h = rw (h.state, h.echo_every, h.remote_min_echo, h.mult) refl
 

@@ -1,5 +1,5 @@
 -- Each output of an event names the event's session.
-use Rattle.std.proofs.Common.{◌≡◌, ◌&&◌, ℕ, Bool, true, false, List, [], refl, Option, None, Some, is_some, Result, Ok, Err, if◌then◌else◌}
+use Rattle.std.proofs.Common.{◌≡◌, ◌&&◌, ℕ, Bool, true, false, List, [], Option, None, Some, is_some, Result, Ok, Err, if◌then◌else◌}
 use Rattle.std.specs.List.{AllByRecursion}
 use Rattle.bfd_packet.specs.declared.arrival.Datagram.{Datagram}
 use Rattle.bfd_packet.specs.declared.control.Control.{Control}
@@ -12,7 +12,7 @@ use Rattle.bfd_rules.specs.declared.config.Config.{Config}
 use Rattle.bfd_rules.specs.declared.variables.Vars.{Vars}
 use Rattle.bfd_rules.specs.Quantities.{may_send, deadline, seq_deadline, is_admin_down}
 use Rattle.bfd_rules.specs.EventFrame.{Course, changes, sends, is_untold, redrawn}
-use Rattle.bfd_rules.proofs.Courses.{OfOwn, changes_names, sends_names}
+use Rattle.bfd_rules.proofs.Courses.{own_name, changes_names, sends_names}
 use Rattle.bfd_p2p.specs.Frame.{renews, moves}
 use Rattle.bfd_p2p.specs.Transmit.{transmits}
 use Rattle.bfd_p2p.specs.Settle as settling
@@ -29,7 +29,7 @@ use Rattle.bfd_session.specs.declared.event.SessionConfig.TheVariants.{Pair, See
 use Rattle.bfd_session.specs.declared.event.Event.{Event}
 use Rattle.bfd_session.specs.declared.event.Event.TheVariants.{Packet, Returned, Command, Show}
 use Rattle.bfd_session.specs.Kinds.{Running, Flow, discr_of}
-use Rattle.bfd_session.specs.Names.{named}
+use Rattle.bfd_rules.specs.Names.{named}
 use Rattle.bfd_session.specs.Echoing.{settled_by, settled_running, settles_echo, echoing}
 use Rattle.bfd_session.specs.Step.{step, tick, settled, acted, finished, begun, stepped_flow, ticked_flow, emits, tick_emits}
 
@@ -37,19 +37,16 @@ use Rattle.bfd_session.specs.Step.{step, tick, settled, acted, finished, begun, 
 record Names (d : ℕ) (s : Course) : Type 0 where
   all : AllByRecursion (λ o. named o ≡ d) s.outs
 
-own : (d : ℕ) → OfOwn d (λ o. named o ≡ d)
-own d = record { of_changes = (λ old new diag. refl); of_packets = (λ datagram. refl) }
-
 -- a choice between two courses
 either : (d : ℕ) (b : Bool) (x y : Course) → Names d x → Names d y → Names d (if b then x else y)
 either d true x y hx hy = hx
 either d false x y hx hy = hy
 
 changes-names : (d : ℕ) (v : Vars) (s : Course) → Names d s → Names d (changes d v s)
-changes-names d v s h = record { all = changes_names d _ v s (own d) h.all }
+changes-names d v s h = record { all = changes_names d _ v s (own_name d) h.all }
 
 sends-names : (d : ℕ) (datagram : Datagram) (s : Course) → Names d s → Names d (sends d datagram s)
-sends-names d datagram s h = record { all = sends_names d _ datagram s (own d) h.all }
+sends-names d datagram s h = record { all = sends_names d _ datagram s (own_name d) h.all }
 
 renews-names : (d eff : ℕ) (v : Vars) (s : Course) → Names d s → Names d (renews eff v s)
 unfolding renews
@@ -158,9 +155,9 @@ settles_echo-names c limit eff f h = settled_running-names c limit eff (echoing 
 
 settled-names : (c : SessionConfig) (limit eff : ℕ) (f : Flow) → Names (discr_of c) f.course → Names (discr_of c) (settled c limit eff f).course
 settled-names (Pair c) limit eff f h = settles_echo-names c limit eff _ (settle-names c limit eff f.course h)
-settled-names (Seek c) limit eff f h = record { all = seek.settle_names c _ limit eff f.course (own c.discr) h.all }
-settled-names (Head c) limit eff f h = record { all = tree.head_settle_names c _ limit eff f.course (own c.discr) h.all }
-settled-names (Tail c) limit eff f h = record { all = tree.tail_settle_names c _ limit f.course (own c.discr) h.all }
+settled-names (Seek c) limit eff f h = record { all = seek.settle_names c _ limit eff f.course (own_name c.discr) h.all }
+settled-names (Head c) limit eff f h = record { all = tree.head_settle_names c _ limit eff f.course (own_name c.discr) h.all }
+settled-names (Tail c) limit eff f h = record { all = tree.tail_settle_names c _ limit f.course (own_name c.discr) h.all }
 
 acted-names : (c : SessionConfig) (eff : ℕ) (event : Event) (f : Flow) → Names (discr_of c) f.course → Names (discr_of c) (acted c eff event f).course
 acted-names (Pair c) eff (Packet arrival) f h = received-names c eff _ _ f.course h
@@ -168,18 +165,18 @@ acted-names (Pair c) eff (Returned sequence) f h = h
 acted-names (Pair c) eff (Command cmd) f h = commanded-names c eff cmd f.course h
 acted-names (Pair c) eff Show f h = h
 acted-names (Seek c) eff (Packet arrival) f h =
-    record { all = seek.received_names c _ eff arrival.payload f.course (own c.discr) h.all }
-acted-names (Seek c) eff (Command cmd) f h = record { all = seek.commanded_names c _ cmd f.course (own c.discr) h.all }
-acted-names (Head c) eff (Command cmd) f h = record { all = tree.head_commanded_names c _ cmd f.course (own c.discr) h.all }
+    record { all = seek.received_names c _ eff arrival.payload f.course (own_name c.discr) h.all }
+acted-names (Seek c) eff (Command cmd) f h = record { all = seek.commanded_names c _ cmd f.course (own_name c.discr) h.all }
+acted-names (Head c) eff (Command cmd) f h = record { all = tree.head_commanded_names c _ cmd f.course (own_name c.discr) h.all }
 acted-names (Tail c) eff (Packet arrival) f h =
-    record { all = tree.received_names c _ eff arrival.payload f.course (own c.discr) h.all }
-acted-names (Tail c) eff (Command cmd) f h = record { all = tree.tail_commanded_names c _ cmd f.course (own c.discr) h.all }
+    record { all = tree.received_names c _ eff arrival.payload f.course (own_name c.discr) h.all }
+acted-names (Tail c) eff (Command cmd) f h = record { all = tree.tail_commanded_names c _ cmd f.course (own_name c.discr) h.all }
 acted-names c eff event f h = h
 
 finished-names : (c : SessionConfig) (eff : ℕ) (f : Flow) → Names (discr_of c) f.course → Names (discr_of c) (finished c eff f).course
 finished-names (Pair c) eff f h = finish-names c eff f.course h
-finished-names (Seek c) eff f h = record { all = seek.finish_names c _ eff f.course (own c.discr) h.all }
-finished-names (Head c) eff f h = record { all = tree.head_finish_names c _ eff f.course (own c.discr) h.all }
+finished-names (Seek c) eff f h = record { all = seek.finish_names c _ eff f.course (own_name c.discr) h.all }
+finished-names (Head c) eff f h = record { all = tree.head_finish_names c _ eff f.course (own_name c.discr) h.all }
 finished-names (Tail c) eff f h = h
 
 pub tick_named : (s : Running) (limit eff : ℕ) → AllByRecursion (λ o. named o ≡ discr_of s.config) (tick_emits limit eff s)

@@ -1,5 +1,5 @@
 -- What a binary search of sessions finds is the place of the session with the discriminator.
-use Rattle.std.proofs.Common.{◌≡◌, ◌<◌, ◌≤◌, ◌==◌, ◌+◌, ◌∙◌, ℕ, zero, suc, List, [], ◌∷◌, length, map, get_or, refl, sym, ap, arith, cond, not, Option, inl, inr, None, Some, Result, Ok, Err}
+use Rattle.std.proofs.Common.{◌≡◌, ◌<◌, ◌==◌, ◌+◌, ◌∙◌, ℕ, zero, suc, List, [], ◌∷◌, length, map, get_or, refl, sym, ap, arith, cond, not, Option, inl, inr, None, Some, Result, Ok, Err}
 use Rattle.std.proofs.Math.Nat.{eq-or-lt_of_le}
 use Rattle.std.proofs.lemmas.Bool.{eq-eqb, ne_eqb}
 use Rattle.std.proofs.lemmas.Bool.Decides.{nat_tests}
@@ -11,16 +11,10 @@ use Rattle.std.specs.List.Sorted.{IsSearchInRange, IsBinarySearchResult, IsNonDe
 use Rattle.std.specs.Prelude.{position}
 use Rattle.std.specs.Ordering.{nat_cmp, ordering_index}
 use Rattle.std.specs.Result.{result_ok}
+use Rattle.bfd_sbfd.proofs.Searching.{no_lower, differs}
 use Rattle.bfd_session.specs.declared.event.SessionConfig.{SessionConfig}
 use Rattle.bfd_session.specs.Kinds.{discr_of}
 use Rattle.bfd_session.specs.Rows.{Ascends, place_of}
-
-no_lower : (a b discr : ℕ) → a ≤ b → ordering_index (nat_cmp a discr) ≤ ordering_index (nat_cmp b discr)
-no_lower a b discr le = grind (arith, nat_tests)
-
--- lower before a place and higher from it on: another
-pub differs : (a discr at k : ℕ) → (k < at → a < discr) → (at ≤ k → discr < a) → a ≡ discr → ⊥
-differs a discr at k below above same = grind arith
 
 module _ {X : Type 0} (config : X → SessionConfig) where
   -- what is true of each configuration is true of the one at a place

@@ -9,4 +9,3 @@ pub mod Arrivals
 pub mod Reaching
 pub mod Discards
 pub mod Inside
-pub mod Names

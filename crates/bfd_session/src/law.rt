@@ -14,7 +14,7 @@ ghost use Rattle.bfd_session.specs.declared.event.Event.TheVariants.{Packet};
 ghost use Rattle.bfd_session.specs.Discards.{first_discarding, first_own_failing, test_of, judging, answer_by};
 ghost use Rattle.bfd_session.specs.Kinds.{Running, discr_of};
 ghost use Rattle.bfd_session.specs.Due.{due, detects};
-ghost use Rattle.bfd_session.specs.Names.{named};
+ghost use Rattle.bfd_rules.specs.Names.{named};
 ghost use Rattle.bfd_session.specs.Step.{IsSound, CanTake, HasSize, verdict_by, tick_next, tick_emits, next, emits, reply};
 
 /// Laws, and no work: for every sound session, a tick by which nothing is due leaves it as it is and puts nothing out, so

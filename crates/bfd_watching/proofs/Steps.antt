@@ -3,6 +3,7 @@ use Rattle.std.proofs.Common.{◌≡◌, ◌≤◌, ◌+◌, ◌++◌, ℕ, List
 use Rattle.std.specs.List.{flat_map}
 use Rattle.std.specs.Fmt.{decimal}
 use Rattle.bfd_session.specs.Alone.{Outcome}
+use Rattle.bfd_script.proofs.Sizes.{some_after}
 use Rattle.bfd_watch.specs.declared.change.Change.{Change}
 use Rattle.bfd_watch.specs.Changes.{changes_in, changes_from}
 use Rattle.bfd_watch.specs.Groups.{Group, group_after, is_group_up}
@@ -49,9 +50,6 @@ count_step n told more goal o all os cs split are added so_far =
     )
 
 -- each change has a line
-
-some_after : (a b : List ℕ) (x : ℕ) → 1 ≤ length (a ++ (x ∷ b))
-some_after a b x = simp length-append (omega arith)
 
 line_some : (n : ℕ) (c : Change) → 1 ≤ length (change_line n c)
 line_some n c = some_after (decimal n) _ 32

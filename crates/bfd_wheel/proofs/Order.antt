@@ -9,8 +9,9 @@ use Rattle.std.proofs.Math.Seq.{take-append_seam, drop-append_seam}
 use Rattle.std.proofs.lemmas.Bool.{cases_eq, cases_lt}
 use Rattle.bfd_num.specs.Due.{has_come}
 use Rattle.bfd_lanes.specs.Places.{never, due_of, places, come}
+use Rattle.bfd_lanes.proofs.Scanned.{come_of}
 use Rattle.bfd_wheel.specs.Taken.{bit, times, waits, Took}
-use Rattle.bfd_wheel.proofs.TakenIds.{bit_same, bit_other, come_of}
+use Rattle.bfd_wheel.proofs.TakenIds.{bit_same, bit_other}
 use Rattle.bfd_wheel.proofs.Walk.{counted_not}
 
 -- no number after another is below it

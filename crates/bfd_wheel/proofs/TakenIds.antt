@@ -3,8 +3,8 @@ use Rattle.std.proofs.Common.{◌≡◌, ◌≢◌, ◌⊎◌, inl, inr, ℕ, ze
 use Rattle.std.proofs.lemmas.List.{get_or-set_same, get_or-set_other, length-set, get_or_past, get_or_default, append-nil, same_lists, get_or-map, length-map}
 use Rattle.std.proofs.lemmas.Bool.Decides.{nat_tests}
 use Rattle.std.proofs.lemmas.Bool.{cases_eq, cases_lt, le-leb, lt-leb}
-use Rattle.bfd_num.specs.Due.{has_come}
 use Rattle.bfd_lanes.specs.Places.{never, due_of, without}
+use Rattle.bfd_lanes.proofs.Scanned.{come_of}
 use Rattle.bfd_wheel.specs.Taken.{bit, times, waits, waiting, Took}
 use Rattle.bfd_wheel.proofs.Walk.{counted, counted_now, counted_not}
 
@@ -128,9 +128,6 @@ took_then t dues dues2 dues3 items items2 items3 a b = record {
 }
 
 -- ---- the due ticks that are left
-
-pub come_of : (t d : ℕ) → t < never → has_come t (due_of d) ≡ nat_le d t
-come_of t d below = grind (arith, nat_tests)
 
 kept_one : (t d : ℕ) → t < never → t < d → due_of d ≡ without t (due_of d)
 kept_one t d below above = sym (ap (λ (b : Bool). cond b None (due_of d)) (come_of t d below ∙ lt-leb d t above))

@@ -1,4 +1,4 @@
-use Rattle.std.proofs.Common.{◌≡◌, ◌≤◌, ◌+◌, ◌*◌, ◌++◌, ℕ, List, Ok, length, take}
+use Rattle.std.proofs.Common.{◌≡◌, ◌+◌, ◌*◌, ◌++◌, ℕ, List, Ok, length, take}
 use Rattle.hex.specs.Hex.{decode_pairs}
 use Rattle.bfd_fields.proofs.digits.decode_runs.Given as goal
 

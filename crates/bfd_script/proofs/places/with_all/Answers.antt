@@ -1,5 +1,4 @@
 use Rattle.bfd_script.proofs.Addressed.{first_put}
-use Rattle.std.proofs.Common.{arith}
 use Rattle.bfd_script.proofs.places.with_all.Goals as goal
 
 -- the first was put in

@@ -1,5 +1,5 @@
 -- The search's clause, at the discriminators that the closure gives.
-use Rattle.std.proofs.Common.{◌∙◌, ap, subst, sym, rules, refl}
+use Rattle.std.proofs.Common.{◌∙◌, ap, subst, sym, rules}
 use Rattle.std.proofs.lemmas.List.{map-id}
 use Rattle.std.proofs.lemmas.List.Sorted.{answers_always}
 use Rattle.bfd_session.specs.Kinds.{discr_of}

@@ -1,9 +1,6 @@
-use Rattle.std.proofs.Common.{◌∙◌, ◌==◌, ap, refl, subst, sym, Some}
+use Rattle.std.proofs.Common.{◌∙◌, ap, refl, subst, sym, Some}
 use Rattle.std.specs.Map.{values_of}
-use Rattle.std.specs.Prelude.{find}
-use Rattle.bfd_session.specs.Kinds.{discr_of}
 use Rattle.bfd_session.specs.Rows.{Ascends, place_of}
-use Rattle.bfd_session.specs.declared.event.SessionConfig.{SessionConfig}
 use Rattle.bfd_script.specs.Rows.{by_discr, given, keyed_with}
 use Rattle.bfd_script.proofs.Giving.{with_keeps}
 use Rattle.bfd_script.proofs.Rising.{changed_at, changed_past_rising, rising_alone}
