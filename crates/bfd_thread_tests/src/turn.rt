@@ -1,5 +1,5 @@
 //! A lock that is at the last word, over a value that keeps pairs of a caller and a number.
-ghost use Rattle.std.specs.Prelude.{◌≡◌, IfSome};
+ghost use Rattle.std.specs.Prelude.{◌≡◌, [], IfSome};
 ghost use Rattle.bfd_turn.specs.Refusals.{IsRefused};
 
 use bfd_turn::{Pass, Recorded, TryFault, TurnLock};
@@ -35,7 +35,9 @@ impl Recorded for Pairs {
 }
 
 impl Pairs {
-    fn empty(alloc: Global) -> Pairs {
+    fn empty(alloc: Global) -> Pairs
+        ensures { result.pairs.items ≡ [] }
+    {
         Pairs {
             limit: 7,
             pairs: Vec::new(alloc),

@@ -2,4 +2,4 @@
 use Rattle.bfd_thread_tests.proofs.eight.beside.Given as goal
 
 abbrev pub ghosts-beside_journals : goal.ghosts-beside_journals
-ghosts-beside_journals g a = record { name = a.blank.name; parts = a.blank.parts }
+ghosts-beside_journals a = record { name = a.blank.name; parts = a.blank.parts }
