@@ -1,6 +1,6 @@
 //! Packets whose digests were computed outside, by Python's hashlib, and the sequence windows.
 
-ghost use Rattle.std.specs.Prelude.{◌≡◌, [], ◌∷◌};
+ghost use Rattle.std.specs.Prelude.{◌≡◌, ◌<◌, [], ◌∷◌, length};
 
 use bfd_auth::{AuthType, Key, Keys, Secret, SeqState, seal, verify};
 use bfd_packet::{Control, State, Test};
@@ -56,6 +56,25 @@ fn heard(rcv: u32, known: bool) -> SeqState {
     }
 }
 
+/// Whether such a key seals a packet by this section, and uses up this number.
+fn check_section(rt: &impl Abort, kind: AuthType, secret: &[u8], xmit: u32, want: &[u8]) {
+    let keys = one_key(rt, kind, 1, secret);
+    let seq = SeqState {
+        xmit,
+        rcv: 4,
+        known: true,
+    };
+    let (wire, after) = seal(&keys, 0, &seq, &DOWN);
+    let raw = wire.as_slice();
+    assert!(rt; raw.len() >= 24 && &raw[24..] == want);
+    let next = if kind == AuthType::Password {
+        xmit
+    } else {
+        xmit.wrapping_add(1)
+    };
+    assert!(rt; after == SeqState { xmit: next, ..seq });
+}
+
 #[test]
 fn sections(rt: HostRuntime) {
     for (kind, secret, xmit, want) in [
@@ -90,55 +109,71 @@ fn sections(rt: HostRuntime) {
             b"\x05\x1c\x01\x00\x00\x00\x00\x00\x36\x14\x16\xd9\xe6\xa5\xb8\xcf\x21\xf8\x97\x6f\xb2\xda\xc5\x7e\x2f\x5b\x08\xc4".as_slice(),
         ),
     ] {
-        let keys = one_key(&rt, kind, 1, secret);
-        let seq = SeqState {
-            xmit,
-            rcv: 4,
-            known: true,
-        };
-        let (wire, after) = seal(&keys, 0, &seq, &DOWN);
-        let raw = wire.as_slice();
-        assert!(rt; raw.len() >= 24);
-        assert_eq!(rt; &raw[24..], want);
-        let next = if kind == AuthType::Password {
-            xmit
-        } else {
-            xmit.wrapping_add(1)
-        };
-        assert_eq!(rt; after, SeqState { xmit: next, ..seq });
+        check_section(&rt, kind, secret, xmit, want);
     }
+}
+
+/// What the password packet fails with this byte at this place.
+fn fails(keys: &Keys, place: usize, byte: u8) -> Option<Test> {
+    let mut raw = PASSWORD;
+    if place < 33 {
+        raw[place] = byte;
+    }
+    verify(keys, &heard(0, false), &raw).err()
+}
+
+/// What its first bytes fail, so many.
+fn fails_short(keys: &Keys, count: usize) -> Option<Test> {
+    if count > 33 {
+        return None;
+    }
+    verify(keys, &heard(0, false), &PASSWORD[..count]).err()
 }
 
 #[test]
 fn first_failing_test(rt: HostRuntime) {
     let keys = one_key(&rt, AuthType::Password, 5, b"secret");
-    let seq = heard(0, false);
-    assert_eq!(rt; verify(&keys, &seq, &PASSWORD), Ok(seq));
     for (place, byte, want) in [
-        (24, 2, Test::AuthType),
-        (26, 6, Test::AuthKey),
-        (25, 8, Test::AuthLen),
-        (25, 10, Test::AuthLen),
-        (32, 0x54, Test::AuthDigest),
+        (24, 1, None),
+        (24, 2, Some(Test::AuthType)),
+        (26, 6, Some(Test::AuthKey)),
+        (25, 8, Some(Test::AuthLen)),
+        (25, 10, Some(Test::AuthLen)),
+        (32, 0x54, Some(Test::AuthDigest)),
     ] {
-        let mut raw = PASSWORD;
-        raw[place] = byte;
-        assert_eq!(rt; verify(&keys, &seq, &raw), Err(want), "{place}");
+        assert!(rt; fails(&keys, place, byte) == want);
     }
-    assert_eq!(rt; verify(&keys, &seq, &PASSWORD[..26]), Err(Test::AuthKey));
-    assert_eq!(rt; verify(&keys, &seq, &PASSWORD[..32]), Err(Test::AuthLen));
+    assert!(rt; fails_short(&keys, 26) == Some(Test::AuthKey));
+    assert!(rt; fails_short(&keys, 32) == Some(Test::AuthLen));
+}
+
+/// What a receiver says of the trailing packet with this last byte.
+fn trailing(keys: &Keys, seq: SeqState, last: u8) -> Result<SeqState, Test> {
+    let mut raw = TRAILING;
+    raw[49] = last;
+    verify(keys, &seq, &raw)
 }
 
 #[test]
 fn bytes_behind_the_section(rt: HostRuntime) {
     let keys = one_key(&rt, AuthType::KeyedMd5, 1, b"k");
-    let seq = heard(0, false);
-    assert_eq!(rt; verify(&keys, &seq, &TRAILING), Ok(heard(5, true)));
-    let mut raw = TRAILING;
-    raw[49] = 0xbc;
-    assert_eq!(rt; verify(&keys, &seq, &raw), Err(Test::AuthDigest));
+    assert!(rt; trailing(&keys, heard(0, false), 0xbb) == Ok(heard(5, true)));
+    assert!(rt; trailing(&keys, heard(0, false), 0xbc) == Err(Test::AuthDigest));
     // The sequence is tested before the digest.
-    assert_eq!(rt; verify(&keys, &heard(6, true), &raw), Err(Test::AuthSeq));
+    assert!(rt; trailing(&keys, heard(6, true), 0xbc) == Err(Test::AuthSeq));
+}
+
+/// What a receiver in this state says of a packet with this number.
+fn heard_with(keys: &Keys, seq: SeqState, xmit: u32) -> Result<SeqState, Test>
+    requires { 0 < length keys.now.list }
+{
+    let sender = SeqState {
+        xmit,
+        rcv: 0,
+        known: false,
+    };
+    let (wire, _) = seal(keys, 0, &sender, &DOWN);
+    verify(keys, &seq, wire.as_slice())
 }
 
 #[test]
@@ -156,42 +191,35 @@ fn windows(rt: HostRuntime) {
         (AuthType::MeticulousMd5, 5, false, 5, true),
     ] {
         let keys = one_key(&rt, kind, 1, b"k");
-        let sender = SeqState {
-            xmit,
-            rcv: 0,
-            known: false,
-        };
-        let (wire, _) = seal(&keys, 0, &sender, &DOWN);
         let want = if accepted {
             Ok(heard(xmit, true))
         } else {
             Err(Test::AuthSeq)
         };
-        assert_eq!(rt;
-            verify(&keys, &heard(rcv, known), wire.as_slice()),
-            want,
-            "{rcv} {xmit}"
-        );
+        assert!(rt; heard_with(&keys, heard(rcv, known), xmit) == want);
     }
 }
 
-#[test]
-fn any_key_is_heard(rt: HostRuntime) {
-    let mut keys = one_key(&rt, AuthType::KeyedSha1, 1, b"k");
+/// Two keys.
+fn two_keys(rt: &impl Abort) -> Keys
+    ensures { length result.list ≡ 2 }
+{
+    let mut keys = one_key(rt, AuthType::KeyedSha1, 1, b"k");
     let second = Key {
         id: 2,
         secret: Secret::of(b"another"),
     };
     assert!(rt; !keys.has_id(2) && second.secret.fits(keys.kind));
     keys.add(second);
+    keys
+}
+
+#[test]
+fn any_key_is_heard(rt: HostRuntime) {
+    let keys = two_keys(&rt);
     let (wire, _) = seal(&keys, 1, &heard(0, false), &DOWN);
-    assert_eq!(rt;
-        verify(&keys, &heard(7, false), wire.as_slice()),
-        Ok(heard(0, true))
-    );
+    let seq = heard(7, false);
+    assert!(rt; verify(&keys, &seq, wire.as_slice()) == Ok(heard(0, true)));
     let other = one_key(&rt, AuthType::KeyedSha1, 1, b"k");
-    assert_eq!(rt;
-        verify(&other, &heard(7, false), wire.as_slice()),
-        Err(Test::AuthKey)
-    );
+    assert!(rt; verify(&other, &seq, wire.as_slice()) == Err(Test::AuthKey));
 }

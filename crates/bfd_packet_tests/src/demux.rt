@@ -55,7 +55,7 @@ fn tail(discr: u32, head: u32, iface: u32) -> Row {
     Row { discr, kind }
 }
 
-pub fn arrival(
+fn arrival(
     port: Port,
     iface: u32,
     src: Addr,
@@ -76,7 +76,7 @@ pub fn arrival(
 }
 
 // The packet with this byte of flags, My Discriminator of one byte, and Your Discriminator of three.
-pub fn packet(flags: u8, my: u8, your: u32) -> [u8; 24] {
+fn packet(flags: u8, my: u8, your: u32) -> [u8; 24] {
     let mut bytes = FROM_7;
     bytes[1] = flags;
     bytes[7] = my;
@@ -106,7 +106,7 @@ fn select_after(first: &Demux, table: &Demux, arrival: &Arrival) -> Result<Targe
     screened::<Brand>(first, table, arrival, Blank::new(1))
 }
 
-pub fn select(table: &Demux, arrival: &Arrival) -> Result<Target, Test> {
+fn select(table: &Demux, arrival: &Arrival) -> Result<Target, Test> {
     select_after(table, table, arrival)
 }
 
@@ -126,43 +126,48 @@ const TREE_2: Way = (2, REMOTE, GROUP);
 // The port and the way, the packet's flags, My and Your Discriminator, and what it is for.
 type Case = (Port, Way, u8, u8, u32, Result<Target, Test>);
 
-// The place of the first case in which a table of these rows selects something else.
-fn first_wrong(alloc: Global, rows: &[Row], cases: &[Case]) -> Result<Option<usize>, Fail> {
-    let Ok(table) = Demux::build(alloc, rows) else {
-        return Err(Fail::from("no table"));
-    };
-    for (place, case) in cases.iter().enumerate() {
-        let (port, (iface, src, dst), flags, my, your, want) = *case;
-        let came = arrival(port, iface, src, dst, &packet(flags, my, your), alloc)?;
-        if select(&table, &came) != want {
-            return Ok(Some(place));
+// Whether the table selects so.
+fn is_so(alloc: Global, table: &Demux, case: &Case) -> Result<bool, AllocError> {
+    let (port, (iface, src, dst), flags, my, your, want) = *case;
+    let came = arrival(port, iface, src, dst, &packet(flags, my, your), alloc)?;
+    Ok(select(table, &came) == want)
+}
+
+// Whether the table selects so in all these cases.
+fn are_so(alloc: Global, table: &Demux, cases: &[Case]) -> Result<bool, AllocError> {
+    for case in cases {
+        if !is_so(alloc, table, case)? {
+            return Ok(false);
         }
     }
-    Ok(None)
+    Ok(true)
+}
+
+/// Why there is no table of these rows.
+fn fault(alloc: Global, rows: &[Row]) -> Option<BuildFault> {
+    Demux::build(alloc, rows).err()
 }
 
 #[test]
 fn refuses_discriminators(rt: HostRuntime) -> Result<(), Fail> {
     let alloc = rt.alloc();
-    for ([a, b, c, d], fault) in [
+    for ([a, b, c, d], want) in [
         ([7, 7, 7, 8], BuildFault::SameDiscr(0, 1)),
         ([1, 2, 2, 1], BuildFault::SameDiscr(1, 2)),
         ([1, 2, 3, 1], BuildFault::SameDiscr(0, 3)),
         ([5, 5, 0, 0], BuildFault::ZeroDiscr(2)),
     ] {
-        let rows = [seek(a), seek(b), seek(c), seek(d)];
-        assert!(rt; Demux::build(alloc, &rows).err() == Some(fault));
+        assert!(rt; fault(alloc, &[seek(a), seek(b), seek(c), seek(d)]) == Some(want));
     }
     let many = vec![in alloc; seek(1); 65_537]?;
-    assert!(rt; Demux::build(alloc, &many).err() == Some(BuildFault::TooMany(65_537)));
+    assert!(rt; fault(alloc, &many) == Some(BuildFault::TooMany(65_537)));
     Ok(())
 }
 
 #[test]
-fn refuses_addresses(rt: HostRuntime) -> Result<(), Fail> {
-    let alloc = rt.alloc();
+fn refuses_addresses(rt: HostRuntime) {
     let twice = multi(1, LOCAL, REMOTE).kind;
-    for (kind, discr, fault) in [
+    for (kind, discr, want) in [
         (
             single(1, 1, LOCAL, REMOTE).kind,
             4,
@@ -172,53 +177,25 @@ fn refuses_addresses(rt: HostRuntime) -> Result<(), Fail> {
         (tail(1, 9, 1).kind, 4, BuildFault::SameAddresses(0, 1)),
         (twice, 3, BuildFault::SameDiscr(2, 3)),
     ] {
-        let rows = [
-            Row { discr: 1, kind },
-            Row { discr: 2, kind },
-            seek(3),
-            seek(discr),
-        ];
-        assert!(rt; Demux::build(alloc, &rows).err() == Some(fault));
+        let first = Row { discr: 1, kind };
+        let second = Row { discr: 2, kind };
+        assert!(rt; fault(rt.alloc(), &[first, second, seek(3), seek(discr)]) == Some(want));
     }
-    Ok(())
+}
+
+/// What a table of another row selects for a packet of the session 1 that was screened by its own.
+fn by_another(alloc: Global, your: u32) -> Option<Result<Target, Test>> {
+    let here = Demux::build(alloc, &[single(1, 1, LOCAL, REMOTE)]).ok()?;
+    let other = Demux::build(alloc, &[seek(3)]).ok()?;
+    let bytes = packet(0x40, 7, your);
+    let came = arrival(Port::Single, 1, REMOTE, LOCAL, &bytes, alloc).ok()?;
+    Some(select_after(&here, &other, &came))
 }
 
 #[test]
-fn selects_by_the_first_failing_test(rt: HostRuntime) -> Result<(), Fail> {
-    let cases = [
-        (Port::Single, WAY, 0xc0, 7, 0, Err(Test::YourZeroState)),
-        (Port::Single, WAY, 0x40, 7, 9, Err(Test::YourUnknown)),
-        (Port::Single, WAY_2, 0x40, 7, 0, Err(Test::NoSession)),
-        (Port::Multi, WAY, 0x40, 7, 0, Err(Test::NoSession)),
-        (Port::Single, WAY, 0x40, 7, 0, Ok(Target::Session(0))),
-    ];
-    assert_eq!(rt;
-        first_wrong(rt.alloc(), &[single(1, 1, LOCAL, REMOTE)], &cases)?,
-        None
-    );
-    Ok(())
-}
-
-#[test]
-fn selects_nothing_by_another_table(rt: HostRuntime) -> Result<(), Fail> {
-    let alloc = rt.alloc();
-    let here = Demux::build(alloc, &[single(1, 1, LOCAL, REMOTE)]);
-    let other = Demux::build(alloc, &[seek(3)]);
-    let (Ok(here), Ok(other)) = (here, other) else {
-        return Err(Fail::from("no table"));
-    };
-    for (your, want) in [(0, Test::NoSession), (1, Test::YourUnknown)] {
-        let came = arrival(
-            Port::Single,
-            1,
-            REMOTE,
-            LOCAL,
-            &packet(0x40, 7, your),
-            alloc,
-        )?;
-        assert!(rt; select_after(&here, &other, &came) == Err(want));
-    }
-    Ok(())
+fn selects_nothing_by_another_table(rt: HostRuntime) {
+    assert!(rt; by_another(rt.alloc(), 0) == Some(Err(Test::NoSession)));
+    assert!(rt; by_another(rt.alloc(), 1) == Some(Err(Test::YourUnknown)));
 }
 
 // A row of each kind, in no order. The sessions are, ascending: 1, 2, 3, 5, 6, 8, 30.
@@ -245,8 +222,14 @@ fn all_kinds() -> [Row; 8] {
 
 #[test]
 fn selects_each_kind(rt: HostRuntime) -> Result<(), Fail> {
+    let Ok(table) = Demux::build(rt.alloc(), &all_kinds()) else {
+        return Err(Fail::from("no table"));
+    };
     let cases = [
         (Port::Single, WAY, 0x40, 7, 0, Ok(Target::Session(0))),
+        (Port::Single, WAY, 0xc0, 7, 0, Err(Test::YourZeroState)),
+        (Port::Single, WAY, 0x40, 7, 9, Err(Test::YourUnknown)),
+        (Port::Single, WAY_2, 0x40, 7, 0, Err(Test::NoSession)),
         (
             Port::Single,
             (9, LOCAL, LOCAL),
@@ -289,7 +272,7 @@ fn selects_each_kind(rt: HostRuntime) -> Result<(), Fail> {
         (Port::Single, TREE_2, 0xc3, 77, 0, Err(Test::NoTail)),
         (Port::Multi, TREE, 0xc3, 77, 0, Err(Test::Multipoint)),
     ];
-    assert_eq!(rt; first_wrong(rt.alloc(), &all_kinds(), &cases)?, None);
+    assert!(rt; are_so(rt.alloc(), &table, &cases)?);
     Ok(())
 }
 
@@ -300,6 +283,12 @@ fn echo(at: usize, byte: u8) -> [u8; 16] {
         bytes[at] = byte;
     }
     bytes
+}
+
+// What the table selects for these bytes on the port of echo packets.
+fn select_echo(alloc: Global, table: &Demux, bytes: &[u8]) -> Option<Result<Target, Test>> {
+    let came = arrival(Port::Echo, 1, LOCAL, LOCAL, bytes, alloc).ok()?;
+    Some(select(table, &came))
 }
 
 #[test]
@@ -316,33 +305,8 @@ fn selects_echo_packets(rt: HostRuntime) -> Result<(), Fail> {
         (echo(0, 0x43), Err(Test::EchoForm)),
         (echo(15, 1), Err(Test::EchoForm)),
     ] {
-        let came = arrival(Port::Echo, 1, LOCAL, LOCAL, &bytes, alloc)?;
-        assert!(rt; select(&table, &came) == want);
+        assert!(rt; select_echo(alloc, &table, &bytes) == Some(want));
     }
-    let short = arrival(Port::Echo, 1, LOCAL, LOCAL, &ECHO[..15], alloc)?;
-    assert!(rt; select(&table, &short) == Err(Test::EchoForm));
-    Ok(())
-}
-
-#[test]
-fn finds_the_last_of_the_most_rows(rt: HostRuntime) -> Result<(), Fail> {
-    let alloc = rt.alloc();
-    let mut rows = Vec::new(alloc);
-    for discr in 1..65_537 {
-        rows.push(seek(discr))?;
-    }
-    let cases = [
-        (Port::Answer, WAY, 0x40, 7, 1, Ok(Target::Session(0))),
-        (
-            Port::Answer,
-            WAY,
-            0x40,
-            7,
-            65_536,
-            Ok(Target::Session(65_535)),
-        ),
-        (Port::Answer, WAY, 0x40, 7, 65_537, Err(Test::YourUnknown)),
-    ];
-    assert_eq!(rt; first_wrong(alloc, &rows, &cases)?, None);
+    assert!(rt; select_echo(alloc, &table, &ECHO[..15]) == Some(Err(Test::EchoForm)));
     Ok(())
 }

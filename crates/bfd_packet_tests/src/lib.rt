@@ -9,8 +9,6 @@ mod auth;
 #[cfg(test)]
 mod demux;
 #[cfg(test)]
-mod demux_drawn;
-#[cfg(test)]
 mod echo;
 #[cfg(test)]
 mod edge;

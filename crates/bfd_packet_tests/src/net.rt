@@ -1,7 +1,7 @@
 // Links over the machine's own addresses, and its clock.
 use bfd_edge::{Fault, Link, Next, Ports, Received, Ticker};
 use bfd_net::{ClockTicker, UdpLink, UdpPorts, udp_port};
-use bfd_packet::{Addr, Datagram, Port, Wire};
+use bfd_packet::{Addr, Arrival, Datagram, Port, Wire};
 use std::net::UdpSocket;
 use std::process;
 use std::process::Abort;
@@ -40,24 +40,29 @@ fn own_number(rt: &HostRuntime) -> u32 {
 fn sends(rt: &impl Abort, zero: &mut UdpLink<HostRuntime>) {
     assert!(rt; matches!(zero.receive(), Received::Ended));
     for (address, answer) in [(LOCALHOST, Ok(())), (0xc000_0201, Err(Fault::Failed))] {
-        assert_eq!(rt; zero.send(&packet_to(address)), answer, "{address:x}");
+        assert!(rt; zero.send(&packet_to(address)) == answer);
     }
-    assert_eq!(rt; zero.counts().send_faults, 1);
+    assert!(rt; zero.counts().send_faults == 1);
 }
 
-/// The packet comes as it was sent, from this machine on interface 1.
+/// The packet is as it was sent, from this machine on interface 1.
+fn is_as_sent(arrival: &Arrival) -> bool {
+    let local = Addr::V4(LOCALHOST);
+    arrival.port == Port::Single
+        && arrival.iface == 1
+        && arrival.ttl == 255
+        && arrival.src == local
+        && arrival.dst == local
+        && arrival.payload.as_slice() == PACKET.as_slice()
+}
+
+/// The packet comes as it was sent.
 fn hears(rt: &impl Abort, one: &mut UdpLink<HostRuntime>) {
     let Received::Got { arrival, .. } = one.receive() else {
         assert!(rt; false, "the packet comes");
         return;
     };
-    let local = Addr::V4(LOCALHOST);
-    assert_eq!(rt;
-        (arrival.port, arrival.iface, arrival.ttl),
-        (Port::Single, 1, 255)
-    );
-    assert_eq!(rt; (arrival.src, arrival.dst), (local, local));
-    assert_eq!(rt; arrival.payload.as_slice(), PACKET.as_slice());
+    assert!(rt; is_as_sent(&arrival));
 }
 
 /// How many of 65,000 bytes that are sent to link 1 come.
@@ -88,21 +93,11 @@ fn loopback(rt: HostRuntime) -> Result<(), Fail> {
     crosses(&one);
     sends(&rt, &mut zero);
     hears(&rt, &mut one);
-    assert_eq!(rt; hears_of_long(rt, &mut one)?, 256);
+    assert!(rt; hears_of_long(rt, &mut one)? == 256);
     assert!(rt; !is_free(rt), "its port is taken");
     drop(one);
     assert!(rt; is_free(rt), "and free again without the link");
     Ok(())
-}
-
-#[test]
-fn shuts(rt: HostRuntime) {
-    let mut ports = UdpPorts::make(rt, rt.alloc());
-    let Ok(link) = ports.open(0) else {
-        assert!(rt; false, "link 0 opens");
-        return;
-    };
-    ports.shut(0, link);
 }
 
 #[test]
@@ -112,18 +107,14 @@ fn hears_nothing(rt: HostRuntime) {
         assert!(rt; false, "the link opens");
         return;
     };
-    for quiet in 0..500 {
-        assert!(rt; matches!(link.receive(), Received::Quiet), "{quiet}");
+    for _quiet in 0..500 {
+        assert!(rt; matches!(link.receive(), Received::Quiet));
     }
-    assert!(rt;
-        matches!(link.receive(), Received::Ended),
-        "after 500 Quiets"
-    );
-    assert!(rt;
-        matches!(link.receive(), Received::Ended),
-        "and from then on"
-    );
-    assert_eq!(rt; (link.counts().gave, link.counts().over), (500, true));
+    // and from then on
+    for _ended in 0..2 {
+        assert!(rt; matches!(link.receive(), Received::Ended));
+    }
+    assert!(rt; link.counts().gave == 500 && link.counts().over);
 }
 
 #[test]
@@ -134,7 +125,7 @@ fn ticks(rt: HostRuntime) {
     for _ in 0..20 {
         match ticker.next() {
             Next::Got(tick) => {
-                assert!(rt; last < tick.get(), "{last} is before the next");
+                assert!(rt; last < tick.get());
                 last = tick.get();
             }
             _ => assert!(rt; false, "the clock ticks"),

@@ -20,33 +20,23 @@ fn rounding(rt: HostRuntime) {
             18_446_744_073_709_552,
         ),
     ] {
-        assert_eq!(rt; floor_tick(m), floor, "floor at {m}");
-        assert_eq!(rt; ceil_tick(m), ceil, "ceil at {m}");
+        assert!(rt; floor_tick(m) == floor && ceil_tick(m) == ceil);
     }
+}
+
+/// Whether there is a moment of so many microseconds, and a tick of that number.
+fn fits(us: u64, t: u64) -> (bool, bool) {
+    (
+        matches!(Moment::new(us), Some(moment) if moment.get() == us),
+        matches!(Tick::new(t), Some(tick) if tick.get() == t),
+    )
 }
 
 #[test]
 fn too_large(rt: HostRuntime) {
-    for (us, fits) in [
-        (0, true),
-        (1_152_921_504_606_846_975, true),
-        (1_152_921_504_606_846_976, false),
-    ] {
-        assert_eq!(rt;
-            Moment::new(us).map(|m| m.get()),
-            if fits { Some(us) } else { None }
-        );
-    }
-    for (t, fits) in [
-        (0, true),
-        (1_152_921_504_606_846, true),
-        (1_152_921_504_606_847, false),
-    ] {
-        assert_eq!(rt;
-            Tick::new(t).map(|tick| tick.get()),
-            if fits { Some(t) } else { None }
-        );
-    }
+    assert!(rt; fits(0, 0) == (true, true));
+    assert!(rt; fits(1_152_921_504_606_846_975, 1_152_921_504_606_846) == (true, true));
+    assert!(rt; fits(1_152_921_504_606_846_976, 1_152_921_504_606_847) == (false, false));
 }
 
 #[test]
@@ -57,6 +47,6 @@ fn draws(rt: HostRuntime) {
         (1_013_904_223, 1_196_435_762),
         (4_294_967_295, 1_012_239_698),
     ] {
-        assert_eq!(rt; next_j(j), next, "after {j}");
+        assert!(rt; next_j(j) == next);
     }
 }

@@ -14,7 +14,7 @@ fn picks_the_due_ticks_of_worked_examples(rt: HostRuntime) {
         (750_000, 1_000_000, 3, 1_013_904_223, 1514),
     ];
     for (base, interval, mult, j, due) in table {
-        assert_eq!(rt; pick(base, interval, mult, j), due, "base {base}");
+        assert!(rt; pick(base, interval, mult, j) == due);
     }
 }
 
@@ -30,7 +30,7 @@ fn picks_one_after_the_other(rt: HostRuntime) {
     ];
     let mut j = 0;
     for (base, interval, due) in table {
-        assert_eq!(rt; pick(base, interval, 3, j), due, "base {base}");
+        assert!(rt; pick(base, interval, 3, j) == due);
         j = next_j(j);
     }
 }

@@ -8,13 +8,12 @@ use bfd_packet::State;
 use bfd_pair::{Pair, PairEvent, Side};
 use bfd_rules::Outs;
 use std::alloc::Global;
-use std::test::Fail;
 
 /// How many events there are to choose from.
 const CHOICES: u64 = 7;
 
 /// So many schedules end with Left in Down, Init and Up, and in each with Right in these; and so many packets were sent in all.
-#[derive(Clone, Copy, Debug, PartialEq, Eq)]
+#[derive(Drop)]
 struct Tally {
     ends: [[u64; 3]; 3],
     sent: u64,
@@ -26,7 +25,10 @@ fn event(choice: u64, number: u64) -> Option<PairEvent>
 {
     let moment = Moment::new(1_000_000 * number)?;
     let (to, packet) = match choice {
-        0 => return Tick::new(1_000 * number).map(PairEvent::Tick),
+        0 => {
+            let tick = Tick::new(1_000 * number)?;
+            return Some(PairEvent::Tick(tick));
+        }
         1..=3 => (Side::Left, choice),
         _ => (Side::Right, choice.saturating_sub(3)),
     };
@@ -94,8 +96,19 @@ fn tally_all(alloc: Global, events: u64, schedules: u64) -> Option<Tally>
     Some(tally)
 }
 
+/// Whether all schedules of so many events end so, and send so many packets.
+fn are_so(alloc: Global, events: u64, schedules: u64, ends: [[u64; 3]; 3], sent: u64) -> bool {
+    if events > 6 {
+        return false;
+    }
+    match tally_all(alloc, events, schedules) {
+        Some(tally) => tally.ends == ends && tally.sent == sent,
+        None => false,
+    }
+}
+
 #[test]
-fn every_small_schedule(rt: HostRuntime) -> Result<(), Fail> {
+fn every_small_schedule(rt: HostRuntime) {
     for (events, schedules, ends, sent) in [
         (1, 7, [[7, 0, 0], [0, 0, 0], [0, 0, 0]], 2),
         (2, 49, [[47, 1, 0], [1, 0, 0], [0, 0, 0]], 32),
@@ -123,12 +136,6 @@ fn every_small_schedule(rt: HostRuntime) -> Result<(), Fail> {
             373_444,
         ),
     ] {
-        let want = Tally { ends, sent };
-        assert_eq!(rt;
-            tally_all(rt.alloc(), events, schedules),
-            Some(want),
-            "{events}"
-        );
+        assert!(rt; are_so(rt.alloc(), events, schedules, ends, sent));
     }
-    Ok(())
 }

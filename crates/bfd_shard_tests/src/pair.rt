@@ -52,7 +52,8 @@ pub(crate) fn peers(alloc: Global, interval: u32, seed: u32) -> Result<Pair, Pai
 }
 
 fn tick(number: u64) -> Option<PairEvent> {
-    Tick::new(number).map(PairEvent::Tick)
+    let tick = Tick::new(number)?;
+    Some(PairEvent::Tick(tick))
 }
 
 fn give(to: Side, us: u64, number: u64) -> Option<PairEvent> {
@@ -75,6 +76,34 @@ fn play(pair: &mut Pair, event: Option<PairEvent>, outs: &mut Outs) -> Option<Pa
     pair.step(event, outs).ok()
 }
 
+/// The states of Left and Right, the diagnostic of Left, and how many packets each has sent.
+type Looks = (State, u8, State, usize, usize);
+
+/// Whether the two look so.
+fn looks(pair: &Pair, want: Looks) -> bool {
+    let (left, diag, right, from_left, from_right) = want;
+    let vars = pair.session(Side::Left).vars();
+    vars.state == left
+        && vars.diag == diag
+        && pair.session(Side::Right).vars().state == right
+        && pair.sent(Side::Left).len() == from_left
+        && pair.sent(Side::Right).len() == from_right
+}
+
+/// Whether the event is answered so, and the two look so then.
+fn goes(
+    pair: &mut Pair,
+    event: Option<PairEvent>,
+    outs: &mut Outs,
+    answer: PairAnswer,
+    want: Looks,
+) -> bool
+    requires { 10 ≤ outs.old.room }
+    ensures { outs.new.room ≡ outs.old.room }
+{
+    play(pair, event, outs) == Some(answer) && looks(pair, want)
+}
+
 #[test]
 fn handshake(rt: HostRuntime) {
     let mut pair = peers(rt.alloc(), 1_000_000, 0).expect(&rt, "peers");
@@ -83,122 +112,66 @@ fn handshake(rt: HostRuntime) {
     let ticked = PairAnswer::Did(Answer::Ticked);
     let dropped = PairAnswer::Did(Answer::Dropped(Test::AdminDown));
     let refused = PairAnswer::Did(Answer::Refused(Refusal::WrongState));
-    for (event, answer, left, diag, right, from_left, from_right) in [
-        (tick(750), ticked, State::Down, 0, State::Down, 1, 1),
+    let disabled = (State::Down, 3, State::AdminDown, 3, 4);
+    for (event, answer, want) in [
+        (tick(750), ticked, (State::Down, 0, State::Down, 1, 1)),
         (
             give(Side::Right, 751_000, 1),
             handled,
-            State::Down,
-            0,
-            State::Init,
-            1,
-            2,
+            (State::Down, 0, State::Init, 1, 2),
         ),
         (
             give(Side::Left, 752_000, 2),
             handled,
-            State::Up,
-            0,
-            State::Init,
-            2,
-            2,
+            (State::Up, 0, State::Init, 2, 2),
         ),
         (
             give(Side::Right, 753_000, 2),
             handled,
-            State::Up,
-            0,
-            State::Up,
-            2,
-            3,
+            (State::Up, 0, State::Up, 2, 3),
         ),
         (
             give(Side::Left, 754_000, 1),
             handled,
-            State::Down,
-            3,
-            State::Up,
-            3,
-            3,
+            (State::Down, 3, State::Up, 3, 3),
         ),
         (
             give(Side::Left, 755_000, 9),
             PairAnswer::NoPacket(3),
-            State::Down,
-            3,
-            State::Up,
-            3,
-            3,
+            (State::Down, 3, State::Up, 3, 3),
         ),
-        (
-            order(Side::Right, 756_000, Cmd::Disable),
-            handled,
-            State::Down,
-            3,
-            State::AdminDown,
-            3,
-            4,
-        ),
-        (
-            give(Side::Right, 757_000, 2),
-            dropped,
-            State::Down,
-            3,
-            State::AdminDown,
-            3,
-            4,
-        ),
-        (
-            order(Side::Left, 757_200, Cmd::Enable),
-            refused,
-            State::Down,
-            3,
-            State::AdminDown,
-            3,
-            4,
-        ),
+        (order(Side::Right, 756_000, Cmd::Disable), handled, disabled),
+        (give(Side::Right, 757_000, 2), dropped, disabled),
+        (order(Side::Left, 757_200, Cmd::Enable), refused, disabled),
         (
             order(Side::Left, 757_500, Cmd::EchoEvery(50_000)),
             handled,
-            State::Down,
-            3,
-            State::AdminDown,
-            3,
-            4,
+            disabled,
         ),
         (
             give(Side::Left, 758_000, 0),
             PairAnswer::NoPacket(4),
-            State::Down,
-            3,
-            State::AdminDown,
-            3,
-            4,
+            disabled,
         ),
-        (tick(700), ticked, State::Down, 3, State::AdminDown, 3, 4),
-        (
-            give(Side::Left, 759_000, 4),
-            handled,
-            State::Down,
-            3,
-            State::AdminDown,
-            3,
-            4,
-        ),
+        (tick(700), ticked, disabled),
+        (give(Side::Left, 759_000, 4), handled, disabled),
     ] {
-        let got = play(&mut pair, event, &mut outs).expect(&rt, "an answer");
-        assert_eq!(rt; got, answer);
-        assert_eq!(rt; pair.session(Side::Left).vars().state, left);
-        assert_eq!(rt; pair.session(Side::Left).vars().diag, diag);
-        assert_eq!(rt; pair.session(Side::Right).vars().state, right);
-        assert_eq!(rt; pair.sent(Side::Left).len(), from_left);
-        assert_eq!(rt; pair.sent(Side::Right).len(), from_right);
+        assert!(rt; goes(&mut pair, event, &mut outs, answer, want));
     }
-    assert_eq!(rt; pair.past().len(), 13);
-    let alike = Pair::make(
-        rt.alloc(),
+    assert!(rt; pair.past().len() == 13);
+}
+
+/// Why two whose addresses don't fit are no peers.
+fn no_peers(alloc: Global) -> Option<PairFault> {
+    Pair::make(
+        alloc,
         config(1, FIRST, SECOND, 1_000_000, 0),
         config(2, FIRST, THIRD, 1_000_000, 0),
-    );
-    assert_eq!(rt; alike.err(), Some(PairFault::NotPeers));
+    )
+    .err()
+}
+
+#[test]
+fn two_that_are_no_peers(rt: HostRuntime) {
+    assert!(rt; no_peers(rt.alloc()) == Some(PairFault::NotPeers));
 }

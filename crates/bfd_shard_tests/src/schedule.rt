@@ -1,10 +1,21 @@
 //! Lines of small schedules, beside what a model of the definition in another language wrote.
+ghost use Rattle.std.specs.Prelude.{◌≤◌};
 
 use bfd_schedule::pair_line;
-use std::test::Fail;
+use std::alloc::Global;
+
+/// Whether this is the line of so many events.
+fn is_line(alloc: Global, events: u64, seed: u32, want: &str) -> bool
+    requires { events ≤ 100000 }
+{
+    match pair_line(alloc, events, seed) {
+        Ok(line) => line.as_str() == want,
+        Err(_) => false,
+    }
+}
 
 #[test]
-fn small_schedules(rt: HostRuntime) -> Result<(), Fail> {
+fn small_schedules(rt: HostRuntime) {
     for (events, seed, want) in [
         (0, 5, "pair 0 0 0 Down Down 0\n"),
         (1, 0, "pair 1 0 0 Down Down 0\n"),
@@ -13,8 +24,6 @@ fn small_schedules(rt: HostRuntime) -> Result<(), Fail> {
         (2000, 4_294_967_295, "pair 2000 303 568 Up Up 119\n"),
         (3000, 7, "pair 3000 565 1149 Down Up 216\n"),
     ] {
-        let line = pair_line(rt.alloc(), events, seed)?;
-        assert_eq!(rt; line.as_str(), want, "{events} {seed}");
+        assert!(rt; is_line(rt.alloc(), events, seed, want));
     }
-    Ok(())
 }

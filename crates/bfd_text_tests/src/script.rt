@@ -1,49 +1,21 @@
-//! Live scripts, and the one spelling.
-use bfd_fields::{BadLine, LineFault, ScriptFault};
+//! The one spelling of scripts.
 use bfd_script::read;
 use bfd_spelling::write;
-use std::test::Fail;
+use std::alloc::Global;
 
-/// How many event lines a live text has, or its first faulty line.
-fn live(rt: &HostRuntime, text: &str) -> Result<usize, BadLine> {
-    match read(rt.alloc(), text.as_bytes(), true) {
-        Ok(script) => Ok(script.events.len()),
-        Err(ScriptFault::Bad(bad)) => Err(bad),
-        Err(ScriptFault::Memory) => Ok(usize::MAX),
-    }
-}
-
-#[test]
-fn live_scripts(rt: HostRuntime) -> Result<(), Fail> {
-    let bad = |line: u64, fault: LineFault| -> Result<usize, BadLine> {
-        Err(BadLine { line, fault })
+/// Whether the text is a script, and this is its one spelling.
+fn is_spelled(alloc: Global, text: &str, want: &str) -> bool {
+    let Ok(script) = read(alloc, text.as_bytes(), false) else {
+        return false;
     };
-    let row = "p2p 5 single 1 192.0.2.1 192.0.2.254 passive 1000000 50000 3 0 0";
-    let cases = [
-        ("auth 5 1 6 00", "cmd 7 5 demand 2", Ok(1)),
-        ("auth 5 1 6 00", "show 7 5", Ok(1)),
-        ("auth 5 1 6 00", "tick 1", bad(5, LineFault::Order)),
-        (
-            "auth 5 1 6 00",
-            "rx 1 single 1 192.0.2.254 192.0.2.1 255 -",
-            bad(5, LineFault::Order),
-        ),
-        (
-            "auth 5 1 6 00",
-            "show 7 6",
-            bad(5, LineFault::NoSuchSession),
-        ),
-        ("auth 6 1 6 00", "tick 1", bad(3, LineFault::NoSuchSession)),
-    ];
-    for (key, event, want) in cases {
-        let text = format!(in rt.alloc(); "bfd 1\n{row}\n{key}\nrun\n{event}\nend\n")?;
-        assert_eq!(rt; live(&rt, text.as_str()), want, "{event}");
+    match write(alloc, &script) {
+        Ok(bytes) => bytes.as_slice() == want.as_bytes(),
+        Err(_) => false,
     }
-    Ok(())
 }
 
 #[test]
-fn one_spelling(rt: HostRuntime) -> Result<(), Fail> {
+fn one_spelling(rt: HostRuntime) {
     let cases = [
         (
             "bfd 1\n\
@@ -122,13 +94,6 @@ fn one_spelling(rt: HostRuntime) -> Result<(), Fail> {
         ("bfd 2\nrun\nend\n", "bfd 1\nrun\nend\n"),
     ];
     for (text, want) in cases {
-        match read(rt.alloc(), text.as_bytes(), false) {
-            Ok(script) => {
-                let bytes = write(rt.alloc(), &script)?;
-                assert!(rt; bytes.as_slice() == want.as_bytes(), "the one spelling");
-            }
-            Err(_) => assert!(rt; false, "the text is a script"),
-        }
+        assert!(rt; is_spelled(rt.alloc(), text, want));
     }
-    Ok(())
 }

@@ -17,7 +17,6 @@ use bfd_watch::{Change, Watch};
 use bfd_wheel::{PlainTimers, Timers};
 use std::alloc::Global;
 use std::sync::Wait;
-use std::test::Fail;
 use std::thread::{Threads, join_mut};
 
 /// A cursor over the history of shard 0, and the changes that it has told.
@@ -185,12 +184,14 @@ fn history(alloc: Global, journal: &[Entry]) -> Option<Vec<Change>> {
     Some(client.told)
 }
 
-/// What a client was told that polled while packets came, and once after that; and what the closed engine's journal tells.
+/// The changes are the same, and more than 20.
+fn are_many_and_same(told: &[Change], wanted: &[Change]) -> bool {
+    told == wanted && told.len() > 20
+}
+
+/// Whether a client that polled while packets came, and once after that, was told what the closed engine's journal tells.
 #[tactic(auto, using(crate::proofs::Rooms::room_enough, crate::proofs::Following::open_grown))]
-fn told_beside<R: Threads + Wait + Sync>(
-    rt: &R,
-    alloc: Global,
-) -> Option<(Vec<Change>, Vec<Change>)> {
+fn told_beside<R: Threads + Wait + Sync>(rt: &R, alloc: Global) -> Option<bool> {
     let (engine, mut first) = opened(alloc, 100_000)?;
     let mut jobs = Vec::new(alloc);
     add_job(alloc, &engine, &mut first, &mut jobs, calls(alloc, 1)?, 25).ok()?;
@@ -206,13 +207,10 @@ fn told_beside<R: Threads + Wait + Sync>(
     poll(rt, alloc, &engine, &mut first, &mut client)?;
     let (shards, _) = finish(alloc, engine, first, jobs).ok()?;
     let wanted = history(alloc, shards.first()?.journal())?;
-    Some((client.told, wanted))
+    Some(are_many_and_same(client.told.as_slice(), wanted.as_slice()))
 }
 
 #[test]
-fn a_client_beside_a_packet_thread(rt: HostRuntime) -> Result<(), Fail> {
-    let (told, wanted) = told_beside(&rt, rt.alloc()).ok_or("no memory")?;
-    assert_eq!(rt; told.as_slice(), wanted.as_slice());
-    assert!(rt; told.len() > 20);
-    Ok(())
+fn a_client_beside_a_packet_thread(rt: HostRuntime) {
+    assert!(rt; told_beside(&rt, rt.alloc()) == Some(true));
 }

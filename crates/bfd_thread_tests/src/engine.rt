@@ -8,7 +8,7 @@ ghost use Rattle.bfd_engine.specs.Opening.{IsNewPass, IsSorted};
 ghost use Rattle.bfd_engine_use.specs.Joining.{HasOpen};
 
 use crate::eight::packet;
-use bfd_demux::{BuildFault, Target};
+use bfd_demux::BuildFault;
 use bfd_engine::{Engine, EngineFault, EnginePass, HoldFault, OpenFault};
 use bfd_num::{Moment, Steps};
 use bfd_packet::{Addr, Arrival, Test};
@@ -20,7 +20,6 @@ use std::alloc::{AllocError, Global};
 use std::marker::Brand;
 use std::sync::Wait;
 use std::sync::ledger::{Blank, Ledger};
-use std::test::Fail;
 
 pub(crate) type Plain = Engine<PlainTimers>;
 
@@ -107,13 +106,22 @@ pub(crate) fn part(engine: &Plain, alloc: Global, first: &mut EnginePass) -> Opt
     }
 }
 
-/// What others are told of shards 1 and 0 while a caller has the turn of shard 0, and the second of them of shard 0 after that.
+/// What others are told: one of shard 1, a second of shard 0 while a caller has its turn, and the second again after that.
+fn are_told(
+    beside: Result<(), HoldFault>,
+    same: Result<(), HoldFault>,
+    after: Result<(), HoldFault>,
+) -> bool {
+    beside == Ok(()) && same == Err(HoldFault::Busy(1, 1)) && after == Ok(())
+}
+
+/// Whether others are told so of shards 1 and 0 while a caller has the turn of shard 0, and of shard 0 after that.
 fn told_beside(
     engine: &Plain,
     first: &mut EnginePass,
     other: &mut EnginePass,
     third: &mut EnginePass,
-) -> Option<[Result<(), HoldFault>; 3]>
+) -> Option<bool>
     requires first { IsOf engine.now first.old.1 × AllThere first.old.1 }
     requires other { IsOf engine.now other.old.1 × AllThere other.old.1 }
     requires third { IsOf engine.now third.old.1 × AllThere third.old.1 }
@@ -127,11 +135,11 @@ fn told_beside(
         return None;
     }
     let after = tries(engine, third, 0);
-    Some([beside, same, after])
+    Some(are_told(beside, same, after))
 }
 
 /// The same of a new engine.
-fn holds(alloc: Global) -> Option<[Result<(), HoldFault>; 3]> {
+fn holds(alloc: Global) -> Option<bool> {
     let (engine, mut first) = opened(alloc, 100_000)?;
     let mut other = part(&engine, alloc, &mut first)?;
     let mut third = part(&engine, alloc, &mut first)?;
@@ -139,10 +147,8 @@ fn holds(alloc: Global) -> Option<[Result<(), HoldFault>; 3]> {
 }
 
 #[test]
-fn each_shard_has_a_turn_of_its_own(rt: HostRuntime) -> Result<(), Fail> {
-    let told = holds(rt.alloc()).ok_or("no memory")?;
-    assert_eq!(rt; told, [Ok(()), Err(HoldFault::Busy(1, 1)), Ok(())]);
-    Ok(())
+fn each_shard_has_a_turn_of_its_own(rt: HostRuntime) {
+    assert!(rt; holds(rt.alloc()) == Some(true));
 }
 
 /// The sessions of a shard, by place.
@@ -190,11 +196,10 @@ fn asks<R: Wait, L: Ledger>(
     rt: &R,
     engine: &Plain,
     pass: &mut EnginePass,
-    discr: u32,
-    cmd: Option<Cmd>,
+    ask: (Moment, u32, Option<Cmd>),
     outs: &mut Outs,
     steps: &mut Steps<L>,
-) -> Option<Result<Answer, EngineFault>>
+) -> Result<Answer, EngineFault>
     requires of { IsOf engine.now pass.old.1 }
     requires there { AllThere pass.old.1 }
     requires room { outs.old.room ≡ 5 }
@@ -203,32 +208,32 @@ fn asks<R: Wait, L: Ledger>(
     ensures room { outs.new.room ≡ 5 }
 {
     outs.clear();
-    let moment = Moment::new(7)?;
+    let (moment, discr, cmd) = ask;
     match cmd {
-        None => Some(engine.show(rt, pass, moment, discr, outs, steps)),
-        Some(cmd) => Some(engine.command(rt, pass, moment, discr, cmd, outs, steps)),
+        None => engine.show(rt, pass, moment, discr, outs, steps),
+        Some(cmd) => engine.command(rt, pass, moment, discr, cmd, outs, steps),
     }
 }
 
-/// What calls of an engine with one place in each journal come to: a question, and whatever is for its session after that; a question
-/// and a command for nobody; and what a packet for nobody is discarded by.
-#[derive(Drop)]
-struct Told {
-    shown: Result<Answer, EngineFault>,
-    full: [Result<Answer, EngineFault>; 2],
-    unknown: [Result<Answer, EngineFault>; 2],
-    screened: Result<Target, Test>,
+/// What calls of an engine with one place in each journal come to: a question fills it, and whatever is for its session after that is
+/// Full; a question and a command for nobody are refused.
+fn are_full(told: [Result<Answer, EngineFault>; 5]) -> bool {
+    let [shown, again, command, stray, reset] = told;
+    let full = Err(EngineFault::Full(0, 1));
+    let unknown = Ok(Answer::Refused(Refusal::UnknownSession));
+    shown.is_ok() && again == full && command == full && stray == unknown && reset == unknown
 }
 
-/// These calls.
+/// Whether these calls come to that, and a packet for nobody is discarded.
 fn asks_on<R: Wait, L: Ledger>(
     rt: &R,
     engine: &Plain,
     pass: &mut EnginePass,
-    outs: &mut Outs,
+    moment: Moment,
     stray: &Arrival,
+    outs: &mut Outs,
     blank: Blank,
-) -> Option<Told>
+) -> bool
     requires of { IsOf engine.now pass.old.1 }
     requires there { AllThere pass.old.1 }
     requires room { outs.old.room ≡ 5 }
@@ -238,38 +243,36 @@ fn asks_on<R: Wait, L: Ledger>(
 {
     let mut steps = Steps::<L>::new(blank);
     let reset = Some(Cmd::Reset);
-    Some(Told {
-        shown: asks(rt, engine, pass, 1, None, outs, &mut steps)?,
-        full: [
-            asks(rt, engine, pass, 1, None, outs, &mut steps)?,
-            asks(rt, engine, pass, 1, reset, outs, &mut steps)?,
-        ],
-        unknown: [
-            asks(rt, engine, pass, 7, None, outs, &mut steps)?,
-            asks(rt, engine, pass, 7, reset, outs, &mut steps)?,
-        ],
-        screened: engine.screen(stray, &mut steps),
-    })
+    let told = [
+        asks(rt, engine, pass, (moment, 1, None), outs, &mut steps),
+        asks(rt, engine, pass, (moment, 1, None), outs, &mut steps),
+        asks(rt, engine, pass, (moment, 1, reset), outs, &mut steps),
+        asks(rt, engine, pass, (moment, 7, None), outs, &mut steps),
+        asks(rt, engine, pass, (moment, 7, reset), outs, &mut steps),
+    ];
+    are_full(told) && engine.screen(stray, &mut steps) == Err(Test::YourUnknown)
 }
 
 /// The same of a new engine.
-fn fills<R: Wait>(rt: &R, alloc: Global) -> Option<Told> {
-    let mut outs = Outs::make(alloc, 5).ok()?;
+fn fills<R: Wait>(rt: &R, alloc: Global) -> Option<bool> {
+    let moment = Moment::new(7)?;
     let stray = packet(alloc, 0x4000, 7).ok()?;
+    let mut outs = Outs::make(alloc, 5).ok()?;
     let (engine, mut pass) = opened(alloc, 1)?;
-    asks_on::<R, Brand>(rt, &engine, &mut pass, &mut outs, &stray, Blank::new(1))
+    Some(asks_on::<R, Brand>(
+        rt,
+        &engine,
+        &mut pass,
+        moment,
+        &stray,
+        &mut outs,
+        Blank::new(1),
+    ))
 }
 
 #[test]
-fn a_full_journal(rt: HostRuntime) -> Result<(), Fail> {
-    let told = fills(&rt, rt.alloc()).ok_or("no memory")?;
-    assert!(rt; told.shown.is_ok());
-    let full = Err(EngineFault::Full(0, 1));
-    assert_eq!(rt; told.full, [full, full]);
-    let unknown = Ok(Answer::Refused(Refusal::UnknownSession));
-    assert_eq!(rt; told.unknown, [unknown, unknown]);
-    assert!(rt; told.screened == Err(Test::YourUnknown));
-    Ok(())
+fn a_full_journal(rt: HostRuntime) {
+    assert!(rt; fills(&rt, rt.alloc()) == Some(true));
 }
 
 /// What a session that is there twice comes to.
@@ -281,10 +284,11 @@ fn twice(alloc: Global) -> Result<Option<OpenFault>, AllocError> {
 }
 
 #[test]
-fn a_session_twice(rt: HostRuntime) -> Result<(), Fail> {
-    assert_eq!(rt;
-        twice(rt.alloc())?,
-        Some(OpenFault::Build(BuildFault::SameDiscr(0, 1)))
+fn a_session_twice(rt: HostRuntime) {
+    assert!(rt;
+        matches!(
+            twice(rt.alloc()),
+            Ok(Some(OpenFault::Build(BuildFault::SameDiscr(0, 1))))
+        )
     );
-    Ok(())
 }

@@ -1,5 +1,0 @@
--- The counter is the blank's own.
-use Rattle.bfd_thread_tests.proofs.eight.eight_threads.Given as goal
-
-abbrev pub ghosts-beside_journals : goal.ghosts-beside_journals
-ghosts-beside_journals g a = record { name = a.blank.name; parts = a.blank.parts }
