@@ -1,10 +1,10 @@
 -- Passes that are made, and taken in one after another.
-use Rattle.std.proofs.Common.{◌≡◌, ◌≢◌, ◌<◌, ◌++◌, ◌∷◌, [], ℕ, true, List, length, map, get_or, refl, ap, ap₂, sym, ◌∙◌, subst, append_assoc, append-nil, length-append, arith}
+use Rattle.std.proofs.Common.{◌≡◌, ◌≢◌, ◌<◌, ◌++◌, ◌∷◌, [], ℕ, true, List, length, map, get_or, refl, ap, ap₂, sym, ◌∙◌, subst, append_assoc, append-nil}
 use Rattle.std.specs.List.{All}
 use Rattle.std.proofs.lemmas.List.Elements.{All-push, All-nil}
 use Rattle.std.proofs.lemmas.List.{map-append}
 use Rattle.bfd_turn.specs.Lists.{Begins, has, numbers_of}
-use Rattle.bfd_turn.proofs.Beginnings.{begins_itself, begins_through}
+use Rattle.bfd_turn.proofs.Beginnings.{begins_through}
 use Rattle.bfd_shard.specs.declared.entry.Entry.{Entry}
 use Rattle.bfd_shard.proofs.Lists.{all_next}
 use Rattle.bfd_engine.specs.Engines.{Shards, Knows, IsOf, AllThere}
@@ -28,18 +28,6 @@ module _ (engine : Shards) where
     number = new.number;
     others = All-nil (λ n. n ≢ 0);
     made = λ s h. new.made s h ∙ (ap numbers_of (sym (new.kept s h)) ∙ sym (append-nil (numbers_of (kept_at k s))));
-  }
-
-  pub joined_none : (k : Knows) → IsOf engine k.1 → AllThere k.1 → k.0 ≡ 0 → HasJoined engine k k []
-  joined_none k of there number = record {
-    of = of;
-    there = there;
-    number = number;
-    own = λ s h. refl;
-    seen = λ s h. begins_itself (seen_at k s);
-    each = λ s h. All-nil (λ (j : Job). Begins (seen_at j.pass s) (seen_at k s));
-    kept = λ s h. sym (append-nil (kept_at k s));
-    made = λ s h. refl;
   }
 
   pub joined_more : (k l m : Knows) (js : List Job) (j : Job) → HasJoined engine k l js → IsOf engine m.1 → AllThere m.1 → m.0 ≡ 0

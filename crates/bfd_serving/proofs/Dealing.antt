@@ -1,11 +1,9 @@
 -- Sessions that are copied and dealt out.
-use Rattle.std.proofs.Common.{◌≡◌, ℕ, zero, suc, ◌+◌, ◌-◌, ◌<◌, ◌≤◌, List, [], ◌∷◌, ◌++◌, length, map, drop, get_or, refl, ap, sym, ◌∙◌, subst, append_assoc, append-nil, length-append, arith}
+use Rattle.std.proofs.Common.{◌≡◌, ℕ, zero, suc, ◌+◌, ◌-◌, ◌<◌, ◌≤◌, List, [], ◌∷◌, ◌++◌, length, map, drop, get_or, refl, ap, sym, ◌∙◌, subst, append_assoc, append-nil, arith}
 use Rattle.std.specs.List.{AllByRecursion}
 use Rattle.std.proofs.lemmas.List.Elements.{recursion_from_All}
-use Rattle.std.proofs.lemmas.List.{drop_more, drop_all, length-map, get_or-map, same_lists, get_or_default, get_or_append_left, drop-drop}
+use Rattle.std.proofs.lemmas.List.{drop_more, drop_all, length-map, get_or-map, same_lists, get_or_default, drop-drop}
 use Rattle.std.proofs.lemmas.Option.{get_or_from_slice_get}
-use mathlib.Core.Logic.{dite}
-use native.Mathlib.Decide.{dec_lt}
 use Rattle.bfd_session.specs.declared.event.SessionConfig.{SessionConfig}
 use Rattle.bfd_session.specs.Kinds.{configs_of}
 use Rattle.bfd_session.specs.Rows.{AreFit}
@@ -15,7 +13,6 @@ use Rattle.bfd_shard.specs.Dealing.{share}
 use Rattle.bfd_engine.specs.Engines.{Shards}
 use Rattle.bfd_shard.proofs.Sharing.{all_share}
 use Rattle.bfd_serving.specs.Runs.{AreDealt, AreClosedShards}
-use Rattle.bfd_serving.proofs.Shuts.{get_last}
 use Rattle.bfd_serving.proofs.Closings.{there_is}
 
 module _ {A : Type 0} where
@@ -47,19 +44,6 @@ module _ {A : Type 0} where
 
   pub share_over : (n c at : ℕ) (xs part : List A) → length xs ≤ at → part ++ share n 0 (drop at xs) ≡ share n c xs → part ≡ share n c xs
   share_over n c at xs part over whole = sym (append-nil part) ∙ (ap (λ ys. part ++ ys) (sym (share_nothing n (drop at xs) (drop_all at xs over))) ∙ whole)
-
--- one part more
-pub dealt_next : (shards at : ℕ) (configs : List SessionConfig) (parts more : List (List SessionConfig)) (part : List SessionConfig) → part ≡ share shards at configs → more ≡ parts ++ part ∷ []
-    → AreDealt shards at configs parts → AreDealt shards (at + 1) configs more
-dealt_next shards at configs parts more part is pushed old = subst (AreDealt shards (at + 1) configs) (sym pushed) (record {
-  long = (let a = old.long in omega (arith, a, length-append parts (part ∷ [])));
-  each = λ s h. dite (dec_lt s at)
-      (λ less. get_or_append_left parts (part ∷ []) [] s (let a = old.long in omega (arith, a, less)) ∙ old.each s less)
-      (λ last. let same : s ≡ at = omega (arith, last, h) in get_last parts part s [] (same ∙ sym old.long) ∙ (is ∙ ap (λ k. share shards k configs) (sym same)));
-})
-
-pub dealt_none : (shards : ℕ) (configs : List SessionConfig) → AreDealt shards 0 configs []
-dealt_none shards configs = record { long = refl; each = λ s h. absurd (omega (arith, h)) }
 
 own_share : (engine : Shards) (shards : ℕ) (configs : List SessionConfig) (k : ℕ) (states : List Shard) (d : List SessionConfig) → length engine.locks ≡ shards → engine.configs ≡ configs → AreClosedShards engine states → k < length states
     → share shards k configs ≡ get_or (map (λ (state : Shard). configs_of state.sessions) states) k d

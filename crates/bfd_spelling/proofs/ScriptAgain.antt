@@ -23,6 +23,7 @@ use Rattle.bfd_line.specs.declared.words.Version.TheVariants.{One, Two}
 use Rattle.bfd_fields.specs.Fields.{lines_of}
 use Rattle.bfd_fields.specs.Gives.{◌>>=◌}
 use Rattle.bfd_script.specs.Reading.{Lists, State, accepted, after, is_named, script_of, start, step, told_from, unless, with_config, with_event, with_key, with_keys, with_reflector}
+use Rattle.bfd_script.proofs.Rising.{inserted_last}
 use Rattle.bfd_script.specs.Rows.{changed, given, has_discr, has_keys, has_pair, has_place, has_reflector, inserted, is_pair, pooled, keyed_more, keyed_with, keys_in, keys_of}
 use Rattle.bfd_line.specs.Secrets.{key_fault, one_key}
 use Rattle.bfd_session.specs.Rows.{same_selector}
@@ -72,14 +73,6 @@ none_above k (d ∷ done) h =
 none_same : {X : Type 0} (test : X → Bool) (xs : List X) → AllByRecursion (λ x. test x ≡ false) xs → list_any test xs ≡ false
 none_same test [] h = refl
 none_same test (x ∷ xs) h = rw (h.0, none_same test xs h.1) refl
-
--- a session above all others goes to the end
-inserted_last : (c : SessionConfig) (done : List SessionConfig) → AllByRecursion (λ d. discr_of d < discr_of c) done → inserted c done ≡ done ++ c ∷ []
-inserted_last c [] h = refl
-inserted_last c (d ∷ done) h =
-    let low : discr_of d < discr_of c = h.0 in
-    let not_below : nat_lt (discr_of c) (discr_of d) ≡ false = grind (arith, nat_tests) in
-    rw (not_below, inserted_last c done h.1) refl
 
 taken_last : (taken place full : Bool) (next : State) → taken ≡ false → place ≡ false → full ≡ false
     → cond taken (Err SameDiscr) (cond place (Err SameAddresses) (cond full (Err TooMany) (Ok next))) ≡ Ok next
@@ -239,11 +232,6 @@ keys_again : (version : Version) (c : Config) (keys : Option KeyChain) (done : L
 keys_again version c None done number rest some below speaks fit h = refl
 keys_again version c (Some keys) done number rest some below speaks fit h =
     list_again version (record c { keys = None }) keys.kind keys.list done number rest refl some below speaks fit.some fit.list h
-
--- a session's discriminator, and its keys
-some_discr : (c : SessionConfig) → IsFit c → 0 < discr_of c
-some_discr (Pair c) fit = fit.discr
-some_discr c fit = fit.discr
 
 bare_again : (version : Version) (c : SessionConfig) (done : List SessionConfig) (number : ℕ) (rest : List ℕ) → IsFit c → IsRow c
     → Speaks version (is_new_row c) → AllByRecursion (λ d. discr_of d < discr_of c) done

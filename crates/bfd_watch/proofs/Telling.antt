@@ -1,8 +1,6 @@
 -- One output, and one event, more.
-use Rattle.std.proofs.Common.{◌≡◌, ◌<◌, ℕ, ◌+◌, refl, sym, ◌∙◌, ap, List, [], ◌∷◌, ◌++◌, length, map, drop, get_or, Option, None, Some, append_assoc, append-nil, arith}
-use Rattle.std.specs.List.{cons_option}
-use Rattle.std.proofs.lemmas.List.{drop_more, length-map, map-append}
-use Rattle.bfd_rules.specs.declared.outputs.Out.{Out}
+use Rattle.std.proofs.Common.{◌≡◌, ℕ, ◌+◌, refl, sym, ◌∙◌, ap, List, [], ◌∷◌, ◌++◌, length, map, append_assoc, append-nil, arith}
+use Rattle.std.proofs.lemmas.List.{length-map, map-append}
 use Rattle.bfd_session.specs.declared.event.SessionConfig.{SessionConfig}
 use Rattle.bfd_session.specs.Alone.{Outcome}
 use Rattle.bfd_session.specs.Kinds.{Running, configs_of}
@@ -12,24 +10,8 @@ use Rattle.bfd_shard.specs.declared.entry.ShardEvent.{ShardEvent}
 use Rattle.bfd_shard.specs.declared.entry.Entry.{Entry}
 use Rattle.bfd_shard.specs.History.{events_of, last_tick, runs, outcome_of}
 use Rattle.bfd_watch.specs.declared.change.Change.{Change}
-use Rattle.bfd_watch.specs.Changes.{change_in, changes_in, changes_from, outcomes_after, outcomes, changes}
+use Rattle.bfd_watch.specs.Changes.{changes_in, changes_from, outcomes_after, outcomes, changes}
 use Rattle.bfd_watch.specs.Watching.{watching}
-
-front : {X : Type 0} (o : Option X) (xs : List X) → cons_option o xs ≡ cons_option o [] ++ xs
-front None xs = refl
-front (Some x) xs = refl
-
--- of the outputs that are left one is told
-pub one_told : (n : ℕ) (items : List Out) (i : ℕ) (d : Out) (told more goal : List Change) → i < length items
-    → more ≡ told ++ cons_option (change_in n (get_or items i d)) [] → told ++ changes_in n (drop i items) ≡ goal
-    → more ++ changes_in n (drop (i + 1) items) ≡ goal
-one_told n items i d told more goal h added so_far =
-    let one : List Change = cons_option (change_in n (get_or items i d)) [] in
-    let rest : List Change = changes_in n (drop (i + 1) items) in
-    ap (λ xs. xs ++ rest) added
-    ∙ (append_assoc told one rest
-    ∙ (ap (λ xs. told ++ xs) (sym (front (change_in n (get_or items i d)) rest))
-    ∙ (ap (λ xs. told ++ changes_in n xs) (sym (drop_more items i d h)) ∙ so_far)))
 
 -- an event more
 

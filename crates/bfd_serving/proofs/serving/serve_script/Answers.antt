@@ -1,5 +1,5 @@
 -- A whole run, put together.
-use Rattle.std.proofs.Common.{rules, length, map, IfOk, Ok, ap, sym, ◌∙◌, subst}
+use Rattle.std.proofs.Common.{length, map, IfOk, Ok, ap, sym, ◌∙◌, subst}
 use Rattle.std.specs.List.{All}
 use Rattle.bfd_session.specs.Kinds.{configs_of}
 use Rattle.bfd_session.specs.Rows.{AreFit}
