@@ -1,5 +1,5 @@
 -- The sessions that hear a packet at a tick are a period apart.
-use Rattle.std.proofs.Common.{◌≡◌, ◌<◌, ◌≤◌, ◌+◌, ◌-◌, ◌%◌, ◌++◌, ◌&&◌, ◌∙◌, ℕ, zero, suc, false, cond, not, List, [], ◌∷◌, map, sym, ap, arith, append_assoc, append-nil}
+use Rattle.std.proofs.Common.{◌≡◌, ◌<◌, ◌≤◌, ◌+◌, ◌-◌, ◌%◌, ◌++◌, ◌&&◌, ◌∙◌, ℕ, zero, suc, false, cond, not, List, [], ◌∷◌, map, sym, ap, arith, append_assoc}
 use Rattle.std.proofs.lemmas.List.{map-append}
 use Rattle.std.proofs.lemmas.List.Elements.{filter-append}
 use Rattle.std.specs.List.{filter, range_with_len}
@@ -60,9 +60,3 @@ heard_one sessions t i before now whole within place so_far added =
     ap (λ ls. ls ++ packets_from sessions t (i + 300)) added
     ∙ (append_assoc before (map (packet t) (filter (hears t) (i ∷ []))) (packets_from sessions t (i + 300))
     ∙ (ap (λ ls. before ++ ls) (sym (split sessions t i within place)) ∙ so_far))
-
--- and none is left
-pub heard_all : (sessions t i : ℕ) (now whole : List Line) → sessions < i → now ++ packets_from sessions t i ≡ whole → now ≡ whole
-heard_all sessions t i now whole past so_far =
-    sym (append-nil now)
-    ∙ (ap (λ us. now ++ map (packet t) (filter (hears t) us)) (sym (nothing i (sessions + 1 - i) (omega arith))) ∙ so_far)
