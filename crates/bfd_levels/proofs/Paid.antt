@@ -12,9 +12,6 @@ pub record IsPaid (n s bound : ℕ) (at : ℕ → ℕ) (dues : List ℕ) (nodes 
   pub placed : IsPlaced n 1026 at dues nodes
   pub cost : s + loads n at dues ≤ bound
 
-pub paid_begins : (n s : ℕ) (at : ℕ → ℕ) (dues : List ℕ) (nodes : List Node) → IsPlaced n 1026 at dues nodes → IsPaid n s (s + loads n at dues) at dues nodes
-paid_begins n s at dues nodes w = record { placed = w; cost = omega arith }
-
 -- the lists get other names
 pub paid_renamed : (n s bound : ℕ) (at at2 : ℕ → ℕ) (dues : List ℕ) (nodes : List Node) → IsPaid n s bound at dues nodes → ((j : ℕ) → j < n → slice_index dues j ≢ never → at2 j ≡ at j) → IsPaid n s bound at2 dues nodes
 paid_renamed n s bound at at2 dues nodes p same = record {

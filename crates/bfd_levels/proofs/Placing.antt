@@ -86,12 +86,6 @@ module _ (n m i : ℕ) (at : ℕ → ℕ) (dues : List ℕ) (nodes : List Node) 
   first_on : (h : ℕ) → n ≤ h → h < n + m → IsOn (n + m) (due_in dues) (next_in nodes h)
   first_on h far inside = w.links.ring.next_on h (head_on n m dues h w.count far inside)
 
-  -- what is first on a list is a node, and no id that is on no list
-  pub first_linked : (h : ℕ) → slice_index dues i ≡ never → n ≤ h → h < n + m → (next_in nodes h < length nodes) × (next_in nodes h ≢ i)
-  first_linked h off far inside =
-      let on = first_on h far inside in
-      ((let s = w.size in let b = on.below in omega arith), λ e. on.there (ap (due_in dues) e ∙ off))
-
   -- a node with a due tick may go behind any head
   pub can_move : i < n → slice_index dues i ≢ never → CanMove i m dues nodes
   can_move near there =

@@ -61,14 +61,6 @@ module _ {A : Type 0} where
   pub longer_length : (xs ys : List A) → (length xs ≤ length (longer xs ys)) × (length ys ≤ length (longer xs ys)) × (length (shorter xs ys) ≤ length (longer xs ys))
   longer_length xs ys = by_length (nat_le (length ys) (length xs)) xs ys refl
 
-  both : (b : Bool) (xs ys : List A) → Begins (cond b ys xs) (cond b xs ys) → Begins xs (cond b xs ys) × Begins ys (cond b xs ys)
-  both true xs ys e = (begins_itself xs, e)
-  both false xs ys e = (e, begins_itself ys)
-
-  -- where the shorter begins the longer, each of the two does
-  pub both_begin : (xs ys : List A) → Begins (shorter xs ys) (longer xs ys) → Begins xs (longer xs ys) × Begins ys (longer xs ys)
-  both_begin xs ys e = both (nat_le (length ys) (length xs)) xs ys e
-
 module _ {A : Type 0} (by : A → ℕ) (n : ℕ) where
   -- where the whole has no more calls of n than a beginning, what was added has none
   pub calls_added : (seen rest h : List A) → h ≡ seen ++ rest → calls by n h ≡ calls by n seen → calls by n rest ≡ []

@@ -4,4 +4,3 @@ pub mod Kept
 pub mod Loads
 pub mod TakeAndRelease
 pub mod Sharing
-pub mod Joined

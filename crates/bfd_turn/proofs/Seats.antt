@@ -23,13 +23,6 @@ pub has_either : (k : ℕ) (ms : List ℕ) (n : ℕ) → has k (ms ++ n ∷ []) 
 has_either k [] n e = inr (eqb-true n k (elim (eqb n k) as (λ b. (b || false) ≡ true → b ≡ true) [ true ↦ λ _. refl | false ↦ λ h. h ] e))
 has_either k (m ∷ ms) n e = elim (eqb m k) as (λ b. (b || has k (ms ++ n ∷ [])) ≡ true → ((b || has k ms) ≡ true) ⊎ (n ≡ k)) [ true ↦ λ _. inl refl | false ↦ λ h. has_either k ms n h ] e
 
-pub has_first : (k m : ℕ) (ms : List ℕ) → has k (m ∷ ms) ≡ true → (m ≡ k) ⊎ (has k ms ≡ true)
-has_first k m ms e = go (eqb m k) refl e
-  where
-    go : (b : Bool) → eqb m k ≡ b → (b || has k ms) ≡ true → (m ≡ k) ⊎ (has k ms ≡ true)
-    go true is h = inl (eqb-true m k is)
-    go false is h = inr h
-
 -- a number that is not in the longer list is not in the shorter, and is not the newest
 pub has_not : (k : ℕ) (ms : List ℕ) (n : ℕ) → has k (ms ++ n ∷ []) ≡ false → (has k ms ≡ false) × (k ≢ n)
 has_not k ms n e = (older (has k ms) refl, λ same. false≢true (sym e ∙ subst (λ x. has x (ms ++ n ∷ []) ≡ true) (sym same) (has_newest ms n)))
