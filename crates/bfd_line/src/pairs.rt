@@ -5,6 +5,7 @@ ghost use Rattle.bfd_session.specs.Step.{IsFit};
 ghost use Rattle.bfd_line.specs.Pairs.{AreEnds, IsTiming, active_of, config_by, echo_of, ends_of, pair_fields, pair_of, pair_with, role_of, timing_fields, timing_of};
 ghost use Rattle.bfd_line.specs.Ranges.{IsRow};
 
+use crate::words::spells;
 use bfd_fields::{LineFault, address, number};
 use bfd_packet::Addr;
 use bfd_rules::{Config, LEAST_INTERVAL, MOST_INTERVAL, Role};
@@ -38,10 +39,12 @@ pub(crate) struct Timing {
 fn role_named(field: &[u8]) -> Result<Role, LineFault>
     ensures { result ≡ role_of field.now }
 {
-    match field {
-        b"single" => Ok(Role::Single),
-        b"multi" => Ok(Role::Multi),
-        _ => Err(LineFault::UnknownWord),
+    if spells(field, b"single") {
+        Ok(Role::Single)
+    } else if spells(field, b"multi") {
+        Ok(Role::Multi)
+    } else {
+        Err(LineFault::UnknownWord)
     }
 }
 
@@ -49,10 +52,12 @@ fn role_named(field: &[u8]) -> Result<Role, LineFault>
 fn active_named(field: &[u8]) -> Result<bool, LineFault>
     ensures { result ≡ active_of field.now }
 {
-    match field {
-        b"active" => Ok(true),
-        b"passive" => Ok(false),
-        _ => Err(LineFault::UnknownWord),
+    if spells(field, b"active") {
+        Ok(true)
+    } else if spells(field, b"passive") {
+        Ok(false)
+    } else {
+        Err(LineFault::UnknownWord)
     }
 }
 

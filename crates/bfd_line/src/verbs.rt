@@ -2,7 +2,7 @@
 ghost use Rattle.std.specs.Prelude.{◌≡◌, ◌<◌, ◌^◌};
 ghost use Rattle.bfd_line.specs.Verbs.{command, fits, known, number_of, takes_number, verb_of};
 
-use crate::words::Version;
+use crate::words::{Version, spells};
 use bfd_fields::LineFault;
 use bfd_rules::Cmd;
 
@@ -25,18 +25,28 @@ pub enum Verb {
 pub(crate) fn verb_named(version: Version, field: &[u8]) -> Option<Verb>
     ensures { result ≡ verb_of version field.now }
 {
-    match field {
-        b"disable" => Some(Verb::Disable),
-        b"enable" => Some(Verb::Enable),
-        b"reset" => Some(Verb::Reset),
-        b"path" => Some(Verb::Path),
-        b"tx" => Some(Verb::Tx),
-        b"rx" => Some(Verb::Rx),
-        b"mult" => Some(Verb::Mult),
-        b"demand" => Some(Verb::Demand),
-        b"echo" => Some(Verb::Echo),
-        b"key" if version == Version::Two => Some(Verb::Key),
-        _ => None,
+    if spells(field, b"disable") {
+        Some(Verb::Disable)
+    } else if spells(field, b"enable") {
+        Some(Verb::Enable)
+    } else if spells(field, b"reset") {
+        Some(Verb::Reset)
+    } else if spells(field, b"path") {
+        Some(Verb::Path)
+    } else if spells(field, b"tx") {
+        Some(Verb::Tx)
+    } else if spells(field, b"rx") {
+        Some(Verb::Rx)
+    } else if spells(field, b"mult") {
+        Some(Verb::Mult)
+    } else if spells(field, b"demand") {
+        Some(Verb::Demand)
+    } else if spells(field, b"echo") {
+        Some(Verb::Echo)
+    } else if spells(field, b"key") && matches!(version, Version::Two) {
+        Some(Verb::Key)
+    } else {
+        None
     }
 }
 

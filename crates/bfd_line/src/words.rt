@@ -1,9 +1,10 @@
 // The versions, the words that begin a line, and where they may stand.
 ghost use Rattle.std.specs.Prelude.{◌≡◌};
+ghost use Rattle.std.specs.Str.{bytes_eq};
 ghost use Rattle.bfd_line.specs.Words.{word_of, stands};
 
 /// The version of a packet file. Before its first line the words of version 1 are known.
-#[derive(Clone, Copy, PartialEq, Eq)]
+#[derive(Clone, Copy)]
 pub enum Version {
     /// A session has one key at most.
     One,
@@ -59,7 +60,7 @@ pub enum Word {
 }
 
 /// How far the text is read: what may come next.
-#[derive(Clone, Copy, PartialEq, Eq)]
+#[derive(Clone, Copy)]
 pub enum Place {
     /// The line with the version.
     Version,
@@ -74,26 +75,47 @@ pub enum Place {
     Over,
 }
 
+/// Whether a field spells this word.
+pub(crate) fn spells(field: &[u8], word: &[u8]) -> bool
+    ensures { result ≡ bytes_eq field.now word.now }
+{
+    field == word
+}
+
 /// The word that a field spells; `key` is one of version 2 alone.
 pub fn word_named(version: Version, field: &[u8]) -> Option<Word>
     ensures { result ≡ word_of version field.now }
 {
-    match field {
-        b"bfd" => Some(Word::Bfd),
-        b"p2p" => Some(Word::P2p),
-        b"auth" => Some(Word::Auth),
-        b"sbfd" => Some(Word::Sbfd),
-        b"reflector" => Some(Word::Reflector),
-        b"head" => Some(Word::Head),
-        b"tail" => Some(Word::Tail),
-        b"run" => Some(Word::Run),
-        b"rx" => Some(Word::Rx),
-        b"tick" => Some(Word::Tick),
-        b"cmd" => Some(Word::Cmd),
-        b"show" => Some(Word::Show),
-        b"end" => Some(Word::End),
-        b"key" if version == Version::Two => Some(Word::Key),
-        _ => None,
+    if spells(field, b"bfd") {
+        Some(Word::Bfd)
+    } else if spells(field, b"p2p") {
+        Some(Word::P2p)
+    } else if spells(field, b"auth") {
+        Some(Word::Auth)
+    } else if spells(field, b"sbfd") {
+        Some(Word::Sbfd)
+    } else if spells(field, b"reflector") {
+        Some(Word::Reflector)
+    } else if spells(field, b"head") {
+        Some(Word::Head)
+    } else if spells(field, b"tail") {
+        Some(Word::Tail)
+    } else if spells(field, b"run") {
+        Some(Word::Run)
+    } else if spells(field, b"rx") {
+        Some(Word::Rx)
+    } else if spells(field, b"tick") {
+        Some(Word::Tick)
+    } else if spells(field, b"cmd") {
+        Some(Word::Cmd)
+    } else if spells(field, b"show") {
+        Some(Word::Show)
+    } else if spells(field, b"end") {
+        Some(Word::End)
+    } else if spells(field, b"key") && matches!(version, Version::Two) {
+        Some(Word::Key)
+    } else {
+        None
     }
 }
 
@@ -104,7 +126,7 @@ impl Place {
         ensures { result ≡ stands self live word }
     {
         match word {
-            Word::Bfd => self == Place::Version,
+            Word::Bfd => matches!(self, Place::Version),
             Word::P2p
             | Word::Auth
             | Word::Key
@@ -112,9 +134,9 @@ impl Place {
             | Word::Reflector
             | Word::Head
             | Word::Tail
-            | Word::Run => { self == Place::Table }
-            Word::Rx | Word::Tick => self == Place::Events && !live,
-            Word::Cmd | Word::Show | Word::End => self == Place::Events,
+            | Word::Run => { matches!(self, Place::Table) }
+            Word::Rx | Word::Tick => matches!(self, Place::Events) && !live,
+            Word::Cmd | Word::Show | Word::End => matches!(self, Place::Events),
         }
     }
 }

@@ -4,6 +4,15 @@ ghost use Rattle.std.specs.Prelude.{◌≡◌, ◌<◌, ◌∷◌, [], IfSome, N
 /// After how many elements a list gives memory back.
 const GIVEN_BACK: usize = 4096;
 
+/// Gives the list's spare memory back, now and then.
+fn give_back<T: Drop>(left: &mut Vec<T>)
+    ensures { left.new.items ≡ left.old.items }
+{
+    if left.len().is_multiple_of(GIVEN_BACK) {
+        left.shrink_to_fit();
+    }
+}
+
 /// Takes the first element of a list that is kept in reverse. The list gives memory back on its way: what is made of its
 /// elements needs it.
 pub(crate) fn next_of<T: Drop>(left: &mut Vec<T>) -> Option<T>
@@ -12,8 +21,6 @@ pub(crate) fn next_of<T: Drop>(left: &mut Vec<T>) -> Option<T>
     ensures none { result ≡ None → reverse left.old.items ≡ [] }
 {
     let element = left.pop()?;
-    if left.len().is_multiple_of(GIVEN_BACK) {
-        left.shrink_to_fit();
-    }
+    give_back(left);
     Some(element)
 }
