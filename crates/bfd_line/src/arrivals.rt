@@ -5,7 +5,6 @@ ghost use Rattle.bfd_line.specs.Arrivals.{arrival_fields, arrival_of, port_of};
 ghost use Rattle.bfd_fields.specs.Gives.{Gives};
 ghost use Rattle.bfd_line.specs.Ranges.{IsReceived};
 
-use crate::words::spells;
 use bfd_fields::{LineFault, ReadFault, address, number, payload_read};
 use bfd_packet::{Arrival, Port, SOURCE_PORT};
 use std::alloc::Global;
@@ -14,18 +13,13 @@ use std::alloc::Global;
 pub(crate) fn port_named(field: &[u8]) -> Result<Port, LineFault>
     ensures { result ≡ port_of field.now }
 {
-    if spells(field, b"single") {
-        Ok(Port::Single)
-    } else if spells(field, b"multi") {
-        Ok(Port::Multi)
-    } else if spells(field, b"echo") {
-        Ok(Port::Echo)
-    } else if spells(field, b"sbfd") {
-        Ok(Port::Sbfd)
-    } else if spells(field, b"answer") {
-        Ok(Port::Answer)
-    } else {
-        Err(LineFault::UnknownWord)
+    match field {
+        b"single" => Ok(Port::Single),
+        b"multi" => Ok(Port::Multi),
+        b"echo" => Ok(Port::Echo),
+        b"sbfd" => Ok(Port::Sbfd),
+        b"answer" => Ok(Port::Answer),
+        _ => Err(LineFault::UnknownWord),
     }
 }
 

@@ -86,36 +86,22 @@ pub(crate) fn spells(field: &[u8], word: &[u8]) -> bool
 pub fn word_named(version: Version, field: &[u8]) -> Option<Word>
     ensures { result ≡ word_of version field.now }
 {
-    if spells(field, b"bfd") {
-        Some(Word::Bfd)
-    } else if spells(field, b"p2p") {
-        Some(Word::P2p)
-    } else if spells(field, b"auth") {
-        Some(Word::Auth)
-    } else if spells(field, b"sbfd") {
-        Some(Word::Sbfd)
-    } else if spells(field, b"reflector") {
-        Some(Word::Reflector)
-    } else if spells(field, b"head") {
-        Some(Word::Head)
-    } else if spells(field, b"tail") {
-        Some(Word::Tail)
-    } else if spells(field, b"run") {
-        Some(Word::Run)
-    } else if spells(field, b"rx") {
-        Some(Word::Rx)
-    } else if spells(field, b"tick") {
-        Some(Word::Tick)
-    } else if spells(field, b"cmd") {
-        Some(Word::Cmd)
-    } else if spells(field, b"show") {
-        Some(Word::Show)
-    } else if spells(field, b"end") {
-        Some(Word::End)
-    } else if spells(field, b"key") && matches!(version, Version::Two) {
-        Some(Word::Key)
-    } else {
-        None
+    match field {
+        b"bfd" => Some(Word::Bfd),
+        b"p2p" => Some(Word::P2p),
+        b"auth" => Some(Word::Auth),
+        b"sbfd" => Some(Word::Sbfd),
+        b"reflector" => Some(Word::Reflector),
+        b"head" => Some(Word::Head),
+        b"tail" => Some(Word::Tail),
+        b"run" => Some(Word::Run),
+        b"rx" => Some(Word::Rx),
+        b"tick" => Some(Word::Tick),
+        b"cmd" => Some(Word::Cmd),
+        b"show" => Some(Word::Show),
+        b"end" => Some(Word::End),
+        b"key" if matches!(version, Version::Two) => Some(Word::Key),
+        _ => None,
     }
 }
 
