@@ -1,9 +1,62 @@
 -- The turn's pass is put back in its place.
-use Rattle.std.proofs.Common.{◌≡◌, Some, slice_set, set-set, sym, ap, refl, subst}
-use Rattle.bfd_engine.specs.Engines.{Knows, IsOf, AllThere}
+use Rattle.std.proofs.Common.{◌≡◌, ◌≤◌, ◌+◌, ◌∙◌, ℕ, get_or, Some, Ok, IfOk, Result, slice_get, slice_set, set-set, sym, ap, refl, subst}
+use Rattle.std.proofs.lemmas.Option.{get_or_from_slice_get}
+use Rattle.bfd_session.specs.declared.event.Answer.{Answer}
+use Rattle.bfd_shard.specs.declared.entry.ShardEvent.{ShardEvent}
+use Rattle.bfd_shard.specs.Shard.{CanHappen}
+use Rattle.bfd_engine.specs.declared.turn.TurnFault.{TurnFault}
+use Rattle.bfd_engine.specs.Turned.{IsTimely, configs_in, room_in}
+use Rattle.bfd_engine.specs.Calls.{seen_of, seen_at}
+use Rattle.bfd_engine.specs.Engines.{Shards, Knows, IsOf, AllThere, base_at, configs_at}
+use Rattle.bfd_engine.proofs.Places.{K}
 use Rattle.bfd_engine.proofs.Places.{of_set, there_set}
-use Rattle.bfd_engine.proofs.Turning.{call_done, fault_done}
+use Rattle.bfd_engine.proofs.Turning.{at_place, call_done, fault_done}
 use Rattle.bfd_engine.proofs.engine.Engine.turn_on.Goals as goal
+
+timely_done : (engine : Shards) (k l : Knows) (s : ℕ) (event : ShardEvent) (p q : K) (r : Result Answer TurnFault) (answer : Answer) → slice_get k.1 s ≡ Some (Some p) → p.1.base ≡ Some (base_at engine s)
+    → l ≡ (k.0, slice_set k.1 s (Some q), k.2) → p.1.number ≡ k.0 → r ≡ Ok answer → IfOk r (λ _. IsTimely (configs_in p.1.base) p.1.number event q.1.seen) → IsTimely (configs_at engine s) k.0 event (seen_at l s)
+timely_done engine k l s event p q r answer here base is num e all =
+    let t : IsTimely (configs_in p.1.base) p.1.number event q.1.seen = subst (λ (x : Result Answer TurnFault). IfOk x (λ _. IsTimely (configs_in p.1.base) p.1.number event q.1.seen)) e all in
+    subst (λ b. IsTimely (configs_in b) k.0 event (seen_at l s)) base
+    (subst (λ n. IsTimely (configs_in p.1.base) n event (seen_at l s)) num (subst (IsTimely (configs_in p.1.base) p.1.number event) (sym (ap seen_of (at_place k l s p q here is))) t))
+
+pub turn_with-back-requires : goal.turn_with-back-requires
+turn_with-back-requires g c =
+    let base : c.lift-own.result.1.base ≡ Some (base_at c.args.self.now c.args.shard) = c.requires.of.base_is c.args.shard c.lift-own.result c.lift-own.ensures.pass in
+    record {
+      of = sym (get_or_from_slice_get c.args.self.now.locks c.args.shard c.lift-own.result.0 c.index.result.now (c.requires.of.lock c.args.shard c.lift-own.result c.lift-own.ensures.pass))
+          ∙ (ap (λ (e : Shards). get_or e.locks c.args.shard c.index.result.now) (sym c.self.view_is) ∙ sym c.index.ensures);
+      can = subst (λ b. CanHappen (configs_in b) c.args.event) (sym base) c.requires.can;
+      room = subst (λ b. room_in (configs_in b) c.args.event ≤ c.args.outs.now.spare) (sym base) c.requires.room;
+    }
+
+pub returns-in-Ok-clause-timely : goal.returns-in-Ok-clause-timely
+returns-in-Ok-clause-timely g c =
+    timely_done c.args.self.now c.args.pass.now c.put.new.self c.args.shard c.args.event c.lift-own.result c.turn_with-back.result.0 c.turn_with-back.result.1 c.in-Ok.answer c.lift-own.ensures.pass
+    (c.requires.of.base_is c.args.shard c.lift-own.result c.lift-own.ensures.pass) (rw (c.put.ensures, c.lift-own.ensures.rest, set-set) refl) c.lift-own.ensures.callers.number_is c.in-Ok.is
+    c.turn_with-back.ensures.timely
+
+pub returns-in-Ok-clause-spare : goal.returns-in-Ok-clause-spare
+returns-in-Ok-clause-spare g c =
+    subst (λ b. c.args.outs.now.spare ≤ c.turn_with-back.new.outs.spare + room_in (configs_in b) c.args.event) (c.requires.of.base_is c.args.shard c.lift-own.result c.lift-own.ensures.pass)
+    c.turn_with-back.ensures.spare
+
+pub returns-in-Err-clause-spare : goal.returns-in-Err-clause-spare
+returns-in-Err-clause-spare g c =
+    subst (λ b. c.args.outs.now.spare ≤ c.turn_with-back.new.outs.spare + room_in (configs_in b) c.args.event) (c.requires.of.base_is c.args.shard c.lift-own.result c.lift-own.ensures.pass)
+    c.turn_with-back.ensures.spare
+
+pub returns-in-Ok-clause-room : goal.returns-in-Ok-clause-room
+returns-in-Ok-clause-room g c = c.turn_with-back.ensures.outs_room
+
+pub returns-in-Err-clause-room : goal.returns-in-Err-clause-room
+returns-in-Err-clause-room g c = c.turn_with-back.ensures.outs_room
+
+pub returns-in-Ok-clause-cost : goal.returns-in-Ok-clause-cost
+returns-in-Ok-clause-cost g c = c.turn_with-back.ensures.cost
+
+pub returns-in-Err-clause-cost : goal.returns-in-Err-clause-cost
+returns-in-Err-clause-cost g c = c.turn_with-back.ensures.cost
 
 pub returns-in-Ok-clause-of : goal.returns-in-Ok-clause-of
 returns-in-Ok-clause-of g c =
