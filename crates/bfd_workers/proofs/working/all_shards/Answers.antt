@@ -1,7 +1,7 @@
 -- One shard more.
 use Rattle.std.proofs.Common.{rules, ◌≡◌, ◌<◌, ◌++◌, ◌∙◌, ◌∷◌, [], ap, sym, subst, length, map, append_assoc, length-append, arith}
 use Rattle.bfd_workers.specs.Working.{AreMet}
-use Rattle.bfd_workers.proofs.Courses.{over_more, over_left, stopped_here, next_queue, long_map}
+use Rattle.bfd_workers.proofs.Courses.{over_end, over_finished, over_more, over_left, stopped_here, next_queue, long_map}
 use Rattle.bfd_workers.proofs.working.all_shards.Goals as goal
 
 pub one_shard-requires-clause-met : goal.one_shard-requires-clause-met
@@ -60,3 +60,15 @@ loop-queue-preserved g c =
           c.loop-queue.parts.items c.push.new.self.items c.one_shard.new.part n here.1 more i.over c.one_shard.ensures.of c.one_shard.ensures.there c.one_shard.ensures.elsewhere
           c.one_shard.ensures.used c.in-Ok.ensures.done;
     }
+
+pub returns-clause-left : goal.returns-clause-left
+returns-clause-left g c = over_end c.args.engine.now (map (λ q. q.items) c.args.queues.items) c.args.pass.now c.loop-queue.pass c.loop-queue.parts.items c.loop-queue.invariant.over
+
+pub returns-clause-done : goal.returns-clause-done
+returns-clause-done g c =
+    let i = c.loop-queue.invariant in
+    let none : c.loop-queue.queue-iterator.rest.len ≡ 0 = c.in-None.ensures.steps.0 in
+    let left : c.loop-queue.queue-iterator.rest.len ≡ length c.loop-queue.queue-iterator.rest.items = search rules in
+    over_finished c.args.engine.now (map (λ q. q.items) c.args.queues.items) c.args.pass.now c.loop-queue.pass c.loop-queue.parts.items i.over
+    (let a = i.long in let b = ap length i.all in let d = length-append c.loop-queue.yielded c.loop-queue.queue-iterator.rest.items in let e = c.requires.ready.long in
+    let f = long_map (λ q. q.items) c.args.queues.items in omega (arith, a, b, d, e, f, none, left))
