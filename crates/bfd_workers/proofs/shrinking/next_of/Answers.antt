@@ -1,5 +1,5 @@
 -- The last element of a reversed list, and the others.
-use Rattle.std.proofs.Common.{List, ℕ, reverse, length, ◌≡◌, ◌<◌, ◌++◌, ◌∷◌, [], ◌∙◌, ap, sym, arith, length-append}
+use Rattle.std.proofs.Common.{List, reverse, length, ◌≡◌, ◌<◌, ◌++◌, ◌∷◌, [], ◌∙◌, ap, sym, arith, length-append}
 use Rattle.std.proofs.lemmas.List.{reverse-append}
 use Rattle.bfd_workers.proofs.shrinking.next_of.Goals as goal
 
