@@ -119,7 +119,8 @@ pub extern "C" fn bfdd_receive(
     packet: &Packet,
     payload: &[u8],
 ) -> u32
-    ensures done { result ≢ 2 → (handle.new.kept.held, result) ≡ called (packet_line packet.now payload.now) handle.old.kept.held }
+    ensures done { result ≢ 2 → (handle.new.kept.held, result)
+        ≡ called (packet_line packet.now payload.now) handle.old.kept.held }
     ensures kept { result ≡ 2 → handle.new.kept.held ≡ handle.old.kept.held }
     ensures memory { result ≡ 2 → (packet_line packet.now payload.now ≢ None) × (handle.old.kept.held ≢ None) }
 {

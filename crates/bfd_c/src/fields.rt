@@ -12,7 +12,7 @@ ghost use Rattle.bfd_c.specs.Wire.{addr_of};
 use crate::wire::{Address, read_address};
 use bfd_mp::{HeadConfig, TailConfig};
 use bfd_packet::{Addr, AuthType, Key, Keys, Secret};
-use bfd_rules::{Config, Role};
+use bfd_rules::{Config, LEAST_INTERVAL, MOST_INTERVAL, Role};
 use bfd_sbfd::SeekConfig;
 use bfd_session::SessionConfig;
 
@@ -105,7 +105,7 @@ fn interval(n: u32) -> bool
     ensures value { result ≡ is_interval n }
     ensures range { result ≡ true → (10000 ≤ n) × (n ≤ 60000000) }
 {
-    n >= 10_000 && n <= 60_000_000
+    u64::from(n) >= LEAST_INTERVAL && u64::from(n) <= MOST_INTERVAL
 }
 
 /// Whether the discriminator and the interface are in their ranges.

@@ -67,7 +67,8 @@ enum Unopened {
 
 /// The engine of a text, a table alone.
 fn start_by(alloc: Global, text: &[u8]) -> Result<Box<Engine>, Unopened>
-    ensures { MatchResult result (λ engine. IsOpened (script_of true text.now) engine.value) (IsWhy (script_of true text.now)) }
+    ensures { MatchResult result (λ engine. IsOpened (script_of true text.now) engine.value)
+        (IsWhy (script_of true text.now)) }
 {
     match read(alloc, text, true) {
         Ok(script) => {
@@ -97,7 +98,8 @@ pub extern "C" fn bfdd_open(
     text: &[u8],
     complaint: &mut Complaint,
 ) -> u32
-    ensures done { result ≢ 2 → (handle.new.kept.held, result) ≡ opened_by (script_of true text.now) handle.old.kept.held }
+    ensures done { result ≢ 2 → (handle.new.kept.held, result)
+        ≡ opened_by (script_of true text.now) handle.old.kept.held }
     ensures memory { result ≡ 2 → handle.new.kept.held ≡ handle.old.kept.held }
     ensures complaint { complaint.new ≡ complained result (script_of true text.now) complaint.old }
 {
@@ -130,7 +132,8 @@ fn start_one(alloc: Global, config: SessionConfig) -> Result<Box<Engine>, AllocE
 /// nothing has changed.
 #[unsafe(no_mangle)]
 pub extern "C" fn bfdd_open_session(alloc: Global, handle: &mut Handle, fields: &Fields) -> u32
-    ensures done { result ≢ 2 → (handle.new.kept.held, result) ≡ opened_for (config_of fields.now) handle.old.kept.held }
+    ensures done { result ≢ 2 → (handle.new.kept.held, result)
+        ≡ opened_for (config_of fields.now) handle.old.kept.held }
     ensures kept { result ≡ 2 → handle.new.kept.held ≡ handle.old.kept.held }
     ensures memory { result ≡ 2 → config_of fields.now ≢ None }
 {

@@ -69,7 +69,9 @@ impl Demux {
     /// memory.
     #[tactic(auto, using(crate::proofs::Once::no_early_fault))]
     pub fn build(alloc: Global, rows: &[Row]) -> Result<Demux, BuildFault>
-        ensures table { MatchResult result (λ demux. (demux ≡ rows.now) × (build_fault rows.now ≡ None)) (λ fault. ((fault ≡ BuildFault.Memory) × (early_fault rows.now ≡ None)) ⊎ (build_fault rows.now ≡ Some fault)) }
+        ensures table { MatchResult result (λ demux. (demux ≡ rows.now) × (build_fault rows.now ≡ None))
+            (λ fault. ((fault ≡ BuildFault.Memory) × (early_fault rows.now ≡ None))
+            ⊎ (build_fault rows.now ≡ Some fault)) }
         ensures empty { OnErr result (rows.now ≢ []) }
     {
         if rows.is_empty() {
@@ -118,7 +120,8 @@ impl Demux {
     // The index of the row of the port's kind that has this discriminator.
     fn by_discr<L: Ledger>(&self, port: Port, discr: u32, steps: &mut Steps<L>) -> Option<u32>
         ensures known { is_some result ≡ knows self.now port discr }
-        ensures found { result ≡ option_map (λ row. index_on port self.now row.discr) (the_one (has_discr port discr) self.now) }
+        ensures found { result ≡ option_map (λ row. index_on port self.now row.discr)
+            (the_one (has_discr port discr) self.now) }
         ensures cost { steps.new ≤ steps.old + 17 }
     {
         let names = self.names.as_slice();
@@ -138,7 +141,8 @@ impl Demux {
     fn by_addresses<L: Ledger>(&self, kind: RowKind, steps: &mut Steps<L>) -> Option<u32>
         requires { has_addresses kind ≡ true }
         ensures known { is_some result ≡ list_any (λ row. same_selector kind row.kind) self.now }
-        ensures found { result ≡ option_map (λ row. session_index self.now row.discr) (the_one (λ row. same_selector kind row.kind) self.now) }
+        ensures found { result ≡ option_map (λ row. session_index self.now row.discr)
+            (the_one (λ row. same_selector kind row.kind) self.now) }
         ensures cost { steps.new ≤ steps.old + 34 }
     {
         let addresses = self.addresses.as_slice();
@@ -195,7 +199,9 @@ impl Demux {
     #[tactic(none)]
     fn select_echo<L: Ledger>(&self, payload: &[u8], steps: &mut Steps<L>) -> Result<Target, Test>
         ensures tests { result_err result ≡ first_echo_failing self.now payload.now }
-        ensures target { IfOk result (λ target. Some target ≡ option_map (echo_target self.now payload.now) (the_one (has_discr Port.Echo (word_at 4 payload.now)) self.now)) }
+        ensures target { IfOk result (λ target. Some target
+            ≡ option_map (echo_target self.now payload.now)
+            (the_one (has_discr Port.Echo (word_at 4 payload.now)) self.now)) }
         ensures cost { steps.new ≤ steps.old + 17 }
     {
         let Some((discr, sequence)) = echo_words(payload) else {
@@ -236,8 +242,11 @@ impl Demux {
     // What a packet on port sbfd is for.
     #[tactic(none)]
     fn select_reflector<L: Ledger>(&self, your: u32, steps: &mut Steps<L>) -> Result<Target, Test>
-        ensures tests { result_err result ≡ (if (your == 0) || not (knows self.now Port.Sbfd your) then Some Test.YourUnknown else None) }
-        ensures target { IfOk result (λ target. (your ≢ 0) × (Some target ≡ option_map (λ row. Target.Reflector (reflector_index self.now row.discr)) (the_one (has_discr Port.Sbfd your) self.now))) }
+        ensures tests { result_err result
+            ≡ (if (your == 0) || not (knows self.now Port.Sbfd your) then Some Test.YourUnknown else None) }
+        ensures target { IfOk result (λ target. (your ≢ 0)
+            × (Some target ≡ option_map (λ row. Target.Reflector (reflector_index self.now row.discr))
+            (the_one (has_discr Port.Sbfd your) self.now))) }
         ensures cost { steps.new ≤ steps.old + 17 }
     {
         if your == 0 {
@@ -258,8 +267,12 @@ impl Demux {
         steps: &mut Steps<L>,
     ) -> Result<Target, Test>
         requires { has_addresses kind ≡ true }
-        ensures tests { result_err result ≡ (if your == 0 then if list_any (has_selector (Some kind)) self.now then None else Some Test.NoTail else Some Test.MultipointYour) }
-        ensures target { IfOk result (λ target. Some target ≡ option_map (λ row. Target.Session (session_index self.now row.discr)) (the_one (has_selector (Some kind)) self.now)) }
+        ensures tests { result_err result
+            ≡ (if your == 0 then if list_any (has_selector (Some kind)) self.now then None else Some Test.NoTail
+            else Some Test.MultipointYour) }
+        ensures target { IfOk result (λ target. Some target
+            ≡ option_map (λ row. Target.Session (session_index self.now row.discr))
+            (the_one (has_selector (Some kind)) self.now)) }
         ensures cost { steps.new ≤ steps.old + 34 }
     {
         if your != 0 {
@@ -283,7 +296,9 @@ impl Demux {
         requires port { port ≢ Port.Sbfd }
         requires selector { IfSome selector (λ kind. has_addresses kind ≡ true) }
         ensures tests { result_err result ≡ first_session_failing port packet.now selector self.now }
-        ensures target { IfOk result (λ target. Some target ≡ option_map (λ row. Target.Session (session_index self.now row.discr)) (the_one (names_session port packet.now selector) self.now)) }
+        ensures target { IfOk result (λ target. Some target
+            ≡ option_map (λ row. Target.Session (session_index self.now row.discr))
+            (the_one (names_session port packet.now selector) self.now)) }
         ensures cost { steps.new ≤ steps.old + 34 }
         ensures one_lookup { packet.now.your ≢ 0 → steps.new ≤ steps.old + 17 }
     {
@@ -308,7 +323,8 @@ impl Demux {
 
 // The second and third word of a payload in the form of this engine's echo packets.
 fn echo_words(payload: &[u8]) -> Option<(u32, u32)>
-    ensures { result ≡ (if is_echo_form payload.now then Some (word_at 4 payload.now, word_at 8 payload.now) else None) }
+    ensures { result ≡ (if is_echo_form payload.now then Some (word_at 4 payload.now, word_at 8 payload.now)
+        else None) }
 {
     if payload.len() == 16
         && BigEndian::read_u32(payload) == ECHO_SIGN

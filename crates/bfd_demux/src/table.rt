@@ -52,7 +52,8 @@ fn search<K: Ord, V, L: Ledger>(
     requires order { low ≤ high }
     requires within { high ≤ length entries.now }
     requires below { (k : ℕ) (d : _) → k < low → K.cmp (slice_index_or entries.now k d).0 key.now ≡ Less }
-    requires above { (k : ℕ) (d : _) → high ≤ k → k < length entries.now → K.cmp (slice_index_or entries.now k d).0 key.now ≡ Greater }
+    requires above { (k : ℕ) (d : _) → high ≤ k → k < length entries.now
+        → K.cmp (slice_index_or entries.now k d).0 key.now ≡ Greater }
     requires few { high < low + 65536 }
     ensures found { IfSome result (IsPlaceOf K.cmp entries.now key.now) }
     ensures none { IfNone result (list_any (λ entry. is_eq (K.cmp entry.0 key.now)) entries.now ≡ false) }

@@ -17,7 +17,8 @@ use crate::EchoResult;
 pub fn due_laws()
     ensures rests { (e : Echo) (t interval mult discr : ℕ) → t < due e interval mult
         → outcome (1000 * t) interval mult discr e ≡ EchoResult.Nothing }
-    ensures stays { (e : Echo) (t eff interval mult : ℕ) → t < due e interval mult → settled (1000 * t) eff interval mult e ≡ e }
+    ensures stays { (e : Echo) (t eff interval mult : ℕ) → t < due e interval mult
+        → settled (1000 * t) eff interval mult e ≡ e }
     ensures acts { (e : Echo) (limit interval mult discr : ℕ) → 1000 * due e interval mult ≤ limit
         → outcome limit interval mult discr e ≢ EchoResult.Nothing }
     ensures spaced { (e : Echo) (limit interval before : ℕ) → e.sent ≡ Some before → is_sending limit interval e ≡ true

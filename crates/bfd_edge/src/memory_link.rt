@@ -50,7 +50,14 @@ impl Model for MemLink {
 impl MemLink {
     /// A link that gives these answers, and fails at the sends named, counted from 0.
     pub fn make(alloc: Global, heard: Vec<Heard>, fails: Vec<u64>) -> Self
-        ensures { result ≡ record { received = []; left = heard.items; sent = []; sends = 0; fails = fails.items; counts = no_counts } }
+        ensures { result ≡ record {
+          received = [];
+          left = heard.items;
+          sent = [];
+          sends = 0;
+          fails = fails.items;
+          counts = no_counts;
+        } }
     {
         MemLink {
             alloc,

@@ -54,7 +54,8 @@ impl MemPorts {
 
     /// The link that was shut under this number.
     pub fn shut_link(&self, number: u32) -> Option<&MemLink>
-        ensures { MatchOption result (is_shut (place_in self.now.places number) ≡ false) (λ link. place_in self.now.places number ≡ Place.Shut link.now) }
+        ensures { MatchOption result (is_shut (place_in self.now.places number) ≡ false)
+            (λ link. place_in self.now.places number ≡ Place.Shut link.now) }
     {
         self.places.kept(number)
     }

@@ -33,7 +33,15 @@ impl Model for MemTicker {
 impl MemTicker {
     /// A ticker that gives these ticks, and fails at the calls named, counted from 0.
     pub fn make(ticks: Vec<Tick>, fails: Vec<u64>) -> Self
-        ensures { result ≡ record { given = []; left = ticks.items; calls = 0; fails = fails.items; faults = 0; gave = 0; over = false } }
+        ensures { result ≡ record {
+          given = [];
+          left = ticks.items;
+          calls = 0;
+          fails = fails.items;
+          faults = 0;
+          gave = 0;
+          over = false;
+        } }
     {
         MemTicker {
             ticks,

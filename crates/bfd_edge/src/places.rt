@@ -75,7 +75,8 @@ impl<T: Drop> Places<T> {
 
     /// What was kept of a number that was shut.
     pub fn kept(&self, number: u32) -> Option<&T>
-        ensures { MatchOption result (is_shut (place_in self.now number) ≡ false) (λ kept. place_in self.now number ≡ Place.Shut kept.now) }
+        ensures { MatchOption result (is_shut (place_in self.now number) ≡ false)
+            (λ kept. place_in self.now number ≡ Place.Shut kept.now) }
     {
         match self.places.get(number as usize) {
             None => None,

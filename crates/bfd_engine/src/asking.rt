@@ -46,7 +46,8 @@ impl<W: Timers> Engine<W> {
         requires room { 5 ≤ outs.old.spare }
         ensures of { IsOf self.now pass.new.1 }
         ensures there { AllThere pass.new.1 }
-        ensures call { IsDone (asking self.now moment discr event) self.now pass.old pass.new outs.old.items outs.new.items result }
+        ensures call { IsDone (asking self.now moment discr event)
+            self.now pass.old pass.new outs.old.items outs.new.items result }
         ensures room { outs.new.room ≡ outs.old.room }
         ensures spare { outs.old.spare ≤ outs.new.spare + 5 }
         ensures cost { steps.new ≤ steps.old + 2 }
@@ -76,7 +77,8 @@ impl<W: Timers> Engine<W> {
         requires room { 5 ≤ outs.old.spare }
         ensures of { IsOf self.now pass.new.1 }
         ensures there { AllThere pass.new.1 }
-        ensures call { IsDone (asking self.now moment discr (CommandEvent cmd)) self.now pass.old pass.new outs.old.items outs.new.items result }
+        ensures call { IsDone (asking self.now moment discr (CommandEvent cmd))
+            self.now pass.old pass.new outs.old.items outs.new.items result }
         ensures room { outs.new.room ≡ outs.old.room }
         ensures spare { outs.old.spare ≤ outs.new.spare + 5 }
         ensures cost { steps.new ≤ steps.old + 2 }
@@ -100,7 +102,8 @@ impl<W: Timers> Engine<W> {
         requires room { 5 ≤ outs.old.spare }
         ensures of { IsOf self.now pass.new.1 }
         ensures there { AllThere pass.new.1 }
-        ensures call { IsDone (asking self.now moment discr ShowEvent) self.now pass.old pass.new outs.old.items outs.new.items result }
+        ensures call { IsDone (asking self.now moment discr ShowEvent)
+            self.now pass.old pass.new outs.old.items outs.new.items result }
         ensures room { outs.new.room ≡ outs.old.room }
         ensures spare { outs.old.spare ≤ outs.new.spare + 5 }
         ensures cost { steps.new ≤ steps.old + 2 }

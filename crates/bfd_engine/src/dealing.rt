@@ -25,8 +25,11 @@ fn append(
 ) -> Result<(), AllocError>
     requires inside { at < length parts.old.items }
     ensures long { length parts.new.items ≡ length parts.old.items }
-    ensures own { OnOk result (slice_index_or (map (λ q. q.items) parts.new.items) at [] ≡ slice_index_or (map (λ q. q.items) parts.old.items) at [] ++ config ∷ []) }
-    ensures others { OnOk result ((r : ℕ) → (r ≡ at → ⊥) → slice_index_or (map (λ q. q.items) parts.new.items) r [] ≡ slice_index_or (map (λ q. q.items) parts.old.items) r []) }
+    ensures own { OnOk result (slice_index_or (map (λ q. q.items) parts.new.items) at []
+        ≡ slice_index_or (map (λ q. q.items) parts.old.items) at [] ++ config ∷ []) }
+    ensures others { OnOk result ((r : ℕ) → (r ≡ at → ⊥)
+        → slice_index_or (map (λ q. q.items) parts.new.items) r []
+        ≡ slice_index_or (map (λ q. q.items) parts.old.items) r []) }
 {
     parts[at].push(config)?;
     Ok(())
@@ -48,7 +51,8 @@ pub fn deal_sessions(
 ) -> Result<Vec<Vec<SessionConfig>>, AllocError>
     requires some { 0 < shards }
     ensures long { IfOk result (λ parts. length parts.items ≡ shards) }
-    ensures each { IfOk result (λ parts. (r : ℕ) → r < shards → slice_index_or (map (λ q. q.items) parts.items) r [] ≡ share shards r configs.items) }
+    ensures each { IfOk result (λ parts. (r : ℕ) → r < shards
+        → slice_index_or (map (λ q. q.items) parts.items) r [] ≡ share shards r configs.items) }
 {
     let mut parts = empty_parts(alloc, shards)?;
     let mut next = 0;

@@ -97,7 +97,8 @@ impl<W: Timers> Engine<W> {
         ensures of { IsOf self.now pass.new.1 }
         ensures there { AllThere pass.new.1 }
         ensures call { IsDone (Turns shard event) self.now pass.old pass.new outs.old.items outs.new.items result }
-        ensures timely { IfOk result (λ _. IsTimely (configs_at self.now shard) pass.old.0 event (seen_at pass.new shard)) }
+        ensures timely { IfOk result (λ _. IsTimely (configs_at self.now shard)
+            pass.old.0 event (seen_at pass.new shard)) }
         ensures room { outs.new.room ≡ outs.old.room }
         ensures spare { outs.old.spare ≤ outs.new.spare + room_in (configs_at self.now shard) event }
         ensures cost { IsOwn event → steps.new ≤ steps.old + 2 }

@@ -80,7 +80,11 @@ impl<W: Timers> Engine<W> {
         requires of { IsOf self.now pass.old.1 }
         requires held { IsHeld self.now pass.old hold }
         ensures of { IsOf self.now pass.new.1 }
-        ensures pass { pass.new ≡ (pass.old.0, slice_set pass.old.1 hold.0 (Some (hold.1, having_done hold.2.seen hold.2)), pass.old.2) }
+        ensures pass { pass.new ≡ (
+          pass.old.0,
+          slice_set pass.old.1 hold.0 (Some (hold.1, having_done hold.2.seen hold.2)),
+          pass.old.2,
+        ) }
     {
         let Hold { turn, shard } = hold;
         let at = shard as usize;

@@ -12,11 +12,16 @@ ghost use Rattle.bfd_engine.specs.Turned.{by, entry_of};
 /// call of its own; and on no shard the word that was met falls, or the count of turns rises by more than one.
 #[tactic(auto, using(crate::proofs::Growing::grows, crate::proofs::Growing::gains, crate::proofs::Growing::mine_elsewhere, crate::proofs::Growing::own_call, crate::proofs::Growing::words, crate::proofs::Growing::takens))]
 pub fn turn_laws()
-    ensures grows { (k l : Knows) (shard r : ℕ) (between new : List Entry) → Turned k l shard between new → Begins (seen_at k r) (seen_at l r) }
+    ensures grows { (k l : Knows) (shard r : ℕ) (between new : List Entry) → Turned k l shard between new
+        → Begins (seen_at k r) (seen_at l r) }
     ensures gains { (k l : Knows) (shard : ℕ) (between new : List Entry) → Turned k l shard between new
         → mine l shard ≡ mine k shard ++ calls by k.0 new }
-    ensures elsewhere { (k l : Knows) (shard r : ℕ) (between new : List Entry) → Turned k l shard between new → r ≢ shard → mine l r ≡ mine k r }
-    ensures own { (caller : ℕ) (event : ShardEvent) → calls by caller (entry_of caller event ∷ []) ≡ entry_of caller event ∷ [] }
-    ensures words { (k l : Knows) (shard r : ℕ) (between new : List Entry) → Turned k l shard between new → word_at k r ≤ word_at l r }
-    ensures takens { (k l : Knows) (shard r : ℕ) (between new : List Entry) → Turned k l shard between new → taken_at l r ≤ taken_at k r + 1 }
+    ensures elsewhere { (k l : Knows) (shard r : ℕ) (between new : List Entry) → Turned k l shard between new
+        → r ≢ shard → mine l r ≡ mine k r }
+    ensures own { (caller : ℕ) (event : ShardEvent)
+        → calls by caller (entry_of caller event ∷ []) ≡ entry_of caller event ∷ [] }
+    ensures words { (k l : Knows) (shard r : ℕ) (between new : List Entry) → Turned k l shard between new
+        → word_at k r ≤ word_at l r }
+    ensures takens { (k l : Knows) (shard r : ℕ) (between new : List Entry) → Turned k l shard between new
+        → taken_at l r ≤ taken_at k r + 1 }
 {}

@@ -30,7 +30,9 @@ fn discrs_of(alloc: Global, configs: &[SessionConfig]) -> Result<Vec<u32>, Alloc
 
 /// The table of the sessions and reflectors, or what is wrong with it.
 fn plan(alloc: Global, configs: &[SessionConfig], pool: &[Reflector]) -> Result<Demux, OpenFault>
-    ensures { MatchResult result (λ demux. (demux ≡ rows.table_of configs.now pool.now) × (build_fault (rows.table_of configs.now pool.now) ≡ None)) (IsOpenFault (rows.table_of configs.now pool.now)) }
+    ensures { MatchResult result (λ demux. (demux ≡ rows.table_of configs.now pool.now)
+        × (build_fault (rows.table_of configs.now pool.now) ≡ None))
+        (IsOpenFault (rows.table_of configs.now pool.now)) }
 {
     let Ok(list) = table_of(alloc, configs, pool) else {
         return Err(OpenFault::Memory);
@@ -123,7 +125,8 @@ impl<W: Timers> Engine<W> {
         ensures pool { IfOk result (λ r. r.0.pool ≡ pool.items) }
         ensures limit { IfOk result (λ r. r.0.limit ≡ limit) }
         ensures pass { IfOk result (λ r. IsNewPass r.0 r.1) }
-        ensures fault { MatchResult result (λ _. build_fault (rows.table_of configs.items pool.items) ≡ None) (IsOpenFault (rows.table_of configs.items pool.items)) }
+        ensures fault { MatchResult result (λ _. build_fault (rows.table_of configs.items pool.items) ≡ None)
+            (IsOpenFault (rows.table_of configs.items pool.items)) }
     {
         let demux = plan(alloc, configs.as_slice(), pool.as_slice())?;
         match Engine::open_with(alloc, demux, configs, pool, shards, limit) {

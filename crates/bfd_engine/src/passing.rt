@@ -45,8 +45,10 @@ impl<W: Timers> Engine<W> {
         ensures number { first.new.0 ≡ 0 }
         ensures used { first.new.2 ≡ first.old.2 + 1 }
         ensures refused { OnErr result (first.new.1 ≡ first.old.1) }
-        ensures other { IfOk result (λ other. (other.0 ≡ first.old.2 + 1) × IsOf self.now other.1 × AllThere other.1 × (other.2 ≡ 0)) }
-        ensures parted { IfOk result (λ other. (shard : ℕ) → shard < length self.now.locks → Parted first.old first.new other shard) }
+        ensures other { IfOk result (λ other. (other.0 ≡ first.old.2 + 1) × IsOf self.now other.1 × AllThere other.1
+            × (other.2 ≡ 0)) }
+        ensures parted { IfOk result (λ other. (shard : ℕ) → shard < length self.now.locks
+            → Parted first.old first.new other shard) }
     {
         let number = first.next_number();
         let mut passes = Vec::with_capacity(alloc, self.locks.len())?;

@@ -32,7 +32,8 @@ impl<W: Timers> Engine<W> {
     /// What the arrival is for, or the first of its port's tests up to selection that it fails. It doesn't wait.
     pub fn screen<L: Ledger>(&self, arrival: &Arrival, steps: &mut Steps<L>) -> Result<Target, Test>
         ensures tests { result_err result ≡ first_table_failing (table_of self.now.configs self.now.pool) arrival.now }
-        ensures target { IfOk result (λ target. Some target ≡ target_of (table_of self.now.configs self.now.pool) arrival.now) }
+        ensures target { IfOk result (λ target. Some target
+            ≡ target_of (table_of self.now.configs self.now.pool) arrival.now) }
         ensures header { OnOk result (first_header_failing arrival.now ≡ None) }
         ensures cost { steps.new ≤ steps.old + 34 }
     {
@@ -65,7 +66,8 @@ impl<W: Timers> Engine<W> {
         requires room { 5 ≤ outs.old.spare }
         ensures of { IsOf self.now pass.new.1 }
         ensures there { AllThere pass.new.1 }
-        ensures call { IsDone (own_act self.now moment k event) self.now pass.old pass.new outs.old.items outs.new.items result }
+        ensures call { IsDone (own_act self.now moment k event)
+            self.now pass.old pass.new outs.old.items outs.new.items result }
         ensures room { outs.new.room ≡ outs.old.room }
         ensures spare { outs.old.spare ≤ outs.new.spare + 5 }
         ensures cost { steps.new ≤ steps.old + 2 }
@@ -83,7 +85,8 @@ impl<W: Timers> Engine<W> {
     fn reflected(&self, place: u32, arrival: &Arrival, outs: &mut Outs) -> Answer
         requires named { IsNamed self.now.pool place (fields_of arrival.now.payload).your }
         requires room { 0 < outs.old.spare }
-        ensures told { IsTold (reflecting.reflect self.now.pool arrival.now) arrival.now outs.old.items outs.new.items result }
+        ensures told { IsTold (reflecting.reflect self.now.pool arrival.now)
+            arrival.now outs.old.items outs.new.items result }
         ensures room { outs.new.room ≡ outs.old.room }
         ensures spare { outs.old.spare ≤ outs.new.spare + 1 }
     {
@@ -116,8 +119,10 @@ impl<W: Timers> Engine<W> {
         requires room { 5 ≤ outs.old.spare }
         ensures of { IsOf self.now pass.new.1 }
         ensures there { AllThere pass.new.1 }
-        ensures call { IsDone (coming_act self.now moment arrival (coming_to (Some target) arrival)) self.now pass.old pass.new outs.old.items outs.new.items result }
-        ensures judged { IfOk result (λ answer. judged_by self.now moment arrival (coming_to (Some target) arrival) pass.new answer) }
+        ensures call { IsDone (coming_act self.now moment arrival (coming_to (Some target) arrival))
+            self.now pass.old pass.new outs.old.items outs.new.items result }
+        ensures judged { IfOk result (λ answer. judged_by self.now moment arrival (coming_to (Some target) arrival)
+            pass.new answer) }
         ensures room { outs.new.room ≡ outs.old.room }
         ensures spare { outs.old.spare ≤ outs.new.spare + 5 }
         ensures cost { steps.new ≤ steps.old + 2 }
@@ -155,8 +160,10 @@ impl<W: Timers> Engine<W> {
         requires room { 5 ≤ outs.old.spare }
         ensures of { IsOf self.now pass.new.1 }
         ensures there { AllThere pass.new.1 }
-        ensures call { IsDone (arrival_act self.now moment arrival) self.now pass.old pass.new outs.old.items outs.new.items result }
-        ensures judged { IfOk result (λ answer. judged_by self.now moment arrival (comes_to (table_of self.now.configs self.now.pool) arrival) pass.new answer) }
+        ensures call { IsDone (arrival_act self.now moment arrival)
+            self.now pass.old pass.new outs.old.items outs.new.items result }
+        ensures judged { IfOk result (λ answer. judged_by self.now moment arrival
+            (comes_to (table_of self.now.configs self.now.pool) arrival) pass.new answer) }
         ensures room { outs.new.room ≡ outs.old.room }
         ensures spare { outs.old.spare ≤ outs.new.spare + 5 }
         ensures cost { steps.new ≤ steps.old + 40 }
@@ -186,8 +193,10 @@ impl<W: Timers> Engine<W> {
         requires room { 5 * length (configs_at self.now shard) ≤ outs.old.spare }
         ensures of { IsOf self.now pass.new.1 }
         ensures there { AllThere pass.new.1 }
-        ensures call { IsDone (Turns shard (TickEvent tick)) self.now pass.old pass.new outs.old.items outs.new.items result }
-        ensures expires { IfOk result (λ _. HasExpired (configs_at self.now shard) pass.old.0 tick (seen_at pass.new shard)) }
+        ensures call { IsDone (Turns shard (TickEvent tick))
+            self.now pass.old pass.new outs.old.items outs.new.items result }
+        ensures expires { IfOk result (λ _. HasExpired (configs_at self.now shard)
+            pass.old.0 tick (seen_at pass.new shard)) }
         ensures room { outs.new.room ≡ outs.old.room }
         ensures spare { outs.old.spare ≤ outs.new.spare + 5 * length (configs_at self.now shard) }
     {

@@ -148,7 +148,8 @@ pub fn at_once<W: Timers + Send, R: Threads + Wait + Sync>(
 )
     requires { All (λ (j : _). IsReady engine.now j) jobs.old }
     ensures long { length jobs.new ≡ length jobs.old }
-    ensures each { (i : ℕ) (d : _) → i < length jobs.old → HasEnded engine.now (slice_index_or jobs.old i d) (slice_index_or jobs.new i d) }
+    ensures each { (i : ℕ) (d : _) → i < length jobs.old
+        → HasEnded engine.now (slice_index_or jobs.old i d) (slice_index_or jobs.new i d) }
     ensures ready { All (λ (j : _). IsReady engine.now j) jobs.new }
     ensures numbers { map number_of jobs.new ≡ map number_of jobs.old }
 {

@@ -87,7 +87,8 @@ fn decode_runs(digits: &[u8], room: &mut [u8]) -> bool
 #[tactic(auto, using(crate::proofs::Nibbles::sized))]
 pub(crate) fn decode(digits: &[u8], room: &mut [u8]) -> bool
     requires { length digits.now ≡ 2 * length room.old }
-    ensures { MatchResult (decode_sized digits.now (length room.old)) (λ bytes. (result ≡ true) × (room.new ≡ bytes)) (λ e. result ≡ false) }
+    ensures { MatchResult (decode_sized digits.now (length room.old)) (λ bytes. (result ≡ true) × (room.new ≡ bytes))
+        (λ e. result ≡ false) }
 {
     decode_runs(digits, room) || hex::decode_to_slice(digits, room).is_ok()
 }

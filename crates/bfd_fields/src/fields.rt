@@ -144,7 +144,9 @@ fn place_of(byte: u8, text: &[u8]) -> usize
 
 /// What stands before the first such byte of a text, and after it: None where it has none.
 pub(crate) fn cut_at(byte: u8, text: &[u8]) -> Option<(&[u8], &[u8])>
-    ensures { MatchOption result (slice_split (λ other. other == byte) text.now ≡ text.now ∷ []) (λ parts. (slice_split (λ other. other == byte) text.now ≡ parts.0.now ∷ slice_split (λ other. other == byte) parts.1.now) × (length parts.1.now < length text.now)) }
+    ensures { MatchOption result (slice_split (λ other. other == byte) text.now ≡ text.now ∷ [])
+        (λ parts. (slice_split (λ other. other == byte) text.now
+        ≡ parts.0.now ∷ slice_split (λ other. other == byte) parts.1.now) × (length parts.1.now < length text.now)) }
 {
     let place = place_of(byte, text);
     if place >= text.len() {
@@ -170,10 +172,12 @@ fn cut_marked(text: &[u8], marked: usize, marks: u64) -> (&[u8], &[u8], u64)
     requires within { marked ≤ length text.now }
     requires few { marked ≤ 64 }
     requires marks { marks ≡ mask_l (map (λ other. other == 32) (take marked text.now)) }
-    ensures cut { slice_split (λ other. other == 32) text.now ≡ result.0.now ∷ slice_split (λ other. other == 32) result.1.now }
+    ensures cut { slice_split (λ other. other == 32) text.now
+        ≡ result.0.now ∷ slice_split (λ other. other == 32) result.1.now }
     ensures marked { length result.0.now < marked }
     ensures long { length text.now ≡ length result.0.now + 1 + length result.1.now }
-    ensures marks { result.2 ≡ mask_l (map (λ other. other == 32) (take (marked - (length result.0.now + 1)) result.1.now)) }
+    ensures marks { result.2 ≡ mask_l
+        (map (λ other. other == 32) (take (marked - (length result.0.now + 1)) result.1.now)) }
 {
     let place = marks.trailing_zeros();
     let (front, _) = text.split_at(place as usize);
@@ -184,7 +188,9 @@ fn cut_marked(text: &[u8], marked: usize, marks: u64) -> (&[u8], &[u8], u64)
 /// What stands between the spaces of the front of a line goes to `fields`: what is left of the line.
 #[tactic(auto, using(crate::proofs::Cuts::next_part))]
 fn split_front<'a>(line: &'a [u8], fields: &mut Vec<&'a [u8]>) -> Result<&'a [u8], AllocError>
-    ensures { IfOk result (λ rest. map (λ field. field.now) fields.new.items ++ slice_split (λ other. other == 32) rest.now ≡ map (λ field. field.now) fields.old.items ++ slice_split (λ other. other == 32) line.now) }
+    ensures { IfOk result (λ rest. map (λ field. field.now) fields.new.items
+        ++ slice_split (λ other. other == 32) rest.now
+        ≡ map (λ field. field.now) fields.old.items ++ slice_split (λ other. other == 32) line.now) }
 {
     let Some((front, _)) = line.split_first_chunk::<FRONT>() else {
         return Ok(line);
@@ -227,7 +233,8 @@ fn is_all_digits(field: &[u8]) -> bool
 
 /// Whether a field has a digit, and no zero before another one.
 fn is_led(field: &[u8]) -> bool
-    ensures { result ≡ (nat_lt 0 (length field.now) && not (nat_lt 1 (length field.now) && slice_index field.now 0 == 48)) }
+    ensures { result ≡ (nat_lt 0 (length field.now) && not (nat_lt 1
+        (length field.now) && slice_index field.now 0 == 48)) }
 {
     !field.is_empty() && !(field.len() > 1 && field[0] == b'0')
 }

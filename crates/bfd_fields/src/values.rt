@@ -44,7 +44,9 @@ fn quad(a: &[u8], b: &[u8], c: &[u8], d: &[u8]) -> Result<Addr, LineFault>
 
 /// What stands before the first dot of a field, and after it: BadAddress where it has none.
 fn cut(field: &[u8]) -> Result<(&[u8], &[u8]), LineFault>
-    ensures { MatchResult result (λ parts. slice_split (λ byte. byte == 46) field.now ≡ parts.0.now ∷ slice_split (λ byte. byte == 46) parts.1.now) (λ fault. (fault ≡ BadAddress) × (slice_split (λ byte. byte == 46) field.now ≡ field.now ∷ [])) }
+    ensures { MatchResult result (λ parts. slice_split (λ byte. byte == 46) field.now
+        ≡ parts.0.now ∷ slice_split (λ byte. byte == 46) parts.1.now)
+        (λ fault. (fault ≡ BadAddress) × (slice_split (λ byte. byte == 46) field.now ≡ field.now ∷ [])) }
 {
     match cut_at(b'.', field) {
         Some((front, rest)) => Ok((front, rest)),
@@ -76,7 +78,9 @@ fn three_digits(a: u8, b: u8, c: u8) -> u32
 
 /// The first number of an address where it has three digits, and what stands behind its dot.
 fn part_of_three(field: &[u8]) -> Option<(u32, &[u8])>
-    ensures part { IfSome result (λ part. (octet_of (before_first (λ byte. byte == 46) field.now) ≡ Ok part.0) × (slice_split (λ byte. byte == 46) field.now ≡ before_first (λ byte. byte == 46) field.now ∷ slice_split (λ byte. byte == 46) part.1.now)) }
+    ensures part { IfSome result (λ part. (octet_of (before_first (λ byte. byte == 46) field.now) ≡ Ok part.0)
+        × (slice_split (λ byte. byte == 46) field.now
+        ≡ before_first (λ byte. byte == 46) field.now ∷ slice_split (λ byte. byte == 46) part.1.now)) }
     ensures range { IfSome result (λ part. part.0 < 256) }
 {
     match field {
@@ -96,7 +100,9 @@ fn part_of_three(field: &[u8]) -> Option<(u32, &[u8])>
 
 /// The same where it has two or three.
 fn part_of_two(field: &[u8]) -> Option<(u32, &[u8])>
-    ensures part { IfSome result (λ part. (octet_of (before_first (λ byte. byte == 46) field.now) ≡ Ok part.0) × (slice_split (λ byte. byte == 46) field.now ≡ before_first (λ byte. byte == 46) field.now ∷ slice_split (λ byte. byte == 46) part.1.now)) }
+    ensures part { IfSome result (λ part. (octet_of (before_first (λ byte. byte == 46) field.now) ≡ Ok part.0)
+        × (slice_split (λ byte. byte == 46) field.now
+        ≡ before_first (λ byte. byte == 46) field.now ∷ slice_split (λ byte. byte == 46) part.1.now)) }
     ensures range { IfSome result (λ part. part.0 < 256) }
 {
     match field {
@@ -109,7 +115,9 @@ fn part_of_two(field: &[u8]) -> Option<(u32, &[u8])>
 
 /// The first number of an address and what stands behind its dot, where the number is written as it has to be.
 fn plain_part(field: &[u8]) -> Option<(u32, &[u8])>
-    ensures part { IfSome result (λ part. (octet_of (before_first (λ byte. byte == 46) field.now) ≡ Ok part.0) × (slice_split (λ byte. byte == 46) field.now ≡ before_first (λ byte. byte == 46) field.now ∷ slice_split (λ byte. byte == 46) part.1.now)) }
+    ensures part { IfSome result (λ part. (octet_of (before_first (λ byte. byte == 46) field.now) ≡ Ok part.0)
+        × (slice_split (λ byte. byte == 46) field.now
+        ≡ before_first (λ byte. byte == 46) field.now ∷ slice_split (λ byte. byte == 46) part.1.now)) }
     ensures range { IfSome result (λ part. part.0 < 256) }
 {
     match field {

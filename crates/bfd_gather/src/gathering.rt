@@ -59,9 +59,12 @@ fn room_of(parts: &[Part]) -> usize {
 /// Takes all pieces off the parts, in the order of a report: by event, and then by discriminator. Appends their text, and
 /// gives how many packets they tell were sent and were dropped. The one refusal is want of memory.
 pub(crate) fn gather(parts: &mut Vec<Part>, text: &mut Vec<u8>) -> Result<(u64, u64), AllocError>
-    ensures told { (dealt : List Dealt) → IsSpread dealt parts.old.items → OnOk result (text.new.items ≡ text.old.items ++ text_of dealt) }
-    ensures txs { (dealt : List Dealt) → IsSpread dealt parts.old.items → IfOk result (λ counts. counts.0 ≡ sum_by (λ d. d.piece.txs) dealt) }
-    ensures drops { (dealt : List Dealt) → IsSpread dealt parts.old.items → IfOk result (λ counts. counts.1 ≡ sum_by (λ d. d.piece.drops) dealt) }
+    ensures told { (dealt : List Dealt) → IsSpread dealt parts.old.items
+        → OnOk result (text.new.items ≡ text.old.items ++ text_of dealt) }
+    ensures txs { (dealt : List Dealt) → IsSpread dealt parts.old.items
+        → IfOk result (λ counts. counts.0 ≡ sum_by (λ d. d.piece.txs) dealt) }
+    ensures drops { (dealt : List Dealt) → IsSpread dealt parts.old.items
+        → IfOk result (λ counts. counts.1 ≡ sum_by (λ d. d.piece.drops) dealt) }
 {
     let mut txs = 0u64;
     let mut drops = 0u64;
@@ -75,7 +78,8 @@ pub(crate) fn gather(parts: &mut Vec<Part>, text: &mut Vec<u8>) -> Result<(u64, 
 
 /// Whether no part but this one has a piece.
 fn is_sole(parts: &[Part], s: usize) -> bool
-    ensures { result ≡ true → (r : ℕ) → r < length parts.now → r ≢ s → first_key (slice_index_or parts.now r []) ≡ None }
+    ensures { result ≡ true → (r : ℕ) → r < length parts.now → r ≢ s
+        → first_key (slice_index_or parts.now r []) ≡ None }
 {
     for r in 0..parts.len() {
         if r != s && parts[r].first().is_some() {
@@ -100,9 +104,12 @@ pub(crate) fn gather_all(
     parts: &mut Vec<Part>,
     text: &mut Vec<u8>,
 ) -> Result<(u64, u64), AllocError>
-    ensures told { (dealt : List Dealt) → IsSpread dealt parts.old.items → OnOk result (text.new.items ≡ text.old.items ++ text_of dealt) }
-    ensures txs { (dealt : List Dealt) → IsSpread dealt parts.old.items → IfOk result (λ counts. counts.0 ≡ sum_by (λ d. d.piece.txs) dealt) }
-    ensures drops { (dealt : List Dealt) → IsSpread dealt parts.old.items → IfOk result (λ counts. counts.1 ≡ sum_by (λ d. d.piece.drops) dealt) }
+    ensures told { (dealt : List Dealt) → IsSpread dealt parts.old.items
+        → OnOk result (text.new.items ≡ text.old.items ++ text_of dealt) }
+    ensures txs { (dealt : List Dealt) → IsSpread dealt parts.old.items
+        → IfOk result (λ counts. counts.0 ≡ sum_by (λ d. d.piece.txs) dealt) }
+    ensures drops { (dealt : List Dealt) → IsSpread dealt parts.old.items
+        → IfOk result (λ counts. counts.1 ≡ sum_by (λ d. d.piece.drops) dealt) }
 {
     match sole(parts) {
         Some(s) => parts[s].take_all(text),

@@ -22,16 +22,22 @@ ghost use Rattle.bfd_gather.specs.Spread.{AreGathered};
 #[tactic(auto, using(bfd_shard::proofs::Sharing::there, crate::proofs::Sharing::own_gives, crate::proofs::Sharing::own_away, crate::proofs::Histories::runs_share, crate::proofs::Histories::queue_events, crate::proofs::Histories::queue_more))]
 pub fn dealing_laws()
     ensures sessions { (shards shard : ℕ) (events : List ShardEvent) (configs : List SessionConfig) → shard < shards
-        → runs (history_of shards shard events) (share shards shard configs) ≡ share shards shard (runs events configs) }
-    ensures at { (shards k : ℕ) (sessions : List Running) → 0 < shards → slice_get (share shards (k % shards) sessions) (k / shards) ≡ slice_get sessions k }
+        → runs (history_of shards shard events) (share shards shard configs)
+        ≡ share shards shard (runs events configs) }
+    ensures at { (shards k : ℕ) (sessions : List Running) → 0 < shards
+        → slice_get (share shards (k % shards) sessions) (k / shards) ≡ slice_get sessions k }
     ensures own { (shards k moment last : ℕ) (event : Event) (sessions : List Running) → 0 < shards
-        → outcome_of last (Own (k / shards) moment event) (share shards (k % shards) sessions) ≡ outcome_of last (Own k moment event) sessions }
-    ensures others { (shards shard k moment last : ℕ) (event : Event) (sessions : List Running) → 0 < shards → shard < shards → (k % shards ≡ shard → ⊥)
+        → outcome_of last (Own (k / shards) moment event) (share shards (k % shards) sessions)
+        ≡ outcome_of last (Own k moment event) sessions }
+    ensures others { (shards shard k moment last : ℕ) (event : Event) (sessions : List Running) → 0 < shards
+        → shard < shards → (k % shards ≡ shard → ⊥)
         → share shards shard (moved last (Own k moment event) sessions) ≡ share shards shard sessions }
     ensures queue { (shards shard number : ℕ) (events : List Happening)
         → map (λ e. e.event) (queue shards shard number events) ≡ history_of shards shard (filter_map among events) }
-    ensures queue_more { (shards shard number : ℕ) (events : List Happening) (event : Happening) → queue shards shard number (events ++ event ∷ [])
-        ≡ queue shards shard number events ++ cons_option (numbered (number + length events) (in_shard shards shard event)) [] }
+    ensures queue_more { (shards shard number : ℕ) (events : List Happening) (event : Happening)
+        → queue shards shard number (events ++ event ∷ [])
+        ≡ queue shards shard number events
+        ++ cons_option (numbered (number + length events) (in_shard shards shard event)) [] }
 {}
 
 /// Laws of what shards tell, and no work. One event more of a shard's queue adds the pieces of what it gives, of the sessions
@@ -45,9 +51,12 @@ pub fn telling_laws()
         ≡ told 0 events (map started configs) ++ event_pieces event.number event.event
         (outcome_of (last_tick (map (λ e. e.event) events)) event.event (runs (map (λ e. e.event) events) configs)) }
     ensures more_apart { (number : ℕ) (events : List Happening) (outcome : Outcome)
-        → told_apart number (events ++ Apart outcome ∷ []) ≡ told_apart number events ++ whole_piece (number + length events) outcome ∷ [] }
+        → told_apart number (events ++ Apart outcome ∷ [])
+        ≡ told_apart number events ++ whole_piece (number + length events) outcome ∷ [] }
     ensures none_apart { (number : ℕ) (events : List Happening) (event : ShardEvent)
         → told_apart number (events ++ Among event ∷ []) ≡ told_apart number events }
-    ensures gathered { (shards number last : ℕ) (events : List Happening) (sessions : List Running) (parts : List (List Piece))
-        → AreParts shards number last events sessions parts → AreGathered parts (told_whole number last events sessions) }
+    ensures gathered { (shards number last : ℕ) (events : List Happening) (sessions : List Running)
+        (parts : List (List Piece))
+        → AreParts shards number last events sessions parts
+        → AreGathered parts (told_whole number last events sessions) }
 {}

@@ -44,8 +44,10 @@ fn append_event(
     outs: &[Out],
     answer: &Answer,
 ) -> Result<(), AllocError>
-    ensures text { OnOk result (text.new.items ≡ text.old.items ++ (whole_piece number (record { items = outs.now; answer = answer.now })).text) }
-    ensures mark { OnOk result (marks.new.items ≡ marks.old.items ++ mark_of (whole_piece number (record { items = outs.now; answer = answer.now })) ∷ []) }
+    ensures text { OnOk result (text.new.items
+        ≡ text.old.items ++ (whole_piece number (record { items = outs.now; answer = answer.now })).text) }
+    ensures mark { OnOk result (marks.new.items
+        ≡ marks.old.items ++ mark_of (whole_piece number (record { items = outs.now; answer = answer.now })) ∷ []) }
     ensures same_text { OnErr result (text.new.items ≡ text.old.items) }
     ensures same_marks { OnErr result (marks.new.items ≡ marks.old.items) }
 {
@@ -70,8 +72,10 @@ fn append_event(
 
 /// Appends the lines of outputs, and gives how long they are.
 fn append_lines(text: &mut Vec<u8>, number: u64, item: &[Out]) -> Result<usize, AllocError>
-    ensures text { OnOk result (text.new.items ≡ text.old.items ++ event_lines number (record { items = item.now; answer = Answer.Handled })) }
-    ensures long { IfOk result (λ long. long ≡ length (event_lines number (record { items = item.now; answer = Answer.Handled }))) }
+    ensures text { OnOk result (text.new.items
+        ≡ text.old.items ++ event_lines number (record { items = item.now; answer = Answer.Handled })) }
+    ensures long { IfOk result (λ long. long
+        ≡ length (event_lines number (record { items = item.now; answer = Answer.Handled }))) }
     ensures same { OnErr result (text.new.items ≡ text.old.items) }
 {
     let before = text.len();
@@ -209,7 +213,8 @@ impl Part {
         outs: &[Out],
         answer: &Answer,
     ) -> Result<(), AllocError>
-        ensures told { OnOk result (self.new ≡ self.old ++ whole_piece number (record { items = outs.now; answer = answer.now }) ∷ []) }
+        ensures told { OnOk result (self.new
+            ≡ self.old ++ whole_piece number (record { items = outs.now; answer = answer.now }) ∷ []) }
         ensures same { OnErr result (self.new ≡ self.old) }
     {
         append_event(&mut self.marks, &mut self.text, number, outs, answer)

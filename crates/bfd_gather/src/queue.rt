@@ -20,8 +20,11 @@ pub struct Numbered {
 fn append(queues: &mut Vec<Vec<Numbered>>, at: usize, event: Numbered) -> Result<(), AllocError>
     requires inside { at < length queues.old.items }
     ensures long { length queues.new.items ≡ length queues.old.items }
-    ensures own { OnOk result (slice_index_or (map (λ q. q.items) queues.new.items) at [] ≡ slice_index_or (map (λ q. q.items) queues.old.items) at [] ++ event ∷ []) }
-    ensures others { OnOk result ((r : ℕ) → (r ≡ at → ⊥) → slice_index_or (map (λ q. q.items) queues.new.items) r [] ≡ slice_index_or (map (λ q. q.items) queues.old.items) r []) }
+    ensures own { OnOk result (slice_index_or (map (λ q. q.items) queues.new.items) at []
+        ≡ slice_index_or (map (λ q. q.items) queues.old.items) at [] ++ event ∷ []) }
+    ensures others { OnOk result ((r : ℕ) → (r ≡ at → ⊥)
+        → slice_index_or (map (λ q. q.items) queues.new.items) r []
+        ≡ slice_index_or (map (λ q. q.items) queues.old.items) r []) }
 {
     queues[at].push(event)?;
     Ok(())
@@ -38,7 +41,8 @@ fn deal_own(
     requires some { 0 < length queues.old.items }
     requires few { length queues.old.items ≤ 64 }
     ensures long { length queues.new.items ≡ length queues.old.items }
-    ensures queued { OnOk result (AreQueued number (events.Own place moment event) (map (λ q. q.items) queues.old.items) (map (λ q. q.items) queues.new.items)) }
+    ensures queued { OnOk result (AreQueued number (events.Own place moment event)
+        (map (λ q. q.items) queues.old.items) (map (λ q. q.items) queues.new.items)) }
 {
     let shards = queues.len() as u32;
     let shard = place % shards;
@@ -53,7 +57,8 @@ fn deal_own(
 /// Deals out a tick, which is an event of every shard.
 fn deal_tick(queues: &mut Vec<Vec<Numbered>>, number: u64, tick: Tick) -> Result<(), AllocError>
     ensures long { length queues.new.items ≡ length queues.old.items }
-    ensures queued { OnOk result (AreQueued number (events.Tick tick) (map (λ q. q.items) queues.old.items) (map (λ q. q.items) queues.new.items)) }
+    ensures queued { OnOk result (AreQueued number (events.Tick tick) (map (λ q. q.items) queues.old.items)
+        (map (λ q. q.items) queues.new.items)) }
 {
     for shard in 0..queues.len() {
         let event = ShardEvent::Tick(tick);
@@ -72,7 +77,8 @@ pub fn queue_event(
     requires some { 0 < length queues.old.items }
     requires few { length queues.old.items ≤ 64 }
     ensures long { length queues.new.items ≡ length queues.old.items }
-    ensures queued { OnOk result (AreQueued number event (map (λ q. q.items) queues.old.items) (map (λ q. q.items) queues.new.items)) }
+    ensures queued { OnOk result (AreQueued number event (map (λ q. q.items) queues.old.items)
+        (map (λ q. q.items) queues.new.items)) }
 {
     match event {
         ShardEvent::Own {

@@ -27,12 +27,16 @@ pub struct Gathered {
 /// The report of a replay of so many events, of the parts of its shards and, last, of what was told of events of no session:
 /// it is what the whole table would tell, whatever the number of shards. The one refusal is want of memory.
 pub fn report(alloc: Global, parts: Vec<Part>, events: u64) -> Result<Gathered, AllocError>
-    ensures text { (shards last : ℕ) (happenings : List Happening) (sessions : List Running) → length happenings ≡ events
-        → AreParts shards 1 last happenings sessions parts.items → IfOk result (λ report. report.text.items ≡ script.report (outcomes last happenings sessions)) }
+    ensures text { (shards last : ℕ) (happenings : List Happening) (sessions : List Running)
+        → length happenings ≡ events
+        → AreParts shards 1 last happenings sessions parts.items
+        → IfOk result (λ report. report.text.items ≡ script.report (outcomes last happenings sessions)) }
     ensures txs { (shards last : ℕ) (happenings : List Happening) (sessions : List Running)
-        → AreParts shards 1 last happenings sessions parts.items → IfOk result (λ report. report.txs ≡ sum_by script.sent (outcomes last happenings sessions)) }
+        → AreParts shards 1 last happenings sessions parts.items
+        → IfOk result (λ report. report.txs ≡ sum_by script.sent (outcomes last happenings sessions)) }
     ensures drops { (shards last : ℕ) (happenings : List Happening) (sessions : List Running)
-        → AreParts shards 1 last happenings sessions parts.items → IfOk result (λ report. report.drops ≡ sum_by script.dropped (outcomes last happenings sessions)) }
+        → AreParts shards 1 last happenings sessions parts.items
+        → IfOk result (λ report. report.drops ≡ sum_by script.dropped (outcomes last happenings sessions)) }
 {
     let mut parts = parts;
     let mut text = Vec::new(alloc);

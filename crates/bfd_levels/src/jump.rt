@@ -52,7 +52,8 @@ fn settle<L: Ledger>(
     requires later { now ≤ t }
     requires above { (j : ℕ) → j < length dues.now → slice_index dues.now j ≢ never → t < slice_index dues.now j }
     requires placed { IsPlaced (length dues.now) 1026 (at_jump (length dues.now) now t id dues.now) dues.now nodes.old }
-    ensures placed { IsPlaced (length dues.now) 1026 (at_jump (length dues.now) now t (id + 1) dues.now) dues.now nodes.new }
+    ensures placed { IsPlaced (length dues.now) 1026 (at_jump (length dues.now) now t (id + 1) dues.now)
+        dues.now nodes.new }
     ensures cost { steps.new + loads (length dues.now) (at_jump (length dues.now) now t (id + 1) dues.now) dues.now
         ≤ steps.old + 2 + loads (length dues.now) (at_jump (length dues.now) now t id dues.now) dues.now }
 {

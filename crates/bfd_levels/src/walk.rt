@@ -62,12 +62,14 @@ pub(crate) fn walk<L: Ledger>(
 )
     requires placed { IsPlaced (length dues.old) 1026 (at_midway (length dues.old) before tick level dues.old) dues.old
         nodes.old }
-    requires down { (due : ℕ) → t < due → midway (length dues.old) before tick level due ≡ slot (length dues.old) tick level
+    requires down { (due : ℕ) → t < due
+        → midway (length dues.old) before tick level due ≡ slot (length dues.old) tick level
         → GoesDown (length dues.old) tick due (slot (length dues.old) tick level) }
     requires level { level ≤ 5 }
     requires t { t < never }
     requires room { waiting t dues.old ≤ out.old.spare }
-    ensures placed { IsPlaced (length dues.old) 1026 (at_midway (length dues.old) before tick (level + 1) dues.new) dues.new
+    ensures placed { IsPlaced (length dues.old) 1026 (at_midway (length dues.old) before tick (level + 1) dues.new)
+        dues.new
         nodes.new }
     ensures took { Took t dues.old dues.new out.old.items out.new.items }
     ensures left { (j : ℕ) → j < length dues.old → slice_index dues.new j ≢ never
@@ -75,7 +77,8 @@ pub(crate) fn walk<L: Ledger>(
         → t < slice_index dues.new j }
     ensures room { room_of out.new ≡ room_of out.old }
     ensures spare { waiting t dues.new ≤ out.new.spare }
-    ensures cost { steps.new + loads (length dues.old) (at_midway (length dues.old) before tick (level + 1) dues.new) dues.new
+    ensures cost { steps.new + loads (length dues.old) (at_midway (length dues.old) before tick (level + 1) dues.new)
+        dues.new
         ≤ steps.old + 1 + loads (length dues.old) (at_midway (length dues.old) before tick level dues.old) dues.old }
     ensures looks { steps.old < steps.new }
 {

@@ -117,7 +117,8 @@ fn received_of(
     iface: &[u8],
     rest: &[&[u8]],
 ) -> Result<Line, ReadFault>
-    ensures value { Gives (λ line. Event line) result (received_of moment.now port.now iface.now (map (λ value. value.now) rest.now)) }
+    ensures value { Gives (λ line. Event line)
+        result (received_of moment.now port.now iface.now (map (λ value. value.now) rest.now)) }
     ensures sound { IfOk result IsEvent }
 {
     let moment = number(moment, 0, MOMENT_BOUND - 1)?;
@@ -198,7 +199,8 @@ fn read_plain(
     discr: &[u8],
     verb: &[u8],
 ) -> Result<Entry, LineFault>
-    ensures value { result ≡ (if fits (verb_of version verb.now) false then plain_of version moment.now discr.now verb.now else Err FieldCount) }
+    ensures value { result ≡ (if fits (verb_of version verb.now) false
+        then plain_of version moment.now discr.now verb.now else Err FieldCount) }
     ensures sound { IfOk result IsEntry }
 {
     if !may_fit(verb_named(version, verb), false) {
@@ -215,7 +217,8 @@ fn read_numbered(
     verb: &[u8],
     n: &[u8],
 ) -> Result<Entry, LineFault>
-    ensures value { result ≡ (if fits (verb_of version verb.now) true then numbered_of version moment.now discr.now verb.now n.now else Err FieldCount) }
+    ensures value { result ≡ (if fits (verb_of version verb.now) true
+        then numbered_of version moment.now discr.now verb.now n.now else Err FieldCount) }
     ensures sound { IfOk result IsEntry }
 {
     if !may_fit(verb_named(version, verb), true) {

@@ -21,7 +21,8 @@ fn initiator(
     mult: &[u8],
     seed: &[u8],
 ) -> Result<SessionConfig, LineFault>
-    ensures value { result ≡ lines.initiator_of discr.now target.now iface.now local.now remote.now tx.now mult.now seed.now }
+    ensures value { result
+        ≡ lines.initiator_of discr.now target.now iface.now local.now remote.now tx.now mult.now seed.now }
     ensures sound { IfOk result (λ c. IsFit c × IsRow c) }
 {
     let discr = number(discr, 1, 4_294_967_295)? as u32;

@@ -138,7 +138,8 @@ fn hear_one(alloc: Global, t: u32, i: u32, events: &mut Vec<Line>) -> Result<(),
     requires some { 0 < t }
     requires session { i ≤ 5000 }
     requires place { t % 300 ≡ i % 300 }
-    ensures { OnOk result (events.new.items ≡ events.old.items ++ map (load.packet t) (filter (load.hears t) (i ∷ []))) }
+    ensures { OnOk result (events.new.items
+        ≡ events.old.items ++ map (load.packet t) (filter (load.hears t) (i ∷ []))) }
 {
     if is_silent(i, earlier(t)) {
         return Ok(());

@@ -153,7 +153,8 @@ pub fn commands_head(
     requires steady { IsHeadSteady vars.old }
     requires room { 0 < outs.old.spare }
     ensures steady { IsHeadSteady vars.new }
-    ensures course { (m : Mark) → course vars.new m outs.new.items ≡ commands.head_commanded config.now cmd.now (course vars.old m outs.old.items) }
+    ensures course { (m : Mark) → course vars.new m outs.new.items
+        ≡ commands.head_commanded config.now cmd.now (course vars.old m outs.old.items) }
     ensures refusal { result_err result ≡ commands.head_refusal vars.old cmd.now }
     ensures spare { outs.old.spare ≤ outs.new.spare + 1 }
     ensures room { outs.new.room ≡ outs.old.room }
@@ -177,7 +178,8 @@ pub fn commands_tail(
     requires sound { IsTailSound config.now vars.old }
     requires room { 0 < outs.old.spare }
     ensures sound { IsTailSound config.now vars.new }
-    ensures course { (m : Mark) → course vars.new m outs.new.items ≡ commands.tail_commanded config.now cmd.now (course vars.old m outs.old.items) }
+    ensures course { (m : Mark) → course vars.new m outs.new.items
+        ≡ commands.tail_commanded config.now cmd.now (course vars.old m outs.old.items) }
     ensures refusal { result_err result ≡ commands.tail_refusal vars.old cmd.now }
     ensures spare { outs.old.spare ≤ outs.new.spare + 1 }
     ensures room { outs.new.room ≡ outs.old.room }

@@ -33,7 +33,8 @@ pub fn settle(config: &TailConfig, limit: u64, vars: &mut Vars, outs: &mut Outs)
     requires sound { IsTailSound config.now vars.old }
     requires room { 0 < outs.old.spare }
     ensures sound { IsTailSound config.now vars.new }
-    ensures course { (m : Mark) → course vars.new m outs.new.items ≡ settling.settle config.now limit (course vars.old m outs.old.items) }
+    ensures course { (m : Mark) → course vars.new m outs.new.items
+        ≡ settling.settle config.now limit (course vars.old m outs.old.items) }
     ensures late { due.has_come limit (deadline_of vars.new) ≡ false }
     ensures spare { outs.old.spare ≤ outs.new.spare + 1 }
     ensures room { outs.new.room ≡ outs.old.room }

@@ -29,7 +29,8 @@ fn extra(config: &HeadConfig, eff: u64, vars: &mut Vars, mark: &mut Mark, outs: 
     requires eff { eff < moment_bound }
     requires room { 0 < outs.old.spare }
     ensures steady { IsHeadSteady vars.new }
-    ensures course { course vars.new mark.new outs.new.items ≡ finishing.extra config.now eff (course vars.old mark.old outs.old.items) }
+    ensures course { course vars.new mark.new outs.new.items
+        ≡ finishing.extra config.now eff (course vars.old mark.old outs.old.items) }
     ensures based { (mark.old.moved ≡ true → vars.old.base ≡ eff) → mark.new.moved ≡ true → vars.new.base ≡ eff }
     ensures vars_rest { mark.new.moved ≡ false → vars.new ≡ vars.old }
     ensures mark_rests { mark.new.moved ≡ false → mark.new ≡ mark.old }
@@ -50,7 +51,8 @@ pub fn finish(config: &HeadConfig, eff: u64, vars: &mut Vars, mark: Mark, outs: 
     requires eff { eff < moment_bound }
     requires room { 0 < outs.old.spare }
     ensures sound { IsHeadSound vars.new }
-    ensures due_later { (limit : ℕ) → limit ≤ eff → IsSettled limit eff mark vars.old → has_come (floor_tick limit) vars.new.tx_due ≡ false }
+    ensures due_later { (limit : ℕ) → limit ≤ eff → IsSettled limit eff mark vars.old
+        → has_come (floor_tick limit) vars.new.tx_due ≡ false }
     ensures vars { vars.new ≡ (finishing.finish config.now eff (course vars.old mark outs.old.items)).vars }
     ensures outs { outs.new.items ≡ (finishing.finish config.now eff (course vars.old mark outs.old.items)).outs }
     ensures spare { outs.old.spare ≤ outs.new.spare + 1 }

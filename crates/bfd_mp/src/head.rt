@@ -183,10 +183,13 @@ impl Head {
         requires eff { eff < moment_bound }
         requires room { 1 ≤ outs.old.spare }
         ensures config { self.new.config ≡ self.old.config }
-        ensures vars { self.new.vars ≡ (finishing.finish self.old.config eff (course self.old.vars mark outs.old.items)).vars }
-        ensures outs { outs.new.items ≡ (finishing.finish self.old.config eff (course self.old.vars mark outs.old.items)).outs }
+        ensures vars { self.new.vars ≡ (finishing.finish self.old.config eff
+            (course self.old.vars mark outs.old.items)).vars }
+        ensures outs { outs.new.items ≡ (finishing.finish self.old.config eff
+            (course self.old.vars mark outs.old.items)).outs }
         ensures sound { IsHeadSound self.new.vars }
-        ensures over { (limit : ℕ) → limit ≤ eff → IsSettled limit eff mark self.old.vars → IsHeadOver limit self.new.vars }
+        ensures over { (limit : ℕ) → limit ≤ eff → IsSettled limit eff mark self.old.vars
+            → IsHeadOver limit self.new.vars }
         ensures spare { outs.old.spare ≤ outs.new.spare + 1 }
         ensures room { outs.new.room ≡ outs.old.room }
     {

@@ -34,7 +34,8 @@ fn periodic_packet(config: &HeadConfig, eff: u64, vars: &mut Vars, mark: &mut Ma
     requires eff { eff < moment_bound }
     requires room { 0 < outs.old.spare }
     ensures steady { IsHeadSteady vars.new }
-    ensures course { course vars.new mark.new outs.new.items ≡ settling.periodic_packet config.now eff (course vars.old mark.old outs.old.items) }
+    ensures course { course vars.new mark.new outs.new.items
+        ≡ settling.periodic_packet config.now eff (course vars.old mark.old outs.old.items) }
     ensures base { vars.new.base ≡ eff }
     ensures moved { mark.new.moved ≡ true }
     ensures answered { mark.new.answered ≡ mark.old.answered }
@@ -61,7 +62,8 @@ pub fn settle(
     requires eff { eff < moment_bound }
     requires room { 0 < outs.old.spare }
     ensures steady { IsHeadSteady vars.new }
-    ensures course { course vars.new mark.new outs.new.items ≡ settling.settle config.now limit eff (course vars.old mark.old outs.old.items) }
+    ensures course { course vars.new mark.new outs.new.items
+        ≡ settling.settle config.now limit eff (course vars.old mark.old outs.old.items) }
     ensures answered { mark.new.answered ≡ mark.old.answered }
     ensures based { mark.old.moved ≡ false → mark.new.moved ≡ true → vars.new.base ≡ eff }
     ensures still { IsBegun limit eff mark.old vars.old → mark.new.moved ≡ false → IsStill limit mark.new vars.new }

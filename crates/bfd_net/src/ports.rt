@@ -90,7 +90,8 @@ fn socket_of(net: &impl Net, hears: Option<(Port, u32)>) -> io::Result<UdpSocket
 impl<R: Net + Clock + Copy> UdpPorts<R> {
     /// The link of this number over a socket of its own.
     fn link(&self, number: u32) -> Option<UdpLink<R>>
-        ensures made { IfSome result (λ link. link ≡ record { hears = hears_of number; quiets = 0; counts = no_counts }) }
+        ensures made { IfSome result (λ link. link
+            ≡ record { hears = hears_of number; quiets = 0; counts = no_counts }) }
         ensures above { 1275 < number → IsNone result }
     {
         if number > LAST_LINK {

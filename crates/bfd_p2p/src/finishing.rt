@@ -18,7 +18,8 @@ fn extra(config: &Config, eff: u64, vars: &mut Vars, mark: &mut Mark, outs: &mut
     requires eff { eff < moment_bound }
     requires room { mark.old.answered ≡ false → 0 < outs.old.spare }
     ensures steady { IsSteady config.now vars.new }
-    ensures course { course vars.new mark.new outs.new.items ≡ finishing.extra config.now eff (course vars.old mark.old outs.old.items) }
+    ensures course { course vars.new mark.new outs.new.items
+        ≡ finishing.extra config.now eff (course vars.old mark.old outs.old.items) }
     ensures same { vars.new ≡ record vars.old { seq = vars.new.seq; base = vars.new.base } }
     ensures based { (mark.old.moved ≡ true → vars.old.base ≡ eff) → mark.new.moved ≡ true → vars.new.base ≡ eff }
     ensures rests { mark.new.moved ≡ false → mark.new ≡ mark.old }
@@ -42,8 +43,10 @@ pub fn finish(config: &Config, eff: u64, vars: &mut Vars, mark: Mark, outs: &mut
     requires eff { eff < moment_bound }
     requires room { mark.answered ≡ false → 0 < outs.old.spare }
     ensures sound { IsSound config.now vars.new }
-    ensures late { (limit : ℕ) → has_come limit (deadline vars.old) ≡ false → has_come limit (deadline vars.new) ≡ false }
-    ensures seq_late { (limit : ℕ) → has_come limit (seq_deadline vars.old) ≡ false → has_come limit (seq_deadline vars.new) ≡ false }
+    ensures late { (limit : ℕ) → has_come limit (deadline vars.old) ≡ false
+        → has_come limit (deadline vars.new) ≡ false }
+    ensures seq_late { (limit : ℕ) → has_come limit (seq_deadline vars.old) ≡ false
+        → has_come limit (seq_deadline vars.new) ≡ false }
     ensures due_later { (limit : ℕ) → limit ≤ eff → IsSettled config.now.active limit eff mark vars.old
         → has_come (floor_tick limit) vars.new.tx_due ≡ false }
     ensures vars { vars.new ≡ (finishing.finish config.now eff (course vars.old mark outs.old.items)).vars }

@@ -47,7 +47,8 @@ pub fn moves(config: &Config, eff: u64, after: Vars, vars: &mut Vars, outs: &mut
     ensures heard { is_some vars.new.heard ≡ is_some after.heard }
     ensures idle { IsRenewed after → adv_tx after ≡ adv_tx vars.old → after.rx ≡ vars.old.rx
         → demand_here after ≡ demand_here vars.old → vars.new ≡ after }
-    ensures course { (m : Mark) → course vars.new m outs.new.items ≡ frame.moves config.now.discr eff after (course vars.old m outs.old.items) }
+    ensures course { (m : Mark) → course vars.new m outs.new.items
+        ≡ frame.moves config.now.discr eff after (course vars.old m outs.old.items) }
     ensures spare { outs.old.spare ≤ outs.new.spare + 1 }
     ensures room { outs.new.room ≡ outs.old.room }
 {

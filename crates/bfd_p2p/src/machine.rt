@@ -246,7 +246,8 @@ impl P2p {
         requires room { 1 ≤ outs.old.spare }
         ensures config { self.new.config ≡ self.old.config }
         ensures course { course self.new.vars mark.new outs.new.items
-            ≡ moves_of self.old.config.discr eff (machine.failed diag self.old.vars) (course self.old.vars mark.old outs.old.items) }
+            ≡ moves_of self.old.config.discr eff (machine.failed diag self.old.vars)
+            (course self.old.vars mark.old outs.old.items) }
         ensures settled { (limit : ℕ) → limit ≤ eff → IsSettled self.old.config.active limit eff mark.old self.old.vars
             → IsSettled self.old.config.active limit eff mark.new self.new.vars }
         ensures spare { outs.old.spare ≤ outs.new.spare + 1 }
@@ -263,8 +264,10 @@ impl P2p {
         requires eff { eff < moment_bound }
         requires room { mark.answered ≡ false → 1 ≤ outs.old.spare }
         ensures config { self.new.config ≡ self.old.config }
-        ensures vars { self.new.vars ≡ (finishing.finish self.old.config eff (course self.old.vars mark outs.old.items)).vars }
-        ensures outs { outs.new.items ≡ (finishing.finish self.old.config eff (course self.old.vars mark outs.old.items)).outs }
+        ensures vars { self.new.vars ≡ (finishing.finish self.old.config eff
+            (course self.old.vars mark outs.old.items)).vars }
+        ensures outs { outs.new.items ≡ (finishing.finish self.old.config eff
+            (course self.old.vars mark outs.old.items)).outs }
         ensures sound { IsSound self.new.config self.new.vars }
         ensures over { (limit : ℕ) → limit ≤ eff → IsSettled self.old.config.active limit eff mark self.old.vars
             → IsOver limit self.new.vars }

@@ -88,7 +88,8 @@ fn keeps_sequence(config: &Config, eff: u64, seq: SeqState, vars: &mut Vars)
     ensures plain { IsPlain config.now vars.new }
     ensures renewed { IsRenewed vars.new }
     ensures state { vars.new.state ≡ vars.old.state }
-    ensures course { (m : MarkOf) (os : List Out) → course vars.new m os ≡ receive.keeps_sequence config.now eff seq (course vars.old m os) }
+    ensures course { (m : MarkOf) (os : List Out)
+        → course vars.new m os ≡ receive.keeps_sequence config.now eff seq (course vars.old m os) }
 {
     vars.seq = seq;
     if has_sequence(&config.keys) {
@@ -130,7 +131,8 @@ fn keeps_fields(config: &Config, eff: u64, packet: &Control, vars: &mut Vars)
     ensures steady { IsSteady config.now vars.new }
     ensures state { vars.new.state ≡ vars.old.state }
     ensures heard { IsSome vars.new.heard }
-    ensures course { (m : MarkOf) (os : List Out) → course vars.new m os ≡ receive.keeps_fields eff packet.now (course vars.old m os) }
+    ensures course { (m : MarkOf) (os : List Out)
+        → course vars.new m os ≡ receive.keeps_fields eff packet.now (course vars.old m os) }
 {
     if !vars.demand {
         return hears(eff, packet, vars);
@@ -158,7 +160,8 @@ fn ends_poll(config: &Config, eff: u64, packet: &Control, vars: &mut Vars)
     ensures steady { IsSteady config.now vars.new }
     ensures state { vars.new.state ≡ vars.old.state }
     ensures heard { IsSome vars.old.heard → IsSome vars.new.heard }
-    ensures course { (m : MarkOf) (os : List Out) → course vars.new m os ≡ receive.ends_poll eff packet.now (course vars.old m os) }
+    ensures course { (m : MarkOf) (os : List Out)
+        → course vars.new m os ≡ receive.ends_poll eff packet.now (course vars.old m os) }
 {
     if packet.fin {
         let after = Vars {
@@ -179,7 +182,8 @@ fn keeps(config: &Config, eff: u64, packet: &Control, seq: SeqState, vars: &mut 
     ensures steady { IsSteady config.now vars.new }
     ensures state { vars.new.state ≡ vars.old.state }
     ensures heard { IsSome vars.new.heard }
-    ensures course { (m : MarkOf) (os : List Out) → course vars.new m os ≡ receive.kept config.now eff packet.now seq (course vars.old m os) }
+    ensures course { (m : MarkOf) (os : List Out)
+        → course vars.new m os ≡ receive.kept config.now eff packet.now seq (course vars.old m os) }
 {
     keeps_sequence(config, eff, seq, vars);
     keeps_fields(config, eff, packet, vars);
@@ -241,7 +245,8 @@ fn answers(config: &Config, packet: &Control, vars: &mut Vars, mark: &mut Mark, 
     requires steady { IsSteady config.now vars.old }
     requires room { 0 < outs.old.spare }
     ensures steady { IsSteady config.now vars.new }
-    ensures course { course vars.new mark.new outs.new.items ≡ receive.answers config.now packet.now (course vars.old mark.old outs.old.items) }
+    ensures course { course vars.new mark.new outs.new.items
+        ≡ receive.answers config.now packet.now (course vars.old mark.old outs.old.items) }
     ensures unanswered { mark.new.answered ≡ false → outs.new.spare ≡ outs.old.spare }
     ensures spare { outs.old.spare ≤ outs.new.spare + 1 }
     ensures room { outs.new.room ≡ outs.old.room }

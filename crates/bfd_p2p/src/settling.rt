@@ -44,12 +44,14 @@ fn detection(config: &Config, limit: u64, eff: u64, vars: &mut Vars, outs: &mut 
     requires eff { eff < moment_bound }
     requires room { 0 < outs.old.spare }
     ensures steady { IsSteady config.now vars.new }
-    ensures course { (m : MarkOf) → course vars.new m outs.new.items ≡ settling.detection config.now limit eff (course vars.old m outs.old.items) }
+    ensures course { (m : MarkOf) → course vars.new m outs.new.items
+        ≡ settling.detection config.now limit eff (course vars.old m outs.old.items) }
     ensures late { due.has_come limit (deadline_of vars.new) ≡ false }
     ensures not_up { vars.new.state ≡ Up → vars.new.state ≡ vars.old.state }
     ensures calm { vars.new.state ≡ vars.old.state
         → vars.new ≡ record vars.old { heard = vars.new.heard; remote_discr = vars.new.remote_discr } }
-    ensures sends { vars.new.state ≡ vars.old.state → may_send_of config.now.active vars.new ≡ true → may_send_of config.now.active vars.old ≡ true }
+    ensures sends { vars.new.state ≡ vars.old.state → may_send_of config.now.active vars.new ≡ true
+        → may_send_of config.now.active vars.old ≡ true }
     ensures spare { outs.old.spare ≤ outs.new.spare + 1 }
     ensures room { outs.new.room ≡ outs.old.room }
 {
@@ -82,7 +84,8 @@ fn sequence(config: &Config, limit: u64, eff: u64, vars: &mut Vars)
     requires steady { IsSteady config.now vars.old }
     requires eff { eff < moment_bound }
     ensures steady { IsSteady config.now vars.new }
-    ensures course { (m : MarkOf) (os : List Out) → course vars.new m os ≡ settling.sequence limit eff (course vars.old m os) }
+    ensures course { (m : MarkOf) (os : List Out)
+        → course vars.new m os ≡ settling.sequence limit eff (course vars.old m os) }
     ensures same { vars.new ≡ record vars.old { seq = vars.new.seq; seq_heard = vars.new.seq_heard } }
     ensures seq_late { due.has_come limit (seq_deadline_of vars.new) ≡ false }
 {
@@ -111,10 +114,12 @@ fn told(eff: u64, seq: SeqState, v: &mut Vars)
     ensures plain { (c : ConfigOf) → IsPlain c v.old → IsPlain c v.new }
     ensures renewed { IsRenewed v.old → IsRenewed v.new }
     ensures peer { HasPeerMult v.old → HasPeerMult v.new }
-    ensures late { (limit : ℕ) → limit ≤ eff → due.has_come limit (deadline_of v.old) ≡ false → due.has_come limit (deadline_of v.new) ≡ false }
+    ensures late { (limit : ℕ) → limit ≤ eff → due.has_come limit (deadline_of v.old) ≡ false
+        → due.has_come limit (deadline_of v.new) ≡ false }
     ensures seq_same { seq_deadline_of v.new ≡ seq_deadline_of v.old }
     ensures course { (m : MarkOf) (os : List Out) → IsRenewed v.old → course v.new m os
-        ≡ renews_of eff (record v.old { seq = seq; poll = settling.poll_sent eff v.old.poll; base = eff }) (course v.old m os) }
+        ≡ renews_of eff (record v.old { seq = seq; poll = settling.poll_sent eff v.old.poll; base = eff })
+        (course v.old m os) }
 {
     v.seq = seq;
     v.poll = poll_sent(eff, v.poll);
@@ -128,13 +133,15 @@ fn periodic_packet(config: &Config, eff: u64, vars: &mut Vars, mark: &mut Mark, 
     requires eff { eff < moment_bound }
     requires room { 0 < outs.old.spare }
     ensures steady { IsSteady config.now vars.new }
-    ensures course { course vars.new mark.new outs.new.items ≡ settling.periodic_packet config.now eff (course vars.old mark.old outs.old.items) }
+    ensures course { course vars.new mark.new outs.new.items
+        ≡ settling.periodic_packet config.now eff (course vars.old mark.old outs.old.items) }
     ensures moved { mark.new.moved ≡ true }
     ensures answered { mark.new.answered ≡ mark.old.answered }
     ensures base { vars.new.base ≡ eff }
     ensures state { vars.new.state ≡ vars.old.state }
     ensures told { mark.new.state ≡ vars.new.state }
-    ensures late { (limit : ℕ) → limit ≤ eff → due.has_come limit (deadline_of vars.old) ≡ false → due.has_come limit (deadline_of vars.new) ≡ false }
+    ensures late { (limit : ℕ) → limit ≤ eff → due.has_come limit (deadline_of vars.old) ≡ false
+        → due.has_come limit (deadline_of vars.new) ≡ false }
     ensures seq_same { seq_deadline_of vars.new ≡ seq_deadline_of vars.old }
     ensures spare { outs.old.spare ≤ outs.new.spare + 1 }
     ensures room { outs.new.room ≡ outs.old.room }
@@ -159,9 +166,11 @@ fn periodic(
     requires eff { eff < moment_bound }
     requires room { 0 < outs.old.spare }
     ensures steady { IsSteady config.now vars.new }
-    ensures course { course vars.new mark.new outs.new.items ≡ settling.periodic config.now limit eff (course vars.old mark.old outs.old.items) }
+    ensures course { course vars.new mark.new outs.new.items
+        ≡ settling.periodic config.now limit eff (course vars.old mark.old outs.old.items) }
     ensures answered { mark.new.answered ≡ mark.old.answered }
-    ensures late { limit ≤ eff → due.has_come limit (deadline_of vars.old) ≡ false → due.has_come limit (deadline_of vars.new) ≡ false }
+    ensures late { limit ≤ eff → due.has_come limit (deadline_of vars.old) ≡ false
+        → due.has_come limit (deadline_of vars.new) ≡ false }
     ensures seq_same { seq_deadline_of vars.new ≡ seq_deadline_of vars.old }
     ensures based { mark.old.moved ≡ false → mark.new.moved ≡ true → vars.new.base ≡ eff }
     ensures state { vars.new.state ≡ vars.old.state }
@@ -192,13 +201,15 @@ pub fn settle(
     requires eff { eff < moment_bound }
     requires room { 1 < outs.old.spare }
     ensures steady { IsSteady config.now vars.new }
-    ensures course { course vars.new mark.new outs.new.items ≡ settling.settle config.now limit eff (course vars.old mark.old outs.old.items) }
+    ensures course { course vars.new mark.new outs.new.items
+        ≡ settling.settle config.now limit eff (course vars.old mark.old outs.old.items) }
     ensures late { limit ≤ eff → due.has_come limit (deadline_of vars.new) ≡ false }
     ensures seq_late { due.has_come limit (seq_deadline_of vars.new) ≡ false }
     ensures answered { mark.new.answered ≡ mark.old.answered }
     ensures based { mark.old.moved ≡ false → mark.new.moved ≡ true → vars.new.base ≡ eff }
     ensures up_before { IsBegun config.now limit eff mark.old vars.old → vars.new.state ≡ Up → mark.new.state ≡ Up }
-    ensures still { IsBegun config.now limit eff mark.old vars.old → mark.new.moved ≡ false → is_news mark.new vars.new ≡ false
+    ensures still { IsBegun config.now limit eff mark.old vars.old → mark.new.moved ≡ false
+        → is_news mark.new vars.new ≡ false
         → may_send_of config.now.active vars.new ≡ true → IsStill limit mark.new vars.new }
     ensures spare { outs.old.spare ≤ outs.new.spare + 2 }
     ensures room { outs.new.room ≡ outs.old.room }

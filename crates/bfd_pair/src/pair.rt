@@ -102,10 +102,12 @@ fn happen(
     ensures left { IsPeer left.new }
     ensures right { IsPeer right.new }
     ensures last { IfOk result (λ r. r.0 ≤ greatest_tick) }
-    ensures both { IfOk result (λ r. both_of left.new right.new r.0 ≡ (turn event.now (both_of left.old right.old last)).both) }
+    ensures both { IfOk result (λ r. both_of left.new right.new r.0
+        ≡ (turn event.now (both_of left.old right.old last)).both) }
     ensures answer { IfOk result (λ r. r.1 ≡ (turn event.now (both_of left.old right.old last)).answer) }
     ensures outs { OnOk result (outs.new.items ≡ outs.old.items
-        ++ ((turn event.now (both_of left.old right.old last)).left_items ++ (turn event.now (both_of left.old right.old last)).right_items)) }
+        ++ ((turn event.now (both_of left.old right.old last)).left_items
+        ++ (turn event.now (both_of left.old right.old last)).right_items)) }
     ensures same_left { OnErr result (left.new ≡ left.old) }
     ensures same_right { OnErr result (right.new ≡ right.old) }
     ensures same_outs { OnErr result (outs.new ≡ outs.old) }
@@ -183,7 +185,8 @@ impl Pair {
     pub fn step(&mut self, event: PairEvent, outs: &mut Outs) -> Result<PairAnswer, AllocError>
         requires room { 10 ≤ outs.old.spare }
         ensures past { OnOk result (self.new ≡ record self.old { past = self.old.past ++ event ∷ [] }) }
-        ensures answer { IfOk result (λ a. a ≡ (turn event (pair_run self.old.left self.old.right self.old.past)).answer) }
+        ensures answer { IfOk result (λ a. a
+            ≡ (turn event (pair_run self.old.left self.old.right self.old.past)).answer) }
         ensures outs { let t : Turn = turn event (pair_run self.old.left self.old.right self.old.past) in
             OnOk result (outs.new.items ≡ outs.old.items ++ (t.left_items ++ t.right_items)) }
         ensures same { OnErr result (self.new ≡ self.old) }

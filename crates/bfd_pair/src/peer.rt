@@ -212,7 +212,8 @@ fn receive(peer: &mut Peer, last: u64, moment: u64, arrival: Arrival, outs: &mut
 
 /// The packet of this number, the first being 1.
 fn packet(sent: &[Wire], number: u64) -> Option<&Wire>
-    ensures { MatchOption result (packet_at number sent.now ≡ None) (λ wire. packet_at number sent.now ≡ Some wire.now) }
+    ensures { MatchOption result (packet_at number sent.now ≡ None)
+        (λ wire. packet_at number sent.now ≡ Some wire.now) }
 {
     if number == 0 {
         return None;
@@ -238,7 +239,8 @@ pub(crate) fn give(
     requires more { vec_len peer.old.sent + 5 ≤ vec_capacity peer.old.sent }
     ensures peer { IsPeer peer.new }
     ensures seen { OnOk result (seen peer.new ≡ (run.gives number sent.now moment last (seen peer.old)).end) }
-    ensures outs { OnOk result (outs.new.items ≡ outs.old.items ++ (run.gives number sent.now moment last (seen peer.old)).items) }
+    ensures outs { OnOk result (outs.new.items
+        ≡ outs.old.items ++ (run.gives number sent.now moment last (seen peer.old)).items) }
     ensures answer { IfOk result (λ a. a ≡ (run.gives number sent.now moment last (seen peer.old)).answer) }
     ensures same_peer { OnErr result (peer.new ≡ peer.old) }
     ensures same_outs { OnErr result (outs.new ≡ outs.old) }

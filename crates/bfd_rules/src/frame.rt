@@ -56,7 +56,8 @@ pub fn enters(state: State, diag: u8, v: Vars) -> Vars
 pub fn changes(discr: u32, after: Vars, vars: &mut Vars, outs: &mut Outs)
     requires { 0 < outs.old.spare }
     ensures vars { vars.new ≡ after }
-    ensures course { (m : Mark) → course vars.new m outs.new.items ≡ frame.changes discr after (course vars.old m outs.old.items) }
+    ensures course { (m : Mark) → course vars.new m outs.new.items
+        ≡ frame.changes discr after (course vars.old m outs.old.items) }
     ensures spare { outs.old.spare ≤ outs.new.spare + 1 }
     ensures room { outs.new.room ≡ outs.old.room }
 {
@@ -75,7 +76,8 @@ pub fn changes(discr: u32, after: Vars, vars: &mut Vars, outs: &mut Outs)
 #[tactic(auto, unfolding(crate::specs::EventFrame::sends))]
 pub fn sends(discr: u32, datagram: Datagram, outs: &mut Outs)
     requires { 0 < outs.old.spare }
-    ensures course { (v : Vars) (m : Mark) → course v m outs.new.items ≡ frame.sends discr datagram (course v m outs.old.items) }
+    ensures course { (v : Vars) (m : Mark)
+        → course v m outs.new.items ≡ frame.sends discr datagram (course v m outs.old.items) }
     ensures spare { outs.old.spare ≤ outs.new.spare + 1 }
     ensures room { outs.new.room ≡ outs.old.room }
 {
@@ -128,7 +130,8 @@ pub fn draw(active: bool, mark: &Mark, v: &mut Vars)
     ensures rest { v.new ≡ record v.old { tx_due = v.new.tx_due; j = v.new.j } }
     ensures silent { may_send_of active v.old ≡ false → v.new.tx_due ≡ None }
     ensures kept { frame.draws mark.now v.old ≡ false → may_send_of active v.old ≡ true → v.new.tx_due ≡ v.old.tx_due }
-    ensures later { (m : ℕ) → m ≤ v.old.base → frame.draws mark.now v.old ≡ true → has_come (floor_tick m) v.new.tx_due ≡ false }
+    ensures later { (m : ℕ) → m ≤ v.old.base → frame.draws mark.now v.old ≡ true
+        → has_come (floor_tick m) v.new.tx_due ≡ false }
 {
     if !may_send(active, v) {
         v.tx_due = None;
@@ -150,7 +153,8 @@ pub fn drawn(active: bool, mark: &Mark, v: Vars) -> Vars
     ensures rest { result ≡ record v { tx_due = result.tx_due; j = result.j } }
     ensures silent { may_send_of active v ≡ false → result.tx_due ≡ None }
     ensures kept { frame.draws mark.now v ≡ false → may_send_of active v ≡ true → result.tx_due ≡ v.tx_due }
-    ensures later { (m : ℕ) → m ≤ v.base → frame.draws mark.now v ≡ true → has_come (floor_tick m) result.tx_due ≡ false }
+    ensures later { (m : ℕ) → m ≤ v.base → frame.draws mark.now v ≡ true
+        → has_come (floor_tick m) result.tx_due ≡ false }
 {
     let mut v = v;
     draw(active, mark, &mut v);

@@ -85,7 +85,8 @@ pub fn renew(eff: u64, before: &Vars, v: &mut Vars)
     ensures plain { (c : Config) → IsPlain c v.old → IsPlain c v.new }
     ensures renewed { IsRenewed v.new }
     ensures peer { HasPeerMult v.old → HasPeerMult v.new }
-    ensures idle { IsRenewed v.old → adv_of v.old ≡ adv_of before.now → v.old.rx ≡ before.now.rx → demand_of v.old ≡ demand_of before.now → v.new ≡ v.old }
+    ensures idle { IsRenewed v.old → adv_of v.old ≡ adv_of before.now → v.old.rx ≡ before.now.rx
+        → demand_of v.old ≡ demand_of before.now → v.new ≡ v.old }
 {
     poll_renewed(before, v);
     used_renewed(v);

@@ -85,7 +85,8 @@ pub fn commands(
     requires steady { IsSeekSteady config.now vars.old }
     requires room { 0 < outs.old.spare }
     ensures steady { IsSeekSteady config.now vars.new }
-    ensures course { (m : Mark) → course vars.new m outs.new.items ≡ commands.commanded config.now cmd.now (course vars.old m outs.old.items) }
+    ensures course { (m : Mark) → course vars.new m outs.new.items
+        ≡ commands.commanded config.now cmd.now (course vars.old m outs.old.items) }
     ensures refusal { result_err result ≡ commands.refusal vars.old cmd.now }
     ensures spare { outs.old.spare ≤ outs.new.spare + 1 }
     ensures room { outs.new.room ≡ outs.old.room }

@@ -20,7 +20,8 @@ fn extra(config: &SeekConfig, eff: u64, vars: &mut Vars, mark: &mut Mark, outs: 
     requires eff { eff < moment_bound }
     requires room { 0 < outs.old.spare }
     ensures steady { IsSeekSteady config.now vars.new }
-    ensures course { course vars.new mark.new outs.new.items ≡ finishing.extra config.now eff (course vars.old mark.old outs.old.items) }
+    ensures course { course vars.new mark.new outs.new.items
+        ≡ finishing.extra config.now eff (course vars.old mark.old outs.old.items) }
     ensures same { vars.new ≡ record vars.old { base = vars.new.base } }
     ensures based { (mark.old.moved ≡ true → vars.old.base ≡ eff) → mark.new.moved ≡ true → vars.new.base ≡ eff }
     ensures rests { mark.new.moved ≡ false → mark.new ≡ mark.old }
@@ -43,8 +44,10 @@ pub fn finish(config: &SeekConfig, eff: u64, vars: &mut Vars, mark: Mark, outs: 
     requires eff { eff < moment_bound }
     requires room { 0 < outs.old.spare }
     ensures sound { IsSeekSound config.now vars.new }
-    ensures late { (limit : ℕ) → has_come limit (deadline vars.old) ≡ false → has_come limit (deadline vars.new) ≡ false }
-    ensures due_later { (limit : ℕ) → limit ≤ eff → IsSettled limit eff mark vars.old → has_come (floor_tick limit) vars.new.tx_due ≡ false }
+    ensures late { (limit : ℕ) → has_come limit (deadline vars.old) ≡ false
+        → has_come limit (deadline vars.new) ≡ false }
+    ensures due_later { (limit : ℕ) → limit ≤ eff → IsSettled limit eff mark vars.old
+        → has_come (floor_tick limit) vars.new.tx_due ≡ false }
     ensures vars { vars.new ≡ (finishing.finish config.now eff (course vars.old mark outs.old.items)).vars }
     ensures outs { outs.new.items ≡ (finishing.finish config.now eff (course vars.old mark outs.old.items)).outs }
     ensures spare { outs.old.spare ≤ outs.new.spare + 1 }

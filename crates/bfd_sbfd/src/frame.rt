@@ -28,7 +28,8 @@ pub fn moves(config: &SeekConfig, after: Vars, vars: &mut Vars, outs: &mut Outs)
     requires room { 0 < outs.old.spare }
     ensures steady { IsSeekSteady config.now vars.new }
     ensures value { vars.new ≡ frame.in_use after }
-    ensures course { (m : Mark) → course vars.new m outs.new.items ≡ frame.moves config.now.discr after (course vars.old m outs.old.items) }
+    ensures course { (m : Mark) → course vars.new m outs.new.items
+        ≡ frame.moves config.now.discr after (course vars.old m outs.old.items) }
     ensures spare { outs.old.spare ≤ outs.new.spare + 1 }
     ensures room { outs.new.room ≡ outs.old.room }
 {

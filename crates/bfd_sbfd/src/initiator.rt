@@ -153,7 +153,8 @@ impl Initiator {
         ensures config { self.new.config ≡ self.old.config }
         ensures course { course self.new.vars mark.new outs.new.items
             ≡ settling.settle self.old.config limit eff (course self.old.vars mark.old outs.old.items) }
-        ensures settled { IsBegun self.old.config limit eff mark.old self.old.vars → IsSettled limit eff mark.new self.new.vars }
+        ensures settled { IsBegun self.old.config limit eff mark.old self.old.vars
+            → IsSettled limit eff mark.new self.new.vars }
         ensures spare { outs.old.spare ≤ outs.new.spare + 2 }
         ensures room { outs.new.room ≡ outs.old.room }
     {
@@ -215,8 +216,10 @@ impl Initiator {
         requires eff { eff < moment_bound }
         requires room { 1 ≤ outs.old.spare }
         ensures config { self.new.config ≡ self.old.config }
-        ensures vars { self.new.vars ≡ (finishing.finish self.old.config eff (course self.old.vars mark outs.old.items)).vars }
-        ensures outs { outs.new.items ≡ (finishing.finish self.old.config eff (course self.old.vars mark outs.old.items)).outs }
+        ensures vars { self.new.vars ≡ (finishing.finish self.old.config eff
+            (course self.old.vars mark outs.old.items)).vars }
+        ensures outs { outs.new.items ≡ (finishing.finish self.old.config eff
+            (course self.old.vars mark outs.old.items)).outs }
         ensures sound { IsSeekSound self.new.config self.new.vars }
         ensures over { (limit : ℕ) → limit ≤ eff → IsSettled limit eff mark self.old.vars → IsOver limit self.new.vars }
         ensures spare { outs.old.spare ≤ outs.new.spare + 1 }

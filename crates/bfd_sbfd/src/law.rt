@@ -30,13 +30,17 @@ pub fn initiator_laws()
     ensures packet_sound { (c : SeekConfig) (limit eff : ℕ) (raw : List ℕ) (s : Course) → eff < moment_bound
         → (fields_of raw).min_rx < 2 ^ 32 → IsSeekSteady c s.vars
         → IsSeekSound c (finish c eff (received c eff raw (settle c limit eff s))).vars }
-    ensures command_sound { (c : SeekConfig) (limit eff : ℕ) (cmd : Cmd) (s : Course) → eff < moment_bound → IsSeekSteady c s.vars
+    ensures command_sound { (c : SeekConfig) (limit eff : ℕ) (cmd : Cmd) (s : Course) → eff < moment_bound
+        → IsSeekSteady c s.vars
         → IsSeekSound c (finish c eff (commanded c cmd (settle c limit eff s))).vars }
     ensures expires { (c : SeekConfig) (limit eff : ℕ) (s : Course) → IsSome s.vars.heard
         → ((finish c eff (settle c limit eff s)).vars.heard ≡ None) ↔ (has_come limit (deadline s.vars) ≡ true) }
-    ensures settle_named { (c : SeekConfig) (limit eff : ℕ) (s : Course) → AllNamed c.discr s.outs → AllNamed c.discr (settle c limit eff s).outs }
+    ensures settle_named { (c : SeekConfig) (limit eff : ℕ) (s : Course) → AllNamed c.discr s.outs
+        → AllNamed c.discr (settle c limit eff s).outs }
     ensures received_named { (c : SeekConfig) (eff : ℕ) (raw : List ℕ) (s : Course) → AllNamed c.discr s.outs
         → AllNamed c.discr (received c eff raw s).outs }
-    ensures commanded_named { (c : SeekConfig) (cmd : Cmd) (s : Course) → AllNamed c.discr s.outs → AllNamed c.discr (commanded c cmd s).outs }
-    ensures finish_named { (c : SeekConfig) (eff : ℕ) (s : Course) → AllNamed c.discr s.outs → AllNamed c.discr (finish c eff s).outs }
+    ensures commanded_named { (c : SeekConfig) (cmd : Cmd) (s : Course) → AllNamed c.discr s.outs
+        → AllNamed c.discr (commanded c cmd s).outs }
+    ensures finish_named { (c : SeekConfig) (eff : ℕ) (s : Course) → AllNamed c.discr s.outs
+        → AllNamed c.discr (finish c eff s).outs }
 {}

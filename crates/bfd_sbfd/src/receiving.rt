@@ -32,7 +32,8 @@ fn keeps_fields(config: &SeekConfig, eff: u64, packet: &Control, vars: &mut Vars
     ensures steady { IsSeekSteady config.now vars.new }
     ensures state { vars.new.state ≡ vars.old.state }
     ensures heard { IsSome vars.new.heard }
-    ensures course { (m : Mark) (os : List Out) → course vars.new m os ≡ receive.keeps_fields eff packet.now (course vars.old m os) }
+    ensures course { (m : Mark) (os : List Out)
+        → course vars.new m os ≡ receive.keeps_fields eff packet.now (course vars.old m os) }
 {
     let _ = config.discr;
     let min_rx = min_rx_of(packet);
@@ -64,7 +65,8 @@ fn moves_state(config: &SeekConfig, packet: &Control, vars: &mut Vars, outs: &mu
     requires heard { IsSome vars.old.heard }
     requires room { 0 < outs.old.spare }
     ensures steady { IsSeekSteady config.now vars.new }
-    ensures course { (m : Mark) → course vars.new m outs.new.items ≡ receive.moves_state config.now packet.now (course vars.old m outs.old.items) }
+    ensures course { (m : Mark) → course vars.new m outs.new.items
+        ≡ receive.moves_state config.now packet.now (course vars.old m outs.old.items) }
     ensures spare { outs.old.spare ≤ outs.new.spare + 1 }
     ensures room { outs.new.room ≡ outs.old.room }
 {
@@ -85,7 +87,8 @@ fn accepts(
     requires eff { eff < moment_bound }
     requires room { 0 < outs.old.spare }
     ensures steady { IsSeekSteady config.now vars.new }
-    ensures course { (m : Mark) → course vars.new m outs.new.items ≡ receive.accepted config.now eff packet.now (course vars.old m outs.old.items) }
+    ensures course { (m : Mark) → course vars.new m outs.new.items
+        ≡ receive.accepted config.now eff packet.now (course vars.old m outs.old.items) }
     ensures verdict { result ≡ receive.verdict_by vars.old.state }
     ensures spare { outs.old.spare ≤ outs.new.spare + 1 }
     ensures room { outs.new.room ≡ outs.old.room }
@@ -125,7 +128,8 @@ pub fn receives(
     requires header { first_failing Answer raw.now ≡ None }
     requires room { 0 < outs.old.spare }
     ensures steady { IsSeekSteady config.now vars.new }
-    ensures course { (m : Mark) → course vars.new m outs.new.items ≡ receive.received config.now eff raw.now (course vars.old m outs.old.items) }
+    ensures course { (m : Mark) → course vars.new m outs.new.items
+        ≡ receive.received config.now eff raw.now (course vars.old m outs.old.items) }
     ensures verdict { result ≡ receive.verdict_on raw.now vars.old }
     ensures sized { (fields_of raw.now).min_rx < 2 ^ 32 }
     ensures spare { outs.old.spare ≤ outs.new.spare + 1 }

@@ -34,7 +34,8 @@ fn detection(config: &SeekConfig, limit: u64, vars: &mut Vars, outs: &mut Outs)
     requires steady { IsSeekSteady config.now vars.old }
     requires room { 0 < outs.old.spare }
     ensures steady { IsSeekSteady config.now vars.new }
-    ensures course { (m : MarkOf) → course vars.new m outs.new.items ≡ settling.detection config.now limit (course vars.old m outs.old.items) }
+    ensures course { (m : MarkOf) → course vars.new m outs.new.items
+        ≡ settling.detection config.now limit (course vars.old m outs.old.items) }
     ensures late { due.has_come limit (deadline_of vars.new) ≡ false }
     ensures calm { vars.new.state ≡ vars.old.state → vars.new ≡ vars.old }
     ensures spare { outs.old.spare ≤ outs.new.spare + 1 }
@@ -61,7 +62,8 @@ fn periodic_packet(config: &SeekConfig, eff: u64, vars: &mut Vars, mark: &mut Ma
     requires eff { eff < moment_bound }
     requires room { 0 < outs.old.spare }
     ensures steady { IsSeekSteady config.now vars.new }
-    ensures course { course vars.new mark.new outs.new.items ≡ settling.periodic_packet config.now eff (course vars.old mark.old outs.old.items) }
+    ensures course { course vars.new mark.new outs.new.items
+        ≡ settling.periodic_packet config.now eff (course vars.old mark.old outs.old.items) }
     ensures value { vars.new ≡ record vars.old { base = eff } }
     ensures moved { mark.new.moved ≡ true }
     ensures answered { mark.new.answered ≡ mark.old.answered }
@@ -87,13 +89,15 @@ fn periodic(
     requires eff { eff < moment_bound }
     requires room { 0 < outs.old.spare }
     ensures steady { IsSeekSteady config.now vars.new }
-    ensures course { course vars.new mark.new outs.new.items ≡ settling.periodic config.now limit eff (course vars.old mark.old outs.old.items) }
+    ensures course { course vars.new mark.new outs.new.items
+        ≡ settling.periodic config.now limit eff (course vars.old mark.old outs.old.items) }
     ensures answered { mark.new.answered ≡ mark.old.answered }
     ensures same { vars.new ≡ record vars.old { base = vars.new.base } }
     ensures based { mark.old.moved ≡ false → mark.new.moved ≡ true → vars.new.base ≡ eff }
     ensures vars_rest { mark.new.moved ≡ false → vars.new ≡ vars.old }
     ensures mark_rests { mark.new.moved ≡ false → mark.new ≡ mark.old }
-    ensures due_later { mark.new.moved ≡ false → may_send_of true vars.old ≡ true → due.has_come (tick_of limit) vars.old.tx_due ≡ false }
+    ensures due_later { mark.new.moved ≡ false → may_send_of true vars.old ≡ true
+        → due.has_come (tick_of limit) vars.old.tx_due ≡ false }
     ensures spare { outs.old.spare ≤ outs.new.spare + 1 }
     ensures room { outs.new.room ≡ outs.old.room }
 {
@@ -116,11 +120,13 @@ pub fn settle(
     requires eff { eff < moment_bound }
     requires room { 1 < outs.old.spare }
     ensures steady { IsSeekSteady config.now vars.new }
-    ensures course { course vars.new mark.new outs.new.items ≡ settling.settle config.now limit eff (course vars.old mark.old outs.old.items) }
+    ensures course { course vars.new mark.new outs.new.items
+        ≡ settling.settle config.now limit eff (course vars.old mark.old outs.old.items) }
     ensures late { due.has_come limit (deadline_of vars.new) ≡ false }
     ensures answered { mark.new.answered ≡ mark.old.answered }
     ensures based { mark.old.moved ≡ false → mark.new.moved ≡ true → vars.new.base ≡ eff }
-    ensures still { IsBegun config.now limit eff mark.old vars.old → mark.new.moved ≡ false → is_news mark.new vars.new ≡ false
+    ensures still { IsBegun config.now limit eff mark.old vars.old → mark.new.moved ≡ false
+        → is_news mark.new vars.new ≡ false
         → may_send_of true vars.new ≡ true → IsStill limit mark.new vars.new }
     ensures spare { outs.old.spare ≤ outs.new.spare + 2 }
     ensures room { outs.new.room ≡ outs.old.room }

@@ -39,7 +39,8 @@ fn packet_of(config: &SeekConfig, v: &Vars) -> Control
 pub fn transmits(config: &SeekConfig, vars: &Vars, outs: &mut Outs)
     requires diag { vars.now.diag < 32 }
     requires room { 0 < outs.old.spare }
-    ensures course { (m : Mark) → course vars.now m outs.new.items ≡ transmit.transmits config.now (course vars.now m outs.old.items) }
+    ensures course { (m : Mark) → course vars.now m outs.new.items
+        ≡ transmit.transmits config.now (course vars.now m outs.old.items) }
     ensures spare { outs.old.spare ≤ outs.new.spare + 1 }
     ensures room { outs.new.room ≡ outs.old.room }
 {

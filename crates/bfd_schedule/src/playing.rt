@@ -35,7 +35,8 @@ fn state_name(state: State) -> &'static str
 
 /// The packets that an event gives, by its answer.
 fn given_in(event: &PairEvent, answer: &PairAnswer) -> u64
-    ensures given { (w : Both) → answer.now ≡ (turn event.now w).answer → result ≡ line.given_in event.now (turn event.now w) }
+    ensures given { (w : Both) → answer.now ≡ (turn event.now w).answer
+        → result ≡ line.given_in event.now (turn event.now w) }
     ensures most { result ≤ 1 }
 {
     match (event, answer) {
@@ -65,7 +66,8 @@ fn play_next(pair: &mut Pair, tally: &mut Tally, outs: &mut Outs, e: u64) -> Res
     requires few_given { tally.old.given ≤ e }
     requires few_rises { tally.old.rises ≤ 10 * e }
     requires room { outs.old.room ≡ 10 }
-    ensures played { (seed : ℕ) → IsPlayed seed e pair.old tally.old → OnOk result (IsPlayed seed (e + 1) pair.new tally.new) }
+    ensures played { (seed : ℕ) → IsPlayed seed e pair.old tally.old
+        → OnOk result (IsPlayed seed (e + 1) pair.new tally.new) }
     ensures room { outs.new.room ≡ outs.old.room }
 {
     tally.draw = next_j(tally.draw);

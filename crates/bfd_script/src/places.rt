@@ -65,7 +65,9 @@ fn is_in(places: &BTreeSet<RowKind>, kind: RowKind) -> bool
 
 /// The set with these kinds besides.
 fn with_all(places: BTreeSet<RowKind>, kinds: &[RowKind]) -> Result<BTreeSet<RowKind>, AllocError>
-    ensures { IfOk result (λ after. (q : Kind) → contains (⟦<RowKind as Ord>⟧.cmp) after q ≡ (among kinds.now q || contains (⟦<RowKind as Ord>⟧.cmp) places q)) }
+    ensures { IfOk result (λ after. (q : Kind)
+        → contains (⟦<RowKind as Ord>⟧.cmp) after q
+        ≡ (among kinds.now q || contains (⟦<RowKind as Ord>⟧.cmp) places q)) }
 {
     let mut places = places;
     let mut rest = kinds;

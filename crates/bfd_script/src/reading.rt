@@ -18,7 +18,9 @@ fn take_values(
     word: Word,
     values: &[&[u8]],
 ) -> Result<(), ReadFault>
-    ensures { Gives (λ _. reading.new) result (on_to (valued reading.old.version word (map (λ value. value.now) values.now)) (λ entry. accepted entry reading.old)) }
+    ensures { Gives (λ _. reading.new)
+        result (on_to (valued reading.old.version word (map (λ value. value.now) values.now))
+        (λ entry. accepted entry reading.old)) }
 {
     match word {
         Word::Rx => {
@@ -39,7 +41,9 @@ fn take_fields(
     reading: &mut Reading,
     fields: &[&[u8]],
 ) -> Result<(), ReadFault>
-    ensures { Gives (λ _. reading.new) result (on_to (worded reading.old.version reading.old.place live (map (λ field. field.now) fields.now)) (λ entry. accepted entry reading.old)) }
+    ensures { Gives (λ _. reading.new)
+        result (on_to (worded reading.old.version reading.old.place live (map (λ field. field.now) fields.now))
+        (λ entry. accepted entry reading.old)) }
 {
     let Some((name, values)) = fields.split_first() else {
         return Err(ReadFault::Fault(LineFault::UnknownWord));

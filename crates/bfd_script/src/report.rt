@@ -108,7 +108,8 @@ fn make_sent(draft: &mut Draft, number: &[u8], discr: u32, bytes: &[u8])
 /// Makes the draft the line of a change of state.
 fn make_changed(draft: &mut Draft, number: &[u8], discr: u32, old: State, new: State, diag: u8)
     requires { length number.now ≤ 20 }
-    ensures { draft.new.items ≡ line (number.now ∷ codes "state" ∷ decimal discr ∷ state_name old ∷ state_name new ∷ decimal diag ∷ []) }
+    ensures { draft.new.items ≡ line
+        (number.now ∷ codes "state" ∷ decimal discr ∷ state_name old ∷ state_name new ∷ decimal diag ∷ []) }
 {
     draft.clear();
     put(draft, number);
@@ -227,7 +228,8 @@ fn push_event(
     answer: &Answer,
     text: &mut Vec<u8>,
 ) -> Result<(), AllocError>
-    ensures all { OnOk result (text.new.items ≡ text.old.items ++ event_lines number (record { items = outs.now; answer = answer.now })) }
+    ensures all { OnOk result (text.new.items
+        ≡ text.old.items ++ event_lines number (record { items = outs.now; answer = answer.now })) }
     ensures front { OnErr result (take (length text.old.items) text.new.items ≡ text.old.items) }
 {
     push_items(number, outs, text)?;
@@ -243,7 +245,8 @@ pub fn lines(
     answer: &Answer,
     text: &mut Vec<u8>,
 ) -> Result<(), AllocError>
-    ensures all { OnOk result (text.new.items ≡ text.old.items ++ event_lines number (record { items = outs.now; answer = answer.now })) }
+    ensures all { OnOk result (text.new.items
+        ≡ text.old.items ++ event_lines number (record { items = outs.now; answer = answer.now })) }
     ensures kept { OnErr result (text.new.items ≡ text.old.items) }
 {
     let before = text.len();

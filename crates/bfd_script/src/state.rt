@@ -244,7 +244,8 @@ impl Reading {
 
     /// The script of all lines.
     fn into_script(self, alloc: Global) -> Result<Script, AllocError>
-        ensures script { IfOk result (λ script. script ≡ record { configs = self.configs; pool = self.pool; events = self.events }) }
+        ensures script { IfOk result (λ script. script
+            ≡ record { configs = self.configs; pool = self.pool; events = self.events }) }
         ensures sound { IfOk result IsScript }
     {
         let configs = self.table.into_rows(alloc)?;

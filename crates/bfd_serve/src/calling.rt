@@ -38,7 +38,8 @@ fn receive<W: Timers, R: Wait, S: Ledger>(
     requires room { 5 ≤ outs.old.spare }
     ensures of { IsOf engine.now pass.new.1 }
     ensures there { AllThere pass.new.1 }
-    ensures call { IsDone (arrival_act engine.now moment arrival) engine.now pass.old pass.new outs.old.items outs.new.items result }
+    ensures call { IsDone (arrival_act engine.now moment arrival)
+        engine.now pass.old pass.new outs.old.items outs.new.items result }
     ensures room { outs.new.room ≡ outs.old.room }
 {
     engine.receive(rt, pass, moment, arrival, outs, &mut Steps::<S>::new(blank))
@@ -62,7 +63,8 @@ pub(crate) fn handle<W: Timers, L: Link, R: Wait>(
     ensures of { IsOf engine.now pass.new.1 }
     ensures there { AllThere pass.new.1 }
     ensures room { outs.new.room ≡ outs.old.room }
-    ensures done { AreDone engine.now (arrival_act engine.now moment arrival ∷ []) pass.old pass.new (L.told link.old) (L.told link.new) lost.old lost.new result }
+    ensures done { AreDone engine.now (arrival_act engine.now moment arrival ∷ []) pass.old pass.new (L.told link.old)
+        (L.told link.new) lost.old lost.new result }
 {
     outs.clear();
     let outcome = receive::<W, R, Brand>(rt, engine, pass, moment, arrival, outs, Blank::new(1));
@@ -86,7 +88,8 @@ fn ask<W: Timers, R: Wait, S: Ledger>(
     requires room { 5 ≤ outs.old.spare }
     ensures of { IsOf engine.now pass.new.1 }
     ensures there { AllThere pass.new.1 }
-    ensures call { IsDone (order_act engine.now order.now) engine.now pass.old pass.new outs.old.items outs.new.items result }
+    ensures call { IsDone (order_act engine.now order.now)
+        engine.now pass.old pass.new outs.old.items outs.new.items result }
     ensures room { outs.new.room ≡ outs.old.room }
 {
     let mut steps = Steps::<S>::new(blank);
@@ -116,7 +119,8 @@ pub(crate) fn give<W: Timers, L: Link, R: Wait>(
     ensures of { IsOf engine.now pass.new.1 }
     ensures there { AllThere pass.new.1 }
     ensures room { outs.new.room ≡ outs.old.room }
-    ensures done { AreDone engine.now (order_act engine.now order.now ∷ []) pass.old pass.new (L.told link.old) (L.told link.new) lost.old lost.new result }
+    ensures done { AreDone engine.now (order_act engine.now order.now ∷ []) pass.old pass.new (L.told link.old)
+        (L.told link.new) lost.old lost.new result }
 {
     outs.clear();
     let outcome = ask::<W, R, Brand>(rt, engine, pass, order, outs, Blank::new(1));
@@ -142,7 +146,8 @@ fn advance_shard<W: Timers, R: Wait, S: Ledger>(
     requires room { 5 * length (configs_at engine.now shard) ≤ outs.old.spare }
     ensures of { IsOf engine.now pass.new.1 }
     ensures there { AllThere pass.new.1 }
-    ensures call { IsDone (Turns shard (TickEvent tick)) engine.now pass.old pass.new outs.old.items outs.new.items result }
+    ensures call { IsDone (Turns shard (TickEvent tick))
+        engine.now pass.old pass.new outs.old.items outs.new.items result }
     ensures room { outs.new.room ≡ outs.old.room }
 {
     engine.advance(rt, pass, shard, tick, outs, &mut Steps::<S>::new(blank))
@@ -166,7 +171,8 @@ pub(crate) fn advance<W: Timers, L: Link, R: Wait>(
     ensures of { IsOf engine.now pass.new.1 }
     ensures there { AllThere pass.new.1 }
     ensures room { outs.new.room ≡ outs.old.room }
-    ensures done { AreDone engine.now (Turns shard (TickEvent tick) ∷ []) pass.old pass.new (L.told link.old) (L.told link.new) lost.old lost.new result }
+    ensures done { AreDone engine.now (Turns shard (TickEvent tick) ∷ []) pass.old pass.new (L.told link.old)
+        (L.told link.new) lost.old lost.new result }
 {
     outs.clear();
     let outcome = advance_shard::<W, R, Brand>(rt, engine, pass, shard, tick, outs, Blank::new(1));

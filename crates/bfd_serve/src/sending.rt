@@ -14,7 +14,8 @@ use std::alloc::AllocError;
 /// Sends the packet of an output, if it is one. One that fails is counted as lost; want of memory leaves all as it was.
 #[tactic(auto, using(crate::proofs::Packets::sent_none, crate::proofs::Packets::sent_ok, crate::proofs::Packets::sent_failed, crate::proofs::Packets::unsent))]
 fn send_one<L: Link>(link: &mut L, out: &Out, lost: &mut u64) -> Result<(), AllocError>
-    ensures sent { OnOk result (HasSent (datagrams (out.now ∷ [])) [] (L.told link.old) (L.told link.new) lost.old lost.new) }
+    ensures sent { OnOk result (HasSent (datagrams (out.now ∷ [])) [] (L.told link.old) (L.told link.new)
+        lost.old lost.new) }
     ensures refused { OnErr result ((L.told link.new ≡ L.told link.old) × (lost.new ≡ lost.old)) }
 {
     match out {
@@ -33,7 +34,8 @@ fn send_one<L: Link>(link: &mut L, out: &Out, lost: &mut u64) -> Result<(), Allo
 /// Sends the packets of some outputs, in order. One that fails is counted as lost; want of memory ends it.
 fn send_all<L: Link>(link: &mut L, outs: &[Out], lost: &mut u64) -> Result<(), AllocError>
     ensures sent { OnOk result (HasSent (datagrams outs.now) [] (L.told link.old) (L.told link.new) lost.old lost.new) }
-    ensures refused { OnErr result ((untried : List Packet) × HasSent (datagrams outs.now) untried (L.told link.old) (L.told link.new) lost.old lost.new) }
+    ensures refused { OnErr result ((untried : List Packet)
+        × HasSent (datagrams outs.now) untried (L.told link.old) (L.told link.new) lost.old lost.new) }
 {
     for out in outs {
         if let Err(want) = send_one(link, out, lost) {

@@ -157,7 +157,8 @@ fn run_all<
     ensures of { IsOf engine.now first.new.1 }
     ensures there { AllThere first.new.1 }
     ensures number { first.new.0 ≡ 0 }
-    ensures served { HasServed L.told engine.now first.new (L.told own.old) (L.told own.new) (T.told ticker.old) (T.told ticker.new) orders.now limits links.items result.links.items result.ends.items result.lost }
+    ensures served { HasServed L.told engine.now first.new (L.told own.old) (L.told own.new) (T.told ticker.old)
+        (T.told ticker.new) orders.now limits links.items result.links.items result.ends.items result.lost }
 {
     let Room {
         jobs,
@@ -217,8 +218,11 @@ pub fn serve<
     ensures of { IsOf engine.now first.new.1 }
     ensures there { AllThere first.new.1 }
     ensures number { first.new.0 ≡ 0 }
-    ensures served { IfOk result (λ served. HasServed L.told engine.now first.new (L.told own.old) (L.told own.new) (T.told ticker.old) (T.told ticker.new) orders.now limits links.items served.links.items served.ends.items served.lost) }
-    ensures refused { IfErr result (λ back. (back.items ≡ links.items) × IsUnserved engine.now first.new × (L.told own.new ≡ L.told own.old) × (T.told ticker.new ≡ T.told ticker.old)) }
+    ensures served { IfOk result (λ served. HasServed L.told engine.now first.new (L.told own.old) (L.told own.new)
+        (T.told ticker.old) (T.told ticker.new)
+        orders.now limits links.items served.links.items served.ends.items served.lost) }
+    ensures refused { IfErr result (λ back. (back.items ≡ links.items) × IsUnserved engine.now first.new
+        × (L.told own.new ≡ L.told own.old) × (T.told ticker.new ≡ T.told ticker.old)) }
 {
     let count = links.len();
     let Ok(room) = reserve(alloc, count) else {

@@ -59,7 +59,8 @@ fn give_all<W: Timers, L: Link, R: Wait>(
     ensures of { IsOf engine.now pass.new.1 }
     ensures there { AllThere pass.new.1 }
     ensures room { outs.new.room ≡ outs.old.room }
-    ensures done { AreDone engine.now (orders_acts engine.now orders.now) pass.old pass.new (L.told link.old) (L.told link.new) lost.old lost.new result }
+    ensures done { AreDone engine.now (orders_acts engine.now orders.now) pass.old pass.new (L.told link.old)
+        (L.told link.new) lost.old lost.new result }
 {
     for at in 0..orders.len() {
         if let Err(end) = give(rt, engine, pass, link, &orders[at], outs, lost) {
@@ -85,7 +86,8 @@ fn advance_all<W: Timers, L: Link, R: Wait>(
     ensures of { IsOf engine.now pass.new.1 }
     ensures there { AllThere pass.new.1 }
     ensures room { outs.new.room ≡ outs.old.room }
-    ensures done { AreDone engine.now (advances (length engine.now.locks) tick) pass.old pass.new (L.told link.old) (L.told link.new) lost.old lost.new result }
+    ensures done { AreDone engine.now (advances (length engine.now.locks) tick) pass.old pass.new (L.told link.old)
+        (L.told link.new) lost.old lost.new result }
 {
     for shard in 0..engine.shards() {
         if let Err(end) = advance(rt, engine, pass, link, shard, tick, outs, lost) {
@@ -115,7 +117,8 @@ fn on_tick<W: Timers, L: Link, R: Wait>(
     ensures of { IsOf engine.now pass.new.1 }
     ensures there { AllThere pass.new.1 }
     ensures room { outs.new.room ≡ outs.old.room }
-    ensures done { AreDone engine.now (tick_acts engine.now orders.now tick) pass.old pass.new (L.told link.old) (L.told link.new) lost.old lost.new result }
+    ensures done { AreDone engine.now (tick_acts engine.now orders.now tick) pass.old pass.new (L.told link.old)
+        (L.told link.new) lost.old lost.new result }
 {
     if let Err(end) = give_all(rt, engine, pass, link, &orders[..due_orders], outs, lost) {
         return Err(end);
@@ -138,7 +141,8 @@ fn finish<W: Timers, L: Link, R: Wait>(
     requires room { 5 ≤ outs.old.room }
     ensures of { IsOf engine.now pass.new.1 }
     ensures there { AllThere pass.new.1 }
-    ensures finished { IsFinished engine.now (orders_acts engine.now orders.now) pass.old pass.new (L.told link.old) (L.told link.new) lost.old lost.new result }
+    ensures finished { IsFinished engine.now (orders_acts engine.now orders.now) pass.old pass.new (L.told link.old)
+        (L.told link.new) lost.old lost.new result }
 {
     match give_all(rt, engine, pass, link, orders, outs, lost) {
         Ok(()) => End::Ended,
@@ -180,7 +184,8 @@ pub fn timer<W: Timers, L: Link, T: Ticker, R: Wait>(
     requires open { (T.told ticker.old).over ≡ false }
     ensures of { IsOf engine.now pass.new.1 }
     ensures there { AllThere pass.new.1 }
-    ensures timed { HasTimed engine.now pass.old pass.new (L.told link.old) (L.told link.new) (T.told ticker.old) (T.told ticker.new) orders.now ticks result.0 result.1 }
+    ensures timed { HasTimed engine.now pass.old pass.new (L.told link.old) (L.told link.new) (T.told ticker.old)
+        (T.told ticker.new) orders.now ticks result.0 result.1 }
 {
     let mut lost = 0;
     let Some(room) = room_of(engine) else {

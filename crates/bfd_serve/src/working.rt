@@ -33,7 +33,8 @@ pub fn worker<W: Timers, L: Link, G: Gate, R: Wait>(
     requires open { (L.told link.old).counts.over ≡ false }
     ensures of { IsOf engine.now pass.new.1 }
     ensures there { AllThere pass.new.1 }
-    ensures worked { HasWorked engine.now pass.old pass.new (L.told link.old) (L.told link.new) turns result.0 result.1 }
+    ensures worked { HasWorked engine.now pass.old pass.new (L.told link.old) (L.told link.new)
+        turns result.0 result.1 }
 {
     let caller = pass.caller();
     let mut lost = 0;

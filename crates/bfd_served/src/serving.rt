@@ -30,9 +30,11 @@ fn tell_shard<W: Timers>(
 ) -> Result<u64, AllocError>
     requires fit { AreFit configs.items }
     requires made { configs.items ≡ configs_of state.now.sessions }
-    ensures text { OnOk result (text.new.items ≡ text.old.items ++ definition.shard_text number (history_of state.now)) }
+    ensures text { OnOk result (text.new.items
+        ≡ text.old.items ++ definition.shard_text number (history_of state.now)) }
     ensures sent { IfOk result (λ count. count ≡ definition.shard_sent (history_of state.now)) }
-    ensures few { IfOk result (λ count. length text.old.items + count + length state.now.journal ≤ length text.new.items) }
+    ensures few { IfOk result (λ count. length text.old.items + count + length state.now.journal
+        ≤ length text.new.items) }
 {
     let mut outs = Outs::make(alloc, 5 * state.sessions().len() + 5)?;
     let journal = state.journal();

@@ -58,7 +58,8 @@ fn follow<W: Timers, L: Ledger>(
     ensures limit { shard.new.limit ≡ shard.old.limit }
     ensures configs { configs_of shard.new.sessions ≡ configs_of shard.old.sessions }
     ensures items { outs.new.items ≡ (reply_at (configs_of shard.old.sessions) shard.old.journal entry).items }
-    ensures answer { IfOk result (λ answer. answer ≡ (reply_at (configs_of shard.old.sessions) shard.old.journal entry).answer) }
+    ensures answer { IfOk result (λ answer. answer
+        ≡ (reply_at (configs_of shard.old.sessions) shard.old.journal entry).answer) }
     ensures room { outs.new.room ≡ outs.old.room }
 {
     outs.clear();
@@ -79,8 +80,10 @@ fn tell_entry<W: Timers>(
     ensures journal { OnOk result (shard.new.journal ≡ shard.old.journal ++ entry.now ∷ []) }
     ensures limit { OnOk result (shard.new.limit ≡ shard.old.limit) }
     ensures configs { OnOk result (configs_of shard.new.sessions ≡ configs_of shard.old.sessions) }
-    ensures text { OnOk result (text.new.items ≡ text.old.items ++ entry_text (configs_of shard.old.sessions) shard.old.journal entry.now) }
-    ensures sent { IfOk result (λ count. count ≡ report.sent (reply_at (configs_of shard.old.sessions) shard.old.journal entry.now)) }
+    ensures text { OnOk result (text.new.items
+        ≡ text.old.items ++ entry_text (configs_of shard.old.sessions) shard.old.journal entry.now) }
+    ensures sent { IfOk result (λ count. count
+        ≡ report.sent (reply_at (configs_of shard.old.sessions) shard.old.journal entry.now)) }
     ensures few { IfOk result (λ count. length text.old.items + count + 1 ≤ length text.new.items) }
     ensures room { OnOk result (outs.new.room ≡ outs.old.room) }
 {
@@ -107,7 +110,8 @@ pub(crate) fn tell_entries<W: Timers>(
     requires limit { shard.old.limit ≡ length journal.now }
     requires can { IsHistory (configs_of shard.old.sessions) (events_of journal.now) }
     requires room { 5 * length shard.old.sessions + 5 ≤ outs.old.room }
-    ensures text { OnOk result (text.new.items ≡ text.old.items ++ entries_text (configs_of shard.old.sessions) [] journal.now) }
+    ensures text { OnOk result (text.new.items
+        ≡ text.old.items ++ entries_text (configs_of shard.old.sessions) [] journal.now) }
     ensures sent { IfOk result (λ count. count ≡ entries_sent (configs_of shard.old.sessions) [] journal.now) }
     ensures few { IfOk result (λ count. length text.old.items + count + length journal.now ≤ length text.new.items) }
 {

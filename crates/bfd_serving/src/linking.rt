@@ -14,7 +14,8 @@ pub(crate) fn shut_all<P: Ports>(ports: &mut P, own: P::Link, links: Vec<P::Link
     requires opened { (number : ℕ) → number ≤ length links.items → (P.told ports.old).opened number ≡ true }
     ensures opened { (number : ℕ) → (P.told ports.new).opened number ≡ (P.told ports.old).opened number }
     ensures faults { (P.told ports.new).faults ≡ (P.told ports.old).faults }
-    ensures shut { (number : ℕ) → number ≤ length links.items → (P.told ports.new).shut number ≡ Some (P.Link.told (slice_index_or (own ∷ links.items) number own)) }
+    ensures shut { (number : ℕ) → number ≤ length links.items
+        → (P.told ports.new).shut number ≡ Some (P.Link.told (slice_index_or (own ∷ links.items) number own)) }
 {
     ports.shut(0, own);
     let mut number = 1;
@@ -34,7 +35,8 @@ pub(crate) fn open_all<P: Ports>(
     requires few { workers ≤ 64 }
     ensures own { IfOk result (λ r. IsNewLink (P.Link.told r.0)) }
     ensures links { IfOk result (λ r. All (IsNew P.Link.told) r.1.items) }
-    ensures opened { MatchResult result (λ r. IsOpenTo workers (P.told ports.old) (P.told ports.new)) (λ refused. IsUnopened refused (P.told ports.old) (P.told ports.new)) }
+    ensures opened { MatchResult result (λ r. IsOpenTo workers (P.told ports.old) (P.told ports.new))
+        (λ refused. IsUnopened refused (P.told ports.old) (P.told ports.new)) }
     ensures long { IfOk result (λ r. length r.1.items ≡ workers) }
 {
     let own = match ports.open(0) {

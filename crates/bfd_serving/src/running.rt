@@ -61,7 +61,10 @@ pub(crate) fn run_all<
     requires ticks { limits.ticks ≤ 1000000000 }
     requires orders { length orders.now ≤ 200000 }
     ensures back { length result.0.items ≡ length links.items }
-    ensures run { IfOk result.1 (λ closed. HaveRun engine (history_at closed.states.items) orders.now (length links.items) limits (told_by L.told own.old links.items) (told_by L.told own.new result.0.items) (T.told ticker.old) (T.told ticker.new) closed.ends.items closed.lost) }
+    ensures run { IfOk result.1 (λ closed. HaveRun engine (history_at closed.states.items)
+        orders.now (length links.items) limits (told_by L.told own.old links.items)
+        (told_by L.told own.new result.0.items) (T.told ticker.old) (T.told ticker.new)
+        closed.ends.items closed.lost) }
     ensures closed { IfOk result.1 (λ closed. AreClosedShards engine closed.states.items) }
     ensures unspent { IfOk result.1 (λ closed. All IsUnspent closed.ends.items) }
     ensures few_ends { IfOk result.1 (λ closed. length closed.ends.items ≤ 65) }

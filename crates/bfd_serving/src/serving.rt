@@ -72,10 +72,12 @@ where
     requires ticks { limits.ticks ≤ 1000000000 }
     requires new { (number : ℕ) → (P.told ports.old).opened number ≡ false }
     requires clock { (T.told ticker.old).over ≡ false }
-    ensures run { IfOk result (λ run. HasRun script shards workers journal limits (P.told ports.new) (T.told ticker.old) (T.told ticker.new) run.states.items run.text.items run.lost run.finish) }
+    ensures run { IfOk result (λ run. HasRun script shards workers journal limits (P.told ports.new)
+        (T.told ticker.old) (T.told ticker.new) run.states.items run.text.items run.lost run.finish) }
     ensures opened { IfOk result (λ _. IsOpenTo workers (P.told ports.old) (P.told ports.new)) }
     ensures shut { AreShut (P.told ports.new) }
-    ensures refused { IfErr result (λ refused. IsRefused refused (P.told ports.old) (P.told ports.new) (T.told ticker.old) (T.told ticker.new)) }
+    ensures refused { IfErr result (λ refused. IsRefused refused (P.told ports.old) (P.told ports.new)
+        (T.told ticker.old) (T.told ticker.new)) }
 {
     let Script {
         configs,

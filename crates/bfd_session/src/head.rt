@@ -25,7 +25,8 @@ fn acts(h: &mut Head, eff: u64, event: &Event, mark: &mut Mark, outs: &mut Outs)
     requires room { 1 ≤ outs.old.spare }
     ensures config { h.new.config ≡ h.old.config }
     ensures course { course h.new.vars mark.new outs.new.items
-        ≡ (session.acted (HeadOf h.old.config) eff event.now (plain (course h.old.vars mark.old outs.old.items))).course }
+        ≡ (session.acted (HeadOf h.old.config)
+        eff event.now (plain (course h.old.vars mark.old outs.old.items))).course }
     ensures answer { result
         ≡ session.answer_of (HeadOf h.old.config) event.now (plain (course h.old.vars mark.old outs.old.items)) }
     ensures size { HasSize (HeadOf h.old.config) event.now }

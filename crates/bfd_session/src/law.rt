@@ -23,11 +23,14 @@ ghost use Rattle.bfd_session.specs.Step.{IsSound, CanTake, HasSize, verdict_by, 
 /// where the Detection Time has expired by its limit; and that time runs only where a packet was heard.
 #[tactic(auto, using(crate::proofs::Rest::rest_session, crate::proofs::Rest::rest_outs, crate::proofs::Soundness::tick_sound, crate::proofs::Soundness::at_sound, crate::proofs::Naming::tick_named, crate::proofs::Expiring::tick_expires, crate::proofs::Expiring::detects_heard))]
 pub fn tick_laws()
-    ensures session { (s : Running) (t eff : ℕ) → IsSound s → has_come t (due s) ≡ false → tick_next (1000 * t) eff s ≡ s }
-    ensures outs { (s : Running) (t eff : ℕ) → IsSound s → has_come t (due s) ≡ false → tick_emits (1000 * t) eff s ≡ [] }
+    ensures session { (s : Running) (t eff : ℕ) → IsSound s → has_come t (due s) ≡ false
+        → tick_next (1000 * t) eff s ≡ s }
+    ensures outs { (s : Running) (t eff : ℕ) → IsSound s → has_come t (due s) ≡ false
+        → tick_emits (1000 * t) eff s ≡ [] }
     ensures sound { (s : Running) (limit eff : ℕ) → eff < moment_bound → IsSound s → IsSound (tick_next limit eff s) }
     ensures moments { (s : Running) → IsSound s → s.vars.at < moment_bound }
-    ensures named { (s : Running) (limit eff : ℕ) → AllByRecursion (λ o. named o ≡ discr_of s.config) (tick_emits limit eff s) }
+    ensures named { (s : Running) (limit eff : ℕ)
+        → AllByRecursion (λ o. named o ≡ discr_of s.config) (tick_emits limit eff s) }
     ensures expires { (s : Running) (limit eff : ℕ)
         → is_none (tick_next limit eff s).vars.heard ≡ (is_none s.vars.heard || has_come limit (detects s)) }
     ensures heard { (s : Running) → IsSound s → IsSome (detects s) → IsSome s.vars.heard }
@@ -39,11 +42,14 @@ pub fn tick_laws()
 /// session that fails over the variables after settling, and handled where none does.
 #[tactic(auto, using(crate::proofs::Naming::event_named, crate::proofs::Own::own_sound, crate::proofs::Discarding::discards_first, crate::proofs::Discarding::verdict_first, crate::proofs::Discarding::reply_first))]
 pub fn event_laws()
-    ensures named { (s : Running) (eff : ℕ) (event : Event) → AllByRecursion (λ o. named o ≡ discr_of s.config) (emits eff event s) }
-    ensures sound { (s : Running) (eff : ℕ) (event : Event) → eff < moment_bound → CanTake s.config event → HasSize s.config event
+    ensures named { (s : Running) (eff : ℕ) (event : Event)
+        → AllByRecursion (λ o. named o ≡ discr_of s.config) (emits eff event s) }
+    ensures sound { (s : Running) (eff : ℕ) (event : Event) → eff < moment_bound → CanTake s.config event
+        → HasSize s.config event
         → IsSound s → IsSound (next eff event s) }
     ensures discards { (rows : List Row) (c : SessionConfig) (v : Vars) (arrival : Arrival)
-        → first_discarding rows c v arrival ≡ option_or (first_table_failing rows arrival) (first_own_failing c v arrival) }
+        → first_discarding rows c v arrival
+        ≡ option_or (first_table_failing rows arrival) (first_own_failing c v arrival) }
     ensures verdicts { (c : SessionConfig) (v : Vars) (arrival : Arrival)
         → first_own_failing c v arrival ≡ test_of (verdict_by c arrival v) }
     ensures answers { (s : Running) (eff : ℕ) (arrival : Arrival)

@@ -36,7 +36,8 @@ fn settles(
     requires room { 3 ≤ outs.old.spare }
     ensures config { p.new.config ≡ p.old.config }
     ensures flow { (next : ℕ) → flow (course p.new.vars mark.new outs.new.items) echo.new next
-        ≡ session.settled (Pair p.old.config) limit eff (flow (course p.old.vars mark.old outs.old.items) echo.old next) }
+        ≡ session.settled (Pair p.old.config)
+        limit eff (flow (course p.old.vars mark.old outs.old.items) echo.old next) }
     ensures settled { IsBegun p.old.config limit eff mark.old p.old.vars
         → IsSettled p.old.config.active limit eff mark.new p.new.vars }
     ensures over { limit ≤ eff → IsEchoOver limit p.new.config p.new.vars echo.new }
@@ -63,9 +64,11 @@ fn acts(
     requires room { 2 ≤ outs.old.spare }
     ensures config { p.new.config ≡ p.old.config }
     ensures flow { (next : ℕ) → flow (course p.new.vars mark.new outs.new.items) echo.new next
-        ≡ session.acted (Pair p.old.config) eff event.now (flow (course p.old.vars mark.old outs.old.items) echo.old next) }
+        ≡ session.acted (Pair p.old.config)
+        eff event.now (flow (course p.old.vars mark.old outs.old.items) echo.old next) }
     ensures answer { (next : ℕ) → result
-        ≡ session.answer_of (Pair p.old.config) event.now (flow (course p.old.vars mark.old outs.old.items) echo.old next) }
+        ≡ session.answer_of (Pair p.old.config)
+        event.now (flow (course p.old.vars mark.old outs.old.items) echo.old next) }
     ensures size { HasSize (Pair p.old.config) event.now }
     ensures moments { IfSome echo.new HasMoments }
     ensures unanswered { mark.new.answered ≡ false → outs.old.spare ≤ outs.new.spare + 1 }
@@ -99,13 +102,17 @@ fn finishes(
     requires room { mark.answered ≡ false → 1 ≤ outs.old.spare }
     ensures config { p.new.config ≡ p.old.config }
     ensures vars { p.new.vars
-        ≡ (session.finished (Pair p.old.config) eff (flow (course p.old.vars mark outs.old.items) echo.old next.old)).course.vars }
+        ≡ (session.finished (Pair p.old.config)
+        eff (flow (course p.old.vars mark outs.old.items) echo.old next.old)).course.vars }
     ensures outs { outs.new.items
-        ≡ (session.finished (Pair p.old.config) eff (flow (course p.old.vars mark outs.old.items) echo.old next.old)).course.outs }
+        ≡ (session.finished (Pair p.old.config)
+        eff (flow (course p.old.vars mark outs.old.items) echo.old next.old)).course.outs }
     ensures echo { echo.new
-        ≡ (session.finished (Pair p.old.config) eff (flow (course p.old.vars mark outs.old.items) echo.old next.old)).echo }
+        ≡ (session.finished (Pair p.old.config)
+        eff (flow (course p.old.vars mark outs.old.items) echo.old next.old)).echo }
     ensures next { next.new
-        ≡ (session.finished (Pair p.old.config) eff (flow (course p.old.vars mark outs.old.items) echo.old next.old)).echo_next }
+        ≡ (session.finished (Pair p.old.config)
+        eff (flow (course p.old.vars mark outs.old.items) echo.old next.old)).echo_next }
     ensures over { (limit : ℕ) → limit ≤ eff → IsSettled p.old.config.active limit eff mark p.old.vars
         → IsOver limit p.new.vars }
     ensures echo_over { (limit : ℕ) → limit ≤ eff → IsEchoOver limit p.old.config p.old.vars echo.old
@@ -137,10 +144,13 @@ fn runs(
     requires room { 5 ≤ outs.old.spare }
     ensures config { p.new.config ≡ p.old.config }
     ensures size { HasSize (Pair p.old.config) event.now }
-    ensures vars { p.new.vars ≡ (session.step_from eff event.now (pair_of p.old echo.old next.old) outs.old.items).course.vars }
-    ensures outs { outs.new.items ≡ (session.step_from eff event.now (pair_of p.old echo.old next.old) outs.old.items).course.outs }
+    ensures vars { p.new.vars ≡ (session.step_from eff event.now (pair_of p.old echo.old next.old)
+        outs.old.items).course.vars }
+    ensures outs { outs.new.items ≡ (session.step_from eff event.now (pair_of p.old echo.old next.old)
+        outs.old.items).course.outs }
     ensures echo { echo.new ≡ (session.step_from eff event.now (pair_of p.old echo.old next.old) outs.old.items).echo }
-    ensures next { next.new ≡ (session.step_from eff event.now (pair_of p.old echo.old next.old) outs.old.items).echo_next }
+    ensures next { next.new ≡ (session.step_from eff event.now (pair_of p.old echo.old next.old)
+        outs.old.items).echo_next }
     ensures answer { result ≡ session.reply_from eff event.now (pair_of p.old echo.old next.old) outs.old.items }
     ensures sound { IsPairSound p.new.config (pair_of p.new echo.new next.new) }
     ensures spare { outs.old.spare ≤ outs.new.spare + 5 }
@@ -191,8 +201,10 @@ fn passes(
     requires eff { eff < moment_bound }
     requires room { 4 ≤ outs.old.spare }
     ensures config { p.new.config ≡ p.old.config }
-    ensures vars { p.new.vars ≡ (session.tick_from limit eff (pair_of p.old echo.old next.old) outs.old.items).course.vars }
-    ensures outs { outs.new.items ≡ (session.tick_from limit eff (pair_of p.old echo.old next.old) outs.old.items).course.outs }
+    ensures vars { p.new.vars ≡ (session.tick_from limit eff (pair_of p.old echo.old next.old)
+        outs.old.items).course.vars }
+    ensures outs { outs.new.items ≡ (session.tick_from limit eff (pair_of p.old echo.old next.old)
+        outs.old.items).course.outs }
     ensures echo { echo.new ≡ (session.tick_from limit eff (pair_of p.old echo.old next.old) outs.old.items).echo }
     ensures next { next.new ≡ (session.tick_from limit eff (pair_of p.old echo.old next.old) outs.old.items).echo_next }
     ensures over { limit ≤ eff → IsOver limit p.new.vars }
@@ -220,7 +232,8 @@ pub fn ticks(
     requires room { 4 ≤ outs.old.spare }
     ensures session { pair_of p.new echo.new next.new ≡ session.tick_next limit eff (pair_of p.old echo.old next.old) }
     ensures outs { outs.new.items ≡ outs.old.items ++ session.tick_emits limit eff (pair_of p.old echo.old next.old) }
-    ensures over { (t : ℕ) → limit ≡ 1000 * t → limit ≤ eff → has_come t (due.due (pair_of p.new echo.new next.new)) ≡ false }
+    ensures over { (t : ℕ) → limit ≡ 1000 * t → limit ≤ eff
+        → has_come t (due.due (pair_of p.new echo.new next.new)) ≡ false }
     ensures sound { IsPairSound p.new.config (pair_of p.new echo.new next.new) }
     ensures spare { outs.old.spare ≤ outs.new.spare + 4 }
     ensures room { outs.new.room ≡ outs.old.room }

@@ -25,7 +25,8 @@ fn acts(tail: &mut Tail, eff: u64, event: &Event, mark: &mut Mark, outs: &mut Ou
     requires room { 1 ≤ outs.old.spare }
     ensures config { tail.new.config ≡ tail.old.config }
     ensures course { course tail.new.vars mark.new outs.new.items
-        ≡ (session.acted (TailOf tail.old.config) eff event.now (plain (course tail.old.vars mark.old outs.old.items))).course }
+        ≡ (session.acted (TailOf tail.old.config)
+        eff event.now (plain (course tail.old.vars mark.old outs.old.items))).course }
     ensures answer { result
         ≡ session.answer_of (TailOf tail.old.config) event.now (plain (course tail.old.vars mark.old outs.old.items)) }
     ensures size { HasSize (TailOf tail.old.config) event.now }

@@ -18,10 +18,13 @@ use bfd_session::tick_laws;
 pub fn history_laws()
     ensures more { (events : List ShardEvent) (event : ShardEvent) (configs : List SessionConfig)
         → runs (events ++ event ∷ []) configs ≡ moved (last_tick events) event (runs events configs) }
-    ensures last { (events : List ShardEvent) (event : ShardEvent) → last_tick (events ++ event ∷ []) ≡ later (last_tick events) event }
-    ensures at { (events : List ShardEvent) (configs : List SessionConfig) (k : ℕ) (c : SessionConfig) (d : Running) → k < length configs
+    ensures last { (events : List ShardEvent) (event : ShardEvent)
+        → last_tick (events ++ event ∷ []) ≡ later (last_tick events) event }
+    ensures at { (events : List ShardEvent) (configs : List SessionConfig) (k : ℕ) (c : SessionConfig) (d : Running)
+        → k < length configs
         → slice_index_or (runs events configs) k d ≡ run k events (slice_index_or configs k c) }
-    ensures configs { (events : List ShardEvent) (configs : List SessionConfig) → configs_of (runs events configs) ≡ configs }
+    ensures configs { (events : List ShardEvent) (configs : List SessionConfig)
+        → configs_of (runs events configs) ≡ configs }
 {}
 
 /// Laws of a session's own events, and no work: two sessions of one configuration with the same own events, and the same
@@ -37,14 +40,16 @@ pub fn own_laws()
         → own_events (k / shards) (history_of shards (k % shards) events) ≡ own_events k events }
     ensures dealt { (shards k : ℕ) (events : List ShardEvent) (config : SessionConfig)
         → run (k / shards) (history_of shards (k % shards) events) config ≡ run k events config }
-    ensures last { (shards number : ℕ) (events : List ShardEvent) → last_tick (history_of shards number events) ≡ last_tick events }
+    ensures last { (shards number : ℕ) (events : List ShardEvent)
+        → last_tick (history_of shards number events) ≡ last_tick events }
 {}
 
 /// A law of expiry, and no work: where a history has left sound sessions, as every history of a shard does, a tick forgets
 /// of exactly those sessions that a packet was heard whose Detection Time has expired by it (RFC 5880 section 6.8.4), where
 /// a tick below the last tick counts as the last tick.
 pub fn expiry_laws()
-    ensures { (configs : List SessionConfig) (events : List ShardEvent) (t : ℕ) → AllByRecursion IsSound (runs events configs)
+    ensures { (configs : List SessionConfig) (events : List ShardEvent) (t : ℕ)
+        → AllByRecursion IsSound (runs events configs)
         → forgotten (runs events configs) (runs (events ++ Tick t ∷ []) configs) ≡ expired configs events t }
 {
     tick_laws();

@@ -69,12 +69,14 @@ pub(crate) fn step_at<W: Timers, L: Ledger>(
     requires sound { AllByRecursion IsSound sessions.old.items }
     requires room { 5 ≤ outs.old.spare }
     ensures sessions { (d : Running) → sessions.new.items
-        ≡ slice_set sessions.old.items place (stepped moment last event.now (slice_index_or sessions.old.items place d)) }
+        ≡ slice_set sessions.old.items place
+        (stepped moment last event.now (slice_index_or sessions.old.items place d)) }
     ensures sound { AllByRecursion IsSound sessions.new.items }
     ensures dues { W.dues timers.new ≡ map due_tick sessions.new.items }
     ensures items { (d : Running) → outs.new.items
         ≡ outs.old.items ++ (step_outcome moment last event.now (slice_index_or sessions.old.items place d)).items }
-    ensures answer { (d : Running) → result ≡ (step_outcome moment last event.now (slice_index_or sessions.old.items place d)).answer }
+    ensures answer { (d : Running) → result
+        ≡ (step_outcome moment last event.now (slice_index_or sessions.old.items place d)).answer }
     ensures spare { outs.old.spare ≤ outs.new.spare + 5 }
     ensures room { outs.new.room ≡ outs.old.room }
     ensures cost { steps.new ≤ steps.old + 2 }

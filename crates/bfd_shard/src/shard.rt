@@ -192,16 +192,19 @@ impl<W: Timers> ShardState<W> {
         requires ready { length self.old.journal < self.old.limit → 0 < self.old.room }
         requires can { CanHappen (configs_of self.old.sessions) event }
         requires room { room_for self.old.sessions event ≤ outs.old.spare }
-        ensures full { IfErr result (λ full. (full.0 ≡ length self.old.journal) × (length self.old.journal ≡ self.old.limit)) }
+        ensures full { IfErr result (λ full. (full.0 ≡ length self.old.journal)
+            × (length self.old.journal ≡ self.old.limit)) }
         ensures below { OnOk result (length self.old.journal < self.old.limit) }
         ensures same { OnErr result (self.new ≡ self.old) }
         ensures untold { OnErr result (outs.new ≡ outs.old) }
-        ensures journal { OnOk result (self.new.journal ≡ self.old.journal ++ record { caller = caller; event = event } ∷ []) }
+        ensures journal { OnOk result (self.new.journal
+            ≡ self.old.journal ++ record { caller = caller; event = event } ∷ []) }
         ensures limit { self.new.limit ≡ self.old.limit }
         ensures last { OnOk result (self.new.last ≡ later self.old.last event) }
         ensures sessions { OnOk result (self.new.sessions ≡ moved self.old.last event self.old.sessions) }
         ensures configs { configs_of self.new.sessions ≡ configs_of self.old.sessions }
-        ensures items { OnOk result (outs.new.items ≡ outs.old.items ++ (outcome_of self.old.last event self.old.sessions).items) }
+        ensures items { OnOk result (outs.new.items
+            ≡ outs.old.items ++ (outcome_of self.old.last event self.old.sessions).items) }
         ensures answer { IfOk result (λ answer. answer ≡ (outcome_of self.old.last event self.old.sessions).answer) }
         ensures over { OnOk result (IsOver self.new.last event self.new.sessions) }
         ensures exact { OnOk result (IsExact self.old event self.new.sessions) }

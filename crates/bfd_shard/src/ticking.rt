@@ -31,11 +31,15 @@ fn tick_at<W: Timers, L: Ledger>(
     requires last { last ≤ greatest_tick }
     requires timers { length (W.dues timers.old) ≡ length sessions.old.items }
     requires room { 5 ≤ outs.old.spare }
-    ensures sessions { (d : Running) → sessions.new.items ≡ slice_set sessions.old.items place (ticked last (slice_index_or sessions.old.items place d)) }
+    ensures sessions { (d : Running)
+        → sessions.new.items ≡ slice_set sessions.old.items place
+        (ticked last (slice_index_or sessions.old.items place d)) }
     ensures dues { (d : Running) → W.dues timers.new
         ≡ slice_set (W.dues timers.old) place (due_tick (ticked last (slice_index_or sessions.old.items place d))) }
-    ensures items { (d : Running) → outs.new.items ≡ outs.old.items ++ tick_items last (slice_index_or sessions.old.items place d) }
-    ensures over { (d : Running) → has_come last (due_tick (ticked last (slice_index_or sessions.old.items place d))) ≡ false }
+    ensures items { (d : Running) → outs.new.items
+        ≡ outs.old.items ++ tick_items last (slice_index_or sessions.old.items place d) }
+    ensures over { (d : Running) → has_come last (due_tick (ticked last (slice_index_or sessions.old.items place d)))
+        ≡ false }
     ensures spare { outs.old.spare ≤ outs.new.spare + 5 }
     ensures room { outs.new.room ≡ outs.old.room }
 {

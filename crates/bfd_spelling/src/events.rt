@@ -36,7 +36,8 @@ pub(crate) fn packet_text(
 
 /// The line of a command without number.
 fn plain_text(alloc: Global, moment: u64, discr: u32, verb: &str) -> Result<String, AllocError>
-    ensures { IfOk result (λ text. string_bytes text ≡ line (codes "cmd" ∷ decimal moment ∷ decimal discr ∷ verb.now ∷ [])) }
+    ensures { IfOk result (λ text. string_bytes text
+        ≡ line (codes "cmd" ∷ decimal moment ∷ decimal discr ∷ verb.now ∷ [])) }
 {
     format!(in alloc; "cmd {moment} {discr} {verb}\n")
 }
@@ -49,7 +50,8 @@ fn number_text(
     verb: &str,
     number: u64,
 ) -> Result<String, AllocError>
-    ensures { IfOk result (λ text. string_bytes text ≡ line (codes "cmd" ∷ decimal moment ∷ decimal discr ∷ verb.now ∷ decimal number ∷ [])) }
+    ensures { IfOk result (λ text. string_bytes text
+        ≡ line (codes "cmd" ∷ decimal moment ∷ decimal discr ∷ verb.now ∷ decimal number ∷ [])) }
 {
     format!(in alloc; "cmd {moment} {discr} {verb} {number}\n")
 }

@@ -17,7 +17,8 @@ fn own_text(
     moment: u64,
     event: &Event,
 ) -> Result<String, AllocError>
-    ensures { IfOk result (λ text. string_bytes text ≡ line (happening_fields discr (ShardEvent.Own place moment event.now))) }
+    ensures { IfOk result (λ text. string_bytes text
+        ≡ line (happening_fields discr (ShardEvent.Own place moment event.now))) }
 {
     match event {
         Event::Packet(arrival) => packet_text(alloc, moment, arrival),

@@ -161,11 +161,13 @@ fn beside<W: Timers + Send, R: Threads + Wait + Sync>(
     ensures told { IfSome result (λ _. IsTold (seen_at first.new 0) client.new.watch client.new.told.items) }
 {
     let mut polled = || -> Option<()>
-        requires { IsOf engine.now first.now.1 × AllThere first.now.1 × (length engine.now.locks ≡ 3) × IsTold (seen_at first.now 0) client.now.watch client.now.told.items }
+        requires { IsOf engine.now first.now.1 × AllThere first.now.1 × (length engine.now.locks ≡ 3)
+            × IsTold (seen_at first.now 0) client.now.watch client.now.told.items }
         ensures of { IsOf engine.entry.now first.exit.now.1 }
         ensures there { AllThere first.exit.now.1 }
         ensures grown { HasGrown first.entry.now first.exit.now }
-        ensures told { IfSome result (λ _. IsTold (seen_at first.exit.now 0) client.exit.now.watch client.exit.now.told.items) }
+        ensures told { IfSome result (λ _. IsTold (seen_at first.exit.now 0)
+            client.exit.now.watch client.exit.now.told.items) }
     { polls(rt, alloc, engine, first, client) };
     let mut worked = ||
         requires { All (λ (j : _). IsReady engine.now j) jobs.now }

@@ -123,7 +123,8 @@ impl<V: Recorded> TurnLock<V> {
         pass: Pass<V::Note, V::Base>,
     ) -> Result<Turn<V>, TryFault<V::Note, V::Base>>
         requires { pass.0 ≡ self.now }
-        ensures { MatchResult result (λ t. (t.0 ≡ self.now) × IsLent V.noted V.caller V.base pass.1 t.1 t.2) (IsRefused self.now pass.1) }
+        ensures { MatchResult result (λ t. (t.0 ≡ self.now) × IsLent V.noted V.caller V.base pass.1 t.1 t.2)
+            (IsRefused self.now pass.1) }
     {
         let (mut seat, number) = pass.into_seat();
         let shared = &self.table.shared;
@@ -175,7 +176,8 @@ impl<V: Recorded> TurnLock<V> {
         mut pass: Pass<V::Note, V::Base>,
     ) -> Result<Turn<V>, Spent<V::Note, V::Base>>
         requires { pass.0 ≡ self.now }
-        ensures { MatchResult result (λ t. (t.0 ≡ self.now) × IsLent V.noted V.caller V.base pass.1 t.1 t.2) (IsUsedUp self.now pass.1) }
+        ensures { MatchResult result (λ t. (t.0 ≡ self.now) × IsLent V.noted V.caller V.base pass.1 t.1 t.2)
+            (IsUsedUp self.now pass.1) }
     {
         for _ in rt.forever() {
             match self.try_turn(pass) {

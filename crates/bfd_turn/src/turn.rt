@@ -35,7 +35,8 @@ impl<V: Recorded> Turn<V> {
 
     /// The value. What is left there is what `done` puts back.
     pub fn value(&mut self) -> &mut V
-        ensures* writes_back { sem 𝓛 (Lends (the_row V.row V.Note.row V.Base.row V.Recorded) V.row self.entry result (λ w. (self.old.0, self.old.1, w))) }
+        ensures* writes_back { sem 𝓛 (Lends (the_row V.row V.Note.row V.Base.row V.Recorded)
+            V.row self.entry result (λ w. (self.old.0, self.old.1, w))) }
         ensures value { result.now ≡ self.old.2 }
     {
         &mut self.value

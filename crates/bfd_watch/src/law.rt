@@ -13,10 +13,12 @@ ghost use Rattle.bfd_watch.specs.Watched.{event_lines, lines_from, watched, watc
 #[tactic(auto, using(crate::proofs::Telling::outcomes_grow, crate::proofs::Telling::changes_more))]
 pub fn changes_laws()
     ensures outcomes { (configs : List SessionConfig) (events : List ShardEvent) (event : ShardEvent)
-        → outcomes configs (events ++ event ∷ []) ≡ outcomes configs events ++ outcome_of (last_tick events) event (runs events configs) ∷ [] }
+        → outcomes configs (events ++ event ∷ [])
+        ≡ outcomes configs events ++ outcome_of (last_tick events) event (runs events configs) ∷ [] }
     ensures changes { (configs : List SessionConfig) (events : List ShardEvent) (event : ShardEvent)
         → changes configs (events ++ event ∷ [])
-        ≡ changes configs events ++ changes_in (length events + 1) (outcome_of (last_tick events) event (runs events configs)).items }
+        ≡ changes configs events ++ changes_in (length events + 1)
+        (outcome_of (last_tick events) event (runs events configs)).items }
 {}
 
 /// Laws of the watched text, and no work: with one event more come its lines, with the next number and the group as all
@@ -26,11 +28,13 @@ pub fn watched_laws()
     ensures lines { (outcomes : List Outcome) (outcome : Outcome) (g : Group)
         → lines_from 1 (outcomes ++ outcome ∷ []) g
         ≡ lines_from 1 outcomes g
-        ++ event_lines (length outcomes + 1) (changes_in (length outcomes + 1) outcome.items) (group_after (changes_from 1 outcomes) g) }
+        ++ event_lines (length outcomes + 1) (changes_in (length outcomes + 1) outcome.items)
+        (group_after (changes_from 1 outcomes) g) }
     ensures group { (outcomes : List Outcome) (outcome : Outcome) (g : Group)
         → group_after (changes_from 1 (outcomes ++ outcome ∷ [])) g
         ≡ group_after (changes_in (length outcomes + 1) outcome.items) (group_after (changes_from 1 outcomes) g) }
     ensures whole { (outcomes : List Outcome) (g : Group)
         → watched outcomes g
-        ≡ lines_from 1 outcomes g ++ watched_line (length (changes_from 1 outcomes)) (group_after (changes_from 1 outcomes) g) }
+        ≡ lines_from 1 outcomes g ++ watched_line (length (changes_from 1 outcomes))
+        (group_after (changes_from 1 outcomes) g) }
 {}

@@ -45,7 +45,8 @@ fn up_of<W: Timers>(state: &ShardState<W>) -> u32
 /// How many sessions of all shards are Up.
 pub(crate) fn up_all<W: Timers>(states: &Vec<ShardState<W>>) -> u32
     requires few { length states.now.items ≤ 64 }
-    ensures value { (d : Shard) → result ≡ sum_to (λ k. sum_by one_up (slice_index_or states.now.items k d).sessions) (length states.now.items) }
+    ensures value { (d : Shard) → result
+        ≡ sum_to (λ k. sum_by one_up (slice_index_or states.now.items k d).sessions) (length states.now.items) }
     ensures kept { (k : ℕ) (d : Shard) → k < length states.now.items → IsShard (slice_index_or states.now.items k d) }
 {
     let mut count = 0u32;
@@ -58,7 +59,8 @@ pub(crate) fn up_all<W: Timers>(states: &Vec<ShardState<W>>) -> u32
 /// The same, of shards that are let go.
 pub(crate) fn up_at_last<W: Timers>(states: Vec<ShardState<W>>) -> u32
     requires few { length states.items ≤ 64 }
-    ensures value { (d : Shard) → result ≡ sum_to (λ k. sum_by one_up (slice_index_or states.items k d).sessions) (length states.items) }
+    ensures value { (d : Shard) → result
+        ≡ sum_to (λ k. sum_by one_up (slice_index_or states.items k d).sessions) (length states.items) }
     ensures kept { (k : ℕ) (d : Shard) → k < length states.items → IsShard (slice_index_or states.items k d) }
 {
     up_all(&states)

@@ -25,8 +25,10 @@ fn parts_of(told: Told) -> Result<Vec<Part>, AllocError>
 
 /// The parts of all workers, of which none stopped but for want of memory.
 pub(crate) fn all_told(alloc: Global, tolds: Vec<Told>) -> Result<Vec<Vec<Part>>, AllocError>
-    requires { (i : ℕ) (end : Result (List (List Piece)) FaultIn) → slice_get (map (seen_as (λ parts. parts.items)) tolds.items) i ≡ Some end → IsFine end }
-    ensures { IfOk result (λ all. map (seen_as (λ parts. parts.items)) tolds.items ≡ map Ok (map (λ parts. parts.items) all.items)) }
+    requires { (i : ℕ) (end : Result (List (List Piece)) FaultIn)
+        → slice_get (map (seen_as (λ parts. parts.items)) tolds.items) i ≡ Some end → IsFine end }
+    ensures { IfOk result (λ all. map (seen_as (λ parts. parts.items)) tolds.items
+        ≡ map Ok (map (λ parts. parts.items) all.items)) }
 {
     let mut all = Vec::new(alloc);
     for told in tolds {
@@ -42,8 +44,10 @@ fn take_part(alloc: Global, all: &mut Vec<Vec<Part>>, at: usize, shard: usize) -
     requires shard { shard < length (slice_index_or (map (λ parts. parts.items) all.old.items) at []) }
     ensures part { result ≡ slice_index_or (slice_index_or (map (λ parts. parts.items) all.old.items) at []) shard [] }
     ensures long { length all.new.items ≡ length all.old.items }
-    ensures wide { (i : ℕ) → length (slice_index_or (map (λ parts. parts.items) all.new.items) i []) ≡ length (slice_index_or (map (λ parts. parts.items) all.old.items) i []) }
-    ensures others { (i r : ℕ) → r ≢ shard → slice_index_or (slice_index_or (map (λ parts. parts.items) all.new.items) i []) r []
+    ensures wide { (i : ℕ) → length (slice_index_or (map (λ parts. parts.items) all.new.items) i [])
+        ≡ length (slice_index_or (map (λ parts. parts.items) all.old.items) i []) }
+    ensures others { (i r : ℕ) → r ≢ shard
+        → slice_index_or (slice_index_or (map (λ parts. parts.items) all.new.items) i []) r []
         ≡ slice_index_or (slice_index_or (map (λ parts. parts.items) all.old.items) i []) r [] }
 {
     let parts = &mut all[at];
@@ -58,7 +62,8 @@ pub(crate) fn in_order(
     apart: Part,
 ) -> Result<Vec<Part>, AllocError>
     requires some { 0 < length all.items }
-    requires wide { (i : ℕ) → i < length all.items → length (slice_index_or (map (λ parts. parts.items) all.items) i []) ≡ shards }
+    requires wide { (i : ℕ) → i < length all.items
+        → length (slice_index_or (map (λ parts. parts.items) all.items) i []) ≡ shards }
     ensures long { IfOk result (λ parts. length parts.items ≡ shards + 1) }
     ensures each { IfOk result (λ parts. (s : ℕ) → s < shards → slice_index_or parts.items s []
         ≡ slice_index_or (slice_index_or (map (λ parts. parts.items) all.items) (s % length all.items) []) s []) }

@@ -53,7 +53,8 @@ fn run<W: Timers, R: Wait, G: Gate, L: Ledger>(
     requires parts { blank.parts ≡ L.parts }
     requires some { 0 < blank.parts }
     ensures left { HasLeft engine.now (map (λ q. q.items) queues.items) pass.old pass.new }
-    ensures ended { HasEnded engine.now (map (λ q. q.items) queues.items) pass.new (seen_as (λ parts. parts.items) result) }
+    ensures ended { HasEnded engine.now (map (λ q. q.items) queues.items)
+        pass.new (seen_as (λ parts. parts.items) result) }
 {
     let Ok(mut outs) = Outs::make(alloc, room) else {
         return Err(EngineFault::Memory);
@@ -99,7 +100,8 @@ fn work_each<W: Timers + Send, R: Threads + Wait + Sync, G: Gate + Sync>(
 )
     requires ready { All (λ (j : Work). IsReady engine.now j.queues j.pass) jobs.old }
     requires room { (shard : ℕ) → 5 * length (configs_at engine.now shard) + 5 ≤ room }
-    ensures worked { (i : ℕ) (d : Work) → i < length jobs.old → HasWorked engine.now (slice_index_or jobs.old i d) (slice_index_or jobs.new i d) }
+    ensures worked { (i : ℕ) (d : Work) → i < length jobs.old
+        → HasWorked engine.now (slice_index_or jobs.old i d) (slice_index_or jobs.new i d) }
     ensures long { length jobs.new ≡ length jobs.old }
 {
     thread::for_each_mut(
@@ -125,7 +127,8 @@ pub(crate) fn work_all<W: Timers + Send, R: Threads + Wait + Sync, G: Gate + Syn
 )
     requires ready { All (λ (j : Work). IsReady engine.now j.queues j.pass) jobs.old.items }
     requires room { (shard : ℕ) → 5 * length (configs_at engine.now shard) + 5 ≤ room }
-    ensures worked { (i : ℕ) (d : Work) → i < length jobs.old.items → HasWorked engine.now (slice_index_or jobs.old.items i d) (slice_index_or jobs.new.items i d) }
+    ensures worked { (i : ℕ) (d : Work) → i < length jobs.old.items
+        → HasWorked engine.now (slice_index_or jobs.old.items i d) (slice_index_or jobs.new.items i d) }
     ensures long { length jobs.new.items ≡ length jobs.old.items }
 {
     work_each(rt, alloc, engine, jobs, room, gate);
@@ -141,7 +144,9 @@ fn take_own(
     requires { shard < length queues.old.items }
     ensures taken { result.items ≡ (if own then slice_index_or (map (λ q. q.items) queues.old.items) shard [] else []) }
     ensures long { length queues.new.items ≡ length queues.old.items }
-    ensures others { (r : ℕ) → (r ≡ shard → ⊥) → slice_index_or (map (λ q. q.items) queues.new.items) r [] ≡ slice_index_or (map (λ q. q.items) queues.old.items) r [] }
+    ensures others { (r : ℕ) → (r ≡ shard → ⊥)
+        → slice_index_or (map (λ q. q.items) queues.new.items) r []
+        ≡ slice_index_or (map (λ q. q.items) queues.old.items) r [] }
     ensures left { own ≡ false → queues.new.items ≡ queues.old.items }
 {
     if own {
@@ -160,9 +165,12 @@ pub(crate) fn own_queues(
 ) -> Result<Vec<Vec<Numbered>>, AllocError>
     requires some { 0 < workers }
     requires few { length queues.old.items ≤ 64 }
-    ensures own { IfOk result (λ own. AreOwn workers at (map (λ q. q.items) queues.old.items) (map (λ q. q.items) own.items)) }
+    ensures own { IfOk result (λ own. AreOwn workers at (map (λ q. q.items) queues.old.items)
+        (map (λ q. q.items) own.items)) }
     ensures long { OnOk result (length queues.new.items ≡ length queues.old.items) }
-    ensures others { OnOk result ((shard : ℕ) → (shard % workers ≡ at → ⊥) → slice_index_or (map (λ q. q.items) queues.new.items) shard [] ≡ slice_index_or (map (λ q. q.items) queues.old.items) shard []) }
+    ensures others { OnOk result ((shard : ℕ) → (shard % workers ≡ at → ⊥)
+        → slice_index_or (map (λ q. q.items) queues.new.items) shard []
+        ≡ slice_index_or (map (λ q. q.items) queues.old.items) shard []) }
 {
     let mut own = Vec::new(alloc);
     for shard in 0..queues.len() {

@@ -21,7 +21,8 @@ pub(crate) fn deal_jobs<W: Timers>(
     requires new { IsNewPass engine.now first.old }
     requires workers { (0 < workers) × (workers ≤ 64) }
     requires few { length queues.items ≤ 64 }
-    ensures { IfOk result (λ jobs. AreJobs engine.now (map (λ q. q.items) queues.items) workers workers first.new jobs.items) }
+    ensures { IfOk result (λ jobs. AreJobs engine.now (map (λ q. q.items) queues.items)
+        workers workers first.new jobs.items) }
 {
     let mut queues = queues;
     let mut jobs = Vec::new(alloc);
@@ -52,7 +53,8 @@ pub(crate) fn join_all<W: Timers>(
     requires first { first.old.0 ≡ 0 }
     requires others { (i : ℕ) (w : Work) → slice_get jobs.items i ≡ Some w → IsJoining engine.now 200000 w }
     ensures joined { IfOk result (λ _. AllJoined engine.now 200000 first.old first.new jobs.items) }
-    ensures told { IfOk result (λ tolds. map (seen_as (λ parts. parts.items)) tolds.items ≡ map (λ w. w.told) jobs.items) }
+    ensures told { IfOk result (λ tolds. map (seen_as (λ parts. parts.items)) tolds.items
+        ≡ map (λ w. w.told) jobs.items) }
 {
     let mut tolds = Vec::new(alloc);
     for job in jobs {

@@ -60,7 +60,8 @@ fn greater(a: usize, b: usize) -> usize
 /// How many events the longest queue has.
 pub(crate) fn longest(queues: &Vec<Vec<Numbered>>) -> usize
     ensures all { (s : ℕ) → length (slice_index_or (map (λ q. q.items) queues.now.items) s []) ≤ result }
-    ensures least { (most : ℕ) → ((s : ℕ) → length (slice_index_or (map (λ q. q.items) queues.now.items) s []) ≤ most) → result ≤ most }
+    ensures least { (most : ℕ) → ((s : ℕ) → length (slice_index_or (map (λ q. q.items) queues.now.items) s []) ≤ most)
+        → result ≤ most }
 {
     let mut most = 0;
     for shard in 0..queues.len() {
@@ -79,7 +80,8 @@ fn take_in(
     requires some { 0 < length queues.old.items }
     requires few { length queues.old.items ≤ 64 }
     ensures long { length queues.new.items ≡ length queues.old.items }
-    ensures planned { OnOk result (IsPlanned number (route_is route) (map (λ q. q.items) queues.old.items) (map (λ q. q.items) queues.new.items) apart.old apart.new) }
+    ensures planned { OnOk result (IsPlanned number (route_is route) (map (λ q. q.items) queues.old.items)
+        (map (λ q. q.items) queues.new.items) apart.old apart.new) }
 {
     match route {
         Route::Rests(answer) => apart.tell_event(number, &[], &answer),
@@ -107,7 +109,8 @@ pub(crate) fn plan(
     requires climbs { PoolAscends pool.now }
     requires shards { (0 < shards) × (shards ≤ 64) }
     requires events { length events.items ≤ 200000 }
-    ensures queues { IfOk result (λ r. AreQueues shards (happenings configs.now pool.now events.items) (map (λ q. q.items) r.0.items)) }
+    ensures queues { IfOk result (λ r. AreQueues shards (happenings configs.now pool.now events.items)
+        (map (λ q. q.items) r.0.items)) }
     ensures apart { IfOk result (λ r. r.1 ≡ told_apart 1 (happenings configs.now pool.now events.items)) }
     ensures met { IfOk result (λ r. AllByRecursion (IsMet configs.now) (happenings configs.now pool.now events.items)) }
 {
@@ -141,9 +144,11 @@ pub(crate) fn planned(
     requires rows { demux.now ≡ table_in configs.now.items pool.now.items }
     requires shards { (0 < shards) × (shards ≤ 64) }
     requires events { length events.items ≤ 200000 }
-    ensures queues { IfOk result (λ r. AreQueues shards (happenings configs.now.items pool.now.items events.items) (map (λ q. q.items) r.0.items)) }
+    ensures queues { IfOk result (λ r. AreQueues shards (happenings configs.now.items pool.now.items events.items)
+        (map (λ q. q.items) r.0.items)) }
     ensures apart { IfOk result (λ r. r.1 ≡ told_apart 1 (happenings configs.now.items pool.now.items events.items)) }
-    ensures met { IfOk result (λ r. AllByRecursion (IsMet configs.now.items) (happenings configs.now.items pool.now.items events.items)) }
+    ensures met { IfOk result (λ r. AllByRecursion (IsMet configs.now.items)
+        (happenings configs.now.items pool.now.items events.items)) }
 {
     plan(alloc, demux, configs, pool, events, shards)
 }

@@ -71,8 +71,10 @@ fn worked<W: Timers + Send, R: Threads + Wait + Sync, G: Gate + Sync>(
     requires few { length events.items ≤ 200000 }
     requires shards { (0 < shards) × (shards ≤ 64) }
     requires workers { (0 < workers) × (workers ≤ 64) }
-    ensures parts { IfOk result (λ r. AreParts shards 1 0 (happenings configs.items pool.items events.items) (map started configs.items) r.0.items) }
-    ensures states { IfOk result (λ r. HaveReplayed (script_of configs.items pool.items events.items) shards workers r.1.items) }
+    ensures parts { IfOk result (λ r. AreParts shards 1 0 (happenings configs.items pool.items events.items)
+        (map started configs.items) r.0.items) }
+    ensures states { IfOk result (λ r. HaveReplayed (script_of configs.items pool.items events.items)
+        shards workers r.1.items) }
 {
     let room = 5 * configs.len() + 5;
     let demux = table(alloc, &configs, &pool)?;
@@ -99,12 +101,17 @@ fn replay_parts<W: Timers + Send, R: Threads + Wait + Sync, G: Gate + Sync>(
     requires few { length events.items ≤ 200000 }
     requires shards { (0 < shards) × (shards ≤ 64) }
     requires workers { (0 < workers) × (workers ≤ 64) }
-    ensures text { IfOk result (λ outcome. outcome.text.items ≡ replayed (script_of configs.items pool.items events.items)) }
-    ensures events { IfOk result (λ outcome. outcome.events ≡ (totals (script_of configs.items pool.items events.items)).events) }
-    ensures txs { IfOk result (λ outcome. outcome.txs ≡ (totals (script_of configs.items pool.items events.items)).txs) }
-    ensures drops { IfOk result (λ outcome. outcome.drops ≡ (totals (script_of configs.items pool.items events.items)).drops) }
+    ensures text { IfOk result (λ outcome. outcome.text.items
+        ≡ replayed (script_of configs.items pool.items events.items)) }
+    ensures events { IfOk result (λ outcome. outcome.events
+        ≡ (totals (script_of configs.items pool.items events.items)).events) }
+    ensures txs { IfOk result (λ outcome. outcome.txs
+        ≡ (totals (script_of configs.items pool.items events.items)).txs) }
+    ensures drops { IfOk result (λ outcome. outcome.drops
+        ≡ (totals (script_of configs.items pool.items events.items)).drops) }
     ensures up { IfOk result (λ outcome. outcome.up ≡ (totals (script_of configs.items pool.items events.items)).ups) }
-    ensures states { IfOk result (λ outcome. HaveReplayed (script_of configs.items pool.items events.items) shards workers outcome.states.items) }
+    ensures states { IfOk result (λ outcome. HaveReplayed (script_of configs.items pool.items events.items)
+        shards workers outcome.states.items) }
 {
     let count = events.len();
     let (parts, states) = worked(rt, alloc, configs, pool, events, shards, workers, gate)?;
@@ -135,10 +142,14 @@ fn report_parts<W: Timers + Send, R: Threads + Wait + Sync, G: Gate + Sync>(
     requires few { length events.items ≤ 200000 }
     requires shards { (0 < shards) × (shards ≤ 64) }
     requires workers { (0 < workers) × (workers ≤ 64) }
-    ensures text { IfOk result (λ outcome. outcome.text.items ≡ replayed (script_of configs.items pool.items events.items)) }
-    ensures events { IfOk result (λ outcome. outcome.events ≡ (totals (script_of configs.items pool.items events.items)).events) }
-    ensures txs { IfOk result (λ outcome. outcome.txs ≡ (totals (script_of configs.items pool.items events.items)).txs) }
-    ensures drops { IfOk result (λ outcome. outcome.drops ≡ (totals (script_of configs.items pool.items events.items)).drops) }
+    ensures text { IfOk result (λ outcome. outcome.text.items
+        ≡ replayed (script_of configs.items pool.items events.items)) }
+    ensures events { IfOk result (λ outcome. outcome.events
+        ≡ (totals (script_of configs.items pool.items events.items)).events) }
+    ensures txs { IfOk result (λ outcome. outcome.txs
+        ≡ (totals (script_of configs.items pool.items events.items)).txs) }
+    ensures drops { IfOk result (λ outcome. outcome.drops
+        ≡ (totals (script_of configs.items pool.items events.items)).drops) }
     ensures up { IfOk result (λ outcome. outcome.up ≡ (totals (script_of configs.items pool.items events.items)).ups) }
 {
     let count = events.len();

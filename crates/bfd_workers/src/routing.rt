@@ -61,7 +61,8 @@ fn directed(
 ) -> Route
     requires climbs { PoolAscends pool.now }
     requires arrives { Arrives configs.now pool.now arrival target }
-    ensures route { route_is result ≡ happening_by pool.now (arriving moment arrival (coming_to (Some target) arrival)) }
+    ensures route { route_is result
+        ≡ happening_by pool.now (arriving moment arrival (coming_to (Some target) arrival)) }
     ensures met { IsMet configs.now (route_is result) }
 {
     match target {
@@ -129,7 +130,8 @@ fn asked(configs: &[Config], moment: Moment, discr: u32, event: Event) -> Route
     requires free { (config : SessionConfig) → CanTake config event }
     requires ascends { Ascends configs.now }
     requires few { length configs.now ≤ 65536 }
-    ensures route { (pool : List ReflectorIn) → route_is result ≡ happening_by pool (asking moment event (place_in discr configs.now)) }
+    ensures route { (pool : List ReflectorIn)
+        → route_is result ≡ happening_by pool (asking moment event (place_in discr configs.now)) }
     ensures met { IsMet configs.now (route_is result) }
 {
     match place_of(configs, discr) {

@@ -59,12 +59,14 @@ pub(crate) fn run_all<W: Timers + Send, R: Threads + Wait + Sync, G: Gate + Sync
     requires workers { (0 < workers) × (workers ≤ 64) }
     requires locks { (0 < length engine.locks) × (length engine.locks ≤ 64) }
     requires long { length queues.items ≡ length engine.locks }
-    requires met { (s : ℕ) → s < length engine.locks → AreMet engine s (slice_index_or (map (λ q. q.items) queues.items) s []) }
+    requires met { (s : ℕ) → s < length engine.locks
+        → AreMet engine s (slice_index_or (map (λ q. q.items) queues.items) s []) }
     requires room { (s : ℕ) → 5 * length (configs_at engine s) + 5 ≤ room }
     requires short { (s : ℕ) → length (slice_index_or (map (λ q. q.items) queues.items) s []) ≤ engine.limit }
     requires small { engine.limit ≤ 200000 }
     ensures states { IfOk result (λ r. AreStates engine (map (λ q. q.items) queues.items) workers r.0.items) }
-    ensures told { IfOk result (λ r. AreTold engine (map (λ q. q.items) queues.items) workers (map (λ parts. parts.items) r.1.items)) }
+    ensures told { IfOk result (λ r. AreTold engine (map (λ q. q.items) queues.items)
+        workers (map (λ parts. parts.items) r.1.items)) }
 {
     let mut first = first;
     let mut jobs = deal_jobs(alloc, &engine, &mut first, queues, workers)?;

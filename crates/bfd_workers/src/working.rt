@@ -42,7 +42,9 @@ fn tell(
     outs: &[Out],
     answer: &Answer,
 ) -> Result<(), AllocError>
-    ensures { (event : EventIn) → every ≡ is_tick event → OnOk result (part.new ≡ part.old ++ event_pieces number event (record { items = outs.now; answer = answer.now })) }
+    ensures { (event : EventIn) → every ≡ is_tick event
+        → OnOk result (part.new ≡ part.old
+        ++ event_pieces number event (record { items = outs.now; answer = answer.now })) }
 {
     if every {
         part.tell_tick(number, outs)
@@ -143,7 +145,8 @@ pub(crate) fn all_shards<W: Timers, R: Wait, G: Gate, L: Ledger>(
     requires ready { IsReady engine.now (map (λ q. q.items) queues.items) pass.old }
     requires room { (shard : ℕ) → 5 * length (configs_at engine.now shard) + 5 ≤ outs.old.room }
     ensures left { HasLeft engine.now (map (λ q. q.items) queues.items) pass.old pass.new }
-    ensures done { IfOk result (λ parts. HasFinished engine.now (map (λ q. q.items) queues.items) pass.new parts.items) }
+    ensures done { IfOk result (λ parts. HasFinished engine.now (map (λ q. q.items) queues.items)
+        pass.new parts.items) }
     ensures stopped { IfErr result (HasStopped engine.now (map (λ q. q.items) queues.items) pass.new) }
 {
     let mut parts = Vec::new(alloc);

@@ -36,7 +36,8 @@ pub(crate) fn read_all<S: Source>(alloc: Global, source: &mut S) -> Result<Vec<u
     ensures end { IfOk result (λ bytes. IsAtEnd (S.left source.new)) }
     ensures fits { IfOk result (λ bytes. length bytes.items ≤ most_bytes) }
     ensures failed { IsErrOf result InputFault.Failed → Rose (S.faults source.old) (S.faults source.new) }
-    ensures too_large { IsErrOf result InputFault.TooLarge → IfSome (S.left source.old) (λ bytes. most_bytes < length bytes) }
+    ensures too_large { IsErrOf result InputFault.TooLarge
+        → IfSome (S.left source.old) (λ bytes. most_bytes < length bytes) }
     ensures at_most { ConsumesAtMost (most_bytes + 1) (S.left source.old) (S.left source.new) }
     ensures later { S.faults source.old ≤ S.faults source.new }
     ensures calm { IfOk result (λ bytes. S.faults source.new ≡ S.faults source.old) }
@@ -71,11 +72,13 @@ pub(crate) fn bytes_for<S: Source>(
     source: &mut S,
 ) -> Result<Vec<u8>, InputFault>
     ensures none { IfOk result (λ bytes. reads job.now ≡ false → bytes.items ≡ []) }
-    ensures whole { IfOk result (λ bytes. reads job.now ≡ true → Consumes (S.left source.old) (S.left source.new) bytes.items) }
+    ensures whole { IfOk result (λ bytes. reads job.now ≡ true
+        → Consumes (S.left source.old) (S.left source.new) bytes.items) }
     ensures end { IfOk result (λ bytes. reads job.now ≡ true → IsAtEnd (S.left source.new)) }
     ensures fits { IfOk result (λ bytes. length bytes.items ≤ most_bytes) }
     ensures untouched { reads job.now ≡ false → source.new ≡ source.old }
-    ensures failed { IsErrOf result InputFault.Failed → (reads job.now ≡ true) × Rose (S.faults source.old) (S.faults source.new) }
+    ensures failed { IsErrOf result InputFault.Failed
+        → (reads job.now ≡ true) × Rose (S.faults source.old) (S.faults source.new) }
     ensures too_large { IsErrOf result InputFault.TooLarge
         → (reads job.now ≡ true) × IfSome (S.left source.old) (λ bytes. most_bytes < length bytes) }
     ensures at_most { ConsumesAtMost (most_bytes + 1) (S.left source.old) (S.left source.new) }

@@ -117,7 +117,12 @@ fn watch_answer(
 /// The summary line of a load.
 fn load_text(alloc: Global, sessions: u32, replayed: &Report) -> Result<String, AllocError>
     ensures { IfOk result (λ text. string_bytes text ≡ load_line sessions
-        (record { events = replayed.now.events; txs = replayed.now.txs; drops = replayed.now.drops; ups = replayed.now.up })) }
+        (record {
+          events = replayed.now.events;
+          txs = replayed.now.txs;
+          drops = replayed.now.drops;
+          ups = replayed.now.up;
+        })) }
 {
     let Report {
         events,

@@ -48,9 +48,11 @@ pub(crate) fn write_answer<K: Sink>(answer: Answer, sink: &mut K) -> Status
     ensures decided { IsDecided result answer.status }
     ensures done { result ≡ Status.Done → Appends (K.taken sink.old) (K.taken sink.new) answer.text }
     ensures front { TookFront (K.taken sink.old) (K.taken sink.new) answer.text }
-    ensures written { IsWrittenBy result (K.taken sink.old) (K.taken sink.new) (K.faults sink.old) (K.faults sink.new) answer.text }
+    ensures written { IsWrittenBy result (K.taken sink.old) (K.taken sink.new) (K.faults sink.old) (K.faults sink.new)
+        answer.text }
     ensures bad_text { OnBadLine result (λ bad. Appends (K.taken sink.old) (K.taken sink.new) (complaint_line bad)
-        ⊎ (Rose (K.faults sink.old) (K.faults sink.new) × TookFront (K.taken sink.old) (K.taken sink.new) (complaint_line bad))) }
+        ⊎ (Rose (K.faults sink.old) (K.faults sink.new)
+        × TookFront (K.taken sink.old) (K.taken sink.new) (complaint_line bad))) }
     ensures unwritten { WhereUnwritten result (K.taken sink.new ≡ K.taken sink.old) }
     ensures write_fault { result ≡ Status.WriteFault → Rose (K.faults sink.old) (K.faults sink.new) }
     ensures calm { UnlessWriting result (K.faults sink.new ≡ K.faults sink.old) }

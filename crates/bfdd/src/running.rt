@@ -38,9 +38,11 @@ fn decided_answer<R: Threads + Wait + Sync, G: Gate + Sync, S: Source>(
     ensures answer { IfOk result (λ answer. IfSome (wanted_of job.now (S.left source.old)) (λ w. answer ≡ w)) }
     ensures tells { IfOk result (TellsBytes job.now (S.left source.old) (S.left source.new)) }
     ensures sound { IfOk result IsAnswer }
-    ensures end { IfOk result (λ answer. answer.status ≡ Status.Done → reads job.now ≡ true → IsAtEnd (S.left source.new)) }
+    ensures end { IfOk result (λ answer. answer.status ≡ Status.Done → reads job.now ≡ true
+        → IsAtEnd (S.left source.new)) }
     ensures untouched { reads job.now ≡ false → source.new ≡ source.old }
-    ensures failed { IsErrOf result Fault.Failed → (reads job.now ≡ true) × Rose (S.faults source.old) (S.faults source.new) }
+    ensures failed { IsErrOf result Fault.Failed
+        → (reads job.now ≡ true) × Rose (S.faults source.old) (S.faults source.new) }
     ensures at_most { ConsumesAtMost (most_bytes + 1) (S.left source.old) (S.left source.new) }
     ensures calm { IfOk result (λ answer. S.faults source.new ≡ S.faults source.old) }
     ensures calm_memory { IsErrOf result Fault.Memory → S.faults source.new ≡ S.faults source.old }
@@ -77,11 +79,14 @@ where
     ensures tells { IfOk result (Tells job.now (S.left source.old) (S.left source.new)
         (edges_of (P.told ports.old) (T.told ticker.old)) (edges_of (P.told ports.new) (T.told ticker.new))) }
     ensures sound { IfOk result IsAnswer }
-    ensures end { IfOk result (λ answer. answer.status ≡ Status.Done → reads job.now ≡ true → IsAtEnd (S.left source.new)) }
+    ensures end { IfOk result (λ answer. answer.status ≡ Status.Done → reads job.now ≡ true
+        → IsAtEnd (S.left source.new)) }
     ensures untouched { reads job.now ≡ false → source.new ≡ source.old }
     ensures idle { serves job.now ≡ false → (ports.new ≡ ports.old) × (ticker.new ≡ ticker.old) }
-    ensures failed { IsErrOf result Fault.Failed → (reads job.now ≡ true) × Rose (S.faults source.old) (S.faults source.new) }
-    ensures unopened { IsErrOf result Fault.Failed → edges_of (P.told ports.new) (T.told ticker.new) ≡ edges_of (P.told ports.old) (T.told ticker.old) }
+    ensures failed { IsErrOf result Fault.Failed
+        → (reads job.now ≡ true) × Rose (S.faults source.old) (S.faults source.new) }
+    ensures unopened { IsErrOf result Fault.Failed
+        → edges_of (P.told ports.new) (T.told ticker.new) ≡ edges_of (P.told ports.old) (T.told ticker.old) }
     ensures shut { AreShut (P.told ports.new) }
     ensures at_most { ConsumesAtMost (most_bytes + 1) (S.left source.old) (S.left source.new) }
     ensures calm { IfOk result (λ answer. S.faults source.new ≡ S.faults source.old) }
@@ -140,7 +145,8 @@ where
         (λ w. IsDecided result w.status) }
 
     // With Done the wanted text was written and nothing else; and however the run ends, what was written is a front of it.
-    ensures done { result ≡ Status.Done → IfSome (wanted (job_of (map (λ word. string_bytes word) words.now)) (S.left source.old))
+    ensures done { result ≡ Status.Done
+        → IfSome (wanted (job_of (map (λ word. string_bytes word) words.now)) (S.left source.old))
         (λ w. Appends (K.taken sink.old) (K.taken sink.new) w.text) }
     ensures front { IfSome (wanted (job_of (map (λ word. string_bytes word) words.now)) (S.left source.old))
         (λ w. TookFront (K.taken sink.old) (K.taken sink.new) w.text) }
@@ -148,7 +154,8 @@ where
     // What is read is read to its end, and only by a job that reads.
     ensures end { result ≡ Status.Done → is_reading (job_of (map (λ word. string_bytes word) words.now)) ≡ true
         → IsAtEnd (S.left source.new) }
-    ensures untouched { is_reading (job_of (map (λ word. string_bytes word) words.now)) ≡ false → source.new ≡ source.old }
+    ensures untouched { is_reading (job_of (map (λ word. string_bytes word) words.now)) ≡ false
+        → source.new ≡ source.old }
     ensures at_most { ConsumesAtMost (most_bytes + 1) (S.left source.old) (S.left source.new) }
 
     // Words that ask for nothing are Usage, and no others.
@@ -157,10 +164,12 @@ where
 
     // A faulty line is told, or a front of that where the sink failed.
     ensures bad_text { OnBadLine result (λ bad. Appends (K.taken sink.old) (K.taken sink.new) (complaint_line bad)
-        ⊎ (Rose (K.faults sink.old) (K.faults sink.new) × TookFront (K.taken sink.old) (K.taken sink.new) (complaint_line bad))) }
+        ⊎ (Rose (K.faults sink.old) (K.faults sink.new)
+        × TookFront (K.taken sink.old) (K.taken sink.new) (complaint_line bad))) }
     ensures unwritten { WhereUnwritten result (K.taken sink.new ≡ K.taken sink.old) }
 
-    ensures read_fault { result ≡ Status.ReadFault → (is_reading (job_of (map (λ word. string_bytes word) words.now)) ≡ true)
+    ensures read_fault { result ≡ Status.ReadFault
+        → (is_reading (job_of (map (λ word. string_bytes word) words.now)) ≡ true)
         × Rose (S.faults source.old) (S.faults source.new) }
     ensures write_fault { result ≡ Status.WriteFault → Rose (K.faults sink.old) (K.faults sink.new) }
 
@@ -182,7 +191,8 @@ where
     // the text, and each caller's entries, its sends and its end are those of what its link or the ticker gave. The status is the
     // finish, and shows its cause.
     ensures fits { IsEndOf (job_of (map (λ word. string_bytes word) words.now)) result }
-    ensures told { result ≢ Status.Memory → result ≢ Status.ReadFault → IfSome (job_of (map (λ word. string_bytes word) words.now))
+    ensures told { result ≢ Status.Memory → result ≢ Status.ReadFault
+        → IfSome (job_of (map (λ word. string_bytes word) words.now))
         (λ job. IsTold job (S.left source.old) (S.left source.new)
         (edges_of (P.told ports.old) (T.told ticker.old)) (edges_of (P.told ports.new) (T.told ticker.new))
         (K.taken sink.old) (K.taken sink.new) (K.faults sink.old) (K.faults sink.new) result) }

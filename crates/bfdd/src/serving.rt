@@ -163,7 +163,8 @@ pub(crate) enum Unread {
 pub(crate) fn live_script<S: Source>(alloc: Global, source: &mut S) -> Result<Script, Unread>
     ensures live { IfOk result (IsLive (S.left source.old) (S.left source.new)) }
     ensures sound { IfOk result IsScript }
-    ensures unread { IfErr result (IsUnread (S.left source.old) (S.left source.new) (S.faults source.old) (S.faults source.new)) }
+    ensures unread { IfErr result (IsUnread (S.left source.old) (S.left source.new) (S.faults source.old)
+        (S.faults source.new)) }
     ensures at_most { ConsumesAtMost (most_bytes + 1) (S.left source.old) (S.left source.new) }
     ensures calm { IfOk result (λ _. S.faults source.new ≡ S.faults source.old) }
 {
@@ -213,7 +214,8 @@ where
     ensures sound { IfOk result IsAnswer }
     ensures end { IfOk result (λ answer. answer.status ≡ Status.Done → IsAtEnd (S.left source.new)) }
     ensures failed { IsErrOf result Fault.Failed → Rose (S.faults source.old) (S.faults source.new) }
-    ensures unopened { IsErrOf result Fault.Failed → edges_of (P.told ports.new) (T.told ticker.new) ≡ edges_of (P.told ports.old) (T.told ticker.old) }
+    ensures unopened { IsErrOf result Fault.Failed
+        → edges_of (P.told ports.new) (T.told ticker.new) ≡ edges_of (P.told ports.old) (T.told ticker.old) }
     ensures shut { AreShut (P.told ports.new) }
     ensures at_most { ConsumesAtMost (most_bytes + 1) (S.left source.old) (S.left source.new) }
     ensures calm { IfOk result (λ answer. S.faults source.new ≡ S.faults source.old) }

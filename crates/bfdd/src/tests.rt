@@ -8,7 +8,7 @@ use crate::{Status, run};
 use bfd_edge::{Gate, Heard, MemLink, MemPorts, MemSink, MemSource, MemTicker, OpenGate, Ticker};
 use bfd_fields::LineFault;
 use bfd_num::{Moment, Tick};
-use bfd_packet::{Addr, Arrival, Payload, Port};
+use bfd_packet::{Addr, Arrival, Payload, Port, SOURCE_PORT};
 use std::alloc::{AllocError, Global};
 use std::sync::Wait;
 use std::test::Fail;
@@ -35,7 +35,7 @@ fn packet(alloc: Global) -> Result<Arrival, AllocError> {
         port: Port::Single,
         iface: 1,
         src: Addr::V4(0x0a00_0002),
-        sport: 49152,
+        sport: SOURCE_PORT,
         dst: Addr::V4(0x0a00_0001),
         ttl: 255,
         payload: Payload::keep(alloc, bytes.as_slice())?,
