@@ -1,6 +1,6 @@
 //! What outputs name, and how many packets outputs and answers tell of.
 ghost use Rattle.std.specs.Prelude.{◌≡◌, ◌≤◌, length, sum_by};
-ghost use Rattle.bfd_session.specs.Names as names;
+ghost use Rattle.bfd_rules.specs.Names as names;
 ghost use Rattle.bfd_script.specs.Report.{sent_by, dropped_by};
 
 use bfd_rules::Out;

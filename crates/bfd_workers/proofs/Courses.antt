@@ -1,5 +1,5 @@
 -- A worker on its way, through a queue and from shard to shard.
-use Rattle.std.proofs.Common.{◌≡◌, ◌≢◌, inl, inr, ◌<◌, ◌≤◌, ◌+◌, ◌++◌, ◌∙◌, ◌∷◌, ℕ, suc, [], List, length, map, sym, ap, subst, refl, append_assoc, arith, length-append}
+use Rattle.std.proofs.Common.{◌≡◌, ◌≢◌, inl, inr, ◌<◌, ◌≤◌, ◌+◌, ◌++◌, ◌∙◌, ◌∷◌, ℕ, suc, [], List, length, map, sym, ap, subst, refl, append_assoc, append-nil, arith, length-append}
 use Rattle.std.specs.Prelude.{slice_index_or}
 use Rattle.std.proofs.lemmas.List.{length-map, get_or_append_left}
 use Rattle.std.proofs.Math.Seq.{get_or-append_seam}
@@ -11,8 +11,8 @@ use Rattle.bfd_engine.specs.Engines.{Shards, Knows, IsOf, AllThere}
 use Rattle.bfd_engine.specs.Calls.{seen_at, taken_at}
 use Rattle.bfd_gather.specs.declared.queue.Numbered.{Numbered}
 use Rattle.bfd_gather.specs.Pieces.{Piece}
-use Rattle.bfd_workers.specs.Working.{HasDone, HasDoneAt, HasLeft, HasStopped, HasTold, HasUsed, IsElsewhere, IsIdle, IsRefused, IsStopAt}
-use Rattle.bfd_workers.proofs.Soles.{done_more, stopped_at}
+use Rattle.bfd_workers.specs.Working.{HasDone, HasDoneAt, HasFinished, HasLeft, HasStopped, HasTold, HasUsed, IsElsewhere, IsIdle, IsReady, IsRefused, IsStopAt}
+use Rattle.bfd_workers.proofs.Soles.{done_none, done_more, stopped_at}
 
 -- the events of the queue up to here were done on the shard, and these are left
 pub record InQueue (engine : Shards) (shard : ℕ) (queue left : List Numbered) (k l : Knows) (part : List Piece) : Type 0 where
@@ -22,12 +22,25 @@ pub record InQueue (engine : Shards) (shard : ℕ) (queue left : List Numbered) 
   pub did : HasDoneAt engine shard done l part
   pub idle : done ≡ [] → IsIdle l shard
 
+pub elsewhere_none : (k : Knows) (shard : ℕ) → IsElsewhere k k shard
+elsewhere_none k shard = record { number = refl; seen = λ r h. refl; taken = λ r h. refl }
+
 pub elsewhere_more : (k l m : Knows) (shard : ℕ) → IsElsewhere k l shard → IsElsewhere l m shard → IsElsewhere k m shard
 elsewhere_more k l m shard a b = record { number = b.number ∙ a.number; seen = λ r h. b.seen r h ∙ a.seen r h; taken = λ r h. b.taken r h ∙ a.taken r h }
 
 no_events : (done rest queue : List Numbered) (e : Numbered) → done ++ e ∷ rest ≡ queue → queue ≡ [] → ⊥
 no_events [] rest queue e all none = let f = all ∙ none in absurd (cc)
 no_events (x ∷ done) rest queue e all none = let f = all ∙ none in absurd (cc)
+
+pub queue_start : (engine : Shards) (shard : ℕ) (queue left : List Numbered) (k : Knows) (part : List Piece) → IsIdle k shard → part ≡ [] → left ≡ queue
+    → InQueue engine shard queue left k k part
+queue_start engine shard queue left k part idle empty same = record {
+  elsewhere = elsewhere_none k shard;
+  done = [];
+  all = same;
+  did = done_none engine shard k.0 (taken_at k shard) (seen_at k shard) part idle.seen idle.taken empty;
+  idle = λ none. idle;
+}
 
 pub queue_more : (engine : Shards) (shard : ℕ) (queue left rest : List Numbered) (e : Numbered) (k l m : Knows) (part part2 : List Piece) → left ≡ e ∷ rest
     → InQueue engine shard queue left k l part → IsElsewhere l m shard → taken_at m shard ≤ taken_at l shard + 1 → HasTold engine shard e l m part part2
@@ -40,8 +53,27 @@ queue_more engine shard queue left rest e k l m part part2 split q moved taken t
   idle = λ none. absurd (no_events q.done [] (q.done ++ e ∷ []) e refl none);
 }
 
+-- a queue, when its worker has ended with it
+pub used_by : (engine : Shards) (shard : ℕ) (queue left : List Numbered) (k l : Knows) (part : List Piece) → InQueue engine shard queue left k l part → left ≡ []
+    → HasDoneAt engine shard queue l part
+used_by engine shard queue left k l part q none =
+    subst (λ done. HasDoneAt engine shard done l part) (sym (append-nil q.done) ∙ (ap (λ xs. q.done ++ xs) (sym none) ∙ q.all)) q.did
+
+pub used_end : (engine : Shards) (shard : ℕ) (queue left : List Numbered) (k l : Knows) (part : List Piece) → InQueue engine shard queue left k l part → left ≡ [] → HasUsed l shard queue
+used_end engine shard queue left k l part q none =
+    let is : q.done ≡ queue = sym (append-nil q.done) ∙ (ap (λ xs. q.done ++ xs) (sym none) ∙ q.all) in
+    record { few = (let a = q.did.few in let b = ap length is in omega (arith, a, b)); none = λ empty. q.idle (is ∙ empty) }
+
 pub less_done : (done left rest queue : List Numbered) (e : Numbered) → left ≡ e ∷ rest → done ++ left ≡ queue → length done < length queue
 less_done done left rest queue e split all = omega (arith, ap length all, length-append done left, ap length split)
+
+-- .. at an event of it
+pub used_amid : (engine : Shards) (shard : ℕ) (queue left rest : List Numbered) (e : Numbered) (k l m : Knows) (part : List Piece) → left ≡ e ∷ rest
+    → InQueue engine shard queue left k l part → taken_at m shard ≤ taken_at l shard + 1 → HasUsed m shard queue
+used_amid engine shard queue left rest e k l m part split q taken = record {
+  few = (let a = less_done q.done left rest queue e split q.all in let b = q.did.few in omega (arith, a, b, taken));
+  none = λ none. absurd (no_events q.done rest queue e (ap (λ xs. q.done ++ xs) (sym split) ∙ q.all) none);
+}
 
 pub stopped_amid : (fault : EngineFault) (engine : Shards) (shard : ℕ) (queue left rest : List Numbered) (e : Numbered) (k l m : Knows) (part : List Piece) → left ≡ e ∷ rest
     → InQueue engine shard queue left k l part → IsElsewhere l m shard → IsRefused fault engine shard l m → IsStopAt fault engine shard (length queue) m
@@ -56,6 +88,16 @@ pub record OverShards (engine : Shards) (queues : List (List Numbered)) (k l : K
   pub done : (r : ℕ) → r < length parts → HasDoneAt engine r (slice_index_or queues r []) l (slice_index_or parts r [])
   pub used : (r : ℕ) → r < length parts → HasUsed l r (slice_index_or queues r [])
   pub idle : (r : ℕ) → length parts ≤ r → r < length engine.locks → IsIdle l r
+
+pub over_none : (engine : Shards) (queues : List (List Numbered)) (k : Knows) (parts : List (List Piece)) → IsReady engine queues k → parts ≡ [] → OverShards engine queues k k parts
+over_none engine queues k parts ready empty = record {
+  of = ready.of;
+  there = ready.there;
+  number = refl;
+  done = λ r h. absurd (let e = ap length empty in omega (arith, h, e));
+  used = λ r h. absurd (let e = ap length empty in omega (arith, h, e));
+  idle = λ r h inside. ready.idle r inside;
+}
 
 done_as : (engine : Shards) (r : ℕ) (queue : List Numbered) (l m : Knows) (part : List Piece) → m.0 ≡ l.0 → seen_at m r ≡ seen_at l r → taken_at m r ≡ taken_at l r
     → HasDoneAt engine r queue l part → HasDoneAt engine r queue m part
@@ -117,6 +159,13 @@ over_left engine queues queue shard k l m parts at is o of there moved used = re
       (λ same. subst (λ i. HasUsed m i (slice_index_or queues i [])) (sym same) (subst (λ q. HasUsed m shard q) (sym is) used))
       (λ other. used_as r (slice_index_or queues r []) l m (moved.seen r other) (moved.taken r other) (used_there engine queues k l parts o r inside));
 }
+
+pub over_end : (engine : Shards) (queues : List (List Numbered)) (k l : Knows) (parts : List (List Piece)) → OverShards engine queues k l parts → HasLeft engine queues k l
+over_end engine queues k l parts o = record { of = o.of; there = o.there; number = o.number; used = used_there engine queues k l parts o }
+
+pub over_finished : (engine : Shards) (queues : List (List Numbered)) (k l : Knows) (parts : List (List Piece)) → OverShards engine queues k l parts → length parts ≡ length engine.locks
+    → HasFinished engine queues l parts
+over_finished engine queues k l parts o long = record { long = long; done = λ r inside. o.done r (omega (arith, inside, long)) }
 
 pub stopped_here : (fault : EngineFault) (engine : Shards) (queues : List (List Numbered)) (queue : List Numbered) (shard : ℕ) (l : Knows) → shard < length engine.locks
     → slice_index_or queues shard [] ≡ queue → IsStopAt fault engine shard (length queue) l → HasStopped engine queues l fault

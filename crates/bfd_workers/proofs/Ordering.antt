@@ -1,7 +1,8 @@
 -- Results, one more of which has parts; and parts in order.
-use Rattle.std.proofs.Common.{◌≡◌, ◌≢◌, ◌<◌, ◌≤◌, ◌+◌, ◌%◌, ◌++◌, ◌∙◌, ◌∷◌, ℕ, suc, [], List, length, map, get_or, set, get_or-set_same, get_or-set_other, refl, sym, ap, subst, arith, Some, Result, Ok}
+use Rattle.std.proofs.Common.{◌≡◌, ◌≢◌, ◌<◌, ◌≤◌, ◌+◌, ◌%◌, ◌++◌, ◌∙◌, ◌∷◌, ℕ, suc, [], List, length, map, get_or, set, get_or-set_same, get_or-set_other, refl, sym, ap, subst, arith, length-append, Some, Result, Ok}
 use Rattle.std.specs.Prelude.{slice_get, slice_index_or}
-use Rattle.std.proofs.lemmas.List.{get_or-map, map-append, map-set, length-map, length-set}
+use Rattle.std.proofs.lemmas.List.{get_or-map, map-append, map-set, length-map, length-set, get_or_append_left}
+use Rattle.std.proofs.Math.Seq.{get_or-append_seam}
 use Rattle.bfd_shard.proofs.Lists.{put_other}
 use mathlib.Core.Logic.{dite}
 use native.Mathlib.Decide.{ℕ_discrete}
@@ -21,6 +22,11 @@ pub told_more : {A B V : Type 0} (f : A → V) (g : B → V) (ts ts2 : List A) (
 told_more f g ts ts2 t ws w so_far one pushed =
     ap (map f) pushed ∙ (map-append f ts (t ∷ []) ∙ (ap (λ l. l ++ f t ∷ []) so_far ∙ (ap (λ x. map g ws ++ x ∷ []) one ∙ sym (map-append g ws (w ∷ [])))))
 
+module _ {V A : Type 0} (f : V → List A) where
+  -- one part of one worker is taken out, and the others stay
+  pub part_there : (vs : List V) (at : ℕ) (v d : V) → at < length vs → v ≡ get_or vs at v → get_or (map f vs) at [] ≡ f v
+  part_there vs at v d h is = get_or-map f vs at v [] h ∙ ap f (sym is)
+
 -- the parts so far, with one more
 pub record InOrder (shards workers shard : ℕ) {P : Type 0} (all left : List (List (List P))) (parts : List (List P)) : Type 0 where
   pub long : length parts ≡ shard
@@ -31,6 +37,27 @@ pub record InOrder (shards workers shard : ℕ) {P : Type 0} (all left : List (L
 
 pub order_none : {P : Type 0} (shards workers : ℕ) (all : List (List (List P))) (parts : List (List P)) → parts ≡ [] → InOrder shards workers 0 all all parts
 order_none shards workers all parts none = record { long = ap length none; many = refl; wide = λ i. refl; each = λ s h. absurd (omega (arith, h)); later = λ i r h. refl }
+
+pub order_more : {P : Type 0} (shards workers shard : ℕ) (all left after : List (List (List P))) (parts parts2 : List (List P)) (part : List P) → InOrder shards workers shard all left parts
+    → part ≡ slice_index_or (slice_index_or left (shard % workers) []) shard [] → length after ≡ length left → ((i : ℕ) → length (slice_index_or after i []) ≡ length (slice_index_or left i []))
+    → ((i r : ℕ) → r ≢ shard → slice_index_or (slice_index_or after i []) r [] ≡ slice_index_or (slice_index_or left i []) r []) → parts2 ≡ parts ++ part ∷ [] → InOrder shards workers (shard + 1) all after parts2
+order_more shards workers shard all left after parts parts2 part o is many wide others pushed = record {
+  long = (let a = ap length pushed in let b = length-append parts (part ∷ []) in let d = o.long in omega (arith, a, b, d));
+  many = many ∙ o.many;
+  wide = λ i. wide i ∙ o.wide i;
+  each = λ s h. dite (ℕ_discrete s shard)
+      (λ same. subst (λ i. slice_index_or parts2 i [] ≡ slice_index_or (slice_index_or all (i % workers) []) i []) (sym same)
+      (ap (λ xs. slice_index_or xs shard []) pushed ∙ (ap (λ i. slice_index_or (parts ++ part ∷ []) i []) (sym o.long) ∙ (get_or-append_seam parts part [] [] ∙ (is ∙ o.later (shard % workers) shard (omega arith))))))
+      (λ other. (let front : s < length parts = (let a = o.long in omega (arith, a, h, other)) in
+      ap (λ xs. slice_index_or xs s []) pushed ∙ (get_or_append_left parts (part ∷ []) [] s front ∙ o.each s (omega (arith, h, other)))));
+  later = λ i r h. others i r (λ e. absurd (omega (arith, h, e))) ∙ o.later i r (omega (arith, h));
+}
+
+pub order_end : {P : Type 0} (parts parts2 : List (List P)) (part : List P) (s : ℕ) → parts2 ≡ parts ++ part ∷ [] → s < length parts → slice_index_or parts2 s [] ≡ slice_index_or parts s []
+order_end parts parts2 part s pushed h = ap (λ xs. slice_index_or xs s []) pushed ∙ get_or_append_left parts (part ∷ []) [] s h
+
+pub order_last : {P : Type 0} (parts parts2 : List (List P)) (part : List P) (n : ℕ) → parts2 ≡ parts ++ part ∷ [] → length parts ≡ n → slice_index_or parts2 n [] ≡ part
+order_last parts parts2 part n pushed long = ap (λ xs. slice_index_or xs n []) pushed ∙ (ap (λ i. slice_index_or (parts ++ part ∷ []) i []) (sym long) ∙ get_or-append_seam parts part [] [])
 
 module _ {V A : Type 0} (f : V → List (List A)) where
   -- the list that was changed in place, and the others

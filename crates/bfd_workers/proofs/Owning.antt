@@ -7,7 +7,7 @@ use Rattle.std.proofs.lemmas.List.{get_or_append_left}
 use mathlib.Core.Logic.{dite}
 use native.Mathlib.Decide.{ℕ_discrete}
 use Rattle.bfd_gather.specs.declared.queue.Numbered.{Numbered}
-use Rattle.bfd_workers.specs.Jobs.{own_queue}
+use Rattle.bfd_workers.specs.Jobs.{AreOwn, own_queue}
 
 -- those of the shards up to here were taken, and these are left
 pub record InOwn (workers at shard : ℕ) (all left own : List (List Numbered)) : Type 0 where
@@ -38,3 +38,6 @@ own_more workers at shard mine all left after own own2 taken is took pushed long
       (λ same. ap (λ xs. slice_index_or xs s []) (kept (is ∙ ne_eqb (shard % workers) at (λ e. away (ap (λ i. i % workers) same ∙ e)))) ∙ o.others s away)
       (λ other. others s other ∙ o.others s away);
 }
+
+pub own_end : (workers at shard : ℕ) (all left own : List (List Numbered)) → InOwn workers at shard all left own → shard ≡ length all → AreOwn workers at all own
+own_end workers at shard all left own o end = record { long = o.long ∙ end; each = λ s h. o.each s (omega (arith, h, end)) }

@@ -1,14 +1,22 @@
 -- One line more is planned.
-use Rattle.std.proofs.Common.{◌≡◌, ◌⊎◌, inl, inr, ◌<◌, ◌≤◌, ◌+◌, ◌++◌, ℕ, List, [], length, sym, subst, arith}
+use Rattle.std.proofs.Common.{◌≡◌, ◌⊎◌, inl, inr, ◌<◌, ◌≤◌, ◌+◌, ◌++◌, ℕ, List, [], ◌∷◌, length, sym, ap, ◌∙◌, subst, append_assoc, append-nil, arith, Option, None, Some}
 use Rattle.std.specs.Prelude.{slice_index_or}
-use Rattle.std.specs.List.{AllByRecursion}
+use Rattle.std.specs.List.{AllByRecursion, cons_option}
 use Rattle.bfd_sbfd.specs.declared.reflecting.Reflector.{Reflector}
 use Rattle.bfd_session.specs.declared.event.SessionConfig.{SessionConfig}
 use Rattle.bfd_line.specs.declared.entries.Line.{Line}
 use Rattle.bfd_gather.specs.declared.queue.Numbered.{Numbered}
 use Rattle.bfd_gather.specs.Pieces.{Piece}
-use Rattle.bfd_gather.specs.Happenings.{queue, told_apart}
-use Rattle.bfd_workers.specs.Planned.{AreQueues, IsMet, happenings}
+use Rattle.bfd_gather.specs.Happenings.{Happening, Apart, Among, in_shard, numbered, queue, told_apart}
+use Rattle.bfd_workers.specs.Planned.{AreQueues, IsPlanned, IsMet, happenings, happening}
+
+one_then : (xs rest : List Numbered) (o : Option Numbered) → (xs ++ cons_option o []) ++ rest ≡ xs ++ cons_option o rest
+one_then xs rest None = ap (λ ys. ys ++ rest) (append-nil xs)
+one_then xs rest (Some e) = append_assoc xs (e ∷ []) rest
+
+told_then : (number : ℕ) (h : Happening) (rest : List Happening) (xs : List Piece) → (xs ++ told_apart number (h ∷ [])) ++ told_apart (number + 1) rest ≡ xs ++ told_apart number (h ∷ rest)
+told_then number (Apart outcome) rest xs = append_assoc xs (told_apart number (Apart outcome ∷ [])) (told_apart (number + 1) rest)
+told_then number (Among event) rest xs = ap (λ ys. ys ++ told_apart (number + 1) rest) (append-nil xs)
 
 -- what was planned of a script's lines, of which these are left
 pub record IsOnPlan (configs : List SessionConfig) (pool : List Reflector) (all left : List Line) (shards number : ℕ) (queues : List (List Numbered)) (apart : List Piece) : Type 0 where
@@ -18,10 +26,50 @@ pub record IsOnPlan (configs : List SessionConfig) (pool : List Reflector) (all 
   pub met : AllByRecursion (IsMet configs) (happenings configs pool left) → AllByRecursion (IsMet configs) (happenings configs pool all)
   pub few : number + length left ≡ 1 + length all
 
+pub plan_more : (configs : List SessionConfig) (pool : List Reflector) (all left rest : List Line) (line : Line) (h : Happening) (shards number : ℕ) (before after : List (List Numbered)) (apart apart2 : List Piece)
+    → left ≡ line ∷ rest → h ≡ happening configs pool line → IsMet configs h → length after ≡ length before → IsPlanned number h before after apart apart2
+    → IsOnPlan configs pool all left shards number before apart → IsOnPlan configs pool all rest shards (number + 1) after apart2
+plan_more configs pool all left rest line h shards number before after apart apart2 split is met same one so_far =
+    let these : happenings configs pool left ≡ h ∷ happenings configs pool rest = ap (happenings configs pool) split ∙ ap (λ x. x ∷ happenings configs pool rest) (sym is) in
+    record {
+      long = same ∙ so_far.long;
+      queued = λ k inside.
+          ap (λ xs. xs ++ queue shards k (number + 1) (happenings configs pool rest)) (one.queued k (omega (arith, inside, so_far.long)))
+          ∙ (one_then (slice_index_or before k []) (queue shards k (number + 1) (happenings configs pool rest)) (numbered number (in_shard (length before) k h))
+          ∙ (ap (λ n. slice_index_or before k [] ++ cons_option (numbered number (in_shard n k h)) (queue shards k (number + 1) (happenings configs pool rest))) so_far.long
+          ∙ (ap (λ hs. slice_index_or before k [] ++ queue shards k number hs) (sym these) ∙ so_far.queued k inside)));
+      told = ap (λ xs. xs ++ told_apart (number + 1) (happenings configs pool rest)) one.told
+          ∙ (told_then number h (happenings configs pool rest) apart
+          ∙ (ap (λ hs. apart ++ told_apart number hs) (sym these) ∙ so_far.told));
+      met = λ rest_met. so_far.met (subst (AllByRecursion (IsMet configs)) (sym these) (met, rest_met));
+      few = omega (arith, ap length split, so_far.few);
+    }
+
+pub plan_start : (configs : List SessionConfig) (pool : List Reflector) (all left : List Line) (shards : ℕ) (queues : List (List Numbered)) (apart : List Piece)
+    → left ≡ all → length queues ≡ shards → ((k : ℕ) → slice_index_or queues k [] ≡ []) → apart ≡ [] → IsOnPlan configs pool all left shards 1 queues apart
+plan_start configs pool all left shards queues apart same long none empty = record {
+  long = long;
+  queued = λ k inside. ap (λ xs. xs ++ queue shards k 1 (happenings configs pool left)) (none k) ∙ ap (λ ls. queue shards k 1 (happenings configs pool ls)) same;
+  told = ap (λ xs. xs ++ told_apart 1 (happenings configs pool left)) empty ∙ ap (λ ls. told_apart 1 (happenings configs pool ls)) same;
+  met = λ h. subst (λ ls. AllByRecursion (IsMet configs) (happenings configs pool ls)) same h;
+  few = omega (arith, ap length same);
+}
+
 pub record IsEndOfPlan (configs : List SessionConfig) (pool : List Reflector) (all : List Line) (shards : ℕ) (queues : List (List Numbered)) (apart : List Piece) : Type 0 where
   pub queues_are : AreQueues shards (happenings configs pool all) queues
   pub apart_is : apart ≡ told_apart 1 (happenings configs pool all)
   pub met : AllByRecursion (IsMet configs) (happenings configs pool all)
+
+pub plan_end : (configs : List SessionConfig) (pool : List Reflector) (all left : List Line) (shards number : ℕ) (queues : List (List Numbered)) (apart : List Piece)
+    → left ≡ [] → IsOnPlan configs pool all left shards number queues apart → IsEndOfPlan configs pool all shards queues apart
+plan_end configs pool all left shards number queues apart none so_far = record {
+  queues_are = record {
+    long = so_far.long;
+    each = λ k inside. sym (append-nil (slice_index_or queues k [])) ∙ (ap (λ ls. slice_index_or queues k [] ++ queue shards k number (happenings configs pool ls)) (sym none) ∙ so_far.queued k inside);
+  };
+  apart_is = sym (append-nil apart) ∙ (ap (λ ls. apart ++ told_apart number (happenings configs pool ls)) (sym none) ∙ so_far.told);
+  met = so_far.met (subst (λ ls. AllByRecursion (IsMet configs) (happenings configs pool ls)) (sym none) tt);
+}
 
 at_or : (s k : ℕ) → s < k + 1 → (s ≡ k) ⊎ (s < k)
 at_or s k h = grind (arith, h)

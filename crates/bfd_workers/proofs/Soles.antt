@@ -65,6 +65,9 @@ given_done : (w : ℕ) (cs : List SessionConfig) (before : List Entry) (es : Lis
 given_done w cs before es event is =
     ap (λ b. given_after cs b event) is ∙ ap (λ xs. outcome_of (last_tick xs) event (runs xs cs)) (events_entries w es)
 
+pub done_none : (engine : Shards) (shard w taken : ℕ) (seen : List Entry) (part : List Piece) → seen ≡ [] → taken ≡ 0 → part ≡ [] → HasDone engine shard w [] seen taken part
+done_none engine shard w taken seen part none zero_is empty = record { seen_is = λ s. none; told_is = λ s. empty; few = omega (arith, zero_is) }
+
 -- one event more
 pub done_more : (engine : Shards) (shard : ℕ) (k l : Knows) (done : List Numbered) (e : Numbered) (part part2 : List Piece) → HasTold engine shard e k l part part2
     → l.0 ≡ k.0 → taken_at l shard ≤ taken_at k shard + 1 → HasDone engine shard k.0 done (seen_at k shard) (taken_at k shard) part
