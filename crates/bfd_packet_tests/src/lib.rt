@@ -1,5 +1,5 @@
 //! Tests of the calls that a packet goes through up to its session: numbers, the codec, authentication, echo packets, the table of
-//! sessions, and the links that packets come by, over memory and over UDP. One module has the tests of one crate, by its name.
+//! sessions; sources and sinks over std, and links over UDP. One module has the tests of one crate, by its name.
 //!
 //! It stands on the crates that it tests. Nothing stands on it, and it has no code but tests.
 #![tactic(auto)]

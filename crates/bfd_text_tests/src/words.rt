@@ -1,4 +1,4 @@
-//! What `serve` is asked for, by its numbers: with no option, and with each.
+//! What `serve` is asked for, by its numbers, with no option and with each; and on what a replay and a load run without one.
 
 use bfd_words::{Form, Hands, Job, job_of};
 use std::alloc::{AllocError, Global};
@@ -31,6 +31,29 @@ fn are_for(words: &[String], wanted: Hands, numbers: (u32, u32, u32)) -> bool {
         }
         _ => false,
     }
+}
+
+/// Whether the words ask for a replay or a load on these hands.
+fn run_on(words: &[String], wanted: Hands) -> bool {
+    match job_of(words) {
+        Some(Job::Replay(hands)) => hands == wanted,
+        Some(Job::Load { hands, .. }) => hands == wanted,
+        _ => false,
+    }
+}
+
+#[test]
+fn usual_hands(rt: HostRuntime) -> Result<(), Fail> {
+    let usual = Hands {
+        shards: 1,
+        workers: 1,
+        timers: Form::Hashed,
+    };
+    for line in ["replay", "load 1 1 0"] {
+        let words = split(rt.alloc(), line)?;
+        assert!(rt; run_on(&words, usual));
+    }
+    Ok(())
 }
 
 #[test]
