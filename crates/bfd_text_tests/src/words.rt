@@ -1,4 +1,4 @@
-//! What `serve` is asked for, by its numbers, with no option and with each; and on what a replay and a load run without one.
+//! What `serve` is asked for, by its numbers, with no option and with each; and on what a replay, a load and a watch run without one.
 
 use bfd_words::{Form, Hands, Job, job_of};
 use std::alloc::{AllocError, Global};
@@ -33,11 +33,12 @@ fn are_for(words: &[String], wanted: Hands, numbers: (u32, u32, u32)) -> bool {
     }
 }
 
-/// Whether the words ask for a replay or a load on these hands.
+/// Whether the words ask for a replay or a load on these hands, or for a watch on as many shards.
 fn run_on(words: &[String], wanted: Hands) -> bool {
     match job_of(words) {
         Some(Job::Replay(hands)) => hands == wanted,
         Some(Job::Load { hands, .. }) => hands == wanted,
+        Some(Job::Watch { shards, .. }) => shards == wanted.shards,
         _ => false,
     }
 }
@@ -49,7 +50,7 @@ fn usual_hands(rt: HostRuntime) -> Result<(), Fail> {
         workers: 1,
         timers: Form::Hashed,
     };
-    for line in ["replay", "load 1 1 0"] {
+    for line in ["replay", "load 1 1 0", "watch 1 1"] {
         let words = split(rt.alloc(), line)?;
         assert!(rt; run_on(&words, usual));
     }
