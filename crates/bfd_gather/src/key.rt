@@ -11,28 +11,29 @@ pub(crate) struct Key {
 }
 
 /// A piece of a part: its key, how many bytes of text it has, and how many packets it tells were sent and were dropped. A
-/// replay has one for each packet that comes and each that is sent, so it is kept in 24 bytes.
+/// replay has one for each packet that comes and each that is sent, so it is kept in 16 bytes.
 #[derive(Clone, Copy)]
 pub(crate) struct Mark {
-    event: u64,
+    event: u32,
     discr: u32,
     long: u32,
-    txs: u32,
-    drops: u32,
+    txs: u16,
+    drops: u16,
 }
 
 impl Mark {
-    /// The mark of a piece, or none only where its text has 4 GiB or more, or its packets are as many.
+    /// The mark of a piece, or none only where its event's number is 2^32 or more, its text has 4 GiB or more, or the packets
+    /// that it tells were sent, or those that were dropped, are 2^16 or more.
     pub(crate) fn of(key: Key, long: usize, txs: u64, drops: u64) -> Option<Mark>
         ensures mark { IfSome result (λ mark. mark ≡ inside.mark key long txs drops) }
-        ensures none { IfNone result ((2 ^ 32 ≤ long) ⊎ ((2 ^ 32 ≤ txs) ⊎ (2 ^ 32 ≤ drops))) }
+        ensures none { IfNone result ((2 ^ 32 ≤ key.event) ⊎ ((2 ^ 32 ≤ long) ⊎ ((2 ^ 16 ≤ txs) ⊎ (2 ^ 16 ≤ drops)))) }
     {
         Some(Mark {
-            event: key.event,
+            event: u32::try_from(key.event).ok()?,
             discr: key.discr,
             long: u32::try_from(long).ok()?,
-            txs: u32::try_from(txs).ok()?,
-            drops: u32::try_from(drops).ok()?,
+            txs: u16::try_from(txs).ok()?,
+            drops: u16::try_from(drops).ok()?,
         })
     }
 
@@ -41,7 +42,7 @@ impl Mark {
         ensures { result ≡ inside.key_of self }
     {
         Key {
-            event: self.event,
+            event: u64::from(self.event),
             discr: self.discr,
         }
     }

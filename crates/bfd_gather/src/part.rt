@@ -1,5 +1,5 @@
 //! What one shard tells of its events.
-ghost use Rattle.std.specs.Prelude.{◌≡◌, ◌<◌, ◌≤◌, ◌+◌, ◌++◌, ◌∷◌, [], ◌^◌, IfNone, IfOk, IfSome, OnErr, OnOk, drop, length, map, sum_by, take};
+ghost use Rattle.std.specs.Prelude.{◌≡◌, ◌<◌, ◌≤◌, ◌+◌, ◌++◌, ◌∷◌, [], ◌^◌, ◌⊎◌, IfNone, IfOk, IfSome, OnErr, OnOk, drop, length, map, sum_by, take};
 ghost use Rattle.std.specs.List.{AllByRecursion};
 ghost use Rattle.bfd_script.specs.Report.{event_lines};
 ghost use Rattle.bfd_gather.specs.Pieces.{texts, whole_piece, item_piece};
@@ -83,13 +83,13 @@ fn append_lines(text: &mut Vec<u8>, number: u64, item: &[Out]) -> Result<usize, 
     Ok(text.len() - before)
 }
 
-/// The mark of one output of a tick, whose line is so long, if it isn't too long.
+/// The mark of one output of a tick, whose line is so long, if neither that nor the tick's number is too great.
 #[tactic(auto, using(crate::proofs::Marks::one_mark))]
 fn item_mark(number: u64, item: &[Out], long: usize) -> Option<Mark>
     requires one { length item.now ≡ 1 }
     requires long { long ≡ length (event_lines number (record { items = item.now; answer = Answer.Handled })) }
     ensures mark { IfSome result (λ mark. mark ∷ [] ≡ map mark_of (map (item_piece number) item.now)) }
-    ensures none { IfNone result (2 ^ 32 ≤ long) }
+    ensures none { IfNone result ((2 ^ 32 ≤ number) ⊎ (2 ^ 32 ≤ long)) }
 {
     let out = &item[0];
     let key = Key {
@@ -206,7 +206,8 @@ impl Part {
     }
 
     /// Tells all that an event of one session, or of none, gave. `number` is the event's in the replay. The one refusal is
-    /// want of memory, as which 4 GiB of text for one event count, and then the part is as before.
+    /// want of memory, as which 4 GiB of text for one event count, 2^16 packets that it tells were sent or were dropped, and a
+    /// number of 2^32 or more; and then the part is as before.
     pub fn tell_event(
         &mut self,
         number: u64,
@@ -221,7 +222,7 @@ impl Part {
     }
 
     /// Tells what a tick put out, one piece for each output. `number` is the tick's in the replay. The one refusal is want of
-    /// memory, and then the part is as before.
+    /// memory, as which a number of 2^32 or more counts, and then the part is as before.
     pub fn tell_tick(&mut self, number: u64, outs: &[Out]) -> Result<(), AllocError>
         ensures told { OnOk result (self.new ≡ self.old ++ map (item_piece number) outs.now) }
         ensures same { OnErr result (self.new ≡ self.old) }
