@@ -20,6 +20,12 @@ next_here [] ys x zero e = refl
 next_here (z ∷ zs) ys x (suc i) e = next_here zs ys x i (omega arith)
 next_here xs ys x i e = absurd (omega arith)
 
+pub grown : {X : Type 0} (xs more : List X) (x : X) → more ≡ xs ++ x ∷ [] → length more ≡ length xs + 1
+grown xs more x is = (let a = ap length is in let b = length-append xs (x ∷ []) in omega (arith, a, b))
+
+pub none_left : {X : Type 0} (xs rest whole : List X) → xs ++ rest ≡ whole → length rest ≡ 0 → length xs ≡ length whole
+none_left xs rest whole is none = (let a = ap length is in let b = length-append xs rest in omega (arith, a, b, none))
+
 -- the passes from a place on are as they were
 pub record LeftFrom (at : ℕ) (before after : List Held) : Type 0 where
   pub left : (k : ℕ) → at ≤ k → slice_get after k ≡ slice_get before k

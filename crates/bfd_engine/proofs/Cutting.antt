@@ -1,12 +1,15 @@
 -- Passes that are cut, shard by shard.
-use Rattle.std.proofs.Common.{◌≡◌, [], ℕ, List, length, set, Some, slice_get, ap, sym, ◌∙◌, arith}
+use Rattle.std.proofs.Common.{◌≡◌, ◌<◌, ◌+◌, ◌++◌, ◌∷◌, [], ℕ, List, length, length-append, set, Option, Some, slice_get, refl, ap, sym, ◌∙◌, subst, arith}
 use Rattle.std.proofs.lemmas.Option.{slice_get_within}
+use mathlib.Core.Logic.{dite}
+use native.Mathlib.Decide.{ℕ_discrete}
 use Rattle.bfd_turn.specs.Lists.{calls}
 use Rattle.bfd_turn.specs.Passes.{TableId, having_made, made_by}
 use Rattle.bfd_engine.specs.Turned.{by}
-use Rattle.bfd_engine.specs.Engines.{Shards, Held, IsOf, AllThere}
-use Rattle.bfd_engine.specs.Passes.{IsCut, AreCut, CutsAt}
-use Rattle.bfd_engine.proofs.Places.{K, set_here, set_else, same_held}
+use Rattle.bfd_engine.specs.Engines.{Shards, Held, Knows, IsOf, AllThere, AreNew, AreNewAt}
+use Rattle.bfd_engine.specs.Calls.{seen_of, word_of, taken_of, made_of, kept_of}
+use Rattle.bfd_engine.specs.Passes.{Parted, IsCut, AreCut, CutsAt}
+use Rattle.bfd_engine.proofs.Places.{K, set_here, set_else, last_here, front_here, same_held}
 
 -- one shard is cut
 pub cut_here : (number at : ℕ) (ps : List Held) (id : TableId) (p q r : K) → slice_get ps at ≡ Some (Some p) → p.0 ≡ id → q ≡ (id, having_made number p.1)
@@ -22,7 +25,55 @@ cut_here number at ps id p q r here lock is_q is_r fresh = record {
   left = λ k other. set_else ps at k (Some q) other;
 }
 
+cut_same : (number : ℕ) (a a2 b b2 d d2 : Option Held) → a ≡ a2 → b ≡ b2 → d ≡ d2 → IsCut number a b d → IsCut number a2 b2 d2
+cut_same number a a2 b b2 d d2 e f h cut = record {
+  pass = cut.pass;
+  before_is = sym e ∙ cut.before_is;
+  after_is = sym f ∙ cut.after_is;
+  new_is = sym h ∙ cut.new_is;
+  fresh = cut.fresh;
+}
+
+-- one shard more is cut
+pub cut_more : (number at : ℕ) (before now after new more : List Held) (one : K) → AreCut number at before now new → CutsAt number at now after one
+    → more ≡ new ++ Some one ∷ [] → AreCut number (at + 1) before after more
+cut_more number at before now after new more one cuts cut is = record {
+  long = (let a = ap length is in let b = length-append new (Some one ∷ []) in omega (arith, a, b, cuts.long));
+  below = λ k h. dite (ℕ_discrete k at)
+      (λ same. subst (λ n. IsCut number (slice_get before n) (slice_get after n) (slice_get more n)) (sym same)
+      (cut_same number (slice_get now at) (slice_get before at) (slice_get after at) (slice_get after at) (Some (Some one)) (slice_get more at) (cuts.left at (omega arith)) refl
+      (sym (ap (λ (xs : List Held). slice_get xs at) is ∙ last_here new (Some one) at (sym cuts.long))) cut.cut))
+      (λ other. (let inside : k < at = omega (arith, h, other) in
+      cut_same number (slice_get before k) (slice_get before k) (slice_get now k) (slice_get after k) (slice_get new k) (slice_get more k) refl (sym (cut.left k other))
+      (sym (ap (λ (xs : List Held). slice_get xs k) is ∙ front_here new (Some one) k (omega (arith, inside, cuts.long)))) (cuts.below k inside)));
+  left = λ k h. cut.left k (λ e. omega (arith, h, e)) ∙ cuts.left k (omega (arith, h));
+}
+
+-- a pass that isn't cut yet has made none of the number
+pub new_left : (number at : ℕ) (start before now new : List Held) → before ≡ start → AreNew number start → AreCut number at before now new → AreNewAt number now at
+new_left number at start before now new is fresh cuts p e =
+    fresh at p (ap (λ (ps : List Held). slice_get ps at) (sym is) ∙ (sym (cuts.left at (omega arith)) ∙ e))
+
+parted_by : (k l o : Knows) (shard : ℕ) → IsCut o.0 (slice_get k.1 shard) (slice_get l.1 shard) (slice_get o.1 shard) → Parted k l o shard
+parted_by k l o shard cut = record {
+  seen = ap seen_of cut.after_is ∙ sym (ap seen_of cut.before_is);
+  word = ap word_of cut.after_is ∙ sym (ap word_of cut.before_is);
+  taken = ap taken_of cut.after_is ∙ sym (ap taken_of cut.before_is);
+  made = ap made_of cut.after_is ∙ ap (λ (ms : List ℕ). ms ++ o.0 ∷ []) (sym (ap made_of cut.before_is));
+  kept = ap kept_of cut.after_is ∙ sym (ap kept_of cut.before_is);
+  seen_new = ap seen_of cut.new_is ∙ sym (ap seen_of cut.before_is);
+  word_new = ap word_of cut.new_is ∙ sym (ap word_of cut.before_is);
+  taken_new = ap taken_of cut.new_is;
+  fresh = ap (calls by o.0) (ap seen_of cut.before_is) ∙ cut.fresh;
+}
+
 -- once all are cut
+pub all_parted : (k l o : Knows) (at n : ℕ) (before : List Held) → before ≡ k.1 → AreCut o.0 at before l.1 o.1 → n ≡ at → (shard : ℕ) → shard < n → Parted k l o shard
+all_parted k l o at n before is cuts end shard h =
+    parted_by k l o shard
+    (cut_same o.0 (slice_get before shard) (slice_get k.1 shard) (slice_get l.1 shard) (slice_get l.1 shard) (slice_get o.1 shard) (slice_get o.1 shard)
+    (ap (λ (ps : List Held). slice_get ps shard) is) refl refl (cuts.below shard (omega (arith, h, end))))
+
 module _ (engine : Shards) (number at : ℕ) (before after new : List Held) (cuts : AreCut number at before after new) (of : IsOf engine before) (all : length engine.locks ≡ at) where
   one : (k : ℕ) (p : K) → slice_get new k ≡ Some (Some p) → (u : K) × (slice_get before k ≡ Some (Some u)) × (p ≡ (u.0, made_by number u.1))
   one k p e =

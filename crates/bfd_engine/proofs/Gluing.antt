@@ -1,6 +1,8 @@
 -- Passes that are joined, shard by shard.
-use Rattle.std.proofs.Common.{◌≡◌, ◌<◌, ◌≤◌, ◌+◌, ◌++◌, ◌∷◌, [], ℕ, List, length, set, Some, None, slice_get, ap, ap₂, sym, ◌∙◌, subst, arith}
+use Rattle.std.proofs.Common.{◌≡◌, ◌<◌, ◌≤◌, ◌+◌, ◌++◌, ◌∷◌, [], ℕ, List, length, set, Option, Some, None, slice_get, refl, ap, ap₂, sym, ◌∙◌, subst, arith}
 use Rattle.std.proofs.lemmas.Option.{slice_get_within}
+use mathlib.Core.Logic.{dite}
+use native.Mathlib.Decide.{ℕ_discrete}
 use Rattle.bfd_turn.specs.Lists.{Begins, longer, calls}
 use Rattle.bfd_turn.specs.Passes.{TableId, having_joined}
 use Rattle.bfd_shard.specs.declared.entry.Entry.{Entry}
@@ -43,6 +45,36 @@ glue_here number at ps qs id p q r here theirs is j =
       left = λ k other. set_else ps at k (Some r) other;
       theirs_left = λ k other. set_else qs at k None other;
     }
+
+glued_same : (number : ℕ) (a a2 b b2 d d2 : Option Held) → a ≡ a2 → b ≡ b2 → d ≡ d2 → IsGlued number a b d → IsGlued number a2 b2 d2
+glued_same number a a2 b b2 d d2 e f h g = record {
+  pass = g.pass;
+  other = g.other;
+  word = g.word;
+  before_is = sym e ∙ g.before_is;
+  theirs_is = sym f ∙ g.theirs_is;
+  after_is = sym h ∙ g.after_is;
+  number_is = g.number_is;
+  later = g.later;
+  later_theirs = g.later_theirs;
+  begins = g.begins;
+  begins_theirs = g.begins_theirs;
+  own = g.own;
+}
+
+-- one shard more is joined
+pub glue_more : (number at : ℕ) (before theirs now left after rest : List Held) → AreGlued number at before theirs now left → GluesAt number at now left after rest
+    → AreGlued number (at + 1) before theirs after rest
+glue_more number at before theirs now left after rest all one = record {
+  below = λ k h. dite (ℕ_discrete k at)
+      (λ same. subst (λ n. IsGlued number (slice_get before n) (slice_get theirs n) (slice_get after n)) (sym same)
+      (glued_same number (slice_get now at) (slice_get before at) (slice_get left at) (slice_get theirs at) (slice_get after at) (slice_get after at)
+      (all.left at (omega arith)) (all.theirs_left at (omega arith)) refl one.glued))
+      (λ other. glued_same number (slice_get before k) (slice_get before k) (slice_get theirs k) (slice_get theirs k) (slice_get now k) (slice_get after k)
+      refl refl (sym (one.left k other)) (all.below k (omega (arith, h, other))));
+  left = λ k h. one.left k (λ e. omega (arith, h, e)) ∙ all.left k (omega (arith, h));
+  theirs_left = λ k h. one.theirs_left k (λ e. omega (arith, h, e)) ∙ all.theirs_left k (omega (arith, h));
+}
 
 -- the other's pass of a shard that isn't joined yet
 pub theirs_there : (number at : ℕ) (before theirs after rest : List Held) → AreGlued number at before theirs after rest → AllThere theirs → at < length theirs

@@ -1,11 +1,11 @@
 -- Passes at their places.
-use Rattle.std.proofs.Common.{◌≡◌, ◌≢◌, ℕ, zero, suc, ◌<◌, List, [], ◌∷◌, ◌++◌, length, set, length-set, Option, Some, None, slice_get, refl, ap, sym, ◌∙◌, arith}
+use Rattle.std.proofs.Common.{◌≡◌, ◌≢◌, ℕ, zero, suc, ◌<◌, List, [], ◌∷◌, ◌++◌, length, set, length-set, set-set, Option, Some, None, slice_get, refl, ap, sym, ◌∙◌, arith}
 use Rattle.std.proofs.lemmas.Option.{slice_get_within, same_Some}
 use mathlib.Core.Logic.{dite}
 use native.Mathlib.Decide.{ℕ_discrete}
 use Rattle.bfd_turn.specs.Passes.{TableId}
 use Rattle.bfd_engine.specs.Turned.{OfShard}
-use Rattle.bfd_engine.specs.Engines.{Shards, Held, IsOf, AllThere, base_at}
+use Rattle.bfd_engine.specs.Engines.{Shards, Held, Knows, IsOf, AllThere, base_at}
 
 module _ {X : Type 0} where
   pub set_here : (xs : List X) (i : ℕ) (x : X) → i < length xs → slice_get (set xs i x) i ≡ Some x
@@ -36,6 +36,10 @@ K = TableId × OfShard
 
 pub same_held : (p q : K) (o : Option Held) → o ≡ Some (Some p) → o ≡ Some (Some q) → p ≡ q
 same_held p q o e f = same_Some p q (same_Some (Some p) (Some q) (sym e ∙ f))
+
+-- a pass is lifted, and one put back
+pub put_back : (k l m : Knows) (at : ℕ) (q : K) → l ≡ (k.0, set k.1 at None, k.2) → m ≡ (l.0, set l.1 at (Some q), l.2) → m ≡ (k.0, set k.1 at (Some q), k.2)
+put_back k l m at q lifted put = rw (put, lifted, set-set) refl
 
 -- a pass of the same lock and base is put in
 pub of_set : (engine : Shards) (ps : List Held) (at : ℕ) (p q : K) → slice_get ps at ≡ Some (Some p) → q.0 ≡ p.0 → q.1.base ≡ p.1.base → IsOf engine ps → IsOf engine (set ps at (Some q))

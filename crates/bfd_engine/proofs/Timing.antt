@@ -1,14 +1,18 @@
--- What a tick of a shard did, of its history.
-use Rattle.std.proofs.Common.{◌≡◌, ◌∙◌, ◌++◌, ◌∷◌, [], ℕ, List, ap, sym, subst}
+-- What an event of a shard did, of its history.
+use Rattle.std.proofs.Common.{◌≡◌, ◌∙◌, ◌++◌, ◌∷◌, [], ℕ, List, ap, ap₂, sym, subst}
+use Rattle.bfd_rules.specs.declared.outputs.Out.{Out}
+use Rattle.bfd_session.specs.Alone.{Outcome}
+use Rattle.bfd_session.specs.declared.event.Answer.{Answer}
 use Rattle.bfd_session.specs.declared.event.SessionConfig.{SessionConfig}
 use Rattle.bfd_session.specs.Kinds.{Running, configs_of}
 use Rattle.bfd_shard.specs.declared.entry.Entry.{Entry}
 use Rattle.bfd_shard.specs.declared.entry.ShardEvent.{ShardEvent}
 use Rattle.bfd_shard.specs.declared.entry.ShardEvent.TheVariants.{Own, Tick}
 use Rattle.bfd_shard.specs.Expired.{expired, forgotten}
-use Rattle.bfd_shard.specs.History.{events_of, last_tick, runs}
+use Rattle.bfd_shard.specs.History.{events_of, last_tick, runs, outcome_of}
 use Rattle.bfd_shard.specs.Shard.{Shard, IsExact, IsShard, IsOver, NoneDue}
-use Rattle.bfd_engine.specs.Turned.{entry_of, IsTimely}
+use Rattle.bfd_turn.specs.Lists.{calls}
+use Rattle.bfd_engine.specs.Turned.{by, OfShard, entry_of, configs_in, given_after, HasTurned, IsTimely}
 
 pub timely : (old new : Shard) (caller : ℕ) (event : ShardEvent) (configs : List SessionConfig) (seen : List Entry) → IsShard old → IsShard new
     → configs_of old.sessions ≡ configs → configs_of new.sessions ≡ configs_of old.sessions → new.journal ≡ old.journal ++ entry_of caller event ∷ []
@@ -25,4 +29,20 @@ timely old new caller (Tick t) configs seen s s2 are same more is exact over =
       exact = ap (λ (ss : List Running). forgotten ss (runs (events_of seen) configs)) (sym before) ∙ (ap (forgotten old.sessions) (sym after)
           ∙ (exact ∙ ap (λ (cs : List SessionConfig). expired cs (events_of old.journal) t) are));
       none_due = subst (λ (ss : List Running). NoneDue (last_tick (events_of seen)) ss) after (subst (λ (n : ℕ). NoneDue n new.sessions) last over);
+    }
+
+-- the outputs and the answer of an event are those of its entry, after the entries before it
+pub turned_here : (old : Shard) (p q : OfShard) (event : ShardEvent) (between : List Entry) (outs outs2 : List Out) (answer : Answer) → IsShard old
+    → configs_of old.sessions ≡ configs_in p.base → calls by p.number between ≡ [] → old.journal ≡ p.seen ++ between
+    → q.seen ≡ old.journal ++ entry_of p.number event ∷ [] → outs2 ≡ outs ++ (outcome_of old.last event old.sessions).items
+    → answer ≡ (outcome_of old.last event old.sessions).answer → HasTurned p event q outs outs2 answer
+turned_here old p q event between outs outs2 answer s are others is seen told answered =
+    let same : outcome_of old.last event old.sessions ≡ given_after (configs_in p.base) (p.seen ++ between) event =
+    ap₂ (λ last ss. outcome_of last event ss) (s.clock ∙ ap (λ (j : List Entry). last_tick (events_of j)) is)
+    (s.whole ∙ (ap (λ (j : List Entry). runs (events_of j) (configs_of old.sessions)) is ∙ ap (runs (events_of (p.seen ++ between))) are)) in record {
+      between = between;
+      others = others;
+      seen = seen ∙ ap (λ (xs : List Entry). xs ++ entry_of p.number event ∷ []) is;
+      told = told ∙ ap (λ (o : Outcome). outs ++ o.items) same;
+      answered = answered ∙ ap (λ (o : Outcome). o.answer) same;
     }

@@ -145,7 +145,6 @@ impl<W: Timers> Engine<W> {
     /// Any other arrival is one turn, whose entry is the session's own event at this moment. A packet of a session is `Dropped` by
     /// the first test that it fails, over the session's variables after settling, and `Handled` where it fails none (RFC 5880
     /// section 6.8.6). `outs` has room for five. At most 40 steps are taken.
-    #[tactic(auto, using(crate::proofs::Reaching::arrives))]
     pub fn receive<R: Wait, L: Ledger>(
         &self,
         rt: &R,

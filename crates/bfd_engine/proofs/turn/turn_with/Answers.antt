@@ -1,7 +1,7 @@
--- The room for the outputs.
+-- The room for the outputs, and what the entry tells.
 use Rattle.std.proofs.Common.{rules, sym, length, ◌<◌, ◌≡◌, ◌∙◌, ◌++◌, ◌∷◌, [], ap, arith}
 use Rattle.bfd_session.specs.Kinds.{configs_of}
-use Rattle.bfd_engine.proofs.Timing.{timely}
+use Rattle.bfd_engine.proofs.Timing.{timely, turned_here}
 use Rattle.bfd_engine.specs.Turned.{configs_in, entry_of, limit_in, room_in}
 use Rattle.bfd_shard.specs.Shard.{room_for}
 use Rattle.bfd_engine.proofs.Rooms.{room_by}
@@ -31,6 +31,17 @@ returns-then-is_err-clause-fault g c =
     ∙ (ap (λ k. k.shard.value.limit) (sym c.value.ensures.value) ∙ (ap (λ s. s.limit) (sym c.deref_mut-shard.ensures.value) ∙ sym c.prepare.ensures.limit)))) in
     let below : length c.prepare.new.self.journal < c.prepare.new.self.limit = search rules in
     (record { between = l.adds.0; others = l.adds.2; seen = seen ∙ (kept ∙ l.adds.1) }, omega (arith, ap length seen, bound, below))
+
+pub returns-in-Ok-apply-clause-turned : goal.returns-in-Ok-apply-clause-turned
+returns-in-Ok-apply-clause-turned g c =
+    let l = c.in-Ok.ensures.1 in
+    let same : c.prepare.new.self.sessions ≡ c.in-Ok.turn.2.shard.value.sessions = c.prepare.ensures.sessions ∙ (ap (λ s. s.sessions) c.deref_mut-shard.ensures.value ∙ ap (λ k. k.shard.value.sessions) c.value.ensures.value) in
+    let kept : c.prepare.new.self.journal ≡ c.in-Ok.turn.2.shard.value.journal = c.prepare.ensures.journal ∙ (ap (λ s. s.journal) c.deref_mut-shard.ensures.value ∙ ap (λ k. k.shard.value.journal) c.value.ensures.value) in
+    let more : c.apply.new.self.journal ≡ c.prepare.new.self.journal ++ entry_of c.args.pass.1.number c.args.event ∷ [] =
+    c.in-Ok-apply.ensures.journal ∙ ap (λ n. c.prepare.new.self.journal ++ entry_of n c.args.event ∷ []) c.caller-caller.ensures in
+    turned_here c.prepare.new.self c.args.pass.1 c.done-in-Ok-apply.result.1 c.args.event l.adds.0 c.args.outs.now.items c.apply.new.outs.items c.in-Ok-apply.answer
+    c.in-Ok-apply.ensures.stood (ap configs_of same ∙ ap configs_in l.base_is) l.adds.2 (kept ∙ l.adds.1)
+    (ap (λ p. p.1.seen) c.done-in-Ok-apply.ensures ∙ more) c.in-Ok-apply.ensures.items c.in-Ok-apply.ensures.answer
 
 pub returns-in-Ok-apply-clause-timely : goal.returns-in-Ok-apply-clause-timely
 returns-in-Ok-apply-clause-timely g c =

@@ -1,15 +1,52 @@
 -- The pass that took in the other is put back in its place.
-use Rattle.std.proofs.Common.{get_or, ◌≡◌, ◌∙◌, Some, None, slice_set, set-set, sym, ap, refl, subst}
+use Rattle.std.proofs.Common.{get_or, ◌≡◌, ◌∙◌, None, slice_set, sym, ap, subst, arith}
 use Rattle.std.proofs.lemmas.Option.{get_or_from_slice_get}
-use Rattle.bfd_engine.specs.Engines.{Shards, Knows, IsOf, AllThere}
+use Rattle.bfd_engine.specs.Engines.{Shards, Knows, IsOf, IsCallers, AllThere}
 use Rattle.bfd_engine.specs.Passes.{GluesAt}
-use Rattle.bfd_engine.proofs.Places.{K, of_set, none_set, there_set}
+use Rattle.bfd_engine.proofs.Places.{K, put_back, of_set, none_set, there_set}
+use Rattle.bfd_engine.proofs.Lending.{still}
 use Rattle.bfd_engine.proofs.Gluing.{glue_here}
 use Rattle.bfd_engine.proofs.engine.Engine.join_at.Goals as goal
 
+pub lift-pass-requires : goal.lift-pass-requires
+lift-pass-requires g c = c.requires.there.at c.args.at (let l = c.requires.of.0.long in let h = c.requires.at in omega (arith, l, h))
+
+pub lift-theirs-requires : goal.lift-theirs-requires
+lift-theirs-requires g c = c.requires.here
+
+pub join-requires-clause-first : goal.join-requires-clause-first
+join-requires-clause-first g c = (
+  sym (get_or_from_slice_get c.args.self.now.locks c.args.at c.lift-pass.result.0 c.index.result.now (c.requires.of.0.lock c.args.at c.lift-pass.result c.lift-pass.ensures.pass))
+      ∙ (ap (λ (e : Shards). get_or e.locks c.args.at c.index.result.now) (sym c.self.view_is) ∙ sym c.index.ensures),
+  c.lift-pass.ensures.callers.number_is ∙ c.requires.numbers.0,
+)
+
+pub join-requires-clause-other : goal.join-requires-clause-other
+join-requires-clause-other g c = (
+  sym (get_or_from_slice_get c.args.self.now.locks c.args.at c.lift-theirs.result.0 c.index.result.now (c.requires.of.1.lock c.args.at c.lift-theirs.result c.lift-theirs.ensures.pass))
+      ∙ (ap (λ (e : Shards). get_or e.locks c.args.at c.index.result.now) (sym c.self.view_is) ∙ sym c.index.ensures),
+  λ e. c.requires.numbers.1 (sym c.lift-theirs.ensures.callers.number_is ∙ e),
+)
+
+pub put-requires-clause-callers : goal.put-requires-clause-callers
+put-requires-clause-callers g c =
+    subst (λ (k : Knows). IsCallers k.0 k.2 c.join.new.first.1) (sym c.lift-pass.ensures.rest)
+    (still c.args.first.now.0 c.args.first.now.2 c.lift-pass.result.1 c.join.new.first.1
+    (ap (λ (x : K). x.1.number) c.join.ensures.first) (ap (λ (x : K). x.1.made) c.join.ensures.first) c.lift-pass.ensures.callers)
+
+pub returns-clause-numbers : goal.returns-clause-numbers
+returns-clause-numbers g c =
+    let is = put_back c.args.first.now c.lift-pass.new.self c.put.new.self c.args.at c.join.new.first c.lift-pass.ensures.rest c.put.ensures in
+    (ap (λ (k : Knows). k.0) is ∙ c.requires.numbers.0, ap (λ (k : Knows). k.0) c.lift-theirs.ensures.rest)
+
+pub returns-clause-used : goal.returns-clause-used
+returns-clause-used g c =
+    let is = put_back c.args.first.now c.lift-pass.new.self c.put.new.self c.args.at c.join.new.first c.lift-pass.ensures.rest c.put.ensures in
+    ap (λ (k : Knows). k.2) is
+
 pub returns-clause-glued : goal.returns-clause-glued
 returns-clause-glued g c =
-    let is : c.put.new.self ≡ (c.args.first.now.0, slice_set c.args.first.now.1 c.args.at (Some c.join.new.first), c.args.first.now.2) = rw (c.put.ensures, c.lift-pass.ensures.rest, set-set) refl in
+    let is = put_back c.args.first.now c.lift-pass.new.self c.put.new.self c.args.at c.join.new.first c.lift-pass.ensures.rest c.put.ensures in
     let rest : c.lift-theirs.new.self ≡ (c.args.other.now.0, slice_set c.args.other.now.1 c.args.at None, c.args.other.now.2) = c.lift-theirs.ensures.rest in
     let lock : c.lift-pass.result.0 ≡ c.index.result.now =
     sym (get_or_from_slice_get c.args.self.now.locks c.args.at c.lift-pass.result.0 c.index.result.now (c.requires.of.0.lock c.args.at c.lift-pass.result c.lift-pass.ensures.pass))
@@ -29,12 +66,12 @@ returns-clause-glued g c =
 
 pub returns-clause-there : goal.returns-clause-there
 returns-clause-there g c =
-    let is : c.put.new.self ≡ (c.args.first.now.0, slice_set c.args.first.now.1 c.args.at (Some c.join.new.first), c.args.first.now.2) = rw (c.put.ensures, c.lift-pass.ensures.rest, set-set) refl in
+    let is = put_back c.args.first.now c.lift-pass.new.self c.put.new.self c.args.at c.join.new.first c.lift-pass.ensures.rest c.put.ensures in
     subst AllThere (sym (ap (λ (k : Knows). k.1) is)) (there_set c.args.first.now.1 c.args.at c.join.new.first c.requires.there)
 
 pub returns-clause-of : goal.returns-clause-of
 returns-clause-of g c =
-    let is : c.put.new.self ≡ (c.args.first.now.0, slice_set c.args.first.now.1 c.args.at (Some c.join.new.first), c.args.first.now.2) = rw (c.put.ensures, c.lift-pass.ensures.rest, set-set) refl in
+    let is = put_back c.args.first.now c.lift-pass.new.self c.put.new.self c.args.at c.join.new.first c.lift-pass.ensures.rest c.put.ensures in
     let lock : c.lift-pass.result.0 ≡ c.index.result.now =
     sym (get_or_from_slice_get c.args.self.now.locks c.args.at c.lift-pass.result.0 c.index.result.now (c.requires.of.0.lock c.args.at c.lift-pass.result c.lift-pass.ensures.pass))
     ∙ (ap (λ (e : Shards). get_or e.locks c.args.at c.index.result.now) (sym c.self.view_is) ∙ sym c.index.ensures) in (
