@@ -1,13 +1,16 @@
 -- A history that is copied from a place on.
-use Rattle.std.proofs.Common.{◌≡◌, ◌≤◌, ◌++◌, ◌∷◌, [], ℕ, zero, suc, List, length, drop, append-nil, set, slice_get, Some, sym, ◌∙◌, subst}
+use Rattle.std.proofs.Common.{◌≡◌, ◌≤◌, ◌++◌, ◌∷◌, [], ℕ, zero, suc, List, length, drop, append-nil, set, slice_get, Some, sym, ◌∙◌, subst, Result, Ok, Err, IfErr, refl}
 use Rattle.std.specs.List.{AllByRecursion}
 use Rattle.bfd_session.specs.declared.event.SessionConfig.{SessionConfig}
 use Rattle.bfd_shard.specs.declared.entry.Entry.{Entry}
 use Rattle.bfd_shard.specs.History.{events_of}
 use Rattle.bfd_shard.specs.Shard.{CanHappen, IsHistory}
-use Rattle.bfd_engine.specs.Turned.{HasLooked, IsSame}
+use Rattle.bfd_engine.specs.declared.turn.TurnFault.{TurnFault}
+use Rattle.bfd_engine.specs.declared.turn.TurnFault.TheVariants.{Memory, Full, Spent}
+use Rattle.bfd_engine.specs.Turned.{HasLooked, IsSame, OfShard}
 use Rattle.bfd_engine.specs.Engines.{Knows}
-use Rattle.bfd_engine.specs.Reads.{AreGiven, HasRead}
+use Rattle.bfd_engine.specs.Calls.{word_at, fault_of}
+use Rattle.bfd_engine.specs.Reads.{AreGiven, HasRead, IsUnread, IsUnreadAt}
 use Rattle.bfd_engine.proofs.Places.{K}
 use Rattle.bfd_engine.proofs.Turning.{turned}
 
@@ -33,3 +36,11 @@ has_read k l shard p q here is num same looked = record {
   between = looked.between;
   turned = turned k l shard p q looked.between [] here is num same (looked.seen ∙ sym (append-nil (p.1.seen ++ looked.between))) looked.others;
 }
+
+-- why it wasn't read, told of the shard
+pub unread_at : {X : Type 0} (r : Result X TurnFault) (shard : ℕ) (l : Knows) (q : OfShard) → word_at l shard ≡ q.word → IfErr r (λ fault. IsUnread fault q)
+    → IfErr r (λ fault. IsUnreadAt (fault_of shard fault) shard l)
+unread_at (Ok x) shard l q met h = tt
+unread_at (Err Memory) shard l q met h = tt
+unread_at (Err (Full n)) shard l q met h = h
+unread_at (Err (Spent word)) shard l q met h = (refl, h.0, met ∙ h.1)

@@ -1,12 +1,32 @@
 -- The turn is the pass's, or the pass is put back in its place.
-use Rattle.std.proofs.Common.{◌≡◌, ◌∙◌, get_or, Some, slice_set, set-set, sym, ap, refl, subst}
+use Rattle.std.proofs.Common.{◌≡◌, ◌∙◌, get_or, sym, ap, subst}
 use Rattle.std.proofs.lemmas.Option.{get_or_from_slice_get}
 use Rattle.bfd_turn.specs.Passes.{IsBack, WasBusy, WasSpent}
 use Rattle.bfd_engine.specs.Turned.{OfShard}
-use Rattle.bfd_engine.specs.Engines.{Shards, Knows, IsOf, AllThere}
-use Rattle.bfd_engine.proofs.Places.{of_set, none_set, there_set}
-use Rattle.bfd_engine.proofs.Lending.{has_taken, busy_is, spent_is, was_busy, was_spent}
+use Rattle.bfd_engine.specs.Engines.{Shards, Knows, IsOf, IsCallers, AllThere}
+use Rattle.bfd_engine.proofs.Places.{put_back, of_set, none_set, there_set}
+use Rattle.bfd_engine.proofs.Lending.{still, has_taken, busy_is, spent_is, was_busy, was_spent}
 use Rattle.bfd_engine.proofs.engine.Engine.try_hold.Goals as goal
+
+pub lift-own-requires : goal.lift-own-requires
+lift-own-requires g c = c.requires.here
+
+pub try_turn-requires : goal.try_turn-requires
+try_turn-requires g c =
+    sym (get_or_from_slice_get c.args.self.now.locks c.args.shard c.lift-own.result.0 c.index.result.now (c.requires.of.lock c.args.shard c.lift-own.result c.lift-own.ensures.pass))
+    ∙ (ap (λ (e : Shards). get_or e.locks c.args.shard c.index.result.now) (sym c.self.view_is) ∙ sym c.index.ensures)
+
+pub put-requires-clause-callers : goal.put-requires-clause-callers
+put-requires-clause-callers g c =
+    let e : IsBack c.index.result.now c.lift-own.result.1 c.in-Err-Busy.found c.in-Err-Busy.back × WasBusy c.lift-own.result.1 c.in-Err-Busy.read c.in-Err-Busy.found = busy_is c.index.result.now c.lift-own.result.1 c.in-Err-Busy.field-0 c.in-Err-Busy.back c.in-Err-Busy.read c.in-Err-Busy.found c.in-Err-Busy.field-0-is c.in-Err-Busy.ensures in
+    subst (λ (k : Knows). IsCallers k.0 k.2 c.in-Err-Busy.back.1) (sym c.lift-own.ensures.rest)
+    (still c.args.pass.now.0 c.args.pass.now.2 c.lift-own.result.1 c.in-Err-Busy.back.1 (ap (λ (v : OfShard). v.number) e.0.1) (ap (λ (v : OfShard). v.made) e.0.1) c.lift-own.ensures.callers)
+
+pub put-requires-in-Err-Spent-clause-callers : goal.put-requires-in-Err-Spent-clause-callers
+put-requires-in-Err-Spent-clause-callers g c =
+    let e : IsBack c.index.result.now c.lift-own.result.1 c.in-Err-Spent.word c.in-Err-Spent.back × WasSpent c.lift-own.result.1 c.in-Err-Spent.word = spent_is c.index.result.now c.lift-own.result.1 c.in-Err-Spent.field-0 c.in-Err-Spent.back c.in-Err-Spent.word c.in-Err-Spent.field-0-is c.in-Err-Spent.ensures in
+    subst (λ (k : Knows). IsCallers k.0 k.2 c.in-Err-Spent.back.1) (sym c.lift-own.ensures.rest)
+    (still c.args.pass.now.0 c.args.pass.now.2 c.lift-own.result.1 c.in-Err-Spent.back.1 (ap (λ (v : OfShard). v.number) e.0.1) (ap (λ (v : OfShard). v.made) e.0.1) c.lift-own.ensures.callers)
 
 pub returns-in-Ok-clause-of : goal.returns-in-Ok-clause-of
 returns-in-Ok-clause-of g c =
@@ -24,7 +44,7 @@ returns-in-Ok-clause-hold g c =
 pub returns-in-Err-Busy-clause-of : goal.returns-in-Err-Busy-clause-of
 returns-in-Err-Busy-clause-of g c =
     let e : IsBack c.index.result.now c.lift-own.result.1 c.in-Err-Busy.found c.in-Err-Busy.back × WasBusy c.lift-own.result.1 c.in-Err-Busy.read c.in-Err-Busy.found = busy_is c.index.result.now c.lift-own.result.1 c.in-Err-Busy.field-0 c.in-Err-Busy.back c.in-Err-Busy.read c.in-Err-Busy.found c.in-Err-Busy.field-0-is c.in-Err-Busy.ensures in
-    let is : c.put.new.self ≡ (c.args.pass.now.0, slice_set c.args.pass.now.1 c.args.shard (Some c.in-Err-Busy.back), c.args.pass.now.2) = rw (c.put.ensures, c.lift-own.ensures.rest, set-set) refl in
+    let is = put_back c.args.pass.now c.lift-own.new.self c.put.new.self c.args.shard c.in-Err-Busy.back c.lift-own.ensures.rest c.put.ensures in
     let lock : c.lift-own.result.0 ≡ c.index.result.now =
     sym (get_or_from_slice_get c.args.self.now.locks c.args.shard c.lift-own.result.0 c.index.result.now (c.requires.of.lock c.args.shard c.lift-own.result c.lift-own.ensures.pass))
     ∙ (ap (λ (e : Shards). get_or e.locks c.args.shard c.index.result.now) (sym c.self.view_is) ∙ sym c.index.ensures) in
@@ -35,14 +55,14 @@ returns-in-Err-Busy-clause-of g c =
 pub returns-in-Err-Busy-clause-kept : goal.returns-in-Err-Busy-clause-kept
 returns-in-Err-Busy-clause-kept g c =
     let e : IsBack c.index.result.now c.lift-own.result.1 c.in-Err-Busy.found c.in-Err-Busy.back × WasBusy c.lift-own.result.1 c.in-Err-Busy.read c.in-Err-Busy.found = busy_is c.index.result.now c.lift-own.result.1 c.in-Err-Busy.field-0 c.in-Err-Busy.back c.in-Err-Busy.read c.in-Err-Busy.found c.in-Err-Busy.field-0-is c.in-Err-Busy.ensures in
-    let is : c.put.new.self ≡ (c.args.pass.now.0, slice_set c.args.pass.now.1 c.args.shard (Some c.in-Err-Busy.back), c.args.pass.now.2) = rw (c.put.ensures, c.lift-own.ensures.rest, set-set) refl in
+    let is = put_back c.args.pass.now c.lift-own.new.self c.put.new.self c.args.shard c.in-Err-Busy.back c.lift-own.ensures.rest c.put.ensures in
     was_busy c.args.pass.now c.put.new.self c.args.shard c.in-Err-Busy.read c.in-Err-Busy.found c.lift-own.result c.in-Err-Busy.back c.lift-own.ensures.pass is
     e.0.1 e.1
 
 pub returns-in-Err-Spent-clause-of : goal.returns-in-Err-Spent-clause-of
 returns-in-Err-Spent-clause-of g c =
     let e : IsBack c.index.result.now c.lift-own.result.1 c.in-Err-Spent.word c.in-Err-Spent.back × WasSpent c.lift-own.result.1 c.in-Err-Spent.word = spent_is c.index.result.now c.lift-own.result.1 c.in-Err-Spent.field-0 c.in-Err-Spent.back c.in-Err-Spent.word c.in-Err-Spent.field-0-is c.in-Err-Spent.ensures in
-    let is : c.put-in-Err-Spent.new.self ≡ (c.args.pass.now.0, slice_set c.args.pass.now.1 c.args.shard (Some c.in-Err-Spent.back), c.args.pass.now.2) = rw (c.put-in-Err-Spent.ensures, c.lift-own.ensures.rest, set-set) refl in
+    let is = put_back c.args.pass.now c.lift-own.new.self c.put-in-Err-Spent.new.self c.args.shard c.in-Err-Spent.back c.lift-own.ensures.rest c.put-in-Err-Spent.ensures in
     let lock : c.lift-own.result.0 ≡ c.index.result.now =
     sym (get_or_from_slice_get c.args.self.now.locks c.args.shard c.lift-own.result.0 c.index.result.now (c.requires.of.lock c.args.shard c.lift-own.result c.lift-own.ensures.pass))
     ∙ (ap (λ (e : Shards). get_or e.locks c.args.shard c.index.result.now) (sym c.self.view_is) ∙ sym c.index.ensures) in
@@ -53,16 +73,16 @@ returns-in-Err-Spent-clause-of g c =
 pub returns-in-Err-Spent-clause-kept : goal.returns-in-Err-Spent-clause-kept
 returns-in-Err-Spent-clause-kept g c =
     let e : IsBack c.index.result.now c.lift-own.result.1 c.in-Err-Spent.word c.in-Err-Spent.back × WasSpent c.lift-own.result.1 c.in-Err-Spent.word = spent_is c.index.result.now c.lift-own.result.1 c.in-Err-Spent.field-0 c.in-Err-Spent.back c.in-Err-Spent.word c.in-Err-Spent.field-0-is c.in-Err-Spent.ensures in
-    let is : c.put-in-Err-Spent.new.self ≡ (c.args.pass.now.0, slice_set c.args.pass.now.1 c.args.shard (Some c.in-Err-Spent.back), c.args.pass.now.2) = rw (c.put-in-Err-Spent.ensures, c.lift-own.ensures.rest, set-set) refl in
+    let is = put_back c.args.pass.now c.lift-own.new.self c.put-in-Err-Spent.new.self c.args.shard c.in-Err-Spent.back c.lift-own.ensures.rest c.put-in-Err-Spent.ensures in
     was_spent c.args.pass.now c.put-in-Err-Spent.new.self c.args.shard c.in-Err-Spent.word c.lift-own.result c.in-Err-Spent.back c.lift-own.ensures.pass is
     e.0.1 e.1
 
 pub returns-in-Err-Busy-clause-there : goal.returns-in-Err-Busy-clause-there
 returns-in-Err-Busy-clause-there g c =
-    let is : c.put.new.self ≡ (c.args.pass.now.0, slice_set c.args.pass.now.1 c.args.shard (Some c.in-Err-Busy.back), c.args.pass.now.2) = rw (c.put.ensures, c.lift-own.ensures.rest, set-set) refl in
+    let is = put_back c.args.pass.now c.lift-own.new.self c.put.new.self c.args.shard c.in-Err-Busy.back c.lift-own.ensures.rest c.put.ensures in
     λ all. subst AllThere (sym (ap (λ (k : Knows). k.1) is)) (there_set c.args.pass.now.1 c.args.shard c.in-Err-Busy.back all)
 
 pub returns-in-Err-Spent-clause-there : goal.returns-in-Err-Spent-clause-there
 returns-in-Err-Spent-clause-there g c =
-    let is : c.put-in-Err-Spent.new.self ≡ (c.args.pass.now.0, slice_set c.args.pass.now.1 c.args.shard (Some c.in-Err-Spent.back), c.args.pass.now.2) = rw (c.put-in-Err-Spent.ensures, c.lift-own.ensures.rest, set-set) refl in
+    let is = put_back c.args.pass.now c.lift-own.new.self c.put-in-Err-Spent.new.self c.args.shard c.in-Err-Spent.back c.lift-own.ensures.rest c.put-in-Err-Spent.ensures in
     λ all. subst AllThere (sym (ap (λ (k : Knows). k.1) is)) (there_set c.args.pass.now.1 c.args.shard c.in-Err-Spent.back all)
