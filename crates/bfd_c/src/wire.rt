@@ -3,7 +3,7 @@ ghost use Rattle.std.specs.Prelude.{◌≡◌, ◌≢◌, None, IfOk, IfSome, On
 ghost use Rattle.bfd_fields.specs.Values.{IsAddress};
 ghost use Rattle.bfd_c.specs.Wire.{addr_of, address_of, arrival_of, port_of};
 
-use bfd_packet::{Addr, Arrival, Payload, Port};
+use bfd_packet::{Addr, Arrival, Bits128, Payload, Port};
 use std::alloc::{AllocError, Global};
 
 /// An IP address: the family 4 or 6, and its bytes in network order, of which family 4 has four. The others are 0 in what is
@@ -40,7 +40,7 @@ pub(crate) fn read_address(address: &Address) -> Option<Addr>
     let b = &address.bytes;
     match address.family {
         4 => Some(Addr::V4(u32::from_be_bytes([b[0], b[1], b[2], b[3]]))),
-        6 => Some(Addr::V6(u128::from_be_bytes(address.bytes))),
+        6 => Some(Addr::V6(Bits128::of(u128::from_be_bytes(address.bytes)))),
         _ => None,
     }
 }
@@ -59,7 +59,7 @@ pub(crate) fn told_address(addr: Addr) -> Address
         }
         Addr::V6(n) => Address {
             family: 6,
-            bytes: n.to_be_bytes(),
+            bytes: n.number().to_be_bytes(),
         },
     }
 }

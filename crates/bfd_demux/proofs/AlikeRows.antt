@@ -30,28 +30,28 @@ position_from-push p n (y ∷ ys) x =
       | false ↦ position_from-push p (n + 1) ys x ∙ ap (λ k. option_or (position_from p (n + 1) ys) (cond (p x) (Some k) None)) (omega arith)
     ]
 
--- the place of the row at i, or of an earlier one
-pub position_from-take : {X : Type 0} (p : X → Bool) (xs : List X) (i : ℕ) (d : X) → i < length xs → position_from p 0 (take (i + 1) xs) ≡ option_or (position_from p 0 (take i xs)) (cond (p (get_or xs i d)) (Some i) None)
-position_from-take p xs i d lt =
-    let seen : take (i + 1) xs ≡ take i xs ++ get_or xs i d ∷ [] = rw (add-one, take-suc xs i d lt) refl in
+-- the place of x, which stands at i, or of an earlier one
+pub position_from-take : {X : Type 0} (p : X → Bool) (xs : List X) (i : ℕ) (x : X) → i < length xs → x ≡ get_or xs i x → position_from p 0 (take (i + 1) xs) ≡ option_or (position_from p 0 (take i xs)) (cond (p x) (Some i) None)
+position_from-take p xs i x lt is =
+    let seen : take (i + 1) xs ≡ take i xs ++ x ∷ [] = rw (add-one, take-suc xs i x lt, ← is) refl in
     let long : 0 + length (take i xs) ≡ i = grind (arith, common_steps) in
     rw (seen, position_from-push, long) refl
 
 -- the rows from place i on, seen after those before it
-repeat_after-drop : (same : Row → Row → Bool) (rows : List Row) (i : ℕ) (d : Row) → i < length rows → repeat_after same (take i rows) (drop i rows) ≡ option_or (option_map (λ place. (place, i)) (position_from (same (get_or rows i d)) 0 (take i rows))) (repeat_after same (take (i + 1) rows) (drop (i + 1) rows))
-repeat_after-drop same rows i d lt =
-    let next : drop i rows ≡ get_or rows i d ∷ drop (i + 1) rows = rw (add-one, drop-cons rows i d lt) refl in
-    let seen : take (i + 1) rows ≡ take i rows ++ get_or rows i d ∷ [] = rw (add-one, take-suc rows i d lt) refl in
+repeat_after-drop : (same : Row → Row → Bool) (rows : List Row) (i : ℕ) (row : Row) → i < length rows → row ≡ get_or rows i row → repeat_after same (take i rows) (drop i rows) ≡ option_or (option_map (λ place. (place, i)) (position_from (same row) 0 (take i rows))) (repeat_after same (take (i + 1) rows) (drop (i + 1) rows))
+repeat_after-drop same rows i row lt is =
+    let next : drop i rows ≡ row ∷ drop (i + 1) rows = rw (add-one, drop-cons rows i row lt, ← is) refl in
+    let seen : take (i + 1) rows ≡ take i rows ++ row ∷ [] = rw (add-one, take-suc rows i row lt, ← is) refl in
     let long : length (take i rows) ≡ i = grind (arith, common_steps) in
     rw (next, long, seen) refl
 
 -- the row at i is like an earlier one
-pub repeated_here : (same : Row → Row → Bool) (rows : List Row) (i : ℕ) (d : Row) (earlier : ℕ) → i < length rows → Some earlier ≡ position_from (same (get_or rows i d)) 0 (take i rows) → repeat_after same (take i rows) (drop i rows) ≡ Some (earlier, i)
-repeated_here same rows i d earlier lt found = repeat_after-drop same rows i d lt ∙ rw (← found) refl
+pub repeated_here : (same : Row → Row → Bool) (rows : List Row) (i : ℕ) (row : Row) (earlier : ℕ) → i < length rows → row ≡ get_or rows i row → Some earlier ≡ position_from (same row) 0 (take i rows) → repeat_after same (take i rows) (drop i rows) ≡ Some (earlier, i)
+repeated_here same rows i row earlier lt is found = repeat_after-drop same rows i row lt is ∙ rw (← found) refl
 
 -- the row at i is like no earlier one
-pub repeated_later : (same : Row → Row → Bool) (rows : List Row) (i : ℕ) (d : Row) → i < length rows → None ≡ position_from (same (get_or rows i d)) 0 (take i rows) → repeat_after same (take (i + 1) rows) (drop (i + 1) rows) ≡ repeat_after same (take i rows) (drop i rows)
-repeated_later same rows i d lt none = sym (repeat_after-drop same rows i d lt ∙ rw (← none) refl)
+pub repeated_later : (same : Row → Row → Bool) (rows : List Row) (i : ℕ) (row : Row) → i < length rows → row ≡ get_or rows i row → None ≡ position_from (same row) 0 (take i rows) → repeat_after same (take (i + 1) rows) (drop (i + 1) rows) ≡ repeat_after same (take i rows) (drop i rows)
+repeated_later same rows i row lt is none = sym (repeat_after-drop same rows i row lt is ∙ rw (← none) refl)
 
 pub nat_level : (a b : ℕ) → is_eq (nat_cmp a b) ≡ (a == b)
 nat_level a b = grind (arith, nat_tests)
@@ -67,16 +67,16 @@ entry_more at false i None e none = rw e refl
 entry_more at false i (Some earlier) e none = rw e refl
 
 -- the first places of the discriminators, after the row at i
-pub discrs_more : (rows : List Row) (i : ℕ) (d : Row) (old new : ℕ → Option ℕ) → i < length rows →
-    ((q : ℕ) → old q ≡ position_from (λ row. q == row.discr) 0 (take i rows)) →
-    ((q : ℕ) → new q ≡ cond (is_eq (nat_cmp (get_or rows i d).discr q)) (Some i) (old q)) →
-    None ≡ old (get_or rows i d).discr →
-    (q : ℕ) → new q ≡ position_from (λ row. q == row.discr) 0 (take (i + 1) rows)
-discrs_more rows i d old new lt were are none q =
+pub discrs_more : (rows : List Row) (i : ℕ) (row : Row) (old new : ℕ → Option ℕ) → i < length rows → row ≡ get_or rows i row →
+    ((q : ℕ) → old q ≡ position_from (λ other. q == other.discr) 0 (take i rows)) →
+    ((q : ℕ) → new q ≡ cond (is_eq (nat_cmp row.discr q)) (Some i) (old q)) →
+    None ≡ old row.discr →
+    (q : ℕ) → new q ≡ position_from (λ other. q == other.discr) 0 (take (i + 1) rows)
+discrs_more rows i row old new lt is were are none q =
     are q
-    ∙ entry_more _ (q == (get_or rows i d).discr) i (old q) (nat_level_back _ _) (λ e. let same : q ≡ (get_or rows i d).discr = grind (arith, nat_tests) in ap old same ∙ sym none)
-    ∙ ap (λ o. option_or o (cond (q == (get_or rows i d).discr) (Some i) None)) (were q)
-    ∙ sym (position_from-take (λ row. q == row.discr) rows i d lt)
+    ∙ entry_more _ (q == row.discr) i (old q) (nat_level_back _ _) (λ e. let same : q ≡ row.discr = grind (arith, nat_tests) in ap old same ∙ sym none)
+    ∙ ap (λ o. option_or o (cond (q == row.discr) (Some i) None)) (were q)
+    ∙ sym (position_from-take (λ other. q == other.discr) rows i row lt is)
 
 then_level : (a b : Ordering) (p q : Bool) → is_eq a ≡ p → is_eq b ≡ q → is_eq (ordering_then a b) ≡ (p && q)
 then_level Equal b p q e f = rw (← e) f
@@ -157,28 +157,28 @@ position_from-none p never n [] = refl
 position_from-none p never n (x ∷ xs) = rw (never x, position_from-none p never (n + 1) xs) refl
 
 -- the first places of the kinds with addresses, after the row at i
-pub kinds_more : (rows : List Row) (i : ℕ) (d : Row) (old new : RowKind → Option ℕ) → i < length rows →
-    has_addresses (get_or rows i d).kind ≡ true →
-    ((q : RowKind) → has_addresses q ≡ true → old q ≡ position_from (λ row. same_selector q row.kind) 0 (take i rows)) →
-    ((q : RowKind) → new q ≡ cond (is_eq (kinds.ghosts.cmp (get_or rows i d).kind q)) (Some i) (old q)) →
-    None ≡ old (get_or rows i d).kind →
-    (q : RowKind) → has_addresses q ≡ true → new q ≡ position_from (λ row. same_selector q row.kind) 0 (take (i + 1) rows)
-kinds_more rows i d old new lt with_addresses were are none q h =
+pub kinds_more : (rows : List Row) (i : ℕ) (row : Row) (old new : RowKind → Option ℕ) → i < length rows → row ≡ get_or rows i row →
+    has_addresses row.kind ≡ true →
+    ((q : RowKind) → has_addresses q ≡ true → old q ≡ position_from (λ other. same_selector q other.kind) 0 (take i rows)) →
+    ((q : RowKind) → new q ≡ cond (is_eq (kinds.ghosts.cmp row.kind q)) (Some i) (old q)) →
+    None ≡ old row.kind →
+    (q : RowKind) → has_addresses q ≡ true → new q ≡ position_from (λ other. same_selector q other.kind) 0 (take (i + 1) rows)
+kinds_more rows i row old new lt is with_addresses were are none q h =
     are q
-    ∙ entry_more _ (same_selector q (get_or rows i d).kind) i (old q) (selector_level_back _ _ h) (λ e. ap old (same_selector_is q _ e) ∙ sym none)
-    ∙ ap (λ o. option_or o (cond (same_selector q (get_or rows i d).kind) (Some i) None)) (were q h)
-    ∙ sym (position_from-take (λ row. same_selector q row.kind) rows i d lt)
+    ∙ entry_more _ (same_selector q row.kind) i (old q) (selector_level_back _ _ h) (λ e. ap old (same_selector_is q _ e) ∙ sym none)
+    ∙ ap (λ o. option_or o (cond (same_selector q row.kind) (Some i) None)) (were q h)
+    ∙ sym (position_from-take (λ other. same_selector q other.kind) rows i row lt is)
 
 option_or-none : {X : Type 0} (o : Option X) → option_or o None ≡ o
 option_or-none None = refl
 option_or-none (Some x) = refl
 
 -- the same where the row at i has no addresses
-pub kinds_same : (rows : List Row) (i : ℕ) (d : Row) (old : RowKind → Option ℕ) → i < length rows →
-    has_addresses (get_or rows i d).kind ≡ false →
-    ((q : RowKind) → has_addresses q ≡ true → old q ≡ position_from (λ row. same_selector q row.kind) 0 (take i rows)) →
-    (q : RowKind) → has_addresses q ≡ true → old q ≡ position_from (λ row. same_selector q row.kind) 0 (take (i + 1) rows)
-kinds_same rows i d old lt without were q h =
+pub kinds_same : (rows : List Row) (i : ℕ) (row : Row) (old : RowKind → Option ℕ) → i < length rows → row ≡ get_or rows i row →
+    has_addresses row.kind ≡ false →
+    ((q : RowKind) → has_addresses q ≡ true → old q ≡ position_from (λ other. same_selector q other.kind) 0 (take i rows)) →
+    (q : RowKind) → has_addresses q ≡ true → old q ≡ position_from (λ other. same_selector q other.kind) 0 (take (i + 1) rows)
+kinds_same rows i row old lt is without were q h =
     were q h
-    ∙ sym (position_from-take (λ row. same_selector q row.kind) rows i d lt
-    ∙ rw (unaddressed_back q (get_or rows i d).kind without) (option_or-none _))
+    ∙ sym (position_from-take (λ other. same_selector q other.kind) rows i row lt is
+    ∙ rw (unaddressed_back q row.kind without) (option_or-none _))

@@ -33,7 +33,7 @@ pub fn guess_by_discr(names: &[(Name, Option<Port>)], discr: u32) -> usize
 fn low_word(addr: &Addr) -> u32 {
     match addr {
         Addr::V4(number) => *number,
-        Addr::V6(number) => (*number & 0xffff_ffff) as u32,
+        Addr::V6(number) => (number.low & 0xffff_ffff) as u32,
     }
 }
 

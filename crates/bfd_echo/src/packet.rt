@@ -28,9 +28,10 @@ pub(crate) fn text(discr: u32, sequence: u32) -> Wire
 pub fn echo_datagram(iface: u32, local: Addr, bytes: Wire) -> Datagram
     ensures { result ≡ packet.echo_datagram iface local bytes }
 {
+    let src = local;
     Datagram {
         iface,
-        src: local,
+        src,
         sport: SOURCE_PORT,
         dst: local,
         dport: ECHO_PORT,

@@ -11,7 +11,7 @@ ghost use Rattle.bfd_fields.specs.Values.{IsAddress, address_of, bytes_of, dotte
 use crate::digits::decode;
 use crate::fault::{LineFault, ReadFault};
 use crate::fields::{cut_at, number};
-use bfd_packet::{Addr, Payload};
+use bfd_packet::{Addr, Bits128, Payload};
 use byteorder::{BigEndian, ByteOrder};
 use hex::FromHexError;
 use std::alloc::{AllocError, Global};
@@ -165,7 +165,7 @@ fn any_address(field: &[u8]) -> Result<Addr, LineFault>
     }
     let mut bytes = [0; 16];
     if decode(field, &mut bytes) {
-        Ok(Addr::V6(BigEndian::read_u128(&bytes)))
+        Ok(Addr::V6(Bits128::of(BigEndian::read_u128(&bytes))))
     } else {
         dotted(field)
     }

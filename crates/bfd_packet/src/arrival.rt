@@ -1,6 +1,6 @@
 //! Where a packet came from or goes to.
 
-use crate::{Payload, Wire};
+use crate::{Bits128, Payload, Wire};
 
 /// The UDP port that every packet is sent from (RFC 5881 section 4: one of 49152 to 65535, the same for all of a session).
 pub const SOURCE_PORT: u16 = 49_152;
@@ -24,7 +24,7 @@ pub enum Port {
 #[derive(Clone, Copy, Debug, PartialEq, Eq, PartialOrd, Ord)]
 pub enum Addr {
     V4(u32),
-    V6(u128),
+    V6(Bits128),
 }
 
 /// A packet as it came in. `iface` is the interface's number, 0 to 65,535; `sport` the sender's UDP port;

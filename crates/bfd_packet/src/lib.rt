@@ -10,6 +10,7 @@
 #![tactic(auto)]
 
 mod arrival;
+mod bits;
 mod buffers;
 mod control;
 mod discard;
@@ -19,6 +20,7 @@ mod reading;
 mod writing;
 
 pub use arrival::{Addr, Arrival, Datagram, Port, SOURCE_PORT};
+pub use bits::Bits128;
 pub use buffers::{AuthBytes, Payload, Wire};
 pub use control::{Control, State};
 pub use discard::Test;

@@ -2,7 +2,7 @@ ghost use Rattle.std.specs.Prelude.{◌≡◌, ◌<◌};
 
 use bfd_demux::{BuildFault, Demux, Row, RowKind, Target};
 use bfd_num::Steps;
-use bfd_packet::{Addr, Arrival, Payload, Port, Test};
+use bfd_packet::{Addr, Arrival, Bits128, Payload, Port, Test};
 use std::alloc::{AllocError, Global};
 use std::marker::Brand;
 use std::sync::ledger::{Blank, Ledger};
@@ -14,9 +14,15 @@ const REMOTE: Addr = Addr::V4(0x0a00_0002);
 
 const GROUP: Addr = Addr::V4(0xef00_0001);
 
-const LOCAL_6: Addr = Addr::V6(0x2001_0db8_0000_0000_0000_0000_0000_0001);
+const LOCAL_6: Addr = Addr::V6(Bits128 {
+    high: 0x2001_0db8_0000_0000,
+    low: 1,
+});
 
-const REMOTE_6: Addr = Addr::V6(0x2001_0db8_0000_0000_0000_0000_0000_0002);
+const REMOTE_6: Addr = Addr::V6(Bits128 {
+    high: 0x2001_0db8_0000_0000,
+    low: 2,
+});
 
 // Down from discriminator 7, Detect Mult 3, Desired Min TX 1 s.
 const FROM_7: [u8; 24] = [
@@ -166,19 +172,32 @@ fn refuses_discriminators(rt: HostRuntime) -> Result<(), Fail> {
 
 #[test]
 fn refuses_addresses(rt: HostRuntime) {
-    let twice = multi(1, LOCAL, REMOTE).kind;
-    for (kind, discr, want) in [
+    for (first, second, discr, want) in [
         (
-            single(1, 1, LOCAL, REMOTE).kind,
+            single(1, 1, LOCAL, REMOTE),
+            single(2, 1, LOCAL, REMOTE),
             4,
             BuildFault::SameAddresses(0, 1),
         ),
-        (twice, 4, BuildFault::SameAddresses(0, 1)),
-        (tail(1, 9, 1).kind, 4, BuildFault::SameAddresses(0, 1)),
-        (twice, 3, BuildFault::SameDiscr(2, 3)),
+        (
+            multi(1, LOCAL, REMOTE),
+            multi(2, LOCAL, REMOTE),
+            4,
+            BuildFault::SameAddresses(0, 1),
+        ),
+        (
+            tail(1, 9, 1),
+            tail(2, 9, 1),
+            4,
+            BuildFault::SameAddresses(0, 1),
+        ),
+        (
+            multi(1, LOCAL, REMOTE),
+            multi(2, LOCAL, REMOTE),
+            3,
+            BuildFault::SameDiscr(2, 3),
+        ),
     ] {
-        let first = Row { discr: 1, kind };
-        let second = Row { discr: 2, kind };
         assert!(rt; fault(rt.alloc(), &[first, second, seek(3), seek(discr)]) == Some(want));
     }
 }

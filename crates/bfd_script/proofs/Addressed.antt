@@ -1,5 +1,5 @@
 -- Addresses that are kept as they came, and a set of others.
-use Rattle.std.proofs.Common.{◌≡◌, ℕ, Bool, true, false, ◌||◌, cond, List, [], ◌∷◌, ◌++◌, ◌-◌, ◌≤◌, length, take, drop, slice_index_or, refl, sym, ap, ◌∙◌, arith}
+use Rattle.std.proofs.Common.{◌≡◌, ℕ, Bool, true, false, ◌||◌, cond, List, [], ◌∷◌, ◌++◌, ◌-◌, ◌≤◌, length, take, drop, slice_index_or, refl, sym, ap, subst, ◌∙◌, arith}
 use Rattle.std.proofs.lemmas.Cmp.{eq_by_cmp_equiv, tied_itself, upto}
 use Rattle.std.proofs.Math.Seq.{take-length}
 use Rattle.std.proofs.lemmas.List.{length-drop}
@@ -107,9 +107,12 @@ behind : (n : ℕ) (kinds : List RowKind) → take (length kinds - n) (drop n ki
 behind n kinds = ap (λ k. take k (drop n kinds)) (sym (length-drop n kinds)) ∙ take-length (drop n kinds)
 
 -- the same, of the first of a list
-pub first_put : (kinds : List RowKind) (d : RowKind) (old new goal : RowKind → Bool) → 1 ≤ length kinds
-    → ((q : RowKind) → new q ≡ cond (is_eq (order.ghosts.cmp (slice_index_or kinds 0 d) q)) true (old q))
+pub first_put : (kinds : List RowKind) (d : RowKind) (old new goal : RowKind → Bool) → 1 ≤ length kinds → d ≡ slice_index_or kinds 0 d
+    → ((q : RowKind) → new q ≡ cond (is_eq (order.ghosts.cmp d q)) true (old q))
     → ((q : RowKind) → (among kinds q || old q) ≡ goal q)
     → (q : RowKind) → (among (take (length kinds - 1) (drop 1 kinds)) q || new q) ≡ goal q
-first_put [] d old new goal long got was q = absurd (omega (arith, long))
-first_put (kind ∷ kinds) d old new goal long got was q = rw (behind 1 (kind ∷ kinds)) (one_put kind kinds old new goal got was q)
+first_put [] d old new goal long is got was q = absurd (omega (arith, long))
+first_put (kind ∷ kinds) d old new goal long is got was q =
+    let put : (q : RowKind) → new q ≡ cond (is_eq (order.ghosts.cmp kind q)) true (old q) =
+    subst (λ k. (q : RowKind) → new q ≡ cond (is_eq (order.ghosts.cmp k q)) true (old q)) is got in
+    rw (behind 1 (kind ∷ kinds)) (one_put kind kinds old new goal put was q)

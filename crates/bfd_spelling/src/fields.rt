@@ -21,7 +21,7 @@ pub(crate) fn address_text(alloc: Global, address: Addr) -> Result<String, Alloc
         }
         Addr::V6(n) => {
             let mut bytes = [0; 16];
-            BigEndian::write_u128(&mut bytes, n);
+            BigEndian::write_u128(&mut bytes, n.number());
             hex::encode(alloc, bytes.as_slice())
         }
     }

@@ -8,7 +8,7 @@ use Rattle.bfd_demux.proofs.repeats.search_addresses.Goals.{then-has_addresses+i
 
 pub returns-in-Some : goal.returns-in-Some
 returns-in-Some c =
-    sym (repeated_here same_addresses c.args.rows.now c.loop-place.place _ c.in-Some.earlier.now (omega arith)
+    sym (repeated_here same_addresses c.args.rows.now c.loop-place.place c.index-rows-place.result c.in-Some.earlier.now (omega arith) c.index-rows-place.is
     (c.in-Some.ensures.value ∙ c.loop-place.invariant.1 _ (sym c.has_addresses.ensures ∙ c.if-has_addresses.true)))
     ∙ c.loop-place.invariant.0
 
@@ -17,16 +17,16 @@ loop-place-preserved c =
     elim c.if-has_addresses.branch [
       | then-has_addresses+in_default+in_ok-insert w ↦
           let with_addresses = sym c.has_addresses.ensures ∙ w.if-has_addresses.true in (
-            repeated_later same_addresses c.args.rows.now c.loop-place.place _ (omega arith) (w.in_default.ensures.value ∙ c.loop-place.invariant.1 _ with_addresses)
+            repeated_later same_addresses c.args.rows.now c.loop-place.place c.index-rows-place.result (omega arith) c.index-rows-place.is (w.in_default.ensures.value ∙ c.loop-place.invariant.1 _ with_addresses)
                 ∙ c.loop-place.invariant.0,
-            kinds_more c.args.rows.now c.loop-place.place _ (get kinds.ghosts.cmp c.loop-place.first) (get kinds.ghosts.cmp c.if-has_addresses.first) (omega arith)
+            kinds_more c.args.rows.now c.loop-place.place c.index-rows-place.result (get kinds.ghosts.cmp c.loop-place.first) (get kinds.ghosts.cmp c.if-has_addresses.first) (omega arith) c.index-rows-place.is
                 with_addresses c.loop-place.invariant.1 (λ q. ap (λ m. get kinds.ghosts.cmp m q) w.first-is ∙ w.in_ok-insert.ensures.updates.0 q) w.in_default.ensures.value,
           )
       | else-has_addresses w ↦
           let without = sym c.has_addresses.ensures ∙ w.if-has_addresses.false in (
-            repeated_later same_addresses c.args.rows.now c.loop-place.place _ (omega arith) (sym (position_from-none _ (λ other. unaddressed _ other.kind without) 0 _))
+            repeated_later same_addresses c.args.rows.now c.loop-place.place c.index-rows-place.result (omega arith) c.index-rows-place.is (sym (position_from-none _ (λ other. unaddressed _ other.kind without) 0 _))
                 ∙ c.loop-place.invariant.0,
             λ q h. ap (λ m. get kinds.ghosts.cmp m q) w.first-is
-                ∙ kinds_same c.args.rows.now c.loop-place.place _ (get kinds.ghosts.cmp c.loop-place.first) (omega arith) without c.loop-place.invariant.1 q h,
+                ∙ kinds_same c.args.rows.now c.loop-place.place c.index-rows-place.result (get kinds.ghosts.cmp c.loop-place.first) (omega arith) c.index-rows-place.is without c.loop-place.invariant.1 q h,
           )
     ]
