@@ -1,14 +1,14 @@
 -- How a job may end.
-use Rattle.std.proofs.Common.{◌≡◌, ◌⊎◌, ℕ, true, false, List, Option, Some, inl, inr, refl, sym, subst}
+use Rattle.std.proofs.Common.{◌≡◌, ◌≢◌, ◌⊎◌, ℕ, true, false, List, Option, Some, inl, inr, refl, sym, subst}
 use Rattle.bfd_serving.specs.declared.finish.Finish.{Finish}
 use Rattle.bfd_serving.specs.declared.finish.Finish.TheVariants as finish
 use Rattle.bfd_script.specs.Reading.{Lists}
 use Rattle.bfd_words.specs.declared.job.Job.{Job}
 use Rattle.bfd_words.specs.declared.job.Job.TheVariants.{Replay, Serve, Load, Pair, Watch}
 use Rattle.bfdd.specs.declared.status.Status.{Status}
-use Rattle.bfdd.specs.declared.status.Status.TheVariants.{Done, Usage, ReadFault, WriteFault, Memory}
+use Rattle.bfdd.specs.declared.status.Status.TheVariants.{Done, Usage, BadLine, ReadFault, WriteFault, TooLarge, Memory, NoMember}
 use Rattle.bfdd.specs.Serving.{Comes, Edges, IsFaulty, IsOverlong, status_of}
-use Rattle.bfdd.specs.Status.{IsDecided, IsEndOf}
+use Rattle.bfdd.specs.Status.{IsDecided, IsEndOf, WhereUnopened}
 use Rattle.bfdd.specs.Telling.{Tells, TellsBytes}
 use Rattle.bfdd.specs.Text.{Wanted}
 use Rattle.bfdd.specs.Words.{reads, serves}
@@ -60,3 +60,39 @@ pub closed_tells : (job : Job) (left right : Option (List ℕ)) (old new : Edges
     → Tells job left right old new w
 closed_tells (Serve hands turns ticks journal) left right old new w closed tells = cc
 closed_tells job left right old new w closed tells = tells
+
+-- the status of a run that was served comes after ports were opened
+finish_opened : (end : Finish) (P : Type 0) → WhereUnopened (status_of end) P
+finish_opened finish.Done P = tt
+finish_opened end P = tt
+
+comes_opened : (job : Job) (script : Lists) (old new : Edges) (w : Wanted) (P : Type 0) → Comes job script old new w → WhereUnopened w.status P
+comes_opened job script old new w P (inl served) = subst (λ (status : Status). WhereUnopened status P) (sym served.status) (finish_opened served.end P)
+comes_opened job script old new w P (inr portless) = subst (λ (v : Wanted). WhereUnopened v.status P) (sym portless.nothing) tt
+
+all_unopened : (status : Status) (P : Type 0) → P → WhereUnopened status P
+all_unopened Usage P fact = fact
+all_unopened ReadFault P fact = fact
+all_unopened TooLarge P fact = fact
+all_unopened (BadLine line fault) P fact = fact
+all_unopened (NoMember discr) P fact = fact
+all_unopened status P fact = tt
+
+tells_unopened : (job : Job) (left right : Option (List ℕ)) (old new : Edges) (w : Wanted) → (serves job ≡ false → new ≡ old)
+    → Tells job left right old new w → WhereUnopened w.status (new ≡ old)
+tells_unopened (Serve hands turns ticks journal) left right old new w idle (inl served) =
+    comes_opened (Serve hands turns ticks journal) served.script old new w (new ≡ old) served.comes
+tells_unopened (Serve hands turns ticks journal) left right old new w idle (inr none) = all_unopened w.status (new ≡ old) none.same
+tells_unopened (Replay hands) left right old new w idle tells = all_unopened w.status (new ≡ old) (idle refl)
+tells_unopened (Watch need members shards) left right old new w idle tells = all_unopened w.status (new ≡ old) (idle refl)
+tells_unopened (Load sessions ticks seed hands) left right old new w idle tells = all_unopened w.status (new ≡ old) (idle refl)
+tells_unopened (Pair events seed) left right old new w idle tells = all_unopened w.status (new ≡ old) (idle refl)
+
+-- the outside is as it was, where the status comes before any port is opened
+pub unopened : (job : Job) (left right : Option (List ℕ)) (old new : Edges) (w : Wanted) (result : Status) → IsDecided result w.status → result ≢ ReadFault
+    → (serves job ≡ false → new ≡ old) → Tells job left right old new w → WhereUnopened result (new ≡ old)
+unopened job left right old new w ReadFault is reads idle tells = absurd (reads refl)
+unopened job left right old new w WriteFault is reads idle tells = tt
+unopened job left right old new w Memory is reads idle tells = tt
+unopened job left right old new w result is reads idle tells =
+    subst (λ (status : Status). WhereUnopened status (new ≡ old)) (sym is) (tells_unopened job left right old new w idle tells)

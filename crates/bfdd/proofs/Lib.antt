@@ -3,3 +3,4 @@ pub mod Ending
 pub mod Served
 pub mod Taking
 pub mod Wanting
+pub mod Writing

@@ -3,7 +3,7 @@ use Rattle.std.proofs.Common.{◌≡◌, List, ℕ, Option, Some, None, ◌⊎�
 use Rattle.std.specs.Prelude.{IfSome}
 use Rattle.bfd_words.specs.declared.job.Job.{Job}
 use Rattle.bfdd.specs.declared.status.Status.{Status}
-use Rattle.bfdd.specs.declared.status.Status.TheVariants.{ReadFault, WriteFault, Memory}
+use Rattle.bfdd.specs.declared.status.Status.TheVariants.{Done, ReadFault, WriteFault, Memory}
 use Rattle.bfdd.specs.Status.{IsDecided}
 use Rattle.bfdd.specs.Text.{Wanted, wanted, wanted_of}
 
@@ -29,3 +29,7 @@ settled ReadFault want is reads writes = absurd (reads refl)
 settled WriteFault want is reads writes = absurd (writes refl)
 settled Memory want is reads writes = inr refl
 settled result want is reads writes = inl is
+
+-- what ended with Done was to end so
+pub done_wanted : (result want : Status) → IsDecided result want → result ≡ Done → want ≡ Done
+done_wanted result want is same = sym (subst (λ (status : Status). IsDecided status want) same is)

@@ -5,3 +5,4 @@ pub mod Status
 pub mod Telling
 pub mod Text
 pub mod Words
+pub mod Writing

@@ -5,9 +5,12 @@ use crate::Status;
 use crate::serve_tests::PASSIVE;
 use crate::tests::{Case, Hears, calm, met};
 use bfd_edge::{Gate, MemTicker, Next, Ticker};
+use std::alloc::Global;
+use std::sync::Wait;
 use std::sync::atomic::{AtomicU64, Ordering};
 use std::test::Fail;
 use std::thread;
+use std::thread::Threads;
 
 /// Two sessions, one on each of two shards, and a tick of both.
 const TWO: &str = "bfd 1\n\
@@ -90,27 +93,28 @@ fn came(meeting: &Meeting) -> (u64, u64, u64) {
 }
 
 /// A run of `serve` whose workers' links hear a packet each.
-fn serving(words: &'static str) -> Case<'static> {
+fn serving(words: &'static [&'static str]) -> Case<'static> {
     let one = &[Hears::Packet(1500)];
-    Case {
-        first: one,
-        second: one,
-        ..calm(words, PASSIVE, "")
-    }
+    let mut case = calm(words, PASSIVE, "");
+    case.first = one;
+    case.second = one;
+    case
+}
+
+/// Whether the first two workers of this run met.
+fn meets<R: Threads + Wait + Sync>(rt: &R, alloc: Global, case: &Case<'_>) -> Option<bool> {
+    let meeting = nobody_yet();
+    let mut ticker = MemTicker::make(Vec::new(alloc), Vec::new(alloc));
+    let ended = met(rt, alloc, case, &mut ticker, &meeting).ok()?;
+    Some(ended.status == Status::Done && came(&meeting) == (1, 1, 0))
 }
 
 #[test]
-fn workers_meet(rt: HostRuntime) -> Result<(), Fail> {
-    for case in [
-        serving("serve --workers 2"),
-        calm("replay --shards 2 --workers 2", TWO, ""),
-    ] {
-        let meeting = nobody_yet();
-        let mut ticker = MemTicker::make(Vec::new(rt.alloc()), Vec::new(rt.alloc()));
-        let ended = met(&rt, rt.alloc(), &case, &mut ticker, &meeting)?;
-        assert!(rt; ended.status == Status::Done && came(&meeting) == (1, 1, 0));
-    }
-    Ok(())
+fn workers_meet(rt: HostRuntime) {
+    let live = serving(&["serve", "--workers", "2"]);
+    let replay = calm(&["replay", "--shards", "2", "--workers", "2"], TWO, "");
+    assert!(rt; meets(&rt, rt.alloc(), &live) == Some(true));
+    assert!(rt; meets(&rt, rt.alloc(), &replay) == Some(true));
 }
 
 #[test]
@@ -120,7 +124,7 @@ fn worker_and_timer_meet(rt: HostRuntime) -> Result<(), Fail> {
         meeting: &meeting,
         inner: MemTicker::make(Vec::new(rt.alloc()), Vec::new(rt.alloc())),
     };
-    let case = serving("serve --workers 1");
+    let case = serving(&["serve", "--workers", "1"]);
     let ended = met(&rt, rt.alloc(), &case, &mut ticker, &meeting)?;
     assert!(rt; ended.status == Status::Done && came(&meeting) == (1, 1, 0));
     Ok(())

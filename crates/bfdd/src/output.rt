@@ -1,11 +1,10 @@
 // A whole text to a sink.
-ghost use Rattle.std.specs.Prelude.{◌≡◌, ◌≢◌, ◌≤◌, ◌⊎◌, OnOk, IsErrOf};
+ghost use Rattle.std.specs.Prelude.{◌≡◌, ◌≤◌, OnOk, IsErrOf};
 ghost use Rattle.std.specs.Io.KnownBytes.{Appends};
 ghost use Rattle.bfd_edge.specs.Faults.{Rose};
-ghost use Rattle.bfdd.specs.Answers.{IsAnswer, broken_off};
+ghost use Rattle.bfdd.specs.Answers.{broken_off};
 ghost use Rattle.bfdd.specs.Outside.{TookFront};
-ghost use Rattle.bfdd.specs.Status.{IsDecided, IsWrittenBy, OnBadLine, UnlessWriting, WhereUnwritten};
-ghost use Rattle.bfdd.specs.Text.{complaint_line};
+ghost use Rattle.bfdd.specs.Writing.{Writes};
 
 use crate::answer::Answer;
 use crate::status::Status;
@@ -42,22 +41,8 @@ fn broken_off(status: Status) -> Status
 }
 
 /// Writes what a run has to write, and answers how it ends.
-#[tactic(auto, using(crate::proofs::Taking::took_nothing))]
 pub(crate) fn write_answer<K: Sink>(answer: Answer, sink: &mut K) -> Status
-    requires { IsAnswer answer }
-    ensures decided { IsDecided result answer.status }
-    ensures done { result ≡ Status.Done → Appends (K.taken sink.old) (K.taken sink.new) answer.text }
-    ensures front { TookFront (K.taken sink.old) (K.taken sink.new) answer.text }
-    ensures written { IsWrittenBy result (K.taken sink.old) (K.taken sink.new) (K.faults sink.old) (K.faults sink.new)
-        answer.text }
-    ensures bad_text { OnBadLine result (λ bad. Appends (K.taken sink.old) (K.taken sink.new) (complaint_line bad)
-        ⊎ (Rose (K.faults sink.old) (K.faults sink.new)
-        × TookFront (K.taken sink.old) (K.taken sink.new) (complaint_line bad))) }
-    ensures unwritten { WhereUnwritten result (K.taken sink.new ≡ K.taken sink.old) }
-    ensures write_fault { result ≡ Status.WriteFault → Rose (K.faults sink.old) (K.faults sink.new) }
-    ensures calm { UnlessWriting result (K.faults sink.new ≡ K.faults sink.old) }
-    ensures no_usage { result ≢ Status.Usage }
-    ensures no_read_fault { result ≢ Status.ReadFault }
+    ensures { Writes answer result (K.taken sink.old) (K.taken sink.new) (K.faults sink.old) (K.faults sink.new) }
 {
     if answer.text.is_empty() {
         return answer.status;

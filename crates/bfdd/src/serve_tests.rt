@@ -87,126 +87,134 @@ const ANSWERED: &str = "shard 0\n\
     6 show 1 Down 0 Down 0 1000000 1000000 1000000 0 0\n\
     served 6 1 0\n";
 
+/// The words for one worker.
+const ONE: &[&str] = &["serve", "--workers", "1"];
+
+const TWO: &[&str] = &["serve", "--workers", "2"];
+
 /// A worker over a link that hears this, without a fault of anything else.
 fn plain(
-    words: &'static str,
+    words: &'static [&'static str],
     first: &'static [Hears],
     status: Status,
     written: &'static str,
 ) -> Case<'static> {
-    Case {
-        first,
-        status,
-        shut: 2,
-        ..calm(words, PASSIVE, written)
-    }
+    let mut case = calm(words, PASSIVE, written);
+    case.first = first;
+    case.status = status;
+    case.shut = 2;
+    case
 }
 
 /// The case of this number, of those in which links hear something.
 fn heard_case(number: u32) -> Option<Case<'static>> {
     let one = &[Hears::Packet(1500)];
     match number {
-        0 => Some(plain("serve --workers 1", one, Status::Done, HEARD)),
+        0 => Some(plain(ONE, one, Status::Done, HEARD)),
         1 => Some(plain(
-            "serve --workers 1 --shards 2 --timers levels",
+            &[
+                "serve",
+                "--workers",
+                "1",
+                "--shards",
+                "2",
+                "--timers",
+                "levels",
+            ],
             one,
             Status::Done,
             HEARD_BY_TWO,
         )),
         2 => Some(plain(
-            "serve --workers 1",
+            ONE,
             &[Hears::Packet(1500), Hears::Failed],
             Status::LinkFault(1),
             HEARD,
         )),
         3 => Some(plain(
-            "serve --workers 1 --turns 1",
+            &["serve", "--workers", "1", "--turns", "1"],
             &[Hears::Quiet, Hears::Quiet],
             Status::Turns(1),
             NOTHING,
         )),
         4 => Some(plain(
-            "serve --workers 1 --journal 1",
+            &["serve", "--workers", "1", "--journal", "1"],
             &[Hears::Packet(1500), Hears::Packet(2500)],
             Status::JournalFull(0),
             HEARD,
         )),
-        5 => Some(Case {
-            second: &[Hears::Failed],
-            shut: 3,
-            ..plain(
-                "serve --workers 2",
-                &[Hears::Failed],
-                Status::LinkFault(1),
-                NOTHING,
-            )
-        }),
+        5 => {
+            let mut case = plain(TWO, &[Hears::Failed], Status::LinkFault(1), NOTHING);
+            case.second = &[Hears::Failed];
+            case.shut = 3;
+            Some(case)
+        }
         _ => silent_case(number),
+    }
+}
+
+/// The words of the case of this number, where links hear nothing.
+fn silent_words(number: u32) -> &'static [&'static str] {
+    match number {
+        9 => TWO,
+        12 => &["serve", "--workers", "1", "--journal", "3"],
+        _ => ONE,
     }
 }
 
 /// .. and of those in which they hear nothing.
 fn silent_case(number: u32) -> Option<Case<'static>> {
-    let silent = plain("serve --workers 1", &[], Status::Done, NOTHING);
+    let mut case = plain(silent_words(number), &[], Status::Done, NOTHING);
     match number {
-        6 => Some(Case {
-            text: ACTIVE,
-            ticks: &[750, 1750, 2750],
-            send_fails: Some(1),
-            written: SENT,
-            ..silent
-        }),
-        7 => Some(Case {
-            text: ASKED,
-            ticks: &[750, 751],
-            written: ANSWERED,
-            ..silent
-        }),
-        8 => Some(Case {
-            open_fails: Some(0),
-            status: Status::PortFault,
-            written: "",
-            shut: 0,
-            ..silent
-        }),
-        9 => Some(Case {
-            words: "serve --workers 2",
-            open_fails: Some(2),
-            status: Status::PortFault,
-            written: "",
-            ..silent
-        }),
-        10 => Some(Case {
-            sink_fails: Some(0),
-            status: Status::WriteFault,
-            written: "",
-            ..silent
-        }),
-        11 => Some(Case {
-            tick_fails: Some(0),
-            status: Status::ClockFault,
-            ..silent
-        }),
-        12 => Some(Case {
-            words: "serve --workers 1 --journal 3",
-            text: ASKED_LATE,
-            ticks: &[750, 1750, 2750],
-            status: Status::JournalFull(0),
-            written: SENT_ALL,
-            ..silent
-        }),
-        13 => Some(Case {
-            text: TICKED,
-            status: Status::BadLine {
+        6 => {
+            case.text = ACTIVE;
+            case.ticks = &[750, 1750, 2750];
+            case.send_fails = Some(1);
+            case.written = SENT;
+        }
+        7 => {
+            case.text = ASKED;
+            case.ticks = &[750, 751];
+            case.written = ANSWERED;
+        }
+        8 => {
+            case.open_fails = Some(0);
+            case.status = Status::PortFault;
+            case.written = "";
+            case.shut = 0;
+        }
+        9 => {
+            case.open_fails = Some(2);
+            case.status = Status::PortFault;
+            case.written = "";
+        }
+        10 => {
+            case.sink_fails = Some(0);
+            case.status = Status::WriteFault;
+            case.written = "";
+        }
+        11 => {
+            case.tick_fails = Some(0);
+            case.status = Status::ClockFault;
+        }
+        12 => {
+            case.text = ASKED_LATE;
+            case.ticks = &[750, 1750, 2750];
+            case.status = Status::JournalFull(0);
+            case.written = SENT_ALL;
+        }
+        13 => {
+            case.text = TICKED;
+            case.status = Status::BadLine {
                 line: 3,
                 fault: LineFault::NoSuchSession,
-            },
-            written: "bad 3 NoSuchSession\n",
-            shut: 0,
-            ..silent
-        }),
-        _ => None,
+            };
+            case.written = "bad 3 NoSuchSession\n";
+            case.shut = 0;
+        }
+        _ => return None,
     }
+    Some(case)
 }
 
 /// Whether the case of this number goes as it says.

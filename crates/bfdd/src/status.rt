@@ -7,7 +7,7 @@ use bfd_fields::LineFault;
 /// How a run ended. Where several are true, the first in the order `Usage`, `ReadFault`, `TooLarge`, `BadLine`, `NoMember`,
 /// `PortFault`, then the first fault of the timer and of the workers in ascending order (`LinkFault`, `JournalFull`, `Turns`,
 /// `ClockFault`), then `WriteFault` comes; `Memory` may come at any place.
-#[derive(Clone, Copy, Debug, PartialEq, Eq)]
+#[derive(Clone, Copy, PartialEq, Eq)]
 pub enum Status {
     /// All was read and written.
     Done,

@@ -14,7 +14,7 @@ use std::sync::Wait;
 use std::test::Fail;
 use std::thread::Threads;
 
-/// What a link hears next: the packet of [`WORDS`] at this moment, nothing for now, or a failure.
+/// What a link hears next: the packet of [`DOWN`] at this moment, nothing for now, or a failure.
 #[derive(Clone, Copy)]
 pub(crate) enum Hears {
     Packet(u64),
@@ -23,14 +23,13 @@ pub(crate) enum Hears {
 }
 
 /// A packet in Down from a peer with discriminator 7.
-const WORDS: [u32; 6] = [0x2040_0318, 7, 0, 1_000_000, 0, 0];
+const DOWN: &[u8] = &[
+    0x20, 0x40, 3, 24, 0, 0, 0, 7, 0, 0, 0, 0, 0, 0x0f, 0x42, 0x40, 0, 0, 0, 0, 0, 0, 0, 0,
+];
 
 /// That packet, to the session 1.
 fn packet(alloc: Global) -> Result<Arrival, AllocError> {
-    let mut bytes = Vec::new(alloc);
-    for word in WORDS {
-        bytes.extend_from_slice(&word.to_be_bytes())?;
-    }
+    let payload = Payload::keep(alloc, DOWN)?;
     Ok(Arrival {
         port: Port::Single,
         iface: 1,
@@ -38,7 +37,7 @@ fn packet(alloc: Global) -> Result<Arrival, AllocError> {
         sport: SOURCE_PORT,
         dst: Addr::V4(0x0a00_0001),
         ttl: 255,
-        payload: Payload::keep(alloc, bytes.as_slice())?,
+        payload,
     })
 }
 
@@ -85,10 +84,10 @@ fn links(
     Ok(links)
 }
 
-/// The words of a command line, with one space between two.
-fn split(alloc: Global, line: &str) -> Result<Vec<String>, AllocError> {
+/// The words of a command line.
+fn words_of(alloc: Global, line: &[&str]) -> Result<Vec<String>, AllocError> {
     let mut words = Vec::new(alloc);
-    for word in line.split(' ') {
+    for word in line {
         words.push(String::from_str(alloc, word)?)?;
     }
     Ok(words)
@@ -98,7 +97,7 @@ fn split(alloc: Global, line: &str) -> Result<Vec<String>, AllocError> {
 /// and the sink takes, and the calls that fail. Then what must come of it: the status, what the sink has, and how many links are shut.
 #[derive(Clone, Copy)]
 pub(crate) struct Case<'a> {
-    pub(crate) words: &'a str,
+    pub(crate) words: &'a [&'a str],
     pub(crate) text: &'a str,
     pub(crate) first: &'a [Hears],
     pub(crate) second: &'a [Hears],
@@ -116,7 +115,7 @@ pub(crate) struct Case<'a> {
 }
 
 /// A run in which nothing is heard and nothing fails.
-pub(crate) fn calm<'a>(words: &'a str, text: &'a str, written: &'a str) -> Case<'a> {
+pub(crate) fn calm<'a>(words: &'a [&'a str], text: &'a str, written: &'a str) -> Case<'a> {
     Case {
         words,
         text,
@@ -161,7 +160,7 @@ pub(crate) fn met<R: Threads + Wait + Sync, T: Ticker + Send, G: Gate + Sync>(
 ) -> Result<Outcome, AllocError>
     requires clock { (T.told ticker.old).over ≡ false }
 {
-    let words = split(alloc, case.words)?;
+    let words = words_of(alloc, case.words)?;
     let text = case.text.as_bytes().to_vec(alloc)?;
     let mut source = MemSource::make(
         text,
@@ -225,21 +224,19 @@ fn reading(
     status: Status,
     written: &'static str,
 ) -> Case<'static> {
-    Case {
-        source_chunk,
-        source_fails,
-        status,
-        ..calm("replay", TICKS, written)
-    }
+    let mut case = calm(&["replay"], TICKS, written);
+    case.source_chunk = source_chunk;
+    case.source_fails = source_fails;
+    case.status = status;
+    case
 }
 
 /// A replay to a sink of which a call fails.
 fn writing(text: &'static str, call: u64, status: Status, written: &'static str) -> Case<'static> {
-    Case {
-        sink_fails: Some(call),
-        status,
-        ..calm("replay", text, written)
-    }
+    let mut case = calm(&["replay"], text, written);
+    case.sink_fails = Some(call);
+    case.status = status;
+    case
 }
 
 #[test]

@@ -1,5 +1,5 @@
 -- What the parts of a run promise of the job is promised of the words that ask for it.
-use Rattle.std.proofs.Common.{◌≡◌, ◌⊎◌, ◌∙◌, true, Option, Some, refl, subst, sym, map, string_bytes}
+use Rattle.std.proofs.Common.{◌≡◌, ◌⊎◌, true, false, Option, Some, inr, subst, sym, map, string_bytes}
 use Rattle.std.specs.Prelude.{IfSome}
 use Rattle.std.specs.Io.KnownBytes.{Appends}
 use Rattle.bfd_edge.specs.Faults.{Rose}
@@ -11,11 +11,12 @@ use Rattle.bfdd.specs.Status.{IsDecided, IsEndOf}
 use Rattle.bfdd.specs.Serving.{IsFinished, edges_of}
 use Rattle.bfdd.specs.Telling.{IsTold}
 use Rattle.bfdd.specs.Text.{Wanted, wanted_of}
-use Rattle.bfdd.specs.Words.{OfServing, serves}
-use Rattle.bfdd.proofs.Ending.{ended, ends_so}
+use Rattle.bfdd.specs.Words.{OfServing, is_reading, serves}
+use Rattle.bfdd.proofs.Ending.{ended, ends_so, unopened}
 use Rattle.bfdd.proofs.Served.{finished, of_serving}
 use Rattle.bfdd.proofs.Taking.{took_nothing}
-use Rattle.bfdd.proofs.Wanting.{of_all, of_answer, of_job, settled}
+use Rattle.bfdd.proofs.Wanting.{done_wanted, of_all, of_answer, of_job, settled}
+use Rattle.bfdd.proofs.Writing.{bad_text, calm, decided, front, no_read_fault, no_usage, unwritten, write_fault, written, written_whole}
 use Rattle.bfdd.proofs.running.run.Goals as goal
 
 -- the answer was written
@@ -25,7 +26,7 @@ returns-in-Ok-clause-decided g c =
     of_job (job_of (map (λ word. string_bytes word) c.args.words.now)) c.in-Some.job (g.S.Source.left c.args.source.now)
     (λ (w : Wanted). IsDecided c.write_answer.result w.status) (sym c.in-Some.ensures.value)
     (of_answer (wanted_of c.in-Some.job (g.S.Source.left c.args.source.now)) c.in-Ok.answer
-    (λ (w : Wanted). IsDecided c.write_answer.result w.status) c.in-Ok.ensures.answer c.write_answer.ensures.decided)
+    (λ (w : Wanted). IsDecided c.write_answer.result w.status) c.in-Ok.ensures.answer (decided _ _ _ _ _ _ c.in-Ok.ensures.sound c.write_answer.ensures))
 
 pub returns-in-Ok-clause-done : goal.returns-in-Ok-clause-done
 returns-in-Ok-clause-done g c = λ done.
@@ -33,7 +34,7 @@ returns-in-Ok-clause-done g c = λ done.
     of_job (job_of (map (λ word. string_bytes word) c.args.words.now)) c.in-Some.job (g.S.Source.left c.args.source.now) P
     (sym c.in-Some.ensures.value)
     (of_answer (wanted_of c.in-Some.job (g.S.Source.left c.args.source.now)) c.in-Ok.answer P c.in-Ok.ensures.answer
-    (c.write_answer.ensures.done done))
+    (written_whole _ _ _ _ _ _ c.in-Ok.ensures.sound c.write_answer.ensures done))
 
 pub returns-in-Ok-clause-front : goal.returns-in-Ok-clause-front
 returns-in-Ok-clause-front g c =
@@ -41,7 +42,7 @@ returns-in-Ok-clause-front g c =
     of_job (job_of (map (λ word. string_bytes word) c.args.words.now)) c.in-Some.job (g.S.Source.left c.args.source.now) P
     (sym c.in-Some.ensures.value)
     (of_answer (wanted_of c.in-Some.job (g.S.Source.left c.args.source.now)) c.in-Ok.answer P c.in-Ok.ensures.answer
-    c.write_answer.ensures.front)
+    (front _ _ _ _ _ _ c.in-Ok.ensures.sound c.write_answer.ensures))
 
 pub returns-in-Ok-clause-complete : goal.returns-in-Ok-clause-complete
 returns-in-Ok-clause-complete g c = λ source_calm sink_calm.
@@ -49,15 +50,17 @@ returns-in-Ok-clause-complete g c = λ source_calm sink_calm.
     of_job (job_of (map (λ word. string_bytes word) c.args.words.now)) c.in-Some.job (g.S.Source.left c.args.source.now) P
     (sym c.in-Some.ensures.value)
     (of_answer (wanted_of c.in-Some.job (g.S.Source.left c.args.source.now)) c.in-Ok.answer P c.in-Ok.ensures.answer
-    (settled c.write_answer.result c.in-Ok.answer.status c.write_answer.ensures.decided c.write_answer.ensures.no_read_fault
-    (λ failed. sink_calm (c.write_answer.ensures.write_fault failed))))
+    (settled c.write_answer.result c.in-Ok.answer.status (decided _ _ _ _ _ _ c.in-Ok.ensures.sound c.write_answer.ensures)
+    (no_read_fault _ _ _ _ _ _ c.in-Ok.ensures.sound c.write_answer.ensures)
+    (λ failed. sink_calm (write_fault _ _ _ _ _ _ c.in-Ok.ensures.sound c.write_answer.ensures failed))))
 
 pub returns-in-Ok-clause-fits : goal.returns-in-Ok-clause-fits
 returns-in-Ok-clause-fits g c =
     let old = edges_of (g.P.Ports.told c.args.ports.now) (g.T.Ticker.told c.args.ticker.now) in
     let new = edges_of (g.P.Ports.told c.answer.new.ports) (g.T.Ticker.told c.answer.new.ticker) in
     subst (λ (given : Option Job). IsEndOf given c.write_answer.result) c.in-Some.ensures.value
-    (ended (Some c.in-Some.job) c.write_answer.result c.in-Ok.answer.status c.write_answer.ensures.decided c.write_answer.ensures.no_read_fault
+    (ended (Some c.in-Some.job) c.write_answer.result c.in-Ok.answer.status (decided _ _ _ _ _ _ c.in-Ok.ensures.sound c.write_answer.ensures)
+    (no_read_fault _ _ _ _ _ _ c.in-Ok.ensures.sound c.write_answer.ensures)
     (ends_so c.in-Some.job (g.S.Source.left c.args.source.now) (g.S.Source.left c.answer.new.source) old new c.in-Ok.answer c.in-Ok.ensures.tells))
 
 pub returns-in-Ok-clause-told : goal.returns-in-Ok-clause-told
@@ -70,8 +73,8 @@ returns-in-Ok-clause-told g c = λ memory source.
     let told : P c.in-Some.job = record {
       w = c.in-Ok.answer;
       tells = c.in-Ok.ensures.tells;
-      decided = c.write_answer.ensures.decided;
-      written = c.write_answer.ensures.written;
+      decided = decided _ _ _ _ _ _ c.in-Ok.ensures.sound c.write_answer.ensures;
+      written = written _ _ _ _ _ _ c.in-Ok.ensures.sound c.write_answer.ensures;
     } in
     subst (λ (given : Option Job). IfSome given P) c.in-Some.ensures.value told
 
@@ -85,10 +88,48 @@ returns-in-Ok-clause-finished g c =
     → (Rose old.ports.faults new.ports.faults → ⊥) → IfSome left (IsFinished job old new c.write_answer.result) in
     let done : serves c.in-Some.job ≡ true → P c.in-Some.job = λ serving. λ source_calm sink_calm ports_calm.
     finished c.in-Some.job left right old new c.in-Ok.answer c.write_answer.result
-    (settled c.write_answer.result c.in-Ok.answer.status c.write_answer.ensures.decided c.write_answer.ensures.no_read_fault
-    (λ failed. sink_calm (c.write_answer.ensures.write_fault failed))) ports_calm c.in-Ok.ensures.tells serving in
+    (settled c.write_answer.result c.in-Ok.answer.status (decided _ _ _ _ _ _ c.in-Ok.ensures.sound c.write_answer.ensures)
+    (no_read_fault _ _ _ _ _ _ c.in-Ok.ensures.sound c.write_answer.ensures)
+    (λ failed. sink_calm (write_fault _ _ _ _ _ _ c.in-Ok.ensures.sound c.write_answer.ensures failed))) ports_calm c.in-Ok.ensures.tells serving in
     subst (λ (given : Option Job). OfServing given P) c.in-Some.ensures.value
     (of_serving c.in-Some.job P done)
+
+pub returns-in-Ok-clause-end : goal.returns-in-Ok-clause-end
+returns-in-Ok-clause-end g c = λ done reading.
+    c.in-Ok.ensures.end
+    (done_wanted c.write_answer.result c.in-Ok.answer.status (decided _ _ _ _ _ _ c.in-Ok.ensures.sound c.write_answer.ensures) done)
+    (subst (λ (given : Option Job). is_reading given ≡ true) (sym c.in-Some.ensures.value) reading)
+
+pub returns-in-Ok-clause-usage_alone : goal.returns-in-Ok-clause-usage_alone
+returns-in-Ok-clause-usage_alone g c = λ usage. absurd (no_usage _ _ _ _ _ _ c.in-Ok.ensures.sound c.write_answer.ensures usage)
+
+pub returns-in-Ok-clause-bad_text : goal.returns-in-Ok-clause-bad_text
+returns-in-Ok-clause-bad_text g c =
+    bad_text c.in-Ok.answer c.write_answer.result _ _ _ _ c.in-Ok.ensures.sound (decided _ _ _ _ _ _ c.in-Ok.ensures.sound c.write_answer.ensures) (written _ _ _ _ _ _ c.in-Ok.ensures.sound c.write_answer.ensures)
+
+pub returns-in-Ok-clause-unwritten : goal.returns-in-Ok-clause-unwritten
+returns-in-Ok-clause-unwritten g c = unwritten _ _ _ _ _ _ c.in-Ok.ensures.sound c.write_answer.ensures
+
+pub returns-in-Ok-clause-read_fault : goal.returns-in-Ok-clause-read_fault
+returns-in-Ok-clause-read_fault g c = λ failed. absurd (no_read_fault _ _ _ _ _ _ c.in-Ok.ensures.sound c.write_answer.ensures failed)
+
+pub returns-in-Ok-clause-write_fault : goal.returns-in-Ok-clause-write_fault
+returns-in-Ok-clause-write_fault g c = write_fault _ _ _ _ _ _ c.in-Ok.ensures.sound c.write_answer.ensures
+
+pub returns-in-Ok-clause-calm_sink : goal.returns-in-Ok-clause-calm_sink
+returns-in-Ok-clause-calm_sink g c = calm _ _ _ _ _ _ c.in-Ok.ensures.sound c.write_answer.ensures
+
+pub returns-in-Ok-clause-broken_off : goal.returns-in-Ok-clause-broken_off
+returns-in-Ok-clause-broken_off g c = λ memory.
+    inr (c.in-Some.job, sym c.in-Some.ensures.value, c.in-Ok.answer, c.in-Ok.ensures.tells, front _ _ _ _ _ _ c.in-Ok.ensures.sound c.write_answer.ensures)
+
+pub returns-in-Ok-clause-unopened : goal.returns-in-Ok-clause-unopened
+returns-in-Ok-clause-unopened g c =
+    let old = edges_of (g.P.Ports.told c.args.ports.now) (g.T.Ticker.told c.args.ticker.now) in
+    let new = edges_of (g.P.Ports.told c.answer.new.ports) (g.T.Ticker.told c.answer.new.ticker) in
+    let idle : serves c.in-Some.job ≡ false → new ≡ old = λ closed. let same = c.answer.ensures.idle closed in cc in
+    unopened c.in-Some.job (g.S.Source.left c.args.source.now) (g.S.Source.left c.answer.new.source) old new c.in-Ok.answer c.write_answer.result
+    (decided _ _ _ _ _ _ c.in-Ok.ensures.sound c.write_answer.ensures) (no_read_fault _ _ _ _ _ _ c.in-Ok.ensures.sound c.write_answer.ensures) idle c.in-Ok.ensures.tells
 
 -- the source failed
 
