@@ -1,0 +1,44 @@
+-- The bytes of the source are those that were read.
+use Rattle.std.proofs.Common.{◌≡◌, ℕ, List, true, Result, Ok, Err, inl, inr, refl, rules, sym, subst}
+use Rattle.bfd_fields.specs.declared.fault.BadLine.{BadLine as FaultyLine}
+use Rattle.bfd_script.specs.Reading.{Lists, script_of}
+use Rattle.bfdd.specs.Answers.{IsAnswer}
+use Rattle.bfdd.specs.Text.{Wanted}
+use Rattle.bfdd.proofs.serving.live_script.Goals as goal
+
+spelled_of : (bytes more : List ℕ) (read : Result Lists FaultyLine) → bytes ≡ more → script_of true bytes ≡ read → script_of true more ≡ read
+spelled_of bytes more read same is = subst (λ (l : List ℕ). script_of true l ≡ read) same is
+
+pub returns-in-Ok-read-clause-live : goal.returns-in-Ok-read-clause-live
+returns-in-Ok-read-clause-live g c = record {
+  bytes = c.in-Ok.bytes.items;
+  read = c.in-Ok.ensures.whole;
+  end = c.in-Ok.ensures.end;
+  few = c.in-Ok.ensures.fits;
+  spelled = spelled_of _ _ (Ok c.in-Ok-read.script) c.as_slice.ensures.value c.in-Ok-read.ensures.script;
+}
+
+pub returns-in-Ok-complain-clause-unread : goal.returns-in-Ok-complain-clause-unread
+returns-in-Ok-complain-clause-unread g c = (
+  inl record {
+    bytes = c.in-Ok.bytes.items;
+    read = c.in-Ok.ensures.whole;
+    end = c.in-Ok.ensures.end;
+    few = c.in-Ok.ensures.fits;
+    bad = c.in-Err-Bad.bad;
+    spelled = spelled_of _ _ (Err c.in-Err-Bad.bad) c.as_slice.ensures.value (rw c.in-Err-Bad.field-0-is at c.in-Err-Bad.ensures.script);
+    complained = c.in-Ok-complain.ensures;
+  },
+  subst (λ (w : Wanted). IsAnswer w) (sym c.in-Ok-complain.ensures) refl,
+  c.in-Ok.ensures.calm,
+)
+
+pub returns-in-Err-TooLarge-clause-unread : goal.returns-in-Err-TooLarge-clause-unread
+returns-in-Err-TooLarge-clause-unread g c = (
+  inr record {
+    long = c.in-Err-TooLarge.ensures.too_large (search rules);
+    nothing = c.bare.ensures;
+  },
+  subst (λ (w : Wanted). IsAnswer w) (sym c.bare.ensures) refl,
+  c.in-Err-TooLarge.ensures.calm_too_large (search rules),
+)
