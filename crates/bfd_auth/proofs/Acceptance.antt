@@ -17,7 +17,7 @@ use Rattle.bfd_packet.specs.KeyChain.{KeyChain, digest_size, fits_kind, is_passw
 use Rattle.bfd_packet.specs.Layout.{text_of}
 use Rattle.bfd_auth.specs.Digests.{digest_of, section_length, padded, in_digest_place}
 use Rattle.bfd_auth.specs.Sealed.{digest_section, keyed_text, password_section, section_of}
-use Rattle.bfd_auth.specs.Verdict.{has_section_length, heard, is_genuine, may_hear, packet_key, right_digest, sequence_of, verdict}
+use Rattle.bfd_auth.specs.Verdict.{has_section_length, accepted_seq, is_genuine, may_hear, packet_key, right_digest, sequence_of, verdict}
 
 -- a list equals itself byte by byte
 bytes_eq-same : (xs : List ℕ) → bytes_eq xs xs ≡ true
@@ -65,7 +65,7 @@ accepts : (keys : KeyChain) (receiver : SeqState) (raw : List ℕ) (key : Key)
     → slice_index raw 24 ≡ type_number keys.kind → 26 < length raw → key_named (slice_index raw 26) keys.list ≡ Some key
     → slice_index raw 25 ≡ section_length keys.kind key → section_length keys.kind key ≤ length raw - 24
     → may_hear keys.kind receiver (slice_index raw 2) (sequence_of raw) ≡ true → is_genuine keys.kind key raw ≡ true
-    → verdict keys receiver raw ≡ Ok (heard keys.kind receiver (sequence_of raw))
+    → verdict keys receiver raw ≡ Ok (accepted_seq keys.kind receiver (sequence_of raw))
 unfolding verdict
 accepts keys receiver raw key kind long named size room timely genuine =
     let same : nat_eq (slice_index raw 24) (type_number keys.kind) ≡ true = grind (arith, nat_tests) in
@@ -94,7 +94,7 @@ genuine_password kind key raw password body =
 hears_digest : (keys : KeyChain) (receiver : SeqState) (c : Control) (key : Key) (xmit : ℕ)
     → is_password keys.kind ≡ false → length key.secret ≤ digest_size keys.kind → xmit < 2 ^ 32
     → key_named key.id keys.list ≡ Some key → may_hear keys.kind receiver c.mult xmit ≡ true
-    → verdict keys receiver (text_of c (digest_section keys.kind key xmit (digest_of keys.kind (keyed_text keys.kind key xmit c)))) ≡ Ok (heard keys.kind receiver xmit)
+    → verdict keys receiver (text_of c (digest_section keys.kind key xmit (digest_of keys.kind (keyed_text keys.kind key xmit c)))) ≡ Ok (accepted_seq keys.kind receiver xmit)
 unfolding text_of
 hears_digest keys receiver c key xmit kind fits range named timely =
     let digest : List ℕ = digest_of keys.kind (keyed_text keys.kind key xmit c) in
@@ -111,13 +111,13 @@ hears_digest keys receiver c key xmit kind fits range named timely =
     let genuine : is_genuine keys.kind key raw ≡ true = genuine_digest keys.kind key raw digest kind body right in
     let heard_at : may_hear keys.kind receiver c.mult (sequence_of raw) ≡ true = rw sequence timely in
     accepts keys receiver raw key refl long named refl room heard_at genuine
-    ∙ ap (λ (s : ℕ). Ok (heard keys.kind receiver s)) sequence
+    ∙ ap (λ (s : ℕ). Ok (accepted_seq keys.kind receiver s)) sequence
 
 -- a packet with a password is accepted
 hears_password : (keys : KeyChain) (receiver : SeqState) (c : Control) (key : Key) (xmit : ℕ)
     → is_password keys.kind ≡ true → 1 ≤ length key.secret
     → key_named key.id keys.list ≡ Some key
-    → verdict keys receiver (text_of c (password_section keys.kind key)) ≡ Ok (heard keys.kind receiver xmit)
+    → verdict keys receiver (text_of c (password_section keys.kind key)) ≡ Ok (accepted_seq keys.kind receiver xmit)
 unfolding text_of
 hears_password keys receiver c key xmit kind some named =
     let raw : List ℕ = text_of c (password_section keys.kind key) in
@@ -128,7 +128,7 @@ hears_password keys receiver c key xmit kind some named =
     let body : slice_range raw 27 (24 + slice_index raw 25) ≡ key.secret = rw count (take_all (length key.secret) key.secret (omega arith)) in
     let genuine : is_genuine keys.kind key raw ≡ true = genuine_password keys.kind key raw kind body in
     let timely : may_hear keys.kind receiver (slice_index raw 2) (sequence_of raw) ≡ true = rw kind refl in
-    let same : heard keys.kind receiver (sequence_of raw) ≡ heard keys.kind receiver xmit = rw kind refl in
+    let same : accepted_seq keys.kind receiver (sequence_of raw) ≡ accepted_seq keys.kind receiver xmit = rw kind refl in
     accepts keys receiver raw key refl long named refl room timely genuine ∙ ap Ok same
 
 -- fits_kind says both bounds on a secret
@@ -139,7 +139,7 @@ secret_bounds kind secret fits = (grind (arith, nat_tests), grind (arith, nat_te
 hears_section : (password : Bool) (keys : KeyChain) (receiver : SeqState) (c : Control) (key : Key) (xmit : ℕ)
     → is_password keys.kind ≡ password → IsTrue (fits_kind keys.kind key.secret) → xmit < 2 ^ 32
     → key_named key.id keys.list ≡ Some key → may_hear keys.kind receiver c.mult xmit ≡ true
-    → verdict keys receiver (text_of c (if password then password_section keys.kind key else digest_section keys.kind key xmit (digest_of keys.kind (keyed_text keys.kind key xmit c)))) ≡ Ok (heard keys.kind receiver xmit)
+    → verdict keys receiver (text_of c (if password then password_section keys.kind key else digest_section keys.kind key xmit (digest_of keys.kind (keyed_text keys.kind key xmit c)))) ≡ Ok (accepted_seq keys.kind receiver xmit)
 hears_section true keys receiver c key xmit kind fits range named timely =
     hears_password keys receiver c key xmit kind (secret_bounds keys.kind key.secret fits).0 named
 hears_section false keys receiver c key xmit kind fits range named timely =
@@ -149,7 +149,7 @@ hears_section false keys receiver c key xmit kind fits range named timely =
 pub hears_sealed : (keys : KeyChain) (receiver : SeqState) (c : Control) (key : Key) (xmit : ℕ) (raw : List ℕ)
     → raw ≡ text_of c (section_of keys.kind key xmit c) → IsTrue (fits_kind keys.kind key.secret) → xmit < 2 ^ 32
     → key_named key.id keys.list ≡ Some key → IsTrue (may_hear keys.kind receiver c.mult xmit)
-    → verdict keys receiver raw ≡ Ok (heard keys.kind receiver xmit)
+    → verdict keys receiver raw ≡ Ok (accepted_seq keys.kind receiver xmit)
 hears_sealed keys receiver c key xmit raw same fits range named timely =
-    let P : List ℕ → Type 0 = λ packet. verdict keys receiver packet ≡ Ok (heard keys.kind receiver xmit) in
+    let P : List ℕ → Type 0 = λ packet. verdict keys receiver packet ≡ Ok (accepted_seq keys.kind receiver xmit) in
     subst P (sym same) (hears_section (is_password keys.kind) keys receiver c key xmit refl fits range named timely)

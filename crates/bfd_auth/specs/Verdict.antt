@@ -63,10 +63,10 @@ abbrev pub section_tests : List Test
 section_tests = AuthType ∷ AuthKey ∷ AuthLen ∷ AuthSeq ∷ AuthDigest ∷ []
 
 -- the state after a packet that was accepted: the types with a sequence number know this one
-abbrev pub heard : Kind → SeqState → ℕ → SeqState
-heard kind seq s = if is_password kind then seq else record seq { rcv = s; known = true }
+abbrev pub accepted_seq : Kind → SeqState → ℕ → SeqState
+accepted_seq kind seq s = if is_password kind then seq else record seq { rcv = s; known = true }
 
 -- the first test that the packet of these bytes fails, or the state after it
 unfoldable pub verdict : KeyChain → SeqState → List ℕ → Result SeqState Test
 verdict keys seq raw =
-    unless (find (λ test. section_fails keys seq raw test) section_tests) (heard keys.kind seq (sequence_of raw))
+    unless (find (λ test. section_fails keys seq raw test) section_tests) (accepted_seq keys.kind seq (sequence_of raw))

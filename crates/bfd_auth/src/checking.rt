@@ -4,7 +4,7 @@ ghost use Rattle.std.specs.Prelude.{◌≡◌, ◌+◌, ◌-◌, ◌*◌, ◌^�
 ghost use Rattle.std.specs.Option.{option_copied};
 ghost use Rattle.bfd_packet.specs.KeyChain.{fits_kind, is_password};
 ghost use Rattle.bfd_auth.specs.Digests.{digest_of, is_meticulous, section_length, uses_sha1};
-ghost use Rattle.bfd_auth.specs.Verdict.{has_section_length, heard, in_window, is_genuine, may_hear, packet_key, right_digest, section_fails, section_tests, sequence_of, verdict, window};
+ghost use Rattle.bfd_auth.specs.Verdict.{has_section_length, accepted_seq, in_window, is_genuine, may_hear, packet_key, right_digest, section_fails, section_tests, sequence_of, verdict, window};
 
 use crate::digests::{digest, has_to_rise, length_of_section};
 use bfd_packet::{AuthType, Key, Keys, SeqState, Test};
@@ -22,7 +22,7 @@ pub fn verify(keys: &Keys, seq: &SeqState, raw: &[u8]) -> Result<SeqState, Test>
 {
     match first_failing(keys, seq, raw) {
         Some(test) => Err(test),
-        None => Ok(heard(keys.kind, seq, raw)),
+        None => Ok(accepted_seq(keys.kind, seq, raw)),
     }
 }
 
@@ -130,9 +130,9 @@ fn is_genuine(kind: AuthType, key: &Key, raw: &[u8]) -> bool
 }
 
 // The state after a packet that was accepted.
-fn heard(kind: AuthType, seq: &SeqState, raw: &[u8]) -> SeqState
+fn accepted_seq(kind: AuthType, seq: &SeqState, raw: &[u8]) -> SeqState
     requires { is_password kind ≡ false → 32 ≤ length raw.now }
-    ensures { result ≡ heard kind seq.now (sequence_of raw.now) }
+    ensures { result ≡ accepted_seq kind seq.now (sequence_of raw.now) }
 {
     if kind.carries_password() {
         *seq

@@ -6,7 +6,7 @@ ghost use Rattle.bfd_packet.specs.KeyChain.{digest_size, fits_kind, is_password,
 ghost use Rattle.bfd_packet.specs.Layout.{text_of};
 ghost use Rattle.bfd_auth.specs.Digests.{padded};
 ghost use Rattle.bfd_auth.specs.Sealed.{digest_section, password_section, sealed, sealed_seq, section_of, section_start};
-ghost use Rattle.bfd_auth.specs.Verdict.{heard, may_hear, verdict};
+ghost use Rattle.bfd_auth.specs.Verdict.{accepted_seq, may_hear, verdict};
 
 use crate::digests::{digest, length_of_section, zeros};
 use arrayvec::ArrayVec;
@@ -26,7 +26,7 @@ pub fn seal(keys: &Keys, sending: u8, seq: &SeqState, c: &Control) -> (Wire, Seq
     // A receiver with the same keys hears the packet where the type has no number, where it knows none, or
     // where this one lies in its window.
     ensures heard { (receiver : SeqState) → IsTrue (may_hear keys.now.kind receiver c.now.mult seq.now.xmit)
-        → verdict keys.now receiver result.0 ≡ Ok (heard keys.now.kind receiver seq.now.xmit) }
+        → verdict keys.now receiver result.0 ≡ Ok (accepted_seq keys.now.kind receiver seq.now.xmit) }
 {
     (packet(keys, sending, seq.xmit, c), next(keys.kind, seq))
 }

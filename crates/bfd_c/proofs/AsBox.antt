@@ -8,7 +8,7 @@ use Rattle.std_heap.specs.contracts.GlobalAllocator.TheImpl.{ghosts, dict}
 use Rattle.std_heap.proofs.Global.TheLaws as heap
 use Rattle.bfd_c.specs.contracts.engine.Engine as Home
 use Rattle.bfd_c.proofs.engine.Engine.TheLaws as home
-use Rattle.bfd_c.specs.contracts.apart.Apart as Apart
+use Rattle.bfd_c.specs.contracts.apart.Apart
 use Rattle.bfd_c.specs.contracts.owned.Owned as Kept
 
 abbrev pub E : Bx

@@ -23,12 +23,12 @@ pub record Instance : Type 0 where
   pub answer : Answer
 
 -- the engine of a table, before the first event
-abbrev pub started : List SessionConfig → List Reflector → Instance
-started configs pool = record { world = opened configs pool; left = []; answer = Handled }
+abbrev pub new_instance : List SessionConfig → List Reflector → Instance
+new_instance configs pool = record { world = opened configs pool; left = []; answer = Handled }
 
 -- the engine after an event
-abbrev pub after : Line → Instance → Instance
-after line e = record {
+abbrev pub instance_after : Line → Instance → Instance
+instance_after line e = record {
   world = (happens line e.world).world;
   left = (happens line e.world).outcome.items;
   answer = (happens line e.world).outcome.answer;
@@ -37,7 +37,7 @@ after line e = record {
 -- an event that was asked for, or values of which one is outside its range; and the code
 abbrev pub asked : Option Line → Instance → Instance × ℕ
 asked None e = (e, 3)
-asked (Some line) e = (after line e, 0)
+asked (Some line) e = (instance_after line e, 0)
 
 -- the same of a handle: what it holds afterwards, and the code
 abbrev pub called : Option Line → Option Instance → Option Instance × ℕ
@@ -46,7 +46,7 @@ called line (Some e) = (Some (asked line e).0, (asked line e).1)
 
 -- what a handle that held this holds once it was opened with a script, a table alone, and the code
 abbrev pub opened_with : Lists → List Line → Option Instance → Option Instance × ℕ
-opened_with s [] held = (Some (started s.configs s.pool), 0)
+opened_with s [] held = (Some (new_instance s.configs s.pool), 0)
 opened_with s (event ∷ events) held = (held, 6)
 
 -- once it was opened with a text
@@ -57,7 +57,7 @@ opened_by (Ok s) held = opened_with s s.events held
 -- once it was opened with one session; without, a value is outside its range
 abbrev pub opened_for : Option SessionConfig → Option Instance → Option Instance × ℕ
 opened_for None held = (held, 3)
-opened_for (Some config) held = (Some (started (config ∷ []) []), 0)
+opened_for (Some config) held = (Some (new_instance (config ∷ []) []), 0)
 
 -- the least tick that a session needs next
 abbrev pub soonest : List Running → Option ℕ

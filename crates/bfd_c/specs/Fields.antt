@@ -22,27 +22,27 @@ some_keys None = None
 some_keys (Some keys) = Some (Some keys)
 
 -- what a session authenticates with: nothing, or one key of a type 1 to 5
-abbrev pub keys_of : Fields → Option (Option KeyChain)
-keys_of f =
+abbrev pub keys_from_c : Fields → Option (Option KeyChain)
+keys_from_c f =
     if f.auth == 0 then Some None
     else if nat_lt 5 f.auth || (nat_lt 255 f.key_id || nat_lt 20 f.key_len) then None
     else some_keys (key_by (kind_by f.auth) f.key_id (take f.key_len f.key))
 
 -- the discriminator and the interface
-abbrev pub is_named : Fields → Bool
-is_named f = nat_le 1 f.discr && nat_lt f.iface 65536
+abbrev pub has_name : Fields → Bool
+has_name f = nat_le 1 f.discr && nat_lt f.iface 65536
 
 -- an interval to send at, and a Detect Mult
-abbrev pub is_sending : Fields → Bool
-is_sending f = is_interval f.tx && (nat_le 1 f.mult && nat_lt f.mult 256)
+abbrev pub has_sending : Fields → Bool
+has_sending f = is_interval f.tx && (nat_le 1 f.mult && nat_lt f.mult 256)
 
 -- what a point-to-point session has besides
 abbrev pub is_paired : Role → Fields → Bool
 is_paired role f = nat_lt f.active 2 && (is_interval f.rx && is_echo_interval role f.echo)
 
 -- a point-to-point session (RFC 5881, RFC 5883)
-abbrev pub pair_with : Role → Fields → Addr → Addr → Option KeyChain → SessionConfig
-pair_with role f local remote keys = Pair (record {
+abbrev pub pair_by_fields : Role → Fields → Addr → Addr → Option KeyChain → SessionConfig
+pair_by_fields role f local remote keys = Pair (record {
   discr = f.discr;
   role = role;
   iface = f.iface;
@@ -59,12 +59,12 @@ pair_with role f local remote keys = Pair (record {
 
 abbrev pub pair_by : Role → Fields → Option Addr → Option Addr → Option (Option KeyChain) → Option SessionConfig
 pair_by role f (Some local) (Some remote) (Some keys) =
-    if is_named f && (is_sending f && is_paired role f) then Some (pair_with role f local remote keys) else None
+    if has_name f && (has_sending f && is_paired role f) then Some (pair_by_fields role f local remote keys) else None
 pair_by role f local remote keys = None
 
 -- an initiator; `other` is the reflector's discriminator (RFC 7880)
-abbrev pub seek_with : Fields → Addr → Addr → SessionConfig
-seek_with f local remote = Seek (record {
+abbrev pub seek_by_fields : Fields → Addr → Addr → SessionConfig
+seek_by_fields f local remote = Seek (record {
   discr = f.discr;
   target = f.other;
   iface = f.iface;
@@ -77,7 +77,7 @@ seek_with f local remote = Seek (record {
 
 abbrev pub seek_by : Fields → Option Addr → Option Addr → Option SessionConfig
 seek_by f (Some local) (Some remote) =
-    if is_named f && (is_sending f && nat_le 1 f.other) then Some (seek_with f local remote) else None
+    if has_name f && (has_sending f && nat_le 1 f.other) then Some (seek_by_fields f local remote) else None
 seek_by f local remote = None
 
 -- a head; `remote` is the group (RFC 8562)
@@ -94,7 +94,7 @@ head_with f local group = Head (record {
 
 abbrev pub head_by : Fields → Option Addr → Option Addr → Option SessionConfig
 head_by f (Some local) (Some group) =
-    if is_named f && is_sending f then Some (head_with f local group) else None
+    if has_name f && has_sending f then Some (head_with f local group) else None
 head_by f local group = None
 
 -- a tail; `other` is the head's discriminator, `local` the group, `remote` the head's address (RFC 8562)
@@ -109,14 +109,14 @@ tail_with f group source = Tail (record {
 
 abbrev pub tail_by : Fields → Option Addr → Option Addr → Option SessionConfig
 tail_by f (Some group) (Some source) =
-    if is_named f && nat_le 1 f.other then Some (tail_with f group source) else None
+    if has_name f && nat_le 1 f.other then Some (tail_with f group source) else None
 tail_by f group source = None
 
 -- the session of the fields, by the number of its kind
 abbrev pub config_of : Fields → Option SessionConfig
 config_of f =
-    if f.kind == 1 then pair_by Single f (addr_of f.local) (addr_of f.remote) (keys_of f)
-    else if f.kind == 2 then pair_by Multi f (addr_of f.local) (addr_of f.remote) (keys_of f)
+    if f.kind == 1 then pair_by Single f (addr_of f.local) (addr_of f.remote) (keys_from_c f)
+    else if f.kind == 2 then pair_by Multi f (addr_of f.local) (addr_of f.remote) (keys_from_c f)
     else if f.kind == 3 then seek_by f (addr_of f.local) (addr_of f.remote)
     else if f.kind == 4 then head_by f (addr_of f.local) (addr_of f.remote)
     else if f.kind == 5 then tail_by f (addr_of f.local) (addr_of f.remote)

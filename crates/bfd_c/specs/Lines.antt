@@ -7,7 +7,7 @@ use Rattle.bfd_rules.specs.declared.commands.Cmd.TheVariants as cmd
 use Rattle.bfd_line.specs.declared.entries.Line.{Line}
 use Rattle.bfd_line.specs.declared.entries.Line.TheVariants as events
 use Rattle.bfd_c.specs.declared.wire.Packet.{Packet}
-use Rattle.bfd_c.specs.Wire.{arrival_of}
+use Rattle.bfd_c.specs.Wire.{arrival_from_c}
 
 -- a tick, in milliseconds
 abbrev pub tick_line : ℕ → Option Line
@@ -42,9 +42,9 @@ command_line moment discr verb value =
     if nat_lt moment moment_bound && nat_le 1 discr then command_by moment discr (cmd_of verb value) else None
 
 -- a packet that came in
-abbrev pub packet_by : ℕ → Option Arrival → Option Line
-packet_by moment None = None
-packet_by moment (Some arrival) = Some (events.Rx moment arrival)
+abbrev pub rx_by : ℕ → Option Arrival → Option Line
+rx_by moment None = None
+rx_by moment (Some arrival) = Some (events.Rx moment arrival)
 
 abbrev pub packet_line : Packet → List ℕ → Option Line
-packet_line packet payload = if nat_lt packet.moment moment_bound then packet_by packet.moment (arrival_of packet payload) else None
+packet_line packet payload = if nat_lt packet.moment moment_bound then rx_by packet.moment (arrival_from_c packet payload) else None

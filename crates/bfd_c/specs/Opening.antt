@@ -6,7 +6,7 @@ use Rattle.bfd_script.specs.Reading.{Lists}
 use Rattle.bfd_c.specs.declared.opening.Complaint.{Complaint}
 use Rattle.bfd_c.specs.declared.opening.Unopened.{Unopened}
 use Rattle.bfd_c.specs.declared.opening.Unopened.TheVariants.{Memory, Bad, Events}
-use Rattle.bfd_c.specs.Engines.{Instance, started}
+use Rattle.bfd_c.specs.Engines.{Instance, new_instance}
 use Rattle.bfd_c.specs.Telling.{complaint_of}
 
 -- a table of one session
@@ -22,9 +22,9 @@ abbrev pub complained : ℕ → Result Lists BadLine → Complaint → Complaint
 complained code text before = if code == 5 then complaint_by text before else before
 
 -- a text that is a table alone comes to its engine
-abbrev pub IsOpened : Result Lists BadLine → Instance → Type 0
-IsOpened (Err bad) e = ⊥
-IsOpened (Ok s) e = (s.events ≡ []) × (e ≡ started s.configs s.pool)
+abbrev pub IsOpenedWith : Result Lists BadLine → Instance → Type 0
+IsOpenedWith (Err bad) e = ⊥
+IsOpenedWith (Ok s) e = (s.events ≡ []) × (e ≡ new_instance s.configs s.pool)
 
 -- any other text comes to its complaint, or to its having event lines; or memory is wanting
 abbrev pub IsWhy : Result Lists BadLine → Unopened → Type 0

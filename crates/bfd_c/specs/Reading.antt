@@ -4,7 +4,7 @@ use Rattle.bfd_rules.specs.declared.outputs.Out.{Out}
 use Rattle.bfd_c.specs.declared.telling.Output.{Output}
 use Rattle.bfd_c.specs.declared.telling.Answered.{Answered}
 use Rattle.bfd_c.specs.Engines.{Instance, soonest}
-use Rattle.bfd_c.specs.Telling.{output_of, answer_of}
+use Rattle.bfd_c.specs.Telling.{output_of, answer_for_c}
 
 -- what an engine is once the first output that is left was read, and the code
 abbrev pub next_by : List Out → Instance → Instance × ℕ
@@ -12,29 +12,29 @@ next_by [] e = (e, 4)
 next_by (out ∷ outs) e = (record e { left = outs }, 0)
 
 -- the same of a handle
-abbrev pub next : Option Instance → Option Instance × ℕ
-next None = (None, 1)
-next (Some e) = (Some (next_by e.left e).0, (next_by e.left e).1)
+abbrev pub next_read : Option Instance → Option Instance × ℕ
+next_read None = (None, 1)
+next_read (Some e) = (Some (next_by e.left e).0, (next_by e.left e).1)
 
 -- what stands in the struct of an output afterwards, where this stood before
-abbrev pub told_by : List Out → Output → Output
-told_by [] before = before
-told_by (out ∷ outs) before = output_of out
+abbrev pub output_read : List Out → Output → Output
+output_read [] before = before
+output_read (out ∷ outs) before = output_of out
 
-abbrev pub told_of : Option Instance → Output → Output
-told_of None before = before
-told_of (Some e) before = told_by e.left before
+abbrev pub output_read_of : Option Instance → Output → Output
+output_read_of None before = before
+output_read_of (Some e) before = output_read e.left before
 
 -- what stands in the struct of an answer afterwards, and the code
-abbrev pub answered : Option Instance → Answered → Answered × ℕ
-answered None before = (before, 1)
-answered (Some e) before = (answer_of e.answer, 0)
+abbrev pub answer_read : Option Instance → Answered → Answered × ℕ
+answer_read None before = (before, 1)
+answer_read (Some e) before = (answer_for_c e.answer, 0)
 
 -- the due tick, and the code
-abbrev pub due_by : Option ℕ → ℕ → ℕ × ℕ
-due_by None before = (before, 4)
-due_by (Some t) before = (t, 0)
+abbrev pub due_read_by : Option ℕ → ℕ → ℕ × ℕ
+due_read_by None before = (before, 4)
+due_read_by (Some t) before = (t, 0)
 
-abbrev pub due : Option Instance → ℕ → ℕ × ℕ
-due None before = (before, 1)
-due (Some e) before = due_by (soonest e.world.sessions) before
+abbrev pub due_read : Option Instance → ℕ → ℕ × ℕ
+due_read None before = (before, 1)
+due_read (Some e) before = due_read_by (soonest e.world.sessions) before

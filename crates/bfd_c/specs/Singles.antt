@@ -8,16 +8,16 @@ use Rattle.bfd_line.specs.Ranges.{IsRow}
 use Rattle.bfd_c.specs.declared.fields.Fields.{Fields}
 
 -- its values are in their ranges
-abbrev pub Stands : SessionConfig → Type 0
-Stands config = IsFit config × IsRow config
+abbrev pub IsInRanges : SessionConfig → Type 0
+IsInRanges config = IsFit config × IsRow config
 
 -- the discriminator and the interface are
-pub record IsNamed (f : Fields) : Type 0 where
+pub record HasName (f : Fields) : Type 0 where
   pub discr : 0 < f.discr
   pub iface : f.iface < 65536
 
 -- the interval to send at and the Detect Mult are
-pub record IsSending (f : Fields) : Type 0 where
+pub record HasSending (f : Fields) : Type 0 where
   pub tx_least : 10000 ≤ f.tx
   pub tx_most : f.tx ≤ 60000000
   pub some_mult : 0 < f.mult

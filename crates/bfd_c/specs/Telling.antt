@@ -19,15 +19,15 @@ use Rattle.bfd_script.specs.Report.{refusal_name}
 use Rattle.bfd_c.specs.declared.telling.Output.{Output}
 use Rattle.bfd_c.specs.declared.telling.Answered.{Answered}
 use Rattle.bfd_c.specs.declared.wire.Address.{Address}
-use Rattle.bfd_c.specs.Wire.{address_of}
+use Rattle.bfd_c.specs.Wire.{address_for_c}
 
 -- bytes with zeros behind them
-abbrev pub filled : ℕ → List ℕ → List ℕ
-filled size bytes = bytes ++ replicate (size - length bytes) 0
+abbrev pub zero_filled : ℕ → List ℕ → List ℕ
+zero_filled size bytes = bytes ++ replicate (size - length bytes) 0
 
 -- a name in an array of 16
-abbrev pub named : List ℕ → List ℕ
-named name = filled 16 name
+abbrev pub name_bytes : List ℕ → List ℕ
+name_bytes name = zero_filled 16 name
 
 -- where nothing is sent
 abbrev pub nowhere : Address
@@ -60,10 +60,10 @@ output_of (Sent discr d) = record {
   iface = d.iface;
   sport = d.sport;
   dport = d.dport;
-  src = address_of d.src;
-  dst = address_of d.dst;
+  src = address_for_c d.src;
+  dst = address_for_c d.dst;
   len = length d.bytes;
-  bytes = filled 52 d.bytes;
+  bytes = zero_filled 52 d.bytes;
 }
 
 -- the number of a test that discards
@@ -102,8 +102,8 @@ refusal_number WrongKind = 4
 refusal_number UnknownSession = 5
 
 -- an answer without a view: 0 handled, 1 ticked, 2 dropped by a test, 3 refused
-abbrev pub plain : ℕ → ℕ → List ℕ → Answered
-plain kind code name = record {
+abbrev pub plain_answer : ℕ → ℕ → List ℕ → Answered
+plain_answer kind code name = record {
   kind = kind;
   code = code;
   name = name;
@@ -137,12 +137,12 @@ view_of s = record {
   detect = s.detect;
 }
 
-abbrev pub answer_of : Answer → Answered
-answer_of Handled = plain 0 0 (replicate 16 0)
-answer_of Ticked = plain 1 0 (replicate 16 0)
-answer_of (Dropped test) = plain 2 (test_number test) (named (name_of test))
-answer_of (Refused refusal) = plain 3 (refusal_number refusal) (named (refusal_name refusal))
-answer_of (Showing s) = view_of s
+abbrev pub answer_for_c : Answer → Answered
+answer_for_c Handled = plain_answer 0 0 (replicate 16 0)
+answer_for_c Ticked = plain_answer 1 0 (replicate 16 0)
+answer_for_c (Dropped test) = plain_answer 2 (test_number test) (name_bytes (name_of test))
+answer_for_c (Refused refusal) = plain_answer 3 (refusal_number refusal) (name_bytes (refusal_name refusal))
+answer_for_c (Showing s) = view_of s
 
 -- the number of a line's fault
 abbrev pub fault_number : LineFault → ℕ

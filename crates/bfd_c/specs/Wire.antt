@@ -17,13 +17,13 @@ addr_of a =
     else None
 
 -- an address for C: of family 4 the last twelve bytes are 0
-abbrev pub address_of : Addr → Address
-address_of (V4 n) = record { family = 4; bytes = to_be_bytes w32 n ++ replicate 12 0 }
-address_of (V6 n) = record { family = 6; bytes = to_be_bytes w128 n }
+abbrev pub address_for_c : Addr → Address
+address_for_c (V4 n) = record { family = 4; bytes = to_be_bytes w32 n ++ replicate 12 0 }
+address_for_c (V6 n) = record { family = 6; bytes = to_be_bytes w128 n }
 
 -- a kind of port, by its number
-abbrev pub port_of : ℕ → Option Port
-port_of n =
+abbrev pub port_by_number : ℕ → Option Port
+port_by_number n =
     if n == 1 then Some Single
     else if n == 2 then Some Multi
     else if n == 3 then Some Echo
@@ -40,7 +40,7 @@ arrival_with packet payload (Some port) (Some src) (Some dst) =
     Some (record { port = port; iface = packet.iface; src = src; sport = packet.sport; dst = dst; ttl = packet.ttl; payload = take 256 payload })
 
 -- a packet with its payload, where its interface has a number that the packet file has too
-abbrev pub arrival_of : Packet → List ℕ → Option Arrival
-arrival_of packet payload =
-    if nat_lt packet.iface 65536 then arrival_with packet payload (port_of packet.port) (addr_of packet.src) (addr_of packet.dst)
+abbrev pub arrival_from_c : Packet → List ℕ → Option Arrival
+arrival_from_c packet payload =
+    if nat_lt packet.iface 65536 then arrival_with packet payload (port_by_number packet.port) (addr_of packet.src) (addr_of packet.dst)
     else None

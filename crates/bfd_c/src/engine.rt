@@ -2,7 +2,7 @@
 ghost use Rattle.std.specs.Prelude.{◌≡◌, IfOk, drop};
 ghost use Rattle.std.specs.Option.{option_copied};
 ghost use Rattle.bfd_replay.specs.Stage.{IsTable};
-ghost use Rattle.bfd_c.specs.Engines.{after, asked, first_of, soonest, started};
+ghost use Rattle.bfd_c.specs.Engines.{instance_after, asked, first_of, soonest, new_instance};
 
 use bfd_line::Line;
 use bfd_num::sooner;
@@ -69,7 +69,7 @@ impl Engine {
         pool: Vec<Reflector>,
     ) -> Result<Engine, AllocError>
         requires { IsTable configs.items pool.items }
-        ensures { IfOk result (λ engine. engine ≡ started configs.items pool.items) }
+        ensures { IfOk result (λ engine. engine ≡ new_instance configs.items pool.items) }
     {
         let world = Progress::open(alloc, configs, pool)?;
         let read = world.items().len();
@@ -82,7 +82,7 @@ impl Engine {
 
     /// One event. Its outputs stand to be read from the first on.
     fn happen(&mut self, line: Line)
-        ensures { self.new ≡ after line self.old }
+        ensures { self.new ≡ instance_after line self.old }
     {
         self.answer = self.world.happen(line);
         self.read = 0;

@@ -5,14 +5,14 @@ ghost use Rattle.bfd_line.specs.Secrets as secrets;
 ghost use Rattle.bfd_line.specs.Ranges.{AreKeys};
 ghost use Rattle.bfd_fields.specs.Values.{IsAddress};
 ghost use Rattle.bfd_c.specs.Fields as fields;
-ghost use Rattle.bfd_c.specs.Fields.{config_of, is_named, is_paired, is_sending, keys_of};
-ghost use Rattle.bfd_c.specs.Singles.{IsNamed, IsPaired, IsSending, Stands};
+ghost use Rattle.bfd_c.specs.Fields.{config_of, has_name, is_paired, has_sending, keys_from_c};
+ghost use Rattle.bfd_c.specs.Singles.{HasName, IsPaired, HasSending, IsInRanges};
 ghost use Rattle.bfd_c.specs.Wire.{addr_of};
 
 use crate::wire::{Address, read_address};
 use bfd_mp::{HeadConfig, TailConfig};
 use bfd_packet::{Addr, AuthType, Key, Keys, Secret};
-use bfd_rules::{Config, LEAST_INTERVAL, MOST_INTERVAL, Role};
+use bfd_rules::{Config, Role, is_interval};
 use bfd_sbfd::SeekConfig;
 use bfd_session::SessionConfig;
 
@@ -81,7 +81,7 @@ fn one_key(kind: AuthType, id: u8, bytes: &[u8]) -> Option<Keys>
 
 /// The keys, of which there may be none, or None where a value is outside its range.
 fn keys(f: &Fields) -> Option<Option<Keys>>
-    ensures value { result ≡ keys_of f.now }
+    ensures value { result ≡ keys_from_c f.now }
     ensures sound { IfSome result AreKeys }
 {
     if f.auth == 0 {
@@ -105,21 +105,21 @@ fn interval(n: u32) -> bool
     ensures value { result ≡ is_interval n }
     ensures range { result ≡ true → (10000 ≤ n) × (n ≤ 60000000) }
 {
-    u64::from(n) >= LEAST_INTERVAL && u64::from(n) <= MOST_INTERVAL
+    is_interval(u64::from(n))
 }
 
 /// Whether the discriminator and the interface are in their ranges.
-fn named(f: &Fields) -> bool
-    ensures value { result ≡ is_named f.now }
-    ensures range { result ≡ true → IsNamed f.now }
+fn has_name(f: &Fields) -> bool
+    ensures value { result ≡ has_name f.now }
+    ensures range { result ≡ true → HasName f.now }
 {
     f.discr >= 1 && f.iface < 65_536
 }
 
 /// Whether the interval to send at and the Detect Mult are in their ranges.
-fn sending(f: &Fields) -> bool
-    ensures value { result ≡ is_sending f.now }
-    ensures range { result ≡ true → IsSending f.now }
+fn has_sending(f: &Fields) -> bool
+    ensures value { result ≡ has_sending f.now }
+    ensures range { result ≡ true → HasSending f.now }
 {
     interval(f.tx) && f.mult >= 1 && f.mult < 256
 }
@@ -143,15 +143,21 @@ fn paired(role: Role, f: &Fields) -> bool
 }
 
 /// A point-to-point session of values in their ranges.
-fn pair_with(role: Role, f: Fields, local: Addr, remote: Addr, keys: Option<Keys>) -> SessionConfig
-    requires named { IsNamed f }
-    requires sending { IsSending f }
+fn pair_by_fields(
+    role: Role,
+    f: Fields,
+    local: Addr,
+    remote: Addr,
+    keys: Option<Keys>,
+) -> SessionConfig
+    requires named { HasName f }
+    requires sending { HasSending f }
     requires paired { IsPaired role f }
     requires local { IsAddress local }
     requires remote { IsAddress remote }
     requires keys { AreKeys keys }
-    ensures value { result ≡ fields.pair_with role f local remote keys }
-    ensures sound { Stands result }
+    ensures value { result ≡ fields.pair_by_fields role f local remote keys }
+    ensures sound { IsInRanges result }
 {
     SessionConfig::Pair(Config {
         discr: f.discr,
@@ -171,8 +177,8 @@ fn pair_with(role: Role, f: Fields, local: Addr, remote: Addr, keys: Option<Keys
 
 /// A point-to-point session.
 fn pair(role: Role, f: &Fields) -> Option<SessionConfig>
-    ensures value { result ≡ fields.pair_by role f.now (addr_of f.now.local) (addr_of f.now.remote) (keys_of f.now) }
-    ensures sound { IfSome result Stands }
+    ensures value { result ≡ fields.pair_by role f.now (addr_of f.now.local) (addr_of f.now.remote) (keys_from_c f.now) }
+    ensures sound { IfSome result IsInRanges }
 {
     let (Some(local), Some(remote), Some(keys)) = (
         read_address(&f.local),
@@ -181,21 +187,21 @@ fn pair(role: Role, f: &Fields) -> Option<SessionConfig>
     ) else {
         return None;
     };
-    if !(named(f) && sending(f) && paired(role, f)) {
+    if !(has_name(f) && has_sending(f) && paired(role, f)) {
         return None;
     }
-    Some(pair_with(role, *f, local, remote, keys))
+    Some(pair_by_fields(role, *f, local, remote, keys))
 }
 
 /// An initiator of values in their ranges.
-fn seek_with(f: Fields, local: Addr, remote: Addr) -> SessionConfig
-    requires named { IsNamed f }
-    requires sending { IsSending f }
+fn seek_by_fields(f: Fields, local: Addr, remote: Addr) -> SessionConfig
+    requires named { HasName f }
+    requires sending { HasSending f }
     requires other { 0 < f.other }
     requires local { IsAddress local }
     requires remote { IsAddress remote }
-    ensures value { result ≡ fields.seek_with f local remote }
-    ensures sound { Stands result }
+    ensures value { result ≡ fields.seek_by_fields f local remote }
+    ensures sound { IsInRanges result }
 {
     SessionConfig::Seek(SeekConfig {
         discr: f.discr,
@@ -212,25 +218,25 @@ fn seek_with(f: Fields, local: Addr, remote: Addr) -> SessionConfig
 /// An initiator.
 fn seek(f: &Fields) -> Option<SessionConfig>
     ensures value { result ≡ fields.seek_by f.now (addr_of f.now.local) (addr_of f.now.remote) }
-    ensures sound { IfSome result Stands }
+    ensures sound { IfSome result IsInRanges }
 {
     let (Some(local), Some(remote)) = (read_address(&f.local), read_address(&f.remote)) else {
         return None;
     };
-    if !(named(f) && sending(f) && f.other >= 1) {
+    if !(has_name(f) && has_sending(f) && f.other >= 1) {
         return None;
     }
-    Some(seek_with(*f, local, remote))
+    Some(seek_by_fields(*f, local, remote))
 }
 
 /// A head of values in their ranges.
 fn head_with(f: Fields, local: Addr, group: Addr) -> SessionConfig
-    requires named { IsNamed f }
-    requires sending { IsSending f }
+    requires named { HasName f }
+    requires sending { HasSending f }
     requires local { IsAddress local }
     requires group { IsAddress group }
     ensures value { result ≡ fields.head_with f local group }
-    ensures sound { Stands result }
+    ensures sound { IsInRanges result }
 {
     SessionConfig::Head(HeadConfig {
         discr: f.discr,
@@ -246,12 +252,12 @@ fn head_with(f: Fields, local: Addr, group: Addr) -> SessionConfig
 /// A head.
 fn head(f: &Fields) -> Option<SessionConfig>
     ensures value { result ≡ fields.head_by f.now (addr_of f.now.local) (addr_of f.now.remote) }
-    ensures sound { IfSome result Stands }
+    ensures sound { IfSome result IsInRanges }
 {
     let (Some(local), Some(group)) = (read_address(&f.local), read_address(&f.remote)) else {
         return None;
     };
-    if !(named(f) && sending(f)) {
+    if !(has_name(f) && has_sending(f)) {
         return None;
     }
     Some(head_with(*f, local, group))
@@ -259,12 +265,12 @@ fn head(f: &Fields) -> Option<SessionConfig>
 
 /// A tail of values in their ranges.
 fn tail_with(f: Fields, group: Addr, source: Addr) -> SessionConfig
-    requires named { IsNamed f }
+    requires named { HasName f }
     requires other { 0 < f.other }
     requires group { IsAddress group }
     requires source { IsAddress source }
     ensures value { result ≡ fields.tail_with f group source }
-    ensures sound { Stands result }
+    ensures sound { IsInRanges result }
 {
     SessionConfig::Tail(TailConfig {
         discr: f.discr,
@@ -278,12 +284,12 @@ fn tail_with(f: Fields, group: Addr, source: Addr) -> SessionConfig
 /// A tail.
 fn tail(f: &Fields) -> Option<SessionConfig>
     ensures value { result ≡ fields.tail_by f.now (addr_of f.now.local) (addr_of f.now.remote) }
-    ensures sound { IfSome result Stands }
+    ensures sound { IfSome result IsInRanges }
 {
     let (Some(group), Some(source)) = (read_address(&f.local), read_address(&f.remote)) else {
         return None;
     };
-    if !(named(f) && f.other >= 1) {
+    if !(has_name(f) && f.other >= 1) {
         return None;
     }
     Some(tail_with(*f, group, source))
@@ -292,7 +298,7 @@ fn tail(f: &Fields) -> Option<SessionConfig>
 /// The session of the fields, or None where a value that its kind uses is outside its range.
 pub(crate) fn config(f: &Fields) -> Option<SessionConfig>
     ensures value { result ≡ config_of f.now }
-    ensures sound { IfSome result Stands }
+    ensures sound { IfSome result IsInRanges }
 {
     match f.kind {
         1 => pair(Role::Single, f),

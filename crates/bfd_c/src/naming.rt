@@ -54,14 +54,14 @@ fn refusal_text(refusal: Refusal) -> &'static str
 
 /// The name of a test for C.
 pub(crate) fn test_name(test: Test) -> [u8; 16]
-    ensures { result ≡ telling.named (name_of test) }
+    ensures { result ≡ telling.name_bytes (name_of test) }
 {
     packed_name(test_text(test).as_bytes())
 }
 
 /// The name of a refusal for C.
 pub(crate) fn refusal_name(refusal: Refusal) -> [u8; 16]
-    ensures { result ≡ telling.named (report.refusal_name refusal) }
+    ensures { result ≡ telling.name_bytes (report.refusal_name refusal) }
 {
     packed_name(refusal_text(refusal).as_bytes())
 }

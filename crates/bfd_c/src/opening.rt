@@ -2,10 +2,10 @@
 ghost use Rattle.std.specs.Prelude.{◌≡◌, ◌≢◌, true, [], None, IfOk, MatchResult};
 ghost use Rattle.bfd_replay.specs.Stage.{IsTable};
 ghost use Rattle.bfd_script.specs.Reading.{script_of};
-ghost use Rattle.bfd_c.specs.Engines.{opened_by, opened_for, started};
+ghost use Rattle.bfd_c.specs.Engines.{opened_by, opened_for, new_instance};
 ghost use Rattle.bfd_c.specs.Fields.{config_of};
-ghost use Rattle.bfd_c.specs.Opening.{complained, IsOpened, IsWhy, one};
-ghost use Rattle.bfd_c.specs.Singles.{Stands};
+ghost use Rattle.bfd_c.specs.Opening.{complained, IsOpenedWith, IsWhy, one};
+ghost use Rattle.bfd_c.specs.Singles.{IsInRanges};
 ghost use Rattle.bfd_c.specs.Telling as telling;
 
 use crate::engine::{DONE, EVENTS, Engine, MEMORY, RANGE, TEXT};
@@ -49,7 +49,7 @@ fn boxed(
     pool: Vec<Reflector>,
 ) -> Result<Box<Engine>, AllocError>
     requires { IsTable configs.items pool.items }
-    ensures { IfOk result (λ engine. engine.value ≡ started configs.items pool.items) }
+    ensures { IfOk result (λ engine. engine.value ≡ new_instance configs.items pool.items) }
 {
     let engine = Engine::start(alloc, configs, pool)?;
     match Box::new(alloc, engine) {
@@ -67,7 +67,7 @@ enum Unopened {
 
 /// The engine of a text, a table alone.
 fn start_by(alloc: Global, text: &[u8]) -> Result<Box<Engine>, Unopened>
-    ensures { MatchResult result (λ engine. IsOpened (script_of true text.now) engine.value)
+    ensures { MatchResult result (λ engine. IsOpenedWith (script_of true text.now) engine.value)
         (IsWhy (script_of true text.now)) }
 {
     match read(alloc, text, true) {
@@ -119,8 +119,8 @@ pub extern "C" fn bfdd_open(
 
 /// The engine of one session.
 fn start_one(alloc: Global, config: SessionConfig) -> Result<Box<Engine>, AllocError>
-    requires { Stands config }
-    ensures { IfOk result (λ engine. engine.value ≡ started (one config) []) }
+    requires { IsInRanges config }
+    ensures { IfOk result (λ engine. engine.value ≡ new_instance (one config) []) }
 {
     let configs = vec![in alloc; config]?;
     boxed(alloc, configs, Vec::new(alloc))

@@ -1,7 +1,7 @@
 //! The calls that read what the last event gave, and when the next is needed.
 ghost use Rattle.std.specs.Prelude.{◌≡◌};
 ghost use Rattle.bfd_c.specs.Engines.{soonest};
-ghost use Rattle.bfd_c.specs.Reading.{answered, due, due_by, next, next_by, told_by, told_of};
+ghost use Rattle.bfd_c.specs.Reading.{answer_read, due_read, due_read_by, next_read, next_by, output_read, output_read_of};
 
 use crate::engine::{CLOSED, DONE, END, Engine};
 use crate::handle::Handle;
@@ -11,7 +11,7 @@ use std::alloc::Global;
 /// The next output that wasn't read.
 fn read_next(engine: &mut Engine, output: &mut Output) -> u32
     ensures call { (engine.new, result) ≡ next_by engine.old.left engine.old }
-    ensures told { output.new ≡ told_by engine.old.left output.old }
+    ensures told { output.new ≡ output_read engine.old.left output.old }
 {
     match engine.first() {
         Some(out) => {
@@ -29,8 +29,8 @@ fn read_next(engine: &mut Engine, output: &mut Output) -> u32
 /// 1 comes exactly where the handle is closed, 4 exactly where all were read. Then nothing has changed, `output` neither.
 #[unsafe(no_mangle)]
 pub extern "C" fn bfdd_next(alloc: Global, handle: &mut Handle, output: &mut Output) -> u32
-    ensures call { (handle.new.kept.held, result) ≡ next handle.old.kept.held }
-    ensures told { output.new ≡ told_of handle.old.kept.held output.old }
+    ensures call { (handle.new.kept.held, result) ≡ next_read handle.old.kept.held }
+    ensures told { output.new ≡ output_read_of handle.old.kept.held output.old }
 {
     match handle.take(alloc) {
         Some(engine) => {
@@ -49,7 +49,7 @@ pub extern "C" fn bfdd_next(alloc: Global, handle: &mut Handle, output: &mut Out
 #[unsafe(no_mangle)]
 pub extern "C" fn bfdd_answer(alloc: Global, handle: &mut Handle, answer: &mut Answered) -> u32
     ensures held { handle.new.kept.held ≡ handle.old.kept.held }
-    ensures told { (answer.new, result) ≡ answered handle.old.kept.held answer.old }
+    ensures told { (answer.new, result) ≡ answer_read handle.old.kept.held answer.old }
 {
     match handle.take(alloc) {
         Some(engine) => {
@@ -63,7 +63,7 @@ pub extern "C" fn bfdd_answer(alloc: Global, handle: &mut Handle, answer: &mut A
 
 /// The due tick of an engine.
 fn read_due(engine: &Engine, ms: &mut u64) -> u32
-    ensures { (ms.new, result) ≡ due_by (soonest engine.now.world.sessions) ms.old }
+    ensures { (ms.new, result) ≡ due_read_by (soonest engine.now.world.sessions) ms.old }
 {
     match engine.due() {
         Some(t) => {
@@ -81,7 +81,7 @@ fn read_due(engine: &Engine, ms: &mut u64) -> u32
 #[unsafe(no_mangle)]
 pub extern "C" fn bfdd_due(alloc: Global, handle: &mut Handle, ms: &mut u64) -> u32
     ensures held { handle.new.kept.held ≡ handle.old.kept.held }
-    ensures told { (ms.new, result) ≡ due handle.old.kept.held ms.old }
+    ensures told { (ms.new, result) ≡ due_read handle.old.kept.held ms.old }
 {
     match handle.take(alloc) {
         Some(engine) => {

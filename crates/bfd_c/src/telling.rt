@@ -118,8 +118,8 @@ pub(crate) fn told_output(out: &Out) -> Output
 }
 
 /// An answer without a view.
-fn plain(kind: u32, code: u32, name: [u8; 16]) -> Answered
-    ensures { result ≡ telling.plain kind code name }
+fn plain_answer(kind: u32, code: u32, name: [u8; 16]) -> Answered
+    ensures { result ≡ telling.plain_answer kind code name }
 {
     Answered {
         kind,
@@ -161,13 +161,15 @@ fn view(shown: &Shown) -> Answered
 
 /// The answer for C.
 pub(crate) fn told_answer(answer: &Answer) -> Answered
-    ensures { result ≡ telling.answer_of answer.now }
+    ensures { result ≡ telling.answer_for_c answer.now }
 {
     match answer {
-        Answer::Handled => plain(0, 0, [0; 16]),
-        Answer::Ticked => plain(1, 0, [0; 16]),
-        Answer::Dropped(test) => plain(2, test_number(*test), test_name(*test)),
-        Answer::Refused(refusal) => { plain(3, refusal_number(*refusal), refusal_name(*refusal)) }
+        Answer::Handled => plain_answer(0, 0, [0; 16]),
+        Answer::Ticked => plain_answer(1, 0, [0; 16]),
+        Answer::Dropped(test) => plain_answer(2, test_number(*test), test_name(*test)),
+        Answer::Refused(refusal) => {
+            plain_answer(3, refusal_number(*refusal), refusal_name(*refusal))
+        }
         Answer::Shown(shown) => view(shown),
     }
 }

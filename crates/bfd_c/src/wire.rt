@@ -1,7 +1,7 @@
 //! Addresses and packets, as C gives and reads them.
 ghost use Rattle.std.specs.Prelude.{◌≡◌, ◌≢◌, None, IfOk, IfSome, OnErr};
 ghost use Rattle.bfd_fields.specs.Values.{IsAddress};
-ghost use Rattle.bfd_c.specs.Wire.{addr_of, address_of, arrival_of, port_of};
+ghost use Rattle.bfd_c.specs.Wire.{addr_of, address_for_c, arrival_from_c, port_by_number};
 
 use bfd_packet::{Addr, Arrival, Bits128, Payload, Port};
 use std::alloc::{AllocError, Global};
@@ -47,7 +47,7 @@ pub(crate) fn read_address(address: &Address) -> Option<Addr>
 
 /// The address for C.
 pub(crate) fn told_address(addr: Addr) -> Address
-    ensures { result ≡ address_of addr }
+    ensures { result ≡ address_for_c addr }
 {
     match addr {
         Addr::V4(n) => {
@@ -66,7 +66,7 @@ pub(crate) fn told_address(addr: Addr) -> Address
 
 /// The kind of port of a number.
 fn port(number: u32) -> Option<Port>
-    ensures { result ≡ port_of number }
+    ensures { result ≡ port_by_number number }
 {
     match number {
         1 => Some(Port::Single),
@@ -85,8 +85,8 @@ pub(crate) fn arrival(
     packet: &Packet,
     payload: &[u8],
 ) -> Result<Option<Arrival>, AllocError>
-    ensures value { IfOk result (λ arrival. arrival ≡ arrival_of packet.now payload.now) }
-    ensures fits { OnErr result (arrival_of packet.now payload.now ≢ None) }
+    ensures value { IfOk result (λ arrival. arrival ≡ arrival_from_c packet.now payload.now) }
+    ensures fits { OnErr result (arrival_from_c packet.now payload.now ≢ None) }
 {
     if packet.iface > 65_535 {
         return Ok(None);

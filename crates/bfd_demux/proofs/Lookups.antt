@@ -26,9 +26,9 @@ use Rattle.bfd_demux.specs.contracts.name.NameOrd.TheImpl.Laws as name_laws
 use Rattle.bfd_demux.specs.contracts.row.RowKindOrd.TheImpl as kind_order
 use Rattle.bfd_demux.specs.contracts.row.RowKindOrd.TheImpl.Laws as kind_laws
 use Rattle.bfd_demux.specs.Rows.{same_selector, has_addresses}
-use Rattle.bfd_demux.specs.Index.{IsIndex, names_of, addresses_of, name_of, name_in, name_on, names_before, is_heard, heard_on}
+use Rattle.bfd_demux.specs.Index.{IsIndex, names_of, addresses_of, row_name, name_in, name_on, names_before, is_heard, heard_on}
 use Rattle.bfd_demux.specs.Table.{how_many, IsAscending, IsPlaceOf}
-use Rattle.bfd_demux.specs.Selection.{is_of_kind, has_discr, knows, is_session, session_index, reflector_index, only, the_one}
+use Rattle.bfd_demux.specs.Selection.{is_of_kind, row_has_discr, knows, is_session, session_index, reflector_index, only, the_one}
 use Rattle.bfd_demux.specs.Parts.{index_on}
 use Rattle.bfd_demux.proofs.AlikeRows.{and_assoc, nat_level, selector_level_back, unaddressed_back}
 use Rattle.bfd_demux.proofs.Ascending.{how_many-cons, how_many-IsPermutation, none_passes, le_or_lt, turned}
@@ -206,7 +206,7 @@ name_test_in SbfdPort Reflect discr other = and-true (is_eq (nat_cmp discr other
 name_test_in port kind discr other = and-false (is_eq (name_order.ghosts.cmp (name_in kind discr) (name_on port other)))
 
 name_test : (port : Port) (other : ℕ) (row : Row) →
-    (is_eq (name_order.ghosts.cmp (name_of row) (name_on port other)) && is_heard port (heard_on row.kind)) ≡ has_discr port other row
+    (is_eq (name_order.ghosts.cmp (row_name row) (name_on port other)) && is_heard port (heard_on row.kind)) ≡ row_has_discr port other row
 name_test port other row = name_test_in port row.kind row.discr other
 
 -- a name before a session's is that of a session with a lower discriminator
@@ -238,16 +238,16 @@ session_level kind other discr key e = nat_level discr key
 
 module _ {rows : List Row} {names : List (Name × Option Port)} {addresses : List (RowKind × ℕ)} {sessions : ℕ} (index : IsIndex rows names addresses sessions) where
   -- the names of the table have an entry that passes where a row has
-  any_name : (test : Name × Option Port → Bool) → list_any test names ≡ list_any (λ row. test (name_of row, heard_on row.kind)) rows
-  any_name test = sym (list_any-IsPermutation test (names_of rows) names index.named) ∙ list_any-map test (λ row. (name_of row, heard_on row.kind)) rows
+  any_name : (test : Name × Option Port → Bool) → list_any test names ≡ list_any (λ row. test (row_name row, heard_on row.kind)) rows
+  any_name test = sym (list_any-IsPermutation test (names_of rows) names index.named) ∙ list_any-map test (λ row. (row_name row, heard_on row.kind)) rows
 
-  many_names : (test : Name × Option Port → Bool) → how_many test names ≡ how_many (λ row. test (name_of row, heard_on row.kind)) rows
-  many_names test = how_many-IsPermutation test (names_of rows) names index.named ∙ how_many-map test (λ row. (name_of row, heard_on row.kind)) rows
+  many_names : (test : Name × Option Port → Bool) → how_many test names ≡ how_many (λ row. test (row_name row, heard_on row.kind)) rows
+  many_names test = how_many-IsPermutation test (names_of rows) names index.named ∙ how_many-map test (λ row. (row_name row, heard_on row.kind)) rows
 
   -- one row at most is of the port's kind and has the discriminator
-  one_named : (port : Port) (discr : ℕ) → how_many (has_discr port discr) rows ≤ 1
+  one_named : (port : Port) (discr : ℕ) → how_many (row_has_discr port discr) rows ≤ 1
   one_named port discr =
-      let less = how_many_weaker (has_discr port discr) (λ row. row.discr == discr) (λ row e. (and_parts (is_of_kind port row.kind) (row.discr == discr) e).1) rows in
+      let less = how_many_weaker (row_has_discr port discr) (λ row. row.discr == discr) (λ row e. (and_parts (is_of_kind port row.kind) (row.discr == discr) e).1) rows in
       let once = discr_once rows index.sound discr in
       omega arith
 
@@ -262,8 +262,8 @@ module _ {rows : List Row} {names : List (Name × Option Port)} {addresses : Lis
   -- the name isn't found
   pub name_unknown : (port : Port) (discr : ℕ) → list_any (λ (entry : Name × Option Port). is_eq (name_order.ghosts.cmp entry.0 (name_on port discr))) names ≡ false → false ≡ knows rows port discr
   name_unknown port discr none =
-      sym (list_any_stronger (λ (row : Row). is_eq (name_order.ghosts.cmp (name_of row) (name_on port discr))) (has_discr port discr)
-      (λ row e. (and_parts (is_eq (name_order.ghosts.cmp (name_of row) (name_on port discr))) (is_heard port (heard_on row.kind)) (name_test port discr row ∙ e)).0)
+      sym (list_any_stronger (λ (row : Row). is_eq (name_order.ghosts.cmp (row_name row) (name_on port discr))) (row_has_discr port discr)
+      (λ row e. (and_parts (is_eq (name_order.ghosts.cmp (row_name row) (name_on port discr))) (is_heard port (heard_on row.kind)) (name_test port discr row ∙ e)).0)
       rows (sym (any_name (λ entry. is_eq (name_order.ghosts.cmp entry.0 (name_on port discr)))) ∙ none))
 
   -- a session's place among the names is its index
@@ -289,7 +289,7 @@ module _ {rows : List Row} {names : List (Name × Option Port)} {addresses : Lis
   few_names =
       let few = (sound_rows rows index.sound).few in
       let same = length_permutation (names_of rows) names index.named in
-      let mapped : length (names_of rows) ≡ length rows = length-map rows (λ (row : Row). (name_of row, heard_on row.kind)) in
+      let mapped : length (names_of rows) ≡ length rows = length-map rows (λ (row : Row). (row_name row, heard_on row.kind)) in
       omega arith
 
   pub few_addresses : length addresses ≤ 65536
@@ -301,13 +301,13 @@ module _ {rows : List Row} {names : List (Name × Option Port)} {addresses : Lis
       omega arith
 
   -- no row is of the port's kind and has the discriminator
-  pub none_named : (port : Port) (discr : ℕ) → false ≡ knows rows port discr → the_one (has_discr port discr) rows ≡ None
-  none_named port discr none = ap only (filter_none (has_discr port discr) rows (sym none))
+  pub none_named : (port : Port) (discr : ℕ) → false ≡ knows rows port discr → the_one (row_has_discr port discr) rows ≡ None
+  none_named port discr none = ap only (filter_none (row_has_discr port discr) rows (sym none))
 
   -- one is, and the index that the port gives it is that of the discriminator
-  pub some_named : (port : Port) (discr : ℕ) → true ≡ knows rows port discr → option_map (λ (row : Row). index_on port rows row.discr) (the_one (has_discr port discr) rows) ≡ Some (index_on port rows discr)
+  pub some_named : (port : Port) (discr : ℕ) → true ≡ knows rows port discr → option_map (λ (row : Row). index_on port rows row.discr) (the_one (row_has_discr port discr) rows) ≡ Some (index_on port rows discr)
   some_named port discr some =
-      let found = one_of (has_discr port discr) (λ row. true) rows (one_named port discr) (list_any_agree _ _ (λ row. and-true (has_discr port discr row)) rows ∙ sym some) in
+      let found = one_of (row_has_discr port discr) (λ row. true) rows (one_named port discr) (list_any_agree _ _ (λ row. and-true (row_has_discr port discr row)) rows ∙ sym some) in
       let same = eqb-true found.0.discr discr (and_parts (is_of_kind port found.0.kind) (found.0.discr == discr) found.1.passes).1 in
       ap (option_map (λ (row : Row). index_on port rows row.discr)) found.1.one ∙ ap (λ n. Some (index_on port rows n)) same
 
@@ -366,7 +366,7 @@ module _ {rows : List Row} {names : List (Name × Option Port)} {addresses : Lis
       list_any (λ (entry : Name × Option Port). is_eq (name_order.ghosts.cmp entry.0 (Session (get_or addresses place d).1))) names ≡ false → ⊥
   address_session kind place d with_addresses at none =
       let known = address_known kind place d with_addresses at in
-      let missing = list_any_stronger (λ (row : Row). is_eq (name_order.ghosts.cmp (name_of row) (Session (get_or addresses place d).1)))
+      let missing = list_any_stronger (λ (row : Row). is_eq (name_order.ghosts.cmp (row_name row) (Session (get_or addresses place d).1)))
       (λ row. same_selector kind row.kind && (row.discr == (get_or addresses place d).1))
       (λ row e.
       let parts = and_parts (same_selector kind row.kind) (row.discr == (get_or addresses place d).1) e in

@@ -17,7 +17,7 @@ use Rattle.bfd_demux.specs.declared.fault.BuildFault.TheVariants.{SameDiscr, Sam
 use Rattle.bfd_demux.specs.contracts.name.NameOrd.TheImpl as name_order
 use Rattle.bfd_demux.specs.contracts.row.RowKindOrd.TheImpl as kind_order
 use Rattle.bfd_demux.specs.Rows.{repeat_after, first_repeat, same_discr, same_addresses, same_selector, has_addresses, build_fault, early_fault, pair_fault}
-use Rattle.bfd_demux.specs.Index.{names_of, addresses_of, name_of, name_in, heard_on}
+use Rattle.bfd_demux.specs.Index.{names_of, addresses_of, row_name, name_in, heard_on}
 use Rattle.bfd_demux.specs.Table.{how_many, HasKeysOnce}
 use Rattle.bfd_demux.proofs.AlikeRows.{nat_level, selector_level, same_selector_is}
 use Rattle.bfd_demux.proofs.Ascending.{how_many-cons}
@@ -159,8 +159,8 @@ name_matches kind discr (Reflector other) e = cc
 -- the names of rows without a fault come once
 pub names_once : (rows : List Row) → build_fault rows ≡ None → HasKeysOnce name_order.ghosts.cmp (names_of rows)
 names_once rows sound key =
-    let same = how_many-map (λ (entry : Name × Option Port). is_eq (name_order.ghosts.cmp entry.0 key)) (λ (row : Row). (name_of row, heard_on row.kind)) rows in
-    let less = how_many_weaker (λ (row : Row). is_eq (name_order.ghosts.cmp (name_of row) key)) (λ row. row.discr == discr_in key) (λ row e. name_matches row.kind row.discr key e) rows in
+    let same = how_many-map (λ (entry : Name × Option Port). is_eq (name_order.ghosts.cmp entry.0 key)) (λ (row : Row). (row_name row, heard_on row.kind)) rows in
+    let less = how_many_weaker (λ (row : Row). is_eq (name_order.ghosts.cmp (row_name row) key)) (λ row. row.discr == discr_in key) (λ row e. name_matches row.kind row.discr key e) rows in
     let once = discr_once rows sound (discr_in key) in
     omega arith
 

@@ -18,7 +18,7 @@ use Rattle.bfd_demux.specs.declared.row.RowKind.{RowKind}
 use Rattle.bfd_demux.specs.declared.row.RowKind.TheVariants.{Tail}
 use Rattle.bfd_demux.specs.declared.target.Target.TheVariants.{Session, Reflector, Echo}
 use Rattle.bfd_demux.specs.Rows.{has_addresses, same_selector}
-use Rattle.bfd_demux.specs.Selection.{only, the_one, names_on, has_discr, has_selector, selector_on, tail_selector, is_multipoint, is_by_addresses, is_echo_form, knows, session_index, reflector_index, table_fails, tests_on_header, tests_on_table, first_failing_on}
+use Rattle.bfd_demux.specs.Selection.{only, the_one, names_on, row_has_discr, row_has_selector, selector_on, tail_selector, is_multipoint, is_by_addresses, is_echo_form, knows, session_index, reflector_index, table_fails, tests_on_header, tests_on_table, first_failing_on}
 use Rattle.bfd_demux.specs.Parts.{names_session, index_on, target_named, echo_target, first_past_header, first_echo_failing, first_session_failing}
 
 -- tests that agree name the same row
@@ -73,7 +73,7 @@ pub echo_failing : (rows : List Row) (arrival : Arrival) → first_echo_failing 
 echo_failing rows arrival = refl
 
 pub echo_named : (rows : List Row) (arrival : Arrival) →
-    option_map (echo_target rows arrival.payload) (the_one (has_discr EchoPort (word_at 4 arrival.payload)) rows) ≡ target_named EchoPort rows arrival
+    option_map (echo_target rows arrival.payload) (the_one (row_has_discr EchoPort (word_at 4 arrival.payload)) rows) ≡ target_named EchoPort rows arrival
 echo_named rows arrival = refl
 
 unequal : (n : ℕ) → n ≢ 0 → (n == 0) ≡ false
@@ -139,12 +139,12 @@ to_echo rows word (Some row) index is = ap (option_map (λ n. Echo n word)) is
 
 -- the echo packet's session and number
 pub echo_found : (rows : List Row) (payload : List ℕ) (discr sequence index : ℕ) → IsEcho payload discr sequence →
-    Some index ≡ option_map (λ (row : Row). index_on EchoPort rows row.discr) (the_one (has_discr EchoPort discr) rows) →
-    Some (Echo index sequence) ≡ option_map (echo_target rows payload) (the_one (has_discr EchoPort (word_at 4 payload)) rows)
+    Some index ≡ option_map (λ (row : Row). index_on EchoPort rows row.discr) (the_one (row_has_discr EchoPort discr) rows) →
+    Some (Echo index sequence) ≡ option_map (echo_target rows payload) (the_one (row_has_discr EchoPort (word_at 4 payload)) rows)
 echo_found rows payload discr sequence index echo is =
     ap (λ word. Some (Echo index word)) echo.sequence_is
-    ∙ to_echo rows (word_at 8 payload) (the_one (has_discr EchoPort (word_at 4 payload)) rows) index
-    (is ∙ ap (λ word. option_map (λ (row : Row). session_index rows row.discr) (the_one (has_discr EchoPort word) rows)) echo.discr_is)
+    ∙ to_echo rows (word_at 8 payload) (the_one (row_has_discr EchoPort (word_at 4 payload)) rows) index
+    (is ∙ ap (λ word. option_map (λ (row : Row). session_index rows row.discr) (the_one (row_has_discr EchoPort word) rows)) echo.discr_is)
 
 -- a reflector that is known, or isn't
 pub reflects_none : (your : ℕ) (known : Bool) → your ≡ 0 → Some YourUnknown ≡ (if (your == 0) || not known then Some YourUnknown else None)
@@ -172,11 +172,11 @@ pub reflector_failing : (rows : List Row) (arrival : Arrival) (packet : Control)
 reflector_failing rows arrival packet is = rw is refl
 
 pub reflector_named : (rows : List Row) (arrival : Arrival) (packet : Control) → packet ≡ fields_of arrival.payload → packet.your ≢ 0 →
-    option_map (λ (row : Row). Reflector (reflector_index rows row.discr)) (the_one (has_discr SbfdPort packet.your) rows) ≡ target_named SbfdPort rows arrival
+    option_map (λ (row : Row). Reflector (reflector_index rows row.discr)) (the_one (row_has_discr SbfdPort packet.your) rows) ≡ target_named SbfdPort rows arrival
 reflector_named rows arrival packet is some =
     let zero : ((fields_of arrival.payload).your == 0) ≡ false = ap (λ (p : Control). p.your == 0) (sym is) ∙ unequal packet.your some in
     ap (option_map (λ (row : Row). Reflector (reflector_index rows row.discr)))
-    (the_one_agree (has_discr SbfdPort packet.your) (names_on SbfdPort arrival) (λ row. rw (is, zero) refl) rows)
+    (the_one_agree (row_has_discr SbfdPort packet.your) (names_on SbfdPort arrival) (λ row. rw (is, zero) refl) rows)
 
 tail_cases : (zero known : Bool) →
     (if zero then if known then None else Some NoTail else Some MultipointYour) ≡ cond (true && not zero) (Some MultipointYour) (cond (true && not known) (Some NoTail) None)
@@ -188,17 +188,17 @@ tail_cases false false = refl
 -- a multipoint packet
 pub tail_failing : (port : Port) (rows : List Row) (arrival : Arrival) (packet : Control) (kind : RowKind) → packet ≡ fields_of arrival.payload → is_multipoint port arrival ≡ true →
     kind ≡ Tail (fields_of arrival.payload).my arrival.iface arrival.dst arrival.src →
-    (if packet.your == 0 then if list_any (has_selector (Some kind)) rows then None else Some NoTail else Some MultipointYour) ≡ first_past_header port rows arrival
+    (if packet.your == 0 then if list_any (row_has_selector (Some kind)) rows then None else Some NoTail else Some MultipointYour) ≡ first_past_header port rows arrival
 tail_failing SinglePort rows arrival packet kind is multipoint tail =
-    rw (tail, is, multipoint, multipoint) (tail_cases ((fields_of arrival.payload).your == 0) (list_any (has_selector (tail_selector arrival)) rows))
+    rw (tail, is, multipoint, multipoint) (tail_cases ((fields_of arrival.payload).your == 0) (list_any (row_has_selector (tail_selector arrival)) rows))
 tail_failing port rows arrival packet kind is multipoint tail = cc
 
 pub tail_named : (port : Port) (rows : List Row) (arrival : Arrival) (kind : RowKind) → is_multipoint port arrival ≡ true →
     kind ≡ Tail (fields_of arrival.payload).my arrival.iface arrival.dst arrival.src →
-    option_map (λ (row : Row). Session (session_index rows row.discr)) (the_one (has_selector (Some kind)) rows) ≡ target_named port rows arrival
+    option_map (λ (row : Row). Session (session_index rows row.discr)) (the_one (row_has_selector (Some kind)) rows) ≡ target_named port rows arrival
 tail_named SinglePort rows arrival kind multipoint tail =
     ap (option_map (λ (row : Row). Session (session_index rows row.discr)))
-    (the_one_agree (has_selector (Some kind)) (names_on SinglePort arrival) (λ row. rw (multipoint, tail) refl) rows)
+    (the_one_agree (row_has_selector (Some kind)) (names_on SinglePort arrival) (λ row. rw (multipoint, tail) refl) rows)
 tail_named port rows arrival kind multipoint tail = cc
 
 -- any other packet
@@ -221,7 +221,7 @@ session_named SinglePort rows arrival packet is no_echo no_sbfd single =
 session_named port rows arrival packet is no_echo no_sbfd single = rw is refl
 
 -- where no row has addresses
-pub selector_none : (rows : List Row) → list_any (has_selector None) rows ≡ false
+pub selector_none : (rows : List Row) → list_any (row_has_selector None) rows ≡ false
 selector_none [] = refl
 selector_none (row ∷ rows) = selector_none rows
 
@@ -319,16 +319,16 @@ to_session rows None index is = ap (option_map Session) is
 to_session rows (Some row) index is = ap (option_map Session) is
 
 by_your_named : (port : Port) (packet : Control) (selector : Option RowKind) (rows : List Row) (index : ℕ) → packet.your ≢ 0 →
-    Some index ≡ option_map (λ (row : Row). session_index rows row.discr) (the_one (has_discr port packet.your) rows) →
+    Some index ≡ option_map (λ (row : Row). session_index rows row.discr) (the_one (row_has_discr port packet.your) rows) →
     Some (Session index) ≡ option_map (λ (row : Row). Session (session_index rows row.discr)) (the_one (names_session port packet selector) rows)
 by_your_named port packet selector rows index some is =
-    to_session rows (the_one (has_discr port packet.your) rows) index is
+    to_session rows (the_one (row_has_discr port packet.your) rows) index is
     ∙ ap (option_map (λ (row : Row). Session (session_index rows row.discr)))
-    (sym (the_one_agree (names_session port packet selector) (has_discr port packet.your) (λ row. rw (unequal packet.your some) refl) rows))
+    (sym (the_one_agree (names_session port packet selector) (row_has_discr port packet.your) (λ row. rw (unequal packet.your some) refl) rows))
 
 -- the session of a Your Discriminator
 pub your_named : (port : Port) (packet : Control) (selector : Option RowKind) (rows : List Row) (index : ℕ) → port ≢ SbfdPort → packet.your ≢ 0 →
-    Some index ≡ option_map (λ (row : Row). index_on port rows row.discr) (the_one (has_discr port packet.your) rows) →
+    Some index ≡ option_map (λ (row : Row). index_on port rows row.discr) (the_one (row_has_discr port packet.your) rows) →
     Some (Session index) ≡ option_map (λ (row : Row). Session (session_index rows row.discr)) (the_one (names_session port packet selector) rows)
 your_named SbfdPort packet selector rows index no_sbfd some is = absurd (no_sbfd refl)
 your_named SinglePort packet selector rows index no_sbfd some is = by_your_named SinglePort packet selector rows index some is

@@ -21,8 +21,8 @@ name_in Reflect discr = Reflector discr
 name_in _ discr = Session discr
 
 -- the row's discriminator, and whether a session or a reflector has it
-abbrev pub name_of : Row → Name
-name_of row = name_in row.kind row.discr
+abbrev pub row_name : Row → Name
+row_name row = name_in row.kind row.discr
 
 -- the port on which a control packet may name a row of this kind by its discriminator
 abbrev pub heard_on : RowKind → Option Port
@@ -53,7 +53,7 @@ is_heard _ _ = false
 
 -- the names of all rows, with their ports
 abbrev pub names_of : List Row → List (Name × Option Port)
-names_of rows = map (λ row. (name_of row, heard_on row.kind)) rows
+names_of rows = map (λ row. (row_name row, heard_on row.kind)) rows
 
 -- the discriminators of all rows, with nothing beside them
 abbrev pub discrs_of : List Row → List (ℕ × Unit {0})

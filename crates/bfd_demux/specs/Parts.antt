@@ -14,7 +14,7 @@ use Rattle.bfd_demux.specs.declared.row.Row.{Row}
 use Rattle.bfd_demux.specs.declared.row.RowKind.{RowKind}
 use Rattle.bfd_demux.specs.declared.target.Target.{Target}
 use Rattle.bfd_demux.specs.declared.target.Target.TheVariants.{Echo}
-use Rattle.bfd_demux.specs.Selection.{has_discr, has_selector, is_echo_form, is_multipoint, knows, names_on, reflector_index, session_index, table_fails, target_on, tests_on_table, the_one}
+use Rattle.bfd_demux.specs.Selection.{row_has_discr, row_has_selector, is_echo_form, is_multipoint, knows, names_on, reflector_index, session_index, table_fails, target_on, tests_on_table, the_one}
 
 -- the first of the port's tests on the table that the arrival fails
 abbrev pub first_past_header : Port → List Row → Arrival → Option Test
@@ -37,19 +37,19 @@ echo_target rows payload row = Echo (session_index rows row.discr) (word_at 8 pa
 
 -- the sentence of each test of a packet that is neither multipoint nor a reflector's: by its fields, and by the
 -- kind and addresses that name a row where Your Discriminator is 0
-abbrev pub session_fails : Port → Test → Control → Option RowKind → List Row → Bool
-session_fails port YourUnknown packet selector rows = not (packet.your == 0) && not (knows rows port packet.your)
-session_fails port YourZeroState packet selector rows = (packet.your == 0) && is_init_or_up packet.state
-session_fails port NoSession packet selector rows = (packet.your == 0) && not (list_any (has_selector selector) rows)
-session_fails port _ packet selector rows = false
+abbrev pub selection_fails : Port → Test → Control → Option RowKind → List Row → Bool
+selection_fails port YourUnknown packet selector rows = not (packet.your == 0) && not (knows rows port packet.your)
+selection_fails port YourZeroState packet selector rows = (packet.your == 0) && is_init_or_up packet.state
+selection_fails port NoSession packet selector rows = (packet.your == 0) && not (list_any (row_has_selector selector) rows)
+selection_fails port _ packet selector rows = false
 
 -- the first of them that fails
 abbrev pub first_session_failing : Port → Control → Option RowKind → List Row → Option Test
-first_session_failing port packet selector rows = find (λ test. session_fails port test packet selector rows) (YourUnknown ∷ YourZeroState ∷ NoSession ∷ [])
+first_session_failing port packet selector rows = find (λ test. selection_fails port test packet selector rows) (YourUnknown ∷ YourZeroState ∷ NoSession ∷ [])
 
 -- such a packet names the row
 abbrev pub names_session : Port → Control → Option RowKind → Row → Bool
-names_session port packet selector row = if packet.your == 0 then has_selector selector row else has_discr port packet.your row
+names_session port packet selector row = if packet.your == 0 then row_has_selector selector row else row_has_discr port packet.your row
 
 -- the index of a row that the port selects among
 abbrev pub index_on : Port → List Row → ℕ → ℕ

@@ -30,12 +30,12 @@ is_of_kind SbfdPort Reflect = true
 is_of_kind _ _ = false
 
 -- the row is of the port's kind and has this discriminator (RFC 5880 section 6.3)
-abbrev pub has_discr : Port → ℕ → Row → Bool
-has_discr port discr row = is_of_kind port row.kind && (row.discr == discr)
+abbrev pub row_has_discr : Port → ℕ → Row → Bool
+row_has_discr port discr row = is_of_kind port row.kind && (row.discr == discr)
 
 -- a row of the port's kind has this discriminator
 abbrev pub knows : List Row → Port → ℕ → Bool
-knows rows port discr = list_any (has_discr port discr) rows
+knows rows port discr = list_any (row_has_discr port discr) rows
 
 -- the kind and addresses by which a packet without Your Discriminator names a row: on single the interface, the
 -- destination as local and the source as remote, on multi the last two, and none elsewhere
@@ -50,9 +50,9 @@ abbrev pub tail_selector : Arrival → Option RowKind
 tail_selector arrival = Some (Tail (fields_of arrival.payload).my arrival.iface arrival.dst arrival.src)
 
 -- the row has this kind and these addresses
-abbrev pub has_selector : Option RowKind → Row → Bool
-has_selector None row = false
-has_selector (Some kind) row = same_selector kind row.kind
+abbrev pub row_has_selector : Option RowKind → Row → Bool
+row_has_selector None row = false
+row_has_selector (Some kind) row = same_selector kind row.kind
 
 -- M is set on the port that takes multipoint packets (RFC 8562)
 abbrev pub is_multipoint : Port → Arrival → Bool
@@ -61,11 +61,11 @@ is_multipoint port arrival = takes_multipoint_of port && (fields_of arrival.payl
 -- the arrival on this port names the row: an echo packet by its second word, a multipoint packet as a tail does,
 -- and any other by Your Discriminator, or where that is 0 by addresses
 abbrev pub names_on : Port → Arrival → Row → Bool
-names_on EchoPort arrival row = has_discr EchoPort (word_at 4 arrival.payload) row
+names_on EchoPort arrival row = row_has_discr EchoPort (word_at 4 arrival.payload) row
 names_on port arrival row =
-    if is_multipoint port arrival then has_selector (tail_selector arrival) row
-    else if (fields_of arrival.payload).your == 0 then has_selector (selector_on port arrival) row
-    else has_discr port (fields_of arrival.payload).your row
+    if is_multipoint port arrival then row_has_selector (tail_selector arrival) row
+    else if (fields_of arrival.payload).your == 0 then row_has_selector (selector_on port arrival) row
+    else row_has_discr port (fields_of arrival.payload).your row
 
 -- the element of a list of one
 abbrev pub only : {X : Type 0} → List X → Option X
@@ -97,9 +97,9 @@ is_unknown port rows arrival = not ((fields_of arrival.payload).your == 0) && no
 abbrev pub table_fails : Port → Test → List Row → Arrival → Bool
 table_fails port YourUnknown rows arrival = is_unknown port rows arrival
 table_fails port YourZeroState rows arrival = ((fields_of arrival.payload).your == 0) && is_init_or_up (fields_of arrival.payload).state
-table_fails port NoSession rows arrival = ((fields_of arrival.payload).your == 0) && not (list_any (has_selector (selector_on port arrival)) rows)
+table_fails port NoSession rows arrival = ((fields_of arrival.payload).your == 0) && not (list_any (row_has_selector (selector_on port arrival)) rows)
 table_fails port MultipointYour rows arrival = is_multipoint port arrival && not ((fields_of arrival.payload).your == 0)
-table_fails port NoTail rows arrival = is_multipoint port arrival && not (list_any (has_selector (tail_selector arrival)) rows)
+table_fails port NoTail rows arrival = is_multipoint port arrival && not (list_any (row_has_selector (tail_selector arrival)) rows)
 table_fails port EchoForm rows arrival = not (is_echo_form arrival.payload)
 table_fails port test rows arrival = header_fails test arrival.payload
 

@@ -8,7 +8,7 @@ ghost use Rattle.bfd_packet.specs.Layout.{fields_of, word_at};
 ghost use Rattle.bfd_packet.specs.HeaderTests.{takes_multipoint_of};
 ghost use Rattle.bfd_packet.specs.States.{is_init_or_up};
 ghost use Rattle.bfd_demux.specs.Rows.{build_fault, early_fault, has_addresses, same_selector};
-ghost use Rattle.bfd_demux.specs.Selection.{first_header_failing, first_table_failing, has_discr, has_selector, is_by_addresses, is_echo_form, is_session, knows, reflector_index, selector_on, session_index, target_of, the_one};
+ghost use Rattle.bfd_demux.specs.Selection.{first_header_failing, first_table_failing, row_has_discr, row_has_selector, is_by_addresses, is_echo_form, is_session, knows, reflector_index, selector_on, session_index, target_of, the_one};
 ghost use Rattle.bfd_demux.specs.Parts.{echo_target, first_echo_failing, first_past_header, first_session_failing, index_on, names_session, target_named};
 ghost use Rattle.bfd_demux.specs.Index.{names_of};
 ghost use Rattle.bfd_demux.specs.Table.{how_many};
@@ -121,7 +121,7 @@ impl Demux {
     fn by_discr<L: Ledger>(&self, port: Port, discr: u32, steps: &mut Steps<L>) -> Option<u32>
         ensures known { is_some result ≡ knows self.now port discr }
         ensures found { result ≡ option_map (λ row. index_on port self.now row.discr)
-            (the_one (has_discr port discr) self.now) }
+            (the_one (row_has_discr port discr) self.now) }
         ensures cost { steps.new ≤ steps.old + 17 }
     {
         let names = self.names.as_slice();
@@ -201,7 +201,7 @@ impl Demux {
         ensures tests { result_err result ≡ first_echo_failing self.now payload.now }
         ensures target { IfOk result (λ target. Some target
             ≡ option_map (echo_target self.now payload.now)
-            (the_one (has_discr Port.Echo (word_at 4 payload.now)) self.now)) }
+            (the_one (row_has_discr Port.Echo (word_at 4 payload.now)) self.now)) }
         ensures cost { steps.new ≤ steps.old + 17 }
     {
         let Some((discr, sequence)) = echo_words(payload) else {
@@ -246,7 +246,7 @@ impl Demux {
             ≡ (if (your == 0) || not (knows self.now Port.Sbfd your) then Some Test.YourUnknown else None) }
         ensures target { IfOk result (λ target. (your ≢ 0)
             × (Some target ≡ option_map (λ row. Target.Reflector (reflector_index self.now row.discr))
-            (the_one (has_discr Port.Sbfd your) self.now))) }
+            (the_one (row_has_discr Port.Sbfd your) self.now))) }
         ensures cost { steps.new ≤ steps.old + 17 }
     {
         if your == 0 {
@@ -268,11 +268,11 @@ impl Demux {
     ) -> Result<Target, Test>
         requires { has_addresses kind ≡ true }
         ensures tests { result_err result
-            ≡ (if your == 0 then if list_any (has_selector (Some kind)) self.now then None else Some Test.NoTail
+            ≡ (if your == 0 then if list_any (row_has_selector (Some kind)) self.now then None else Some Test.NoTail
             else Some Test.MultipointYour) }
         ensures target { IfOk result (λ target. Some target
             ≡ option_map (λ row. Target.Session (session_index self.now row.discr))
-            (the_one (has_selector (Some kind)) self.now)) }
+            (the_one (row_has_selector (Some kind)) self.now)) }
         ensures cost { steps.new ≤ steps.old + 34 }
     {
         if your != 0 {

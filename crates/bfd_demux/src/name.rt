@@ -1,7 +1,7 @@
 //! What a row is looked up by, where a packet has its discriminator.
 
 ghost use Rattle.std.specs.Prelude.{◌≡◌};
-ghost use Rattle.bfd_demux.specs.Index.{name_of, name_on, names_before, heard_on, is_heard};
+ghost use Rattle.bfd_demux.specs.Index.{row_name, name_on, names_before, heard_on, is_heard};
 
 use crate::row::{Row, RowKind};
 use bfd_packet::Port;
@@ -25,7 +25,7 @@ impl Name {
 
 /// The row's name.
 pub fn row_name(row: &Row) -> Name
-    ensures { result ≡ name_of row.now }
+    ensures { result ≡ row_name row.now }
 {
     match row.kind {
         RowKind::Reflect => Name::Reflector(row.discr),

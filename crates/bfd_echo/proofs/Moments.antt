@@ -2,15 +2,15 @@
 use Rattle.std.proofs.Common.{◌<◌, Bool, true, false, ℕ, if◌then◌else◌}
 use Rattle.bfd_num.specs.Numbers.{moment_bound}
 use Rattle.bfd_echo.specs.declared.echo.Echo.{Echo}
-use Rattle.bfd_echo.specs.Rules.{HasMoments, begun, returned, sent, settled}
-use Rattle.bfd_echo.specs.Sequence.{after, is_outstanding}
+use Rattle.bfd_echo.specs.Rules.{HasMoments, echo_begun, returned, sent, settled}
+use Rattle.bfd_echo.specs.Sequence.{next_sequence, is_outstanding}
 use Rattle.bfd_echo.specs.Timing.{has_failed, is_sending}
 
-pub begun_moments : (eff next : ℕ) → eff < moment_bound → HasMoments (begun eff next)
-unfolding begun
+pub begun_moments : (eff next : ℕ) → eff < moment_bound → HasMoments (echo_begun eff next)
+unfolding echo_begun
 begun_moments eff next small = record { last_below = small; sent_below = tt }
 
-returned_by : (b : Bool) (eff s : ℕ) (e : Echo) → eff < moment_bound → HasMoments e → HasMoments (if b then record e { back = after s; last = eff } else e)
+returned_by : (b : Bool) (eff s : ℕ) (e : Echo) → eff < moment_bound → HasMoments e → HasMoments (if b then record e { back = next_sequence s; last = eff } else e)
 returned_by true eff s e small moments = record { last_below = small; sent_below = moments.sent_below }
 returned_by false eff s e small moments = moments
 

@@ -3,7 +3,7 @@ use Rattle.std.proofs.Common.{◌≡◌, ◌<◌, ◌+◌, ◌-◌, ◌%◌, ◌
 use Rattle.std.proofs.lemmas.Bool.Decides.{nat_tests}
 use Rattle.bfd_echo.specs.declared.echo.Echo.{Echo}
 use Rattle.bfd_echo.specs.Rules.{returned, sent}
-use Rattle.bfd_echo.specs.Sequence.{after, is_outstanding, steps_to}
+use Rattle.bfd_echo.specs.Sequence.{next_sequence, is_outstanding, steps_to}
 
 -- k numbers on from a number are k steps
 steps_to-on : (from k : ℕ) → from < 2 ^ 32 → k < 2 ^ 32 → steps_to from ((from + k) % 2 ^ 32) ≡ k
@@ -16,7 +16,7 @@ pub unsent : (e : Echo) → is_outstanding e e.next ≡ false
 unsent e = grind (arith, nat_tests)
 
 -- one number more is one step more, but for the whole round
-steps_to-after : (from to : ℕ) → from < 2 ^ 32 → to < 2 ^ 32 → steps_to from to + 1 < 2 ^ 32 → steps_to from (after to) ≡ steps_to from to + 1
+steps_to-after : (from to : ℕ) → from < 2 ^ 32 → to < 2 ^ 32 → steps_to from to + 1 < 2 ^ 32 → steps_to from (next_sequence to) ≡ steps_to from to + 1
 steps_to-after from to small few room = omega arith
 
 pub just_sent : (e : Echo) (eff : ℕ) → e.back < 2 ^ 32 → e.next < 2 ^ 32 → steps_to e.back e.next + 1 < 2 ^ 32 → is_outstanding (sent eff e) e.next ≡ true
@@ -24,13 +24,13 @@ unfolding sent
 just_sent e eff small few room = rw (steps_to-after e.back e.next small few room) (grind (arith, nat_tests))
 
 -- a number is the whole round less one on from the number after it
-steps_to-before : (s to : ℕ) → s < 2 ^ 32 → nat_lt (steps_to (after s) s) (steps_to (after s) to) ≡ false
+steps_to-before : (s to : ℕ) → s < 2 ^ 32 → nat_lt (steps_to (next_sequence s) s) (steps_to (next_sequence s) to) ≡ false
 steps_to-before s to small =
-    let last : steps_to (after s) s ≡ 2 ^ 32 - 1 = omega arith in
+    let last : steps_to (next_sequence s) s ≡ 2 ^ 32 - 1 = omega arith in
     rw last (grind (arith, nat_tests))
 
 once_by : (e : Echo) (eff s : ℕ) (b : Bool) → is_outstanding e s ≡ b → s < 2 ^ 32
-    → is_outstanding (if b then record e { back = after s; last = eff } else e) s ≡ false
+    → is_outstanding (if b then record e { back = next_sequence s; last = eff } else e) s ≡ false
 once_by e eff s true is small = steps_to-before s e.next small
 once_by e eff s false is small = is
 

@@ -6,7 +6,7 @@ use Rattle.bfd_echo.specs.declared.echo.Echo.{Echo}
 use Rattle.bfd_echo.specs.declared.echo.EchoResult.{EchoResult}
 use Rattle.bfd_echo.specs.declared.echo.EchoResult.TheVariants.{Nothing, Sent, Failed}
 use Rattle.bfd_echo.specs.Packet.{echo_text}
-use Rattle.bfd_echo.specs.Sequence.{after, is_outstanding}
+use Rattle.bfd_echo.specs.Sequence.{next_sequence, is_outstanding}
 use Rattle.bfd_echo.specs.Timing.{has_failed, is_sending}
 
 -- the moments that an echo keeps are moments
@@ -16,16 +16,16 @@ pub record HasMoments (e : Echo) : Type 0 where
 
 -- the Echo function starts: the first packet is due at the next tick, nothing is outstanding, and packets have as long
 -- to come back as if one had come back now
-unfoldable pub begun : ℕ → ℕ → Echo
-begun eff next = record { first = floor_tick eff + 1; sent = None; last = eff; back = next; next = next }
+unfoldable pub echo_begun : ℕ → ℕ → Echo
+echo_begun eff next = record { first = floor_tick eff + 1; sent = None; last = eff; back = next; next = next }
 
 -- a packet came back (section 6.8.8): where its number was outstanding, the ones after it are awaited from now on
 unfoldable pub returned : ℕ → ℕ → Echo → Echo
-returned eff s e = if is_outstanding e s then record e { back = after s; last = eff } else e
+returned eff s e = if is_outstanding e s then record e { back = next_sequence s; last = eff } else e
 
 -- a packet was sent
 unfoldable pub sent : ℕ → Echo → Echo
-sent eff e = record e { sent = Some eff; next = after e.next }
+sent eff e = record e { sent = Some eff; next = next_sequence e.next }
 
 -- what has come due by the limit is done. Failure (section 6.8.5): the session goes Down, and nothing is sent.
 -- Sending (section 6.8.9): a packet with the next number

@@ -4,8 +4,8 @@ use Rattle.std.specs.Prelude.{ℕ, ◌+◌, ◌-◌, ◌%◌, ◌^◌, Bool, nat
 use Rattle.bfd_echo.specs.declared.echo.Echo.{Echo}
 
 -- the number after this one
-abbrev pub after : ℕ → ℕ
-after s = (s + 1) % 2 ^ 32
+abbrev pub next_sequence : ℕ → ℕ
+next_sequence s = (s + 1) % 2 ^ 32
 
 -- how many numbers on from this one the number s is
 abbrev pub steps_to : ℕ → ℕ → ℕ

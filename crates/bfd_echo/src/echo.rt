@@ -41,10 +41,10 @@ pub enum EchoResult {
 impl Echo {
     /// The Echo function starts at the effective moment `eff`, in microseconds, with `next` as the first sequence
     /// number. Its first packet is due at the tick after.
-    #[tactic(auto, unfolding(crate::specs::Rules::begun, bfd_num::specs::Numbers::floor_tick, bfd_num::specs::Numbers::ceil_tick))]
+    #[tactic(auto, unfolding(crate::specs::Rules::echo_begun, bfd_num::specs::Numbers::floor_tick, bfd_num::specs::Numbers::ceil_tick))]
     pub fn begin(eff: u64, next: u32) -> Echo
         requires { eff < moment_bound }
-        ensures value { result ≡ rules.begun eff next }
+        ensures value { result ≡ rules.echo_begun eff next }
         ensures later { (limit interval mult : ℕ) → limit ≤ eff → 0 < interval → 0 < mult
             → tick_of limit < timing.due result interval mult }
         ensures moments { HasMoments result }

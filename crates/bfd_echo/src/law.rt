@@ -4,7 +4,7 @@ ghost use Rattle.bfd_num.specs.Numbers.{moment_bound};
 ghost use Rattle.bfd_packet.specs.Layout.{word_at};
 ghost use Rattle.bfd_echo.specs.declared.echo.Echo.{Echo};
 ghost use Rattle.bfd_echo.specs.Packet.{sign, echo_text};
-ghost use Rattle.bfd_echo.specs.Rules.{HasMoments, begun, outcome, returned, sent, settled};
+ghost use Rattle.bfd_echo.specs.Rules.{HasMoments, echo_begun, outcome, returned, sent, settled};
 ghost use Rattle.bfd_echo.specs.Sequence.{is_outstanding, steps_to};
 ghost use Rattle.bfd_echo.specs.Timing.{due, is_sending};
 
@@ -28,7 +28,7 @@ pub fn due_laws()
 /// Laws, and no work: whatever happens to an echo, the moments that it keeps stay below 2^60.
 #[tactic(auto, using(crate::proofs::Moments::begun_moments, crate::proofs::Moments::returned_moments, crate::proofs::Moments::settled_moments))]
 pub fn moment_laws()
-    ensures begun { (eff next : ℕ) → eff < moment_bound → HasMoments (begun eff next) }
+    ensures begun { (eff next : ℕ) → eff < moment_bound → HasMoments (echo_begun eff next) }
     ensures returned { (eff s : ℕ) (e : Echo) → eff < moment_bound → HasMoments e → HasMoments (returned eff s e) }
     ensures settled { (limit eff interval mult : ℕ) (e : Echo) → eff < moment_bound → HasMoments e
         → HasMoments (settled limit eff interval mult e) }

@@ -42,13 +42,13 @@ abbrev pub next_of : HeldTicker → Next
 next_of ticker = if is_to_fail ticker.calls ticker.fails then Failed else first_tick ticker.left
 
 -- after a call that doesn't fail, by the ticks that were left
-abbrev pub ticked : List ℕ → HeldTicker → HeldTicker
-ticked [] ticker = record ticker { over = true }
-ticked (tick ∷ rest) ticker = record ticker { given = ticker.given ++ tick ∷ []; left = rest; gave = raised ticker.gave }
+abbrev pub ticker_given : List ℕ → HeldTicker → HeldTicker
+ticker_given [] ticker = record ticker { over = true }
+ticker_given (tick ∷ rest) ticker = record ticker { given = ticker.given ++ tick ∷ []; left = rest; gave = raised ticker.gave }
 
 -- the ticker after a call
 abbrev pub ticker_after : HeldTicker → HeldTicker
 ticker_after ticker =
     if is_to_fail ticker.calls ticker.fails
     then record ticker { calls = raised ticker.calls; faults = raised ticker.faults }
-    else ticked ticker.left (record ticker { calls = raised ticker.calls })
+    else ticker_given ticker.left (record ticker { calls = raised ticker.calls })

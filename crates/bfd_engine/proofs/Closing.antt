@@ -11,7 +11,7 @@ use Rattle.bfd_shard.specs.Shard.{Shard}
 use Rattle.bfd_engine.specs.declared.locked.Base.{Base}
 use Rattle.bfd_engine.specs.Turned.{by, configs_in, limit_in}
 use Rattle.bfd_engine.specs.Engines.{Shards, Held, Knows, IsOf, AllThere, base_at}
-use Rattle.bfd_engine.specs.Calls.{seen_of, word_of, taken_of, made_of, kept_of}
+use Rattle.bfd_engine.specs.Calls.{seen_of, met_word_of, taken_of, made_of, kept_of}
 use Rattle.bfd_engine.specs.Passes.{EachJoined, IsClosed}
 use Rattle.bfd_engine.proofs.Places.{K, set_else, last_here, front_here}
 
@@ -82,7 +82,7 @@ closed_here engine k at p shard here base e = record {
   journal = e.notes ∙ sym (ap seen_of here);
   configs = ap configs_in (e.base ∙ base);
   limit = ap limit_in (e.base ∙ base);
-  word = (let a = ap word_of here in let b = ap taken_of here in let d = e.word in omega arith);
+  word = (let a = ap met_word_of here in let b = ap taken_of here in let d = e.word in omega arith);
   kept = subst (λ js. AllKept by js shard.journal) (sym (ap kept_of here)) e.kept;
   unmade = λ n other h. e.unmade n other (ap (has n) (sym (ap made_of here)) ∙ h);
 }

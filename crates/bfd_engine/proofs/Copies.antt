@@ -9,8 +9,8 @@ use Rattle.bfd_engine.specs.declared.turn.TurnFault.{TurnFault}
 use Rattle.bfd_engine.specs.declared.turn.TurnFault.TheVariants.{Memory, Full, Spent}
 use Rattle.bfd_engine.specs.Turned.{HasLooked, IsSame, OfShard}
 use Rattle.bfd_engine.specs.Engines.{Knows}
-use Rattle.bfd_engine.specs.Calls.{word_at, fault_of}
-use Rattle.bfd_engine.specs.Reads.{AreGiven, HasRead, IsUnread, IsUnreadAt}
+use Rattle.bfd_engine.specs.Calls.{met_word, fault_of}
+use Rattle.bfd_engine.specs.Reads.{AreGiven, HasRead, IsHistoryUnread, IsUnreadAt}
 use Rattle.bfd_engine.proofs.Places.{K}
 use Rattle.bfd_engine.proofs.Turning.{turned}
 
@@ -38,7 +38,7 @@ has_read k l shard p q here is num same looked = record {
 }
 
 -- why it wasn't read, told of the shard
-pub unread_at : {X : Type 0} (r : Result X TurnFault) (shard : ℕ) (l : Knows) (q : OfShard) → word_at l shard ≡ q.word → IfErr r (λ fault. IsUnread fault q)
+pub unread_at : {X : Type 0} (r : Result X TurnFault) (shard : ℕ) (l : Knows) (q : OfShard) → met_word l shard ≡ q.word → IfErr r (λ fault. IsHistoryUnread fault q)
     → IfErr r (λ fault. IsUnreadAt (fault_of shard fault) shard l)
 unread_at (Ok x) shard l q met h = tt
 unread_at (Err Memory) shard l q met h = tt

@@ -7,20 +7,20 @@ use denote.Struct.Tuple.{tuple_type}
 use mir.Syntax.{Dict}
 use Rattle.std.specs.Prelude.{[], ◌∷◌}
 use Rattle.std.proofs.Crossing.{crosses, Vec-sync}
-use Rattle.bfd_demux.specs.contracts.demux.Demux as Demux
+use Rattle.bfd_demux.specs.contracts.demux.Demux
 use Rattle.bfd_demux.specs.contracts.demux.Demux.TheInside as inside
-use Rattle.std.specs.contracts.option.Option as Option
-use Rattle.bfd_packet.specs.contracts.arrival.Port as Port
-use Rattle.bfd_demux.specs.contracts.name.Name as Name
-use Rattle.bfd_demux.specs.contracts.row.RowKind as RowKind
+use Rattle.std.specs.contracts.option.Option
+use Rattle.bfd_packet.specs.contracts.arrival.Port
+use Rattle.bfd_demux.specs.contracts.name.Name
+use Rattle.bfd_demux.specs.contracts.row.RowKind
 use denote.Builtin.{u32}
 use Rattle.bfd_demux.proofs.name.Name.TheSendSync as name
 use Rattle.bfd_demux.proofs.row.RowKind.TheSendSync as kind
-use Rattle.bfd_shard.specs.contracts.entry.Entry as Entry
-use Rattle.bfd_turn.specs.contracts.lock.TurnLock as TurnLock
+use Rattle.bfd_shard.specs.contracts.entry.Entry
+use Rattle.bfd_turn.specs.contracts.lock.TurnLock
 use Rattle.bfd_turn.proofs.lock.TurnLock.TheSendSync as turn
 use Rattle.bfd_wheel.specs.declared.form.Timers.{Ghosts}
-use Rattle.bfd_engine.specs.contracts.locked.Base as Base
+use Rattle.bfd_engine.specs.contracts.locked.Base
 use Rattle.bfd_engine.specs.contracts.locked.Locked as Kept
 use Rattle.bfd_engine.specs.contracts.locked.LockedRecorded.TheImpl.{ghosts}
 use Rattle.bfd_engine.specs.contracts.engine.Engine.{the_row}

@@ -7,7 +7,7 @@ use Rattle.bfd_turn.specs.Lists.{calls}
 use Rattle.bfd_turn.specs.Passes.{TableId, having_made, made_by}
 use Rattle.bfd_engine.specs.Turned.{by}
 use Rattle.bfd_engine.specs.Engines.{Shards, Held, Knows, IsOf, AllThere, AreNew, AreNewAt}
-use Rattle.bfd_engine.specs.Calls.{seen_of, word_of, taken_of, made_of, kept_of}
+use Rattle.bfd_engine.specs.Calls.{seen_of, met_word_of, taken_of, made_of, kept_of}
 use Rattle.bfd_engine.specs.Passes.{Parted, IsCut, AreCut, CutsAt}
 use Rattle.bfd_engine.proofs.Places.{K, set_here, set_else, last_here, front_here, same_held}
 
@@ -57,12 +57,12 @@ new_left number at start before now new is fresh cuts p e =
 parted_by : (k l o : Knows) (shard : ℕ) → IsCut o.0 (slice_get k.1 shard) (slice_get l.1 shard) (slice_get o.1 shard) → Parted k l o shard
 parted_by k l o shard cut = record {
   seen = ap seen_of cut.after_is ∙ sym (ap seen_of cut.before_is);
-  word = ap word_of cut.after_is ∙ sym (ap word_of cut.before_is);
+  word = ap met_word_of cut.after_is ∙ sym (ap met_word_of cut.before_is);
   taken = ap taken_of cut.after_is ∙ sym (ap taken_of cut.before_is);
   made = ap made_of cut.after_is ∙ ap (λ (ms : List ℕ). ms ++ o.0 ∷ []) (sym (ap made_of cut.before_is));
   kept = ap kept_of cut.after_is ∙ sym (ap kept_of cut.before_is);
   seen_new = ap seen_of cut.new_is ∙ sym (ap seen_of cut.before_is);
-  word_new = ap word_of cut.new_is ∙ sym (ap word_of cut.before_is);
+  word_new = ap met_word_of cut.new_is ∙ sym (ap met_word_of cut.before_is);
   taken_new = ap taken_of cut.new_is;
   fresh = ap (calls by o.0) (ap seen_of cut.before_is) ∙ cut.fresh;
 }

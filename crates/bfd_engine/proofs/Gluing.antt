@@ -8,7 +8,7 @@ use Rattle.bfd_turn.specs.Passes.{TableId, having_joined}
 use Rattle.bfd_shard.specs.declared.entry.Entry.{Entry}
 use Rattle.bfd_engine.specs.Turned.{by}
 use Rattle.bfd_engine.specs.Engines.{Held, Knows, AllThere}
-use Rattle.bfd_engine.specs.Calls.{seen_of, word_of, taken_of, made_of, kept_of, seen_at}
+use Rattle.bfd_engine.specs.Calls.{seen_of, met_word_of, taken_of, made_of, kept_of, seen_at}
 use Rattle.bfd_engine.specs.Passes.{Joined, IsGlued, AreGlued, GluesAt}
 use Rattle.bfd_engine.proofs.Places.{K, set_here, set_else}
 
@@ -93,8 +93,8 @@ joined_by k o l shard zero zero2 g =
       own = ap₂ (λ n xs. calls by n xs) zero2 after ∙ (g.own ∙ sym (ap₂ (λ n xs. calls by n xs) zero before));
       kept = ap kept_of g.after_is
           ∙ ap₂ (λ a b. a ++ b ∷ []) (sym (ap kept_of g.before_is)) (ap₂ (λ n xs. (n, calls by n xs)) g.number_is (sym theirs));
-      word = (let a = ap word_of g.before_is in let b = ap word_of g.after_is in let d = g.later in omega arith);
-      word_other = (let a = ap word_of g.theirs_is in let b = ap word_of g.after_is in let d = g.later_theirs in omega arith);
+      word = (let a = ap met_word_of g.before_is in let b = ap met_word_of g.after_is in let d = g.later in omega arith);
+      word_other = (let a = ap met_word_of g.theirs_is in let b = ap met_word_of g.after_is in let d = g.later_theirs in omega arith);
       taken = (let a = ap taken_of g.before_is in let b = ap taken_of g.theirs_is in let d = ap taken_of g.after_is in omega arith);
       made = ap made_of g.after_is ∙ sym (ap made_of g.before_is);
     }

@@ -9,7 +9,7 @@ use Rattle.bfd_shard.specs.declared.entry.Entry.{Entry}
 use Rattle.bfd_shard.specs.declared.entry.ShardEvent.{ShardEvent}
 use Rattle.bfd_engine.specs.Turned.{by, entry_of}
 use Rattle.bfd_engine.specs.Engines.{Knows}
-use Rattle.bfd_engine.specs.Calls.{seen_at, word_at, taken_at, mine, Turned}
+use Rattle.bfd_engine.specs.Calls.{seen_at, met_word, taken_at, mine, Turned}
 
 -- what was seen of each shard begins what is seen of it after
 pub grows : (k l : Knows) (shard r : ℕ) (between new : List Entry) → Turned k l shard between new → Begins (seen_at k r) (seen_at l r)
@@ -32,9 +32,9 @@ mine_elsewhere k l shard r between new t other = ap (λ n. calls by n (seen_at l
 pub own_call : (n : ℕ) (event : ShardEvent) → calls by n (entry_of n event ∷ []) ≡ entry_of n event ∷ []
 own_call n event = rw (eq-eqb n n refl) refl
 
-pub words : (k l : Knows) (shard r : ℕ) (between new : List Entry) → Turned k l shard between new → word_at k r ≤ word_at l r
+pub words : (k l : Knows) (shard r : ℕ) (between new : List Entry) → Turned k l shard between new → met_word k r ≤ met_word l r
 words k l shard r between new t = dite (ℕ_discrete r shard)
-    (λ same. subst (λ n. word_at k n ≤ word_at l n) (sym same) t.word)
+    (λ same. subst (λ n. met_word k n ≤ met_word l n) (sym same) t.word)
     (λ other. (let e = t.word_elsewhere r other in omega (arith, e)))
 
 pub takens : (k l : Knows) (shard r : ℕ) (between new : List Entry) → Turned k l shard between new → taken_at l r ≤ taken_at k r + 1

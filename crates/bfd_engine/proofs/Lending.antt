@@ -14,7 +14,7 @@ use Rattle.bfd_shard.specs.declared.entry.Entry.{Entry}
 use Rattle.bfd_engine.specs.declared.holding.HoldFault.TheVariants.{Busy, Spent}
 use Rattle.bfd_engine.specs.Turned.{by, OfShard}
 use Rattle.bfd_engine.specs.Engines.{Shards, Held, Knows, IsOf, IsCallers, base_at}
-use Rattle.bfd_engine.specs.Calls.{seen_of, word_of, taken_of, made_of, kept_of}
+use Rattle.bfd_engine.specs.Calls.{seen_of, met_word_of, taken_of, made_of, kept_of}
 use Rattle.bfd_engine.specs.Holds.{HasTaken, HasMet, IsKept}
 use Rattle.bfd_engine.proofs.Places.{K, set_here, set_else, same_held}
 use Rattle.bfd_engine.proofs.Turning.{at_place, elsewhere, same_at}
@@ -37,7 +37,7 @@ has_taken engine shard k l p id w notes of here callers is lock same later adds 
   rest = is;
   others = subst (λ n. calls by n adds.0 ≡ []) callers.number_is adds.2;
   seen = ap (λ (v : OfShard). v.seen) same ∙ (adds.1 ∙ ap (λ (xs : List Entry). xs ++ adds.0) (sym (ap seen_of here)));
-  word = (let a = ap word_of here in omega (arith, a, later));
+  word = (let a = ap met_word_of here in omega (arith, a, later));
   taken = ap (λ (v : OfShard). v.taken) same ∙ sym (ap taken_of here);
   made = ap (λ (v : OfShard). v.made) same ∙ sym (ap made_of here);
   kept = ap (λ (v : OfShard). v.joined) same ∙ sym (ap kept_of here);
@@ -48,12 +48,12 @@ has_met : (k l : Knows) (shard word : ℕ) (p q : K) → slice_get k.1 shard ≡
 has_met k l shard word p q here is met = record {
   number = ap (λ (m : Knows). m.0) is;
   used = ap (λ (m : Knows). m.2) is;
-  here = ap word_of (at_place k l shard p q here is) ∙ ap (λ (v : OfShard). v.word) met;
+  here = ap met_word_of (at_place k l shard p q here is) ∙ ap (λ (v : OfShard). v.word) met;
   seen = same_at seen_of k l shard p q here is (ap (λ (v : OfShard). v.seen) met);
   taken = same_at taken_of k l shard p q here is (ap (λ (v : OfShard). v.taken) met);
   made = same_at made_of k l shard p q here is (ap (λ (v : OfShard). v.made) met);
   kept = same_at kept_of k l shard p q here is (ap (λ (v : OfShard). v.joined) met);
-  word_elsewhere = λ r other. ap word_of (elsewhere k l shard q r is other);
+  word_elsewhere = λ r other. ap met_word_of (elsewhere k l shard q r is other);
 }
 
 pub was_busy : (k l : Knows) (shard read found : ℕ) (p q : K) → slice_get k.1 shard ≡ Some (Some p) → l ≡ (k.0, set k.1 shard (Some q), k.2)

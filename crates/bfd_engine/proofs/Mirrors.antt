@@ -20,7 +20,7 @@ use Rattle.bfd_session.specs.declared.event.SessionConfig.{SessionConfig}
 use Rattle.bfd_session.specs.Rows.{row_of, row_of_reflector, table_of}
 use Rattle.bfd_session.proofs.Places.{Standing, AsSession, AsReflector, Found, at_place, found, reflects_below, row_session}
 use Rattle.bfd_session.proofs.Ports.{unreflected}
-use Rattle.bfd_engine.specs.Inside.{IsNamed}
+use Rattle.bfd_engine.specs.Inside.{IsNamedBy}
 
 none_under : (discr : ℕ) (pool : List Reflector) → AllByRecursion (λ r. discr < r.discr) pool → how_many (reflects_below discr) (map row_of_reflector pool) ≡ 0
 none_under discr [] h = refl
@@ -57,7 +57,7 @@ same_number a b false is h = by (b == 0) h
     by false e = cc
 
 stands : (arrival : Arrival) (cs : List SessionConfig) (pool : List Reflector) (row : Row) → PoolAscends pool → Standing cs pool row
-    → names_on SbfdPort arrival row ≡ true → IsNamed pool (reflector_index (table_of cs pool) row.discr) (fields_of arrival.payload).your
+    → names_on SbfdPort arrival row ≡ true → IsNamedBy pool (reflector_index (table_of cs pool) row.discr) (fields_of arrival.payload).your
 stands arrival cs pool row up (AsSession place config there is) h =
     absurd (unreflected config arrival (subst (λ (r : Row). names_on SbfdPort arrival r ≡ true) is h))
 stands arrival cs pool row up (AsReflector place reflector there is) h =
@@ -69,7 +69,7 @@ stands arrival cs pool row up (AsReflector place reflector there is) h =
 -- a target that is no reflector
 abbrev pub Mirrored : List Reflector → Arrival → Target → Type 0
 Mirrored pool arrival (Session place) = Unit {0}
-Mirrored pool arrival (ReflectorAt place) = IsNamed pool place (fields_of arrival.payload).your
+Mirrored pool arrival (ReflectorAt place) = IsNamedBy pool place (fields_of arrival.payload).your
 Mirrored pool arrival (Echo place sequence) = Unit {0}
 
 by_port : (port : Port) (arrival : Arrival) (cs : List SessionConfig) (pool : List Reflector) (row : Row) → PoolAscends pool

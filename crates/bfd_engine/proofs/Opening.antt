@@ -13,19 +13,19 @@ use Rattle.bfd_session.specs.Step.{IsFit, started}
 use Rattle.bfd_session.specs.Rows.{AreFit, table_of}
 use Rattle.bfd_session.proofs.Starting.{started_configs}
 use Rattle.bfd_sbfd.specs.declared.reflecting.Reflector.{Reflector}
-use Rattle.bfd_turn.specs.Passes.{TableId, opened}
+use Rattle.bfd_turn.specs.Passes.{TableId, opened_pass}
 use Rattle.bfd_demux.specs.declared.row.Row.{Row}
 use Rattle.bfd_engine.specs.declared.locked.Base.{Base}
 use Rattle.bfd_engine.specs.Engines.{IsCallers, Shards, Held, AllOf, IsOf, AllThere, IsEngine, configs_at}
-use Rattle.bfd_engine.specs.Calls.{seen_of, word_of, taken_of, made_of, kept_of}
-use Rattle.bfd_engine.specs.Opening.{IsSorted, IsNewPass, opened_base, IsNewShard, MayOpen, ArePassed, IsOpened, AreOpened}
+use Rattle.bfd_engine.specs.Calls.{seen_of, met_word_of, taken_of, made_of, kept_of}
+use Rattle.bfd_engine.specs.Opening.{IsSorted, IsNewPass, opened_base, IsNewShard, MayOpen, ArePassed, IsOpenedShard, AreOpened}
 use Rattle.bfd_engine.proofs.Places.{K, last_here, front_here, same_held}
 use Rattle.bfd_shard.specs.Dealing.{share}
 use Rattle.bfd_shard.proofs.Sharing.{few_share, all_share}
 use Rattle.bfd_engine.proofs.Tables.{few_rows, ascending, pool_ascending}
 
 pub more_opened : (limit : ℕ) (parts : List (List SessionConfig)) (part : List SessionConfig) (locks locks2 : List TableId) (passes passes2 : List Held) (sizes sizes2 : List ℕ) (lock : TableId) (pass : K) (size : ℕ)
-    → AreOpened limit parts locks passes sizes → pass ≡ (lock, opened (opened_base limit part) 0) → size ≡ length part
+    → AreOpened limit parts locks passes sizes → pass ≡ (lock, opened_pass (opened_base limit part) 0) → size ≡ length part
     → locks2 ≡ locks ++ lock ∷ [] → passes2 ≡ passes ++ Some pass ∷ [] → sizes2 ≡ sizes ++ size ∷ []
     → AreOpened limit (parts ++ part ∷ []) locks2 passes2 sizes2
 more_opened limit parts part locks locks2 passes passes2 sizes sizes2 lock pass size o new is e f g = record {
@@ -37,12 +37,12 @@ more_opened limit parts part locks locks2 passes passes2 sizes sizes2 lock pass 
       let same : part ≡ configs = same_Some part configs (sym (last_here parts part k here) ∙ h) in record {
         id = lock;
         lock_is = ap (λ xs. slice_get xs k) e ∙ last_here locks lock k (here ∙ sym o.locks_long);
-        pass_is = ap (λ xs. slice_get xs k) f ∙ (last_here passes (Some pass) k (here ∙ sym o.passes_long) ∙ (ap (λ p. Some (Some p)) new ∙ ap (λ cs. Some (Some (lock, opened (opened_base limit cs) 0))) same));
+        pass_is = ap (λ xs. slice_get xs k) f ∙ (last_here passes (Some pass) k (here ∙ sym o.passes_long) ∙ (ap (λ p. Some (Some p)) new ∙ ap (λ cs. Some (Some (lock, opened_pass (opened_base limit cs) 0))) same));
         size_is = ap (λ xs. slice_get xs k) g ∙ (last_here sizes size k (here ∙ sym o.sizes_long) ∙ (ap Some is ∙ ap (λ cs. Some (length cs)) same));
       })
       (λ other.
       let inside : k < length parts = (let i = slice_get_within (parts ++ part ∷ []) k configs h in omega (arith, i, length-append parts (part ∷ []))) in
-      let old : IsOpened limit configs (slice_get locks k) (slice_get passes k) (slice_get sizes k) = o.each k configs (sym (front_here parts part k inside) ∙ h) in record {
+      let old : IsOpenedShard limit configs (slice_get locks k) (slice_get passes k) (slice_get sizes k) = o.each k configs (sym (front_here parts part k inside) ∙ h) in record {
         id = old.id;
         lock_is = ap (λ xs. slice_get xs k) e ∙ (front_here locks lock k (let a = o.locks_long in omega (arith, a, inside)) ∙ old.lock_is);
         pass_is = ap (λ xs. slice_get xs k) f ∙ (front_here passes (Some pass) k (let a = o.passes_long in omega (arith, a, inside)) ∙ old.pass_is);
@@ -52,7 +52,7 @@ more_opened limit parts part locks locks2 passes passes2 sizes sizes2 lock pass 
 
 -- the same where a part is a vector
 pub more_parts : {V : Type 0} (f : V → List SessionConfig) (limit : ℕ) (yielded : List V) (part : V) (locks locks2 : List TableId) (passes passes2 : List Held) (sizes sizes2 : List ℕ) (lock : TableId) (pass : K) (size : ℕ)
-    → AreOpened limit (map f yielded) locks passes sizes → pass ≡ (lock, opened (opened_base limit (f part)) 0) → size ≡ length (f part)
+    → AreOpened limit (map f yielded) locks passes sizes → pass ≡ (lock, opened_pass (opened_base limit (f part)) 0) → size ≡ length (f part)
     → locks2 ≡ locks ++ lock ∷ [] → passes2 ≡ passes ++ Some pass ∷ [] → sizes2 ≡ sizes ++ size ∷ []
     → AreOpened limit (map f (yielded ++ part ∷ [])) locks2 passes2 sizes2
 more_parts f limit yielded part locks locks2 passes passes2 sizes sizes2 lock pass size o new is e g h =
@@ -65,8 +65,8 @@ base_is ss cs l m same limit =
     ∙ (ap (λ xs. opened_base l xs) (started_configs cs) ∙ ap (λ n. opened_base n cs) limit)
 
 pub new_shard : {E : Type 0} (r : Result (TableId × K) E) (ss : List Running) (cs : List SessionConfig) (l m : ℕ) → ss ≡ map started cs → l ≡ m
-    → IfOk r (λ x. x.1 ≡ (x.0, opened (let b : Base = record { configs = configs_of ss; limit = l } in b) 0)) → IfOk r (λ x. IsNewShard m cs x.0 x.1)
-new_shard (Ok x) ss cs l m same limit h = h ∙ ap (λ b. (x.0, opened b 0)) (base_is ss cs l m same limit)
+    → IfOk r (λ x. x.1 ≡ (x.0, opened_pass (let b : Base = record { configs = configs_of ss; limit = l } in b) 0)) → IfOk r (λ x. IsNewShard m cs x.0 x.1)
+new_shard (Ok x) ss cs l m same limit h = h ∙ ap (λ b. (x.0, opened_pass b 0)) (base_is ss cs l m same limit)
 new_shard (Err e) ss cs l m same limit h = tt
 
 -- the parts are the shares
@@ -95,7 +95,7 @@ may_open n configs pool parts s sound fit = pass_each MayOpen parts (λ r x e.
     }))
 
 module _ (limit n : ℕ) (configs : List SessionConfig) (parts : List (List SessionConfig)) (locks : List TableId) (passes : List Held) (sizes : List ℕ) (s : AreShares n configs parts) (o : AreOpened limit parts locks passes sizes) where
-  one : (k : ℕ) → k < n → IsOpened limit (share n k configs) (slice_get locks k) (slice_get passes k) (slice_get sizes k)
+  one : (k : ℕ) → k < n → IsOpenedShard limit (share n k configs) (slice_get locks k) (slice_get passes k) (slice_get sizes k)
   one k h = o.each k (share n k configs) (s.each k h)
 
   pub count : length locks ≡ n
@@ -106,8 +106,8 @@ module _ (limit n : ℕ) (configs : List SessionConfig) (parts : List (List Sess
 
   pub numbers : AllOf 0 0 passes
   numbers k p e =
-      let x : IsOpened limit (share n k configs) (slice_get locks k) (slice_get passes k) (slice_get sizes k) = one k (at k p e) in
-      subst (λ (q : K). IsCallers 0 0 q.1) (same_held (x.id, opened (opened_base limit (share n k configs)) 0) p (slice_get passes k) x.pass_is e)
+      let x : IsOpenedShard limit (share n k configs) (slice_get locks k) (slice_get passes k) (slice_get sizes k) = one k (at k p e) in
+      subst (λ (q : K). IsCallers 0 0 q.1) (same_held (x.id, opened_pass (opened_base limit (share n k configs)) 0) p (slice_get passes k) x.pass_is e)
       (record { number_is = refl; used_up = All-nil (λ (m : ℕ). m < 1) })
 
   -- as an engine
@@ -117,18 +117,18 @@ module _ (limit n : ℕ) (configs : List SessionConfig) (parts : List (List Sess
 
     pub sizes_are : (k : ℕ) → k < length locks → slice_get sizes k ≡ Some (length (configs_at engine k))
     sizes_are k h =
-        let x : IsOpened limit (share n k configs) (slice_get locks k) (slice_get passes k) (slice_get sizes k) = one k (omega (arith, h, count)) in
+        let x : IsOpenedShard limit (share n k configs) (slice_get locks k) (slice_get passes k) (slice_get sizes k) = one k (omega (arith, h, count)) in
         x.size_is ∙ ap (λ m. Some (length (share m k configs))) (sym count)
 
     pub passes_of : IsOf engine passes
     passes_of = record {
       long = (let a = o.passes_long in let b = o.locks_long in omega (arith, a, b));
       lock = λ k p e.
-          (let x : IsOpened limit (share n k configs) (slice_get locks k) (slice_get passes k) (slice_get sizes k) = one k (at k p e) in
-          x.lock_is ∙ ap (λ (q : K). Some q.0) (same_held (x.id, opened (opened_base limit (share n k configs)) 0) p (slice_get passes k) x.pass_is e));
+          (let x : IsOpenedShard limit (share n k configs) (slice_get locks k) (slice_get passes k) (slice_get sizes k) = one k (at k p e) in
+          x.lock_is ∙ ap (λ (q : K). Some q.0) (same_held (x.id, opened_pass (opened_base limit (share n k configs)) 0) p (slice_get passes k) x.pass_is e));
       base_is = λ k p e.
-          (let x : IsOpened limit (share n k configs) (slice_get locks k) (slice_get passes k) (slice_get sizes k) = one k (at k p e) in
-          ap (λ (q : K). q.1.base) (sym (same_held (x.id, opened (opened_base limit (share n k configs)) 0) p (slice_get passes k) x.pass_is e))
+          (let x : IsOpenedShard limit (share n k configs) (slice_get locks k) (slice_get passes k) (slice_get sizes k) = one k (at k p e) in
+          ap (λ (q : K). q.1.base) (sym (same_held (x.id, opened_pass (opened_base limit (share n k configs)) 0) p (slice_get passes k) x.pass_is e))
           ∙ ap (λ m. Some (opened_base limit (share m k configs))) (sym count));
     }
 
@@ -136,8 +136,8 @@ module _ (limit n : ℕ) (configs : List SessionConfig) (parts : List (List Sess
     passes_there = record {
       at = λ k h.
           (let inside : k < n = (let a = o.passes_long in omega (arith, h, a, s.long)) in
-          let x : IsOpened limit (share n k configs) (slice_get locks k) (slice_get passes k) (slice_get sizes k) = one k inside in
-          ((x.id, opened (opened_base limit (share n k configs)) 0), x.pass_is));
+          let x : IsOpenedShard limit (share n k configs) (slice_get locks k) (slice_get passes k) (slice_get sizes k) = one k inside in
+          ((x.id, opened_pass (opened_base limit (share n k configs)) 0), x.pass_is));
     }
 
     pub new_pass : IsNewPass engine (0, passes, 0)
@@ -147,7 +147,7 @@ module _ (limit n : ℕ) (configs : List SessionConfig) (parts : List (List Sess
       number = refl;
       used = refl;
       seen = λ k h. ap seen_of (one k (omega (arith, h, count))).pass_is;
-      word = λ k h. ap word_of (one k (omega (arith, h, count))).pass_is;
+      word = λ k h. ap met_word_of (one k (omega (arith, h, count))).pass_is;
       taken = λ k h. ap taken_of (one k (omega (arith, h, count))).pass_is;
       made = λ k h. ap made_of (one k (omega (arith, h, count))).pass_is;
       kept = λ k h. ap kept_of (one k (omega (arith, h, count))).pass_is;

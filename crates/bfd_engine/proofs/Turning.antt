@@ -12,9 +12,9 @@ use Rattle.bfd_turn.specs.Lists.{calls}
 use Rattle.bfd_engine.specs.declared.turn.TurnFault.{TurnFault}
 use Rattle.bfd_engine.specs.declared.turn.TurnFault.TheVariants.{Memory, Full, Spent}
 use Rattle.bfd_engine.specs.declared.fault.EngineFault.{EngineFault}
-use Rattle.bfd_engine.specs.Turned.{by, entry_of, configs_in, limit_in, given_after, IsSame, HasTurned, HasLooked, IsCause as IsTurnCause}
+use Rattle.bfd_engine.specs.Turned.{by, entry_of, configs_in, limit_in, given_after, IsSame, HasTurned, HasLooked, IsTurnCause}
 use Rattle.bfd_engine.specs.Engines.{Shards, Held, Knows, base_at, configs_at}
-use Rattle.bfd_engine.specs.Calls.{seen_of, seen_at, word_of, taken_of, made_of, kept_of, Turned, IsCause, fault_of, IsCall, IsFailed}
+use Rattle.bfd_engine.specs.Calls.{seen_of, seen_at, met_word_of, taken_of, made_of, kept_of, Turned, IsCause, fault_of, IsCall, IsFailed}
 use Rattle.bfd_engine.proofs.Places.{K, set_here, set_else}
 
 pub at_place : (k l : Knows) (s : ℕ) (p q : K) → slice_get k.1 s ≡ Some (Some p) → l ≡ (k.0, set k.1 s (Some q), k.2) → slice_get l.1 s ≡ Some (Some q)
@@ -37,10 +37,10 @@ turned k l s p q between new here is num same seen others =
       used = ap (λ (m : Knows). m.2) is;
       others = subst (λ n. calls by n between ≡ []) num others;
       here = ap seen_of at_l ∙ (seen ∙ ap (λ (xs : List Entry). (xs ++ between) ++ new) (sym (ap seen_of here)));
-      word = (let a = ap word_of at_l in let b = ap word_of here in let d = same.word in omega arith);
+      word = (let a = ap met_word_of at_l in let b = ap met_word_of here in let d = same.word in omega arith);
       taken = (let a = ap taken_of at_l in let b = ap taken_of here in let d = same.taken in omega arith);
       seen_elsewhere = λ r other. ap seen_of (elsewhere k l s q r is other);
-      word_elsewhere = λ r other. ap word_of (elsewhere k l s q r is other);
+      word_elsewhere = λ r other. ap met_word_of (elsewhere k l s q r is other);
       taken_elsewhere = λ r other. ap taken_of (elsewhere k l s q r is other);
       made = same_at made_of k l s p q here is same.made;
       kept = same_at kept_of k l s p q here is same.joined;
@@ -75,7 +75,7 @@ fault_by engine k l s p q outs outs2 (Full n) here base is num same looked cause
     (refl, cause.1 ∙ limit_is engine s p q base same, ap (λ h. length (seen_of h)) (at_place k l s p q here is) ∙ cause.0)
 fault_by engine k l s p q outs outs2 (Spent word) here base is num same looked cause told =
     failed engine k l s p q outs outs2 (fault_of s (Spent word)) here is num same looked told
-    (refl, cause.0, ap word_of (at_place k l s p q here is) ∙ cause.1)
+    (refl, cause.0, ap met_word_of (at_place k l s p q here is) ∙ cause.1)
 
 -- a turn that added no entry
 pub fault_done : (engine : Shards) (k l : Knows) (s : ℕ) (p q : K) (outs outs2 : Outputs) (r : Result Answer TurnFault) (fault : TurnFault) (told : EngineFault) → slice_get k.1 s ≡ Some (Some p)

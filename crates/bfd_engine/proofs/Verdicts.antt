@@ -32,7 +32,7 @@ use Rattle.bfd_engine.specs.Turned.{entry_of}
 use Rattle.bfd_engine.specs.Engines.{Shards, Knows, configs_at}
 use Rattle.bfd_engine.specs.Calls.{IsCall, IsDone, coming_act, reflect_act, seen_at}
 use Rattle.bfd_engine.specs.Inside.{Arrives}
-use Rattle.bfd_engine.specs.Judging.{IsAnswered, packet_answer, return_answer, judged_by}
+use Rattle.bfd_engine.specs.Judging.{IsAnswered, packet_answer, return_answer, arrival_judged}
 use Rattle.bfd_engine.proofs.Reaching.{dealt_event}
 
 -- a session stands where its configuration does
@@ -85,7 +85,7 @@ judged_reflected (Err test) engine k l arrival outs outs2 answer h = cc
 pub judged_target : (target : Target) (engine : Shards) (moment : ℕ) (arrival : Arrival) (k l : Knows) (outs outs2 : List Out) (result : Result Answer EngineFault)
     → 0 < length engine.locks → None ≡ first_table_failing (table_of engine.configs engine.pool) arrival → Arrives engine.configs engine.pool arrival target
     → IsDone (coming_act engine moment arrival (coming_to (Some target) arrival)) engine k l outs outs2 result
-    → IfOk result (λ answer. judged_by engine moment arrival (coming_to (Some target) arrival) l answer)
+    → IfOk result (λ answer. arrival_judged engine moment arrival (coming_to (Some target) arrival) l answer)
 judged_target (Session place) engine moment arrival k l outs outs2 (Ok answer) some none arrives h =
     judged_call (packet_answer engine arrival) engine (place % length engine.locks) (place / length engine.locks) moment (Packet arrival) k l outs outs2 answer
     (λ eff s. packet_is engine arrival eff s none)

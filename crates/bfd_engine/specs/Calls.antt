@@ -35,14 +35,14 @@ seen_of None = []
 abbrev pub seen_at : Knows → ℕ → List Entry
 seen_at pass shard = seen_of (slice_get pass.1 shard)
 
-abbrev pub word_of : Option Held → ℕ
-word_of (Some (Some p)) = p.1.word
-word_of (Some None) = 0
-word_of None = 0
+abbrev pub met_word_of : Option Held → ℕ
+met_word_of (Some (Some p)) = p.1.word
+met_word_of (Some None) = 0
+met_word_of None = 0
 
 -- the last word of a shard's lock that it has met
-abbrev pub word_at : Knows → ℕ → ℕ
-word_at pass shard = word_of (slice_get pass.1 shard)
+abbrev pub met_word : Knows → ℕ → ℕ
+met_word pass shard = met_word_of (slice_get pass.1 shard)
 
 abbrev pub taken_of : Option Held → ℕ
 taken_of (Some (Some p)) = p.1.taken
@@ -81,10 +81,10 @@ pub record Turned (k l : Knows) (shard : ℕ) (between new : List Entry) : Type 
   pub used : l.2 ≡ k.2
   pub others : calls by k.0 between ≡ []
   pub here : seen_at l shard ≡ (seen_at k shard ++ between) ++ new
-  pub word : word_at k shard ≤ word_at l shard
+  pub word : met_word k shard ≤ met_word l shard
   pub taken : taken_at l shard ≤ taken_at k shard + 1
   pub seen_elsewhere : (r : ℕ) → r ≢ shard → seen_at l r ≡ seen_at k r
-  pub word_elsewhere : (r : ℕ) → r ≢ shard → word_at l r ≡ word_at k r
+  pub word_elsewhere : (r : ℕ) → r ≢ shard → met_word l r ≡ met_word k r
   pub taken_elsewhere : (r : ℕ) → r ≢ shard → taken_at l r ≡ taken_at k r
   pub made : (r : ℕ) → made_at l r ≡ made_at k r
   pub kept : (r : ℕ) → kept_at l r ≡ kept_at k r
@@ -94,7 +94,7 @@ pub record Turned (k l : Knows) (shard : ℕ) (between new : List Entry) : Type 
 abbrev pub IsCause : EngineFault → Shards → ℕ → Knows → Type 0
 IsCause Memory engine shard l = length (seen_at l shard) < engine.limit
 IsCause (Full at n) engine shard l = (at ≡ shard) × (n ≡ engine.limit) × (length (seen_at l shard) ≡ n)
-IsCause (Spent at word) engine shard l = (at ≡ shard) × (word ≡ last_word) × (word_at l shard ≡ word)
+IsCause (Spent at word) engine shard l = (at ≡ shard) × (word ≡ last_word) × (met_word l shard ≡ word)
 
 -- the fault of a shard's turn
 abbrev pub fault_of : ℕ → TurnFault → EngineFault
@@ -132,8 +132,8 @@ ask_act engine moment event (Some k) = own_act engine moment k event
 ask_act engine moment event None = Rests [] (Refused UnknownSession)
 
 -- a command or a question by discriminator; a reflector's names no session
-abbrev pub asking : Shards → ℕ → ℕ → Event → Act
-asking engine moment discr event = ask_act engine moment event (place_of discr engine.configs)
+abbrev pub asking_by_discr : Shards → ℕ → ℕ → Event → Act
+asking_by_discr engine moment discr event = ask_act engine moment event (place_of discr engine.configs)
 
 -- one turn, with its entry: it comes last in what the pass has seen, after others' entries, and the outputs and the answer are
 -- those of that entry after the entries before it

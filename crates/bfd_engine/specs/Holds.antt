@@ -7,7 +7,7 @@ use Rattle.bfd_engine.specs.declared.holding.HoldFault.{HoldFault}
 use Rattle.bfd_engine.specs.declared.holding.HoldFault.TheVariants.{Busy, Spent}
 use Rattle.bfd_engine.specs.Turned.{by, OfShard}
 use Rattle.bfd_engine.specs.Engines.{Shards, Knows, IsCallers, base_at}
-use Rattle.bfd_engine.specs.Calls.{seen_at, word_at, taken_at, made_at, kept_at}
+use Rattle.bfd_engine.specs.Calls.{seen_at, met_word, taken_at, made_at, kept_at}
 
 -- a held turn: the shard, its lock, and what the pass knows of it
 abbrev pub Holding : Type 0
@@ -28,7 +28,7 @@ pub record HasTaken (engine : Shards) (shard : ℕ) (k l : Knows) (hold : Holdin
   pub rest : l ≡ (k.0, slice_set k.1 shard None, k.2)
   pub others : calls by k.0 between ≡ []
   pub seen : hold.2.seen ≡ seen_at k shard ++ between
-  pub word : word_at k shard < hold.2.word
+  pub word : met_word k shard < hold.2.word
   pub taken : hold.2.taken ≡ taken_at k shard
   pub made : hold.2.made ≡ made_at k shard
   pub kept : hold.2.joined ≡ kept_at k shard
@@ -37,12 +37,12 @@ pub record HasTaken (engine : Shards) (shard : ℕ) (k l : Knows) (hold : Holdin
 pub record HasMet (word shard : ℕ) (k l : Knows) : Type 0 where
   pub number : l.0 ≡ k.0
   pub used : l.2 ≡ k.2
-  pub here : word_at l shard ≡ word
+  pub here : met_word l shard ≡ word
   pub seen : (r : ℕ) → seen_at l r ≡ seen_at k r
   pub taken : (r : ℕ) → taken_at l r ≡ taken_at k r
   pub made : (r : ℕ) → made_at l r ≡ made_at k r
   pub kept : (r : ℕ) → kept_at l r ≡ kept_at k r
-  pub word_elsewhere : (r : ℕ) → r ≢ shard → word_at l r ≡ word_at k r
+  pub word_elsewhere : (r : ℕ) → r ≢ shard → met_word l r ≡ met_word k r
 
 -- what a shard's pass knew, if it has one
 abbrev pub KnewBefore : (OfShard → Type 0) → Knows → ℕ → Type 0

@@ -50,7 +50,7 @@ judged_own engine moment k event l answer = Unit {0}
 
 -- an arrival that fails a test up to selection was discarded by the first of them, and a reflector's packet by the first of the
 -- reflectors' tests that it fails
-abbrev pub judged_by : Shards → ℕ → Arrival → Coming → Knows → Answer → Type 0
-judged_by engine moment arrival (Discarded test) l answer = answer ≡ Dropped test
-judged_by engine moment arrival (Reflected place) l answer = answer ≡ answer_by (result_err (reflect engine.pool arrival))
-judged_by engine moment arrival (OwnEvent k event) l answer = judged_own engine moment k event l answer
+abbrev pub arrival_judged : Shards → ℕ → Arrival → Coming → Knows → Answer → Type 0
+arrival_judged engine moment arrival (Discarded test) l answer = answer ≡ Dropped test
+arrival_judged engine moment arrival (Reflected place) l answer = answer ≡ answer_by (result_err (reflect engine.pool arrival))
+arrival_judged engine moment arrival (OwnEvent k event) l answer = judged_own engine moment k event l answer

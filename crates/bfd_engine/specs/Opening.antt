@@ -7,13 +7,13 @@ use Rattle.bfd_sbfd.specs.declared.reflecting.Reflector.{Reflector}
 use Rattle.bfd_demux.specs.declared.row.Row.{Row}
 use Rattle.bfd_demux.specs.Rows.{build_fault}
 use Rattle.bfd_session.specs.Rows.{AreFit}
-use Rattle.bfd_turn.specs.Passes.{TableId, opened}
+use Rattle.bfd_turn.specs.Passes.{TableId, opened_pass}
 use Rattle.bfd_engine.specs.declared.locked.Base.{Base}
 use Rattle.bfd_engine.specs.declared.fault.OpenFault.{OpenFault}
 use Rattle.bfd_engine.specs.declared.fault.OpenFault.TheVariants.{Build, Memory}
 use Rattle.bfd_engine.specs.Turned.{OfShard}
 use Rattle.bfd_engine.specs.Engines.{Shards, Held, Knows, IsOf, AllThere}
-use Rattle.bfd_engine.specs.Calls.{seen_at, word_at, taken_at, made_at, kept_at}
+use Rattle.bfd_engine.specs.Calls.{seen_at, met_word, taken_at, made_at, kept_at}
 
 -- numbers in ascending order, equal ones allowed
 abbrev pub Climbs : List ℕ → Type 0
@@ -31,7 +31,7 @@ pub record IsNewPass (engine : Shards) (pass : Knows) : Type 0 where
   pub number : pass.0 ≡ 0
   pub used : pass.2 ≡ 0
   pub seen : (shard : ℕ) → shard < length engine.locks → seen_at pass shard ≡ []
-  pub word : (shard : ℕ) → shard < length engine.locks → word_at pass shard ≡ 0
+  pub word : (shard : ℕ) → shard < length engine.locks → met_word pass shard ≡ 0
   pub taken : (shard : ℕ) → shard < length engine.locks → taken_at pass shard ≡ 0
   pub made : (shard : ℕ) → shard < length engine.locks → made_at pass shard ≡ []
   pub kept : (shard : ℕ) → shard < length engine.locks → kept_at pass shard ≡ []
@@ -47,7 +47,7 @@ opened_base limit configs = record { configs = configs; limit = limit }
 
 -- a new lock of a shard of these sessions, and the pass of its caller 0
 abbrev pub IsNewShard : ℕ → List SessionConfig → TableId → TableId × OfShard → Type 0
-IsNewShard limit configs lock pass = pass ≡ (lock, opened (opened_base limit configs) 0)
+IsNewShard limit configs lock pass = pass ≡ (lock, opened_pass (opened_base limit configs) 0)
 
 -- sessions that may make a shard
 pub record MayOpen (configs : List SessionConfig) : Type 0 where
@@ -59,14 +59,14 @@ abbrev pub ArePassed : List (List SessionConfig) → Type 0
 ArePassed parts = AllByRecursion MayOpen parts
 
 -- one shard for each part: its lock, the pass of its caller 0, and how many sessions it has
-pub record IsOpened (limit : ℕ) (configs : List SessionConfig) (lock : Option TableId) (pass : Option Held) (size : Option ℕ) : Type 0 where
+pub record IsOpenedShard (limit : ℕ) (configs : List SessionConfig) (lock : Option TableId) (pass : Option Held) (size : Option ℕ) : Type 0 where
   pub id : TableId
   pub lock_is : lock ≡ Some id
-  pub pass_is : pass ≡ Some (Some (id, opened (opened_base limit configs) 0))
+  pub pass_is : pass ≡ Some (Some (id, opened_pass (opened_base limit configs) 0))
   pub size_is : size ≡ Some (length configs)
 
 pub record AreOpened (limit : ℕ) (parts : List (List SessionConfig)) (locks : List TableId) (passes : List Held) (sizes : List ℕ) : Type 0 where
   pub locks_long : length locks ≡ length parts
   pub passes_long : length passes ≡ length parts
   pub sizes_long : length sizes ≡ length parts
-  pub each : (k : ℕ) (configs : List SessionConfig) → slice_get parts k ≡ Some configs → IsOpened limit configs (slice_get locks k) (slice_get passes k) (slice_get sizes k)
+  pub each : (k : ℕ) (configs : List SessionConfig) → slice_get parts k ≡ Some configs → IsOpenedShard limit configs (slice_get locks k) (slice_get passes k) (slice_get sizes k)

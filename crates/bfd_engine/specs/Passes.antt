@@ -7,17 +7,17 @@ use Rattle.bfd_engine.specs.Turned.{by, OfShard}
 use Rattle.bfd_session.specs.Kinds.{configs_of}
 use Rattle.bfd_shard.specs.Shard.{Shard}
 use Rattle.bfd_engine.specs.Engines.{Shards, Held, Knows, configs_at}
-use Rattle.bfd_engine.specs.Calls.{seen_at, word_at, taken_at, made_at, kept_at, mine}
+use Rattle.bfd_engine.specs.Calls.{seen_at, met_word, taken_at, made_at, kept_at, mine}
 
 -- on a shard caller 0 knew k, and knows l once it has made a pass, which knows o
 pub record Parted (k l o : Knows) (shard : ℕ) : Type 0 where
   pub seen : seen_at l shard ≡ seen_at k shard
-  pub word : word_at l shard ≡ word_at k shard
+  pub word : met_word l shard ≡ met_word k shard
   pub taken : taken_at l shard ≡ taken_at k shard
   pub made : made_at l shard ≡ made_at k shard ++ o.0 ∷ []
   pub kept : kept_at l shard ≡ kept_at k shard
   pub seen_new : seen_at o shard ≡ seen_at k shard
-  pub word_new : word_at o shard ≡ word_at k shard
+  pub word_new : met_word o shard ≡ met_word k shard
   pub taken_new : taken_at o shard ≡ 0
   pub fresh : calls by o.0 (seen_at k shard) ≡ []
 
@@ -48,8 +48,8 @@ pub record Joined (k o l : Knows) (shard : ℕ) : Type 0 where
   pub other : Begins (seen_at o shard) (seen_at l shard)
   pub own : mine l shard ≡ mine k shard
   pub kept : kept_at l shard ≡ kept_at k shard ++ (o.0, mine o shard) ∷ []
-  pub word : word_at k shard ≤ word_at l shard
-  pub word_other : word_at o shard ≤ word_at l shard
+  pub word : met_word k shard ≤ met_word l shard
+  pub word_other : met_word o shard ≤ met_word l shard
   pub taken : taken_at l shard ≡ taken_at k shard + taken_at o shard
   pub made : made_at l shard ≡ made_at k shard
 
@@ -90,7 +90,7 @@ pub record IsClosed (engine : Shards) (pass : Knows) (number : ℕ) (shard : Sha
   pub journal : shard.journal ≡ seen_at pass number
   pub configs : configs_of shard.sessions ≡ configs_at engine number
   pub limit : shard.limit ≡ engine.limit
-  pub word : word_at pass number ≤ 2 * taken_at pass number
+  pub word : met_word pass number ≤ 2 * taken_at pass number
   pub kept : AllKept by (kept_at pass number) shard.journal
   pub unmade : (n : ℕ) → n ≢ 0 → has n (made_at pass number) ≡ false → calls by n shard.journal ≡ []
 

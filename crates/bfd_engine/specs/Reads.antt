@@ -11,7 +11,7 @@ use Rattle.bfd_engine.specs.declared.turn.TurnFault.{TurnFault}
 use Rattle.bfd_engine.specs.declared.turn.TurnFault.TheVariants.{Memory as NoMemory, Full as IsFull, Spent as IsSpent}
 use Rattle.bfd_engine.specs.Turned.{OfShard}
 use Rattle.bfd_engine.specs.Engines.{Knows}
-use Rattle.bfd_engine.specs.Calls.{word_at, Turned}
+use Rattle.bfd_engine.specs.Calls.{met_word, Turned}
 
 -- each entry may be given to a shard of these sessions
 abbrev pub AreGiven : List SessionConfig → List Entry → Type 0
@@ -23,12 +23,12 @@ pub record HasRead (k l : Knows) (shard : ℕ) : Type 0 where
   pub turned : Turned k l shard between []
 
 -- why a shard's history wasn't read: no memory, or the lock's last word was met; a full journal can be read
-abbrev pub IsUnread : TurnFault → OfShard → Type 0
-IsUnread NoMemory q = Unit {0}
-IsUnread (IsFull n) q = ⊥
-IsUnread (IsSpent word) q = (word ≡ last_word) × (q.word ≡ word)
+abbrev pub IsHistoryUnread : TurnFault → OfShard → Type 0
+IsHistoryUnread NoMemory q = Unit {0}
+IsHistoryUnread (IsFull n) q = ⊥
+IsHistoryUnread (IsSpent word) q = (word ≡ last_word) × (q.word ≡ word)
 
 abbrev pub IsUnreadAt : EngineFault → ℕ → Knows → Type 0
 IsUnreadAt Memory shard l = Unit {0}
 IsUnreadAt (Full at n) shard l = ⊥
-IsUnreadAt (Spent at word) shard l = (at ≡ shard) × (word ≡ last_word) × (word_at l shard ≡ word)
+IsUnreadAt (Spent at word) shard l = (at ≡ shard) × (word ≡ last_word) × (met_word l shard ≡ word)

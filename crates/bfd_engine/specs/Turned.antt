@@ -88,7 +88,7 @@ pub record HasLooked (p q : OfShard) : Type 0 where
 
 -- why a turn added no entry: no memory, with a journal below its limit; a journal that was seen to be at its limit; or the last
 -- word was met
-abbrev pub IsCause : TurnFault → OfShard → Type 0
-IsCause Memory q = length q.seen < limit_in q.base
-IsCause (Full n) q = (length q.seen ≡ n) × (n ≡ limit_in q.base)
-IsCause (Spent word) q = (word ≡ last_word) × (q.word ≡ word)
+abbrev pub IsTurnCause : TurnFault → OfShard → Type 0
+IsTurnCause Memory q = length q.seen < limit_in q.base
+IsTurnCause (Full n) q = (length q.seen ≡ n) × (n ≡ limit_in q.base)
+IsTurnCause (Spent word) q = (word ≡ last_word) × (q.word ≡ word)

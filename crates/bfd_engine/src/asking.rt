@@ -5,7 +5,7 @@ ghost use Rattle.bfd_session.specs.declared.event.Event.TheVariants.{Command as 
 ghost use Rattle.bfd_session.specs.Rows.{place_of};
 ghost use Rattle.bfd_session.specs.Step.{CanTake};
 ghost use Rattle.bfd_engine.specs.Engines.{IsOf, AllThere};
-ghost use Rattle.bfd_engine.specs.Calls.{IsDone, asking};
+ghost use Rattle.bfd_engine.specs.Calls.{IsDone, asking_by_discr};
 
 use crate::engine::Engine;
 use crate::fault::EngineFault;
@@ -46,7 +46,7 @@ impl<W: Timers> Engine<W> {
         requires room { 5 ≤ outs.old.spare }
         ensures of { IsOf self.now pass.new.1 }
         ensures there { AllThere pass.new.1 }
-        ensures call { IsDone (asking self.now moment discr event)
+        ensures call { IsDone (asking_by_discr self.now moment discr event)
             self.now pass.old pass.new outs.old.items outs.new.items result }
         ensures room { outs.new.room ≡ outs.old.room }
         ensures spare { outs.old.spare ≤ outs.new.spare + 5 }
@@ -77,7 +77,7 @@ impl<W: Timers> Engine<W> {
         requires room { 5 ≤ outs.old.spare }
         ensures of { IsOf self.now pass.new.1 }
         ensures there { AllThere pass.new.1 }
-        ensures call { IsDone (asking self.now moment discr (CommandEvent cmd))
+        ensures call { IsDone (asking_by_discr self.now moment discr (CommandEvent cmd))
             self.now pass.old pass.new outs.old.items outs.new.items result }
         ensures room { outs.new.room ≡ outs.old.room }
         ensures spare { outs.old.spare ≤ outs.new.spare + 5 }
@@ -102,7 +102,7 @@ impl<W: Timers> Engine<W> {
         requires room { 5 ≤ outs.old.spare }
         ensures of { IsOf self.now pass.new.1 }
         ensures there { AllThere pass.new.1 }
-        ensures call { IsDone (asking self.now moment discr ShowEvent)
+        ensures call { IsDone (asking_by_discr self.now moment discr ShowEvent)
             self.now pass.old pass.new outs.old.items outs.new.items result }
         ensures room { outs.new.room ≡ outs.old.room }
         ensures spare { outs.old.spare ≤ outs.new.spare + 5 }

@@ -27,7 +27,11 @@ impl<W: Timers> Model for Hold<W> {
 
     ghost view = { λ hold. (hold.shard, hold.turn.0, hold.turn.1) };
 
-    ghost invariant = { λ hold. (hold.turn.2.shard.value.journal ≡ hold.turn.1.seen) × (Some (record { configs = configs_of hold.turn.2.shard.value.sessions; limit = hold.turn.2.shard.value.limit }) ≡ hold.turn.1.base) };
+    ghost invariant = { λ hold. (hold.turn.2.shard.value.journal ≡ hold.turn.1.seen)
+        × (Some (record {
+          configs = configs_of hold.turn.2.shard.value.sessions;
+          limit = hold.turn.2.shard.value.limit;
+        }) ≡ hold.turn.1.base) };
 }
 
 /// Why a turn isn't held.

@@ -2,7 +2,7 @@
 ghost use Rattle.std.specs.Prelude.{◌≡◌, ◌≤◌, ◌<◌, ◌++◌, IfOk, IfErr, OnOk, length, drop};
 ghost use Rattle.bfd_engine.specs.Calls.{fault_of, seen_at};
 ghost use Rattle.bfd_engine.specs.Engines.{IsOf, AllThere, configs_at};
-ghost use Rattle.bfd_engine.specs.Reads.{HasRead, IsUnread, IsUnreadAt, AreGiven};
+ghost use Rattle.bfd_engine.specs.Reads.{HasRead, IsHistoryUnread, IsUnreadAt, AreGiven};
 ghost use Rattle.bfd_engine.specs.Turned.{HasLooked, IsSame, configs_in};
 
 use crate::engine::{Engine, fault_at};
@@ -43,7 +43,7 @@ fn read_with<W: Timers, R: Wait>(
     ensures looked { HasLooked pass.1 result.0.1 }
     ensures list { IfOk result.1 (λ list. list.items ≡ drop from result.0.1.seen) }
     ensures given { IfOk result.1 (λ list. AreGiven (configs_in pass.1.base) list.items) }
-    ensures fault { IfErr result.1 (λ fault. IsUnread fault result.0.1) }
+    ensures fault { IfErr result.1 (λ fault. IsHistoryUnread fault result.0.1) }
 {
     match lock.turn(rt, pass) {
         Err(Spent { pass, word }) => (pass, Err(TurnFault::Spent(word))),

@@ -3,7 +3,7 @@ ghost use Rattle.std.specs.Prelude.{◌≡◌, ◌≢◌, ◌≤◌, ◌+◌, �
 ghost use Rattle.bfd_shard.specs.declared.entry.Entry.{Entry};
 ghost use Rattle.bfd_shard.specs.declared.entry.ShardEvent.{ShardEvent};
 ghost use Rattle.bfd_turn.specs.Lists.{Begins, calls};
-ghost use Rattle.bfd_engine.specs.Calls.{Turned, mine, seen_at, taken_at, word_at};
+ghost use Rattle.bfd_engine.specs.Calls.{Turned, mine, seen_at, taken_at, met_word};
 ghost use Rattle.bfd_engine.specs.Engines.{Knows};
 ghost use Rattle.bfd_engine.specs.Turned.{by, entry_of};
 
@@ -21,7 +21,7 @@ pub fn turn_laws()
     ensures own { (caller : ℕ) (event : ShardEvent)
         → calls by caller (entry_of caller event ∷ []) ≡ entry_of caller event ∷ [] }
     ensures words { (k l : Knows) (shard r : ℕ) (between new : List Entry) → Turned k l shard between new
-        → word_at k r ≤ word_at l r }
+        → met_word k r ≤ met_word l r }
     ensures takens { (k l : Knows) (shard r : ℕ) (between new : List Entry) → Turned k l shard between new
         → taken_at l r ≤ taken_at k r + 1 }
 {}

@@ -10,9 +10,9 @@ ghost use Rattle.bfd_shard.specs.Shard.{IsTaken};
 ghost use Rattle.bfd_shard.specs.declared.entry.ShardEvent.TheVariants.{Tick as TickEvent};
 ghost use Rattle.bfd_engine.specs.Engines.{IsOf, AllThere, configs_at};
 ghost use Rattle.bfd_engine.specs.Calls.{IsDone, Turns, own_act, arrival_act, coming_act, reflect_act, seen_at};
-ghost use Rattle.bfd_engine.specs.Judging.{judged_by};
+ghost use Rattle.bfd_engine.specs.Judging.{arrival_judged};
 ghost use Rattle.bfd_engine.specs.Turned.{HasExpired};
-ghost use Rattle.bfd_engine.specs.Inside.{Arrives, IsNamed, IsTold};
+ghost use Rattle.bfd_engine.specs.Inside.{Arrives, IsNamedBy, IsReflected};
 
 use crate::engine::Engine;
 use crate::fault::EngineFault;
@@ -83,9 +83,9 @@ impl<W: Timers> Engine<W> {
 
     /// The answer to a packet for the reflector at this place of the pool, which Your Discriminator names.
     fn reflected(&self, place: u32, arrival: &Arrival, outs: &mut Outs) -> Answer
-        requires named { IsNamed self.now.pool place (fields_of arrival.now.payload).your }
+        requires named { IsNamedBy self.now.pool place (fields_of arrival.now.payload).your }
         requires room { 0 < outs.old.spare }
-        ensures told { IsTold (reflecting.reflect self.now.pool arrival.now)
+        ensures told { IsReflected (reflecting.reflect self.now.pool arrival.now)
             arrival.now outs.old.items outs.new.items result }
         ensures room { outs.new.room ≡ outs.old.room }
         ensures spare { outs.old.spare ≤ outs.new.spare + 1 }
@@ -121,7 +121,7 @@ impl<W: Timers> Engine<W> {
         ensures there { AllThere pass.new.1 }
         ensures call { IsDone (coming_act self.now moment arrival (coming_to (Some target) arrival))
             self.now pass.old pass.new outs.old.items outs.new.items result }
-        ensures judged { IfOk result (λ answer. judged_by self.now moment arrival (coming_to (Some target) arrival)
+        ensures judged { IfOk result (λ answer. arrival_judged self.now moment arrival (coming_to (Some target) arrival)
             pass.new answer) }
         ensures room { outs.new.room ≡ outs.old.room }
         ensures spare { outs.old.spare ≤ outs.new.spare + 5 }
@@ -161,7 +161,7 @@ impl<W: Timers> Engine<W> {
         ensures there { AllThere pass.new.1 }
         ensures call { IsDone (arrival_act self.now moment arrival)
             self.now pass.old pass.new outs.old.items outs.new.items result }
-        ensures judged { IfOk result (λ answer. judged_by self.now moment arrival
+        ensures judged { IfOk result (λ answer. arrival_judged self.now moment arrival
             (comes_to (table_of self.now.configs self.now.pool) arrival) pass.new answer) }
         ensures room { outs.new.room ≡ outs.old.room }
         ensures spare { outs.old.spare ≤ outs.new.spare + 5 }

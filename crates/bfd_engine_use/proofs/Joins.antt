@@ -13,7 +13,7 @@ use Rattle.bfd_engine.specs.Opening.{IsNewPass}
 use Rattle.bfd_engine.specs.Passes.{Joined, EachJoined}
 use Rattle.bfd_engine_use.specs.declared.threads.Call.{Call}
 use Rattle.bfd_engine_use.specs.declared.threads.Job.{Job}
-use Rattle.bfd_engine_use.specs.Ready.{IsReady, number_of}
+use Rattle.bfd_engine_use.specs.Ready.{IsJobReady, number_of}
 use Rattle.bfd_engine_use.specs.Joining.{HasOpen, HasAdded, HasJoined}
 
 -- a job's number, and its calls on a shard
@@ -63,8 +63,8 @@ pub all_made_next : {X Y : Type 0} (P : Y → Type 0) (f : X → Y) (items xs ys
 all_made_next P f items xs ys x is all = all_next P (map f items) (map f xs) (map f ys) (f x) (sym (map-append f xs (x ∷ ys)) ∙ ap (map f) is) all
 
 -- a ready job more
-pub ready_more : (engine : Shards) (before after : List Job) (calls : List Call) (room : ℕ) → All (λ j. IsReady engine j) before → HasAdded engine before after calls room → All (λ j. IsReady engine j) after
-ready_more engine before after calls room all added = subst (λ js. All (λ j. IsReady engine j) js) (sym added.after_is) (All-push (λ j. IsReady engine j) before added.job all added.ready)
+pub ready_more : (engine : Shards) (before after : List Job) (calls : List Call) (room : ℕ) → All (λ j. IsJobReady engine j) before → HasAdded engine before after calls room → All (λ j. IsJobReady engine j) after
+ready_more engine before after calls room all added = subst (λ js. All (λ j. IsJobReady engine j) js) (sym added.after_is) (All-push (λ j. IsJobReady engine j) before added.job all added.ready)
 
 -- what is made of each, with one more
 pub map_more : {A B C : Type 0} (f : A → B) (h : C → B) (xs ys : List A) (x : A) (zs : List C) (z : C) → map f xs ≡ map h zs → f x ≡ h z → ys ≡ xs ++ x ∷ [] → map f ys ≡ map h (zs ++ z ∷ [])

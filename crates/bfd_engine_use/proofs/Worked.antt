@@ -6,21 +6,21 @@ use Rattle.bfd_shard.specs.declared.entry.Entry.{Entry}
 use Rattle.bfd_turn.proofs.Beginnings.{begins_itself, begins_through}
 use Rattle.bfd_engine.specs.declared.fault.EngineFault.{EngineFault}
 use Rattle.bfd_engine.specs.Engines.{Shards, Knows, IsOf, AllThere}
-use Rattle.bfd_engine.specs.Calls.{Act, Turns, Rests, IsDone, Turned, seen_at, word_at}
+use Rattle.bfd_engine.specs.Calls.{Act, Turns, Rests, IsDone, Turned, seen_at, met_word}
 use Rattle.bfd_engine.specs.Turned.{entry_of}
 use Rattle.bfd_engine.proofs.Growing.{grows, words}
 use Rattle.bfd_engine_use.specs.declared.threads.Call.{Call}
 use Rattle.bfd_engine_use.specs.declared.threads.Saw.{Saw}
 use Rattle.bfd_engine_use.specs.declared.threads.Job.{Job}
-use Rattle.bfd_engine_use.specs.Ready.{IsReady, number_of}
-use Rattle.bfd_engine_use.specs.Calling.{act_of, WasMade, WereMade, HasGrown, HasWorked, HasEnded}
+use Rattle.bfd_engine_use.specs.Ready.{IsJobReady, number_of}
+use Rattle.bfd_engine_use.specs.Calling.{act_of, WasMade, WereMade, HasGrown, HasCalled, HasEndedCalls}
 
 pub grown_same : (k : Knows) → HasGrown k k
 grown_same k = record {
   number = refl;
   used = refl;
   seen = λ s. begins_itself (seen_at k s);
-  word = λ s. le_refl (word_at k s);
+  word = λ s. le_refl (met_word k s);
   made = λ s. refl;
   kept = λ s. refl;
 }
@@ -59,7 +59,7 @@ made_then engine xs (y ∷ ys) k l m ss ts a b =
 
 module _ (engine : Shards) where
   -- a job whose pass, calls and saw are as they were
-  pub worked_same : (a b : Job) → IsReady engine a → b.pass ≡ a.pass → b.room ≡ a.room → b.calls.items ≡ a.calls.items → b.saw.items ≡ a.saw.items → HasWorked engine a b
+  pub worked_same : (a b : Job) → IsJobReady engine a → b.pass ≡ a.pass → b.room ≡ a.room → b.calls.items ≡ a.calls.items → b.saw.items ≡ a.saw.items → HasCalled engine a b
   worked_same a b ready same room calls saw = record {
     ready = record {
       of = subst (λ (k : Knows). IsOf engine k.1) (sym same) ready.of;
@@ -75,8 +75,8 @@ module _ (engine : Shards) where
   }
 
   -- one call more
-  pub worked_one : (a b : Job) (call : Call) (saw : Saw) → IsReady engine a → IsOf engine b.pass.1 → AllThere b.pass.1 → b.room ≡ a.room → a.calls.items ≡ b.calls.items ++ call ∷ []
-      → b.saw.items ≡ a.saw.items ++ saw ∷ [] → WasMade engine call a.pass b.pass saw → HasWorked engine a b
+  pub worked_one : (a b : Job) (call : Call) (saw : Saw) → IsJobReady engine a → IsOf engine b.pass.1 → AllThere b.pass.1 → b.room ≡ a.room → a.calls.items ≡ b.calls.items ++ call ∷ []
+      → b.saw.items ≡ a.saw.items ++ saw ∷ [] → WasMade engine call a.pass b.pass saw → HasCalled engine a b
   worked_one a b call saw ready of there room calls saws made = record {
     ready = record { of = of; there = there; room = λ s. (let r = ready.room s in omega (arith, r, room)) };
     grown = grown_by engine (act_of engine call) a.pass b.pass [] saw.outs.items saw.answer made;
@@ -87,7 +87,7 @@ module _ (engine : Shards) where
     made = (a.pass, [], saw, (refl, refl), made, refl);
   }
 
-  pub worked_then : (a b c : Job) → HasWorked engine a b → HasWorked engine b c → HasWorked engine a c
+  pub worked_then : (a b c : Job) → HasCalled engine a b → HasCalled engine b c → HasCalled engine a c
   worked_then a b c v w = record {
     ready = w.ready;
     grown = grown_then a.pass b.pass c.pass v.grown w.grown;
@@ -107,5 +107,5 @@ same_numbers (x ∷ xs) [] long each = absurd (omega (arith, long))
 same_numbers (x ∷ xs) (y ∷ ys) long each =
     ap₂ (λ n ns. n ∷ ns) (each 0 x (omega arith)) (same_numbers xs ys (omega (arith, long)) (λ i d h. each (suc i) d (omega (arith, h))))
 
-pub numbers_each : (engine : Shards) (xs ys : List Job) → length ys ≡ length xs → ((i : ℕ) (d : Job) → i < length xs → HasEnded engine (get_or xs i d) (get_or ys i d)) → map number_of ys ≡ map number_of xs
+pub numbers_each : (engine : Shards) (xs ys : List Job) → length ys ≡ length xs → ((i : ℕ) (d : Job) → i < length xs → HasEndedCalls engine (get_or xs i d) (get_or ys i d)) → map number_of ys ≡ map number_of xs
 numbers_each engine xs ys long each = same_numbers xs ys long (λ i d h. (each i d h).worked.grown.number)

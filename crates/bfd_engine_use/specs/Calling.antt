@@ -4,17 +4,17 @@ use Rattle.bfd_session.specs.declared.event.Event.TheVariants.{Command as Comman
 use Rattle.bfd_shard.specs.declared.entry.ShardEvent.TheVariants.{Tick as TickEvent}
 use Rattle.bfd_turn.specs.Lists.{Begins}
 use Rattle.bfd_engine.specs.Engines.{Shards, Knows}
-use Rattle.bfd_engine.specs.Calls.{Act, Turns, IsDone, arrival_act, asking, seen_at, word_at, made_at, kept_at}
+use Rattle.bfd_engine.specs.Calls.{Act, Turns, IsDone, arrival_act, asking_by_discr, seen_at, met_word, made_at, kept_at}
 use Rattle.bfd_engine_use.specs.declared.threads.Call.{Call}
 use Rattle.bfd_engine_use.specs.declared.threads.Call.TheVariants.{Packet, Command, Advance}
 use Rattle.bfd_engine_use.specs.declared.threads.Saw.{Saw}
 use Rattle.bfd_engine_use.specs.declared.threads.Job.{Job}
-use Rattle.bfd_engine_use.specs.Ready.{IsReady}
+use Rattle.bfd_engine_use.specs.Ready.{IsJobReady}
 
 -- what a call comes to
 abbrev pub act_of : Shards → Call → Act
 act_of engine (Packet moment arrival) = arrival_act engine moment arrival
-act_of engine (Command moment discr cmd) = asking engine moment discr (CommandEvent cmd)
+act_of engine (Command moment discr cmd) = asking_by_discr engine moment discr (CommandEvent cmd)
 act_of engine (Advance shard tick) = Turns (shard % length engine.locks) (TickEvent tick)
 
 -- a pass that knew k made this call, knows l after it, and this was seen of it
@@ -33,13 +33,13 @@ pub record HasGrown (k l : Knows) : Type 0 where
   pub number : l.0 ≡ k.0
   pub used : l.2 ≡ k.2
   pub seen : (shard : ℕ) → Begins (seen_at k shard) (seen_at l shard)
-  pub word : (shard : ℕ) → word_at k shard ≤ word_at l shard
+  pub word : (shard : ℕ) → met_word k shard ≤ met_word l shard
   pub made : (shard : ℕ) → made_at l shard ≡ made_at k shard
   pub kept : (shard : ℕ) → kept_at l shard ≡ kept_at k shard
 
 -- a job before and after some of its calls: those that it no longer has were made
-pub record HasWorked (engine : Shards) (before after : Job) : Type 0 where
-  pub ready : IsReady engine after
+pub record HasCalled (engine : Shards) (before after : Job) : Type 0 where
+  pub ready : IsJobReady engine after
   pub grown : HasGrown before.pass after.pass
   pub done : List Call
   pub news : List Saw
@@ -48,6 +48,6 @@ pub record HasWorked (engine : Shards) (before after : Job) : Type 0 where
   pub made : WereMade engine done before.pass after.pass news
 
 -- .. and it ended: all its calls were made, or memory was wanting
-pub record HasEnded (engine : Shards) (before after : Job) : Type 0 where
-  pub worked : HasWorked engine before after
+pub record HasEndedCalls (engine : Shards) (before after : Job) : Type 0 where
+  pub worked : HasCalled engine before after
   pub all : OnOk after.ended (after.calls.items ≡ [])

@@ -8,7 +8,7 @@ use Rattle.bfd_engine.specs.Calls.{seen_at, made_at, kept_at, mine}
 use Rattle.bfd_engine.specs.Passes.{AreClosed}
 use Rattle.bfd_engine_use.specs.declared.threads.Call.{Call}
 use Rattle.bfd_engine_use.specs.declared.threads.Job.{Job}
-use Rattle.bfd_engine_use.specs.Ready.{IsReady}
+use Rattle.bfd_engine_use.specs.Ready.{IsJobReady}
 
 -- caller 0's pass, with no turn held; of the passes that it made those with these numbers, in the order of their making, are left to
 -- be joined
@@ -23,7 +23,7 @@ pub record HasOpen (engine : Shards) (first : Knows) (numbers : List ℕ) : Type
 pub record HasAdded (engine : Shards) (before after : List Job) (calls : List Call) (room : ℕ) : Type 0 where
   pub job : Job
   pub after_is : after ≡ before ++ job ∷ []
-  pub ready : IsReady engine job
+  pub ready : IsJobReady engine job
   pub calls_are : job.calls.items ≡ calls
   pub unseen : job.saw.items ≡ []
   pub room_is : job.room ≡ room
@@ -41,7 +41,7 @@ pub record HasJoined (engine : Shards) (k l : Knows) (jobs : List Job) : Type 0 
   pub made : (shard : ℕ) → shard < length engine.locks → made_at l shard ≡ made_at k shard
 
 -- the shards of an engine that was closed once the passes of these jobs were joined
-pub record HasFinished (engine : Shards) (first : Knows) (jobs : List Job) (shards : List Shard) : Type 0 where
+pub record HasClosed (engine : Shards) (first : Knows) (jobs : List Job) (shards : List Shard) : Type 0 where
   pub last : Knows
   pub joined : HasJoined engine first last jobs
   pub closed : AreClosed engine last shards

@@ -4,7 +4,7 @@ use Rattle.bfd_engine.specs.Engines.{Shards, IsOf, AllThere, configs_at}
 use Rattle.bfd_engine_use.specs.declared.threads.Job.{Job}
 
 -- a job whose pass is one of the engine, with no turn held, and which makes room for what any call may put out
-pub record IsReady (engine : Shards) (job : Job) : Type 0 where
+pub record IsJobReady (engine : Shards) (job : Job) : Type 0 where
   pub of : IsOf engine job.pass.1
   pub there : AllThere job.pass.1
   pub room : (shard : ℕ) → 5 * length (configs_at engine shard) + 5 ≤ job.room

@@ -2,8 +2,8 @@
 ghost use Rattle.std.specs.Prelude.{ℕ, ◌≡◌, ◌≤◌, ◌<◌, ◌+◌, ◌*◌, IfOk, OnOk, OnErr, length, map};
 ghost use Rattle.std.specs.List.{All};
 ghost use Rattle.bfd_engine.specs.Engines.{configs_at};
-ghost use Rattle.bfd_engine_use.specs.Joining.{HasOpen, HasAdded, HasJoined, HasFinished};
-ghost use Rattle.bfd_engine_use.specs.Ready.{IsReady, number_of};
+ghost use Rattle.bfd_engine_use.specs.Joining.{HasOpen, HasAdded, HasJoined, HasClosed};
+ghost use Rattle.bfd_engine_use.specs.Ready.{IsJobReady, number_of};
 
 use crate::threads::{Call, Job, Saw};
 use bfd_engine::{Engine, EnginePass, Unclosed};
@@ -22,11 +22,11 @@ pub fn add_job<W: Timers>(
     room: usize,
 ) -> Result<(), AllocError>
     requires passes { HasOpen engine.now first.old (map number_of jobs.old.items) }
-    requires ready { All (λ (j : _). IsReady engine.now j) jobs.old.items }
+    requires ready { All (λ (j : _). IsJobReady engine.now j) jobs.old.items }
     requires few { first.old.2 < 64 }
     requires room { (shard : ℕ) → 5 * length (configs_at engine.now shard) + 5 ≤ room }
     ensures passes { HasOpen engine.now first.new (map number_of jobs.new.items) }
-    ensures ready { All (λ (j : _). IsReady engine.now j) jobs.new.items }
+    ensures ready { All (λ (j : _). IsJobReady engine.now j) jobs.new.items }
     ensures used { first.new.2 ≤ first.old.2 + 1 }
     ensures added { OnOk result (HasAdded engine.now jobs.old.items jobs.new.items calls.items room) }
     ensures same { OnErr result (jobs.new.items ≡ jobs.old.items) }
@@ -51,7 +51,7 @@ fn join_all<W: Timers>(
     jobs: Vec<Job>,
 ) -> Result<Vec<Vec<Saw>>, AllocError>
     requires passes { HasOpen engine.now first.old (map number_of jobs.items) }
-    requires ready { All (λ (j : _). IsReady engine.now j) jobs.items }
+    requires ready { All (λ (j : _). IsJobReady engine.now j) jobs.items }
     ensures joined { IfOk result (λ _. HasJoined engine.now first.old first.new jobs.items) }
     ensures saw { IfOk result (λ list. map (λ saw. saw.items) list.items ≡ map (λ (j : _). j.saw.items) jobs.items) }
 {
@@ -73,8 +73,8 @@ pub fn finish<W: Timers>(
     jobs: Vec<Job>,
 ) -> Result<(Vec<ShardState<W>>, Vec<Vec<Saw>>), AllocError>
     requires passes { HasOpen engine first (map number_of jobs.items) }
-    requires ready { All (λ (j : _). IsReady engine j) jobs.items }
-    ensures shards { IfOk result (λ r. HasFinished engine first jobs.items r.0.items) }
+    requires ready { All (λ (j : _). IsJobReady engine j) jobs.items }
+    ensures shards { IfOk result (λ r. HasClosed engine first jobs.items r.0.items) }
     ensures saw { IfOk result (λ r. map (λ saw. saw.items) r.1.items ≡ map (λ (j : _). j.saw.items) jobs.items) }
 {
     let mut first = first;

@@ -3,8 +3,8 @@ ghost use Rattle.std.specs.Prelude.{ℕ, ◌≡◌, ◌≤◌, ◌<◌, ◌+◌,
 ghost use Rattle.std.specs.List.{All};
 ghost use Rattle.bfd_engine.specs.Calls.{IsDone};
 ghost use Rattle.bfd_engine.specs.Engines.{IsOf, AllThere, configs_at};
-ghost use Rattle.bfd_engine_use.specs.Calling.{act_of, HasWorked, HasEnded};
-ghost use Rattle.bfd_engine_use.specs.Ready.{IsReady, number_of};
+ghost use Rattle.bfd_engine_use.specs.Calling.{act_of, HasCalled, HasEndedCalls};
+ghost use Rattle.bfd_engine_use.specs.Ready.{IsJobReady, number_of};
 
 use bfd_engine::{Engine, EngineFault, EnginePass};
 use bfd_num::{Moment, Steps, Tick};
@@ -86,9 +86,9 @@ fn next<W: Timers, R: Wait, L: Ledger>(
     job: &mut Job,
     steps: &mut Steps<L>,
 ) -> Result<(), AllocError>
-    requires ready { IsReady engine.now job.old }
+    requires ready { IsJobReady engine.now job.old }
     requires some { 0 < length job.old.calls.items }
-    ensures worked { HasWorked engine.now job.old job.new }
+    ensures worked { HasCalled engine.now job.old job.new }
     ensures one { OnOk result (length job.new.calls.items + 1 ≡ length job.old.calls.items) }
 {
     let mut outs = Outs::make(alloc, job.room)?;
@@ -109,11 +109,11 @@ fn work<W: Timers, R: Wait, L: Ledger>(
     job: &mut Job,
     blank: Blank,
 ) -> Result<(), AllocError>
-    requires ready { IsReady engine.now job.old }
+    requires ready { IsJobReady engine.now job.old }
     requires name { blank.name ≡ L.name }
     requires parts { blank.parts ≡ L.parts }
     requires some { 0 < blank.parts }
-    ensures worked { HasWorked engine.now job.old job.new }
+    ensures worked { HasCalled engine.now job.old job.new }
     ensures all { OnOk result (job.new.calls.items ≡ []) }
 {
     let mut steps = Steps::<L>::new(blank);
@@ -130,8 +130,8 @@ pub(crate) fn work_alone<W: Timers, R: Wait>(
     engine: &Engine<W>,
     job: &mut Job,
 )
-    requires { IsReady engine.now job.old }
-    ensures { HasEnded engine.now job.old job.new }
+    requires { IsJobReady engine.now job.old }
+    ensures { HasEndedCalls engine.now job.old job.new }
 {
     job.ended = work::<W, R, Brand>(rt, alloc, engine, job, Blank::new(1));
 }
@@ -146,11 +146,11 @@ pub fn at_once<W: Timers + Send, R: Threads + Wait + Sync>(
     engine: &Engine<W>,
     jobs: &mut [Job],
 )
-    requires { All (λ (j : _). IsReady engine.now j) jobs.old }
+    requires { All (λ (j : _). IsJobReady engine.now j) jobs.old }
     ensures long { length jobs.new ≡ length jobs.old }
     ensures each { (i : ℕ) (d : _) → i < length jobs.old
-        → HasEnded engine.now (slice_index_or jobs.old i d) (slice_index_or jobs.new i d) }
-    ensures ready { All (λ (j : _). IsReady engine.now j) jobs.new }
+        → HasEndedCalls engine.now (slice_index_or jobs.old i d) (slice_index_or jobs.new i d) }
+    ensures ready { All (λ (j : _). IsJobReady engine.now j) jobs.new }
     ensures numbers { map number_of jobs.new ≡ map number_of jobs.old }
 {
     thread::for_each_mut(
@@ -158,8 +158,8 @@ pub fn at_once<W: Timers + Send, R: Threads + Wait + Sync>(
         jobs,
         64,
         &|_, job: &mut Job|
-            requires { IsReady engine.now job.now }
-            ensures { HasEnded engine.entry.now job.entry.now job.exit.now }
+            requires { IsJobReady engine.now job.now }
+            ensures { HasEndedCalls engine.entry.now job.entry.now job.exit.now }
         { work_alone(rt, alloc, engine, job) },
     );
 }

@@ -21,15 +21,15 @@ abbrev pub is_printable : ℕ → Bool
 is_printable byte = nat_le 32 byte && nat_le byte 126
 
 -- a line that may be looked at: it isn't too long, and has printable bytes alone
-abbrev pub text_of : List ℕ → Result (List ℕ) LineFault
-text_of line =
+abbrev pub line_text : List ℕ → Result (List ℕ) LineFault
+line_text line =
     if nat_lt 4096 (length line) then Err TooLong
     else if not (list_all is_printable line) then Err NotAscii
     else Ok line
 
 -- the fields of a line: what stands between its spaces
-abbrev pub fields_of : List ℕ → List (List ℕ)
-fields_of line = slice_split (λ byte. byte == 32) line
+abbrev pub split_fields : List ℕ → List (List ℕ)
+split_fields line = slice_split (λ byte. byte == 32) line
 
 -- one decimal digit or more, and no zero before another digit
 abbrev pub is_number : List ℕ → Bool

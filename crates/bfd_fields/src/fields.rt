@@ -4,7 +4,7 @@ ghost use Rattle.std.specs.Simd.Lanes.{mask_l};
 ghost use Rattle.std.specs.List.{list_all, position_or_len, slice_split};
 ghost use Rattle.std.specs.Char.{is_ascii_digit};
 ghost use Rattle.std.specs.Str.Parse.{digits_value};
-ghost use Rattle.bfd_fields.specs.Fields.{fields_of, is_printable, lines_of, number_in, text_of};
+ghost use Rattle.bfd_fields.specs.Fields.{split_fields, is_printable, lines_of, number_in, line_text};
 ghost use Rattle.bfd_fields.specs.Gives.{SeesField};
 ghost use Rattle.bfd_fields.specs.declared.fault.LineFault.TheVariants.{OutOfRange};
 
@@ -93,7 +93,7 @@ fn is_all_printable(line: &[u8]) -> bool
 
 /// A line that may be looked at: refused where it is too long or has a byte that isn't printable.
 pub fn line_text(line: &[u8]) -> Result<&[u8], LineFault>
-    ensures { SeesField (λ text. text.now) result (text_of line.now) }
+    ensures { SeesField (λ text. text.now) result (line_text line.now) }
 {
     if line.len() > MOST_LINE {
         return Err(LineFault::TooLong);
@@ -212,7 +212,7 @@ fn split_front<'a>(line: &'a [u8], fields: &mut Vec<&'a [u8]>) -> Result<&'a [u8
 /// What stands between the spaces of a line, in `fields`, whose room is used again for each line.
 #[tactic(auto, using(crate::proofs::Cuts::next_part, crate::proofs::Cuts::last_part))]
 pub fn split_fields<'a>(line: &'a [u8], fields: &mut Vec<&'a [u8]>) -> Result<(), AllocError>
-    ensures { OnOk result (map (λ field. field.now) fields.new.items ≡ fields_of line.now) }
+    ensures { OnOk result (map (λ field. field.now) fields.new.items ≡ split_fields line.now) }
 {
     fields.clear();
     let mut rest = split_front(line, fields)?;

@@ -5,8 +5,8 @@ use Rattle.std.proofs.lemmas.List.{get_or_default}
 use Rattle.std.proofs.lemmas.List.Sums.{sum_by-cons}
 use Rattle.bfd_gather.specs.declared.key.Mark.{Mark}
 use Rattle.bfd_gather.specs.Pieces.{Piece, texts}
-use Rattle.bfd_gather.specs.Spread.{Dealt, pieces_in, IsSpread, text_of}
-use Rattle.bfd_gather.specs.Inside.{HasAll, IsPart, first_key, key_of, pieces_at}
+use Rattle.bfd_gather.specs.Spread.{Dealt, pieces_in, IsSpread, dealt_text}
+use Rattle.bfd_gather.specs.Inside.{HasAll, IsPart, first_key, mark_key, pieces_at}
 use Rattle.bfd_gather.proofs.Marks.{long_of}
 use Rattle.bfd_gather.proofs.Taking.{here, away, same_or_not, txs_of, drops_of}
 
@@ -34,7 +34,7 @@ pub whole : (dealt : List Dealt) (parts : List (List Piece)) (s : ℕ) (part : L
 whole dealt parts s part h a e = e ∙ (get_or_default parts s part [] a.inside ∙ alone dealt parts s h a)
 
 -- their text and their packets
-pub texts_dealt : (ds : List Dealt) → texts (map (λ d. d.piece) ds) ≡ text_of ds
+pub texts_dealt : (ds : List Dealt) → texts (map (λ d. d.piece) ds) ≡ dealt_text ds
 texts_dealt [] = refl
 texts_dealt (d ∷ ds) = ap (λ t. d.piece.text ++ t) (texts_dealt ds)
 
@@ -63,7 +63,7 @@ txs_at (m ∷ ms) t =
       arith,
       txs_at ms (drop m.long t),
       sum_by-cons (λ (n : Mark). n.txs) m ms,
-      sum_by-cons (λ (p : Piece). p.txs) (record { key = key_of m; text = take m.long t; txs = m.txs; drops = m.drops }) (pieces_at ms (drop m.long t)),
+      sum_by-cons (λ (p : Piece). p.txs) (record { key = mark_key m; text = take m.long t; txs = m.txs; drops = m.drops }) (pieces_at ms (drop m.long t)),
     )
 
 pub drops_at : (ms : List Mark) (t : List ℕ) → sum_by (λ (p : Piece). p.drops) (pieces_at ms t) ≡ sum_by (λ (m : Mark). m.drops) ms
@@ -73,7 +73,7 @@ drops_at (m ∷ ms) t =
       arith,
       drops_at ms (drop m.long t),
       sum_by-cons (λ (n : Mark). n.drops) m ms,
-      sum_by-cons (λ (p : Piece). p.drops) (record { key = key_of m; text = take m.long t; txs = m.txs; drops = m.drops }) (pieces_at ms (drop m.long t)),
+      sum_by-cons (λ (p : Piece). p.drops) (record { key = mark_key m; text = take m.long t; txs = m.txs; drops = m.drops }) (pieces_at ms (drop m.long t)),
     )
 
 -- the text and the packets that a part has left

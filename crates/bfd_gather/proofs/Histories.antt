@@ -16,7 +16,7 @@ use Rattle.bfd_shard.proofs.Runs.{moved_at, moved_long, runs_at, runs_long}
 use Rattle.bfd_shard.proofs.Ticks.{nobody}
 use Rattle.bfd_gather.specs.declared.queue.Numbered.{Numbered}
 use Rattle.bfd_gather.specs.Pieces.{event_pieces, whole_piece}
-use Rattle.bfd_gather.specs.Happenings.{Happening, Apart, Among, among, in_shard, numbered, queue, told, told_apart}
+use Rattle.bfd_gather.specs.Happenings.{Happening, Apart, Among, session_event, in_shard, numbered, queue, shard_tells, told_apart}
 use Rattle.bfd_shard.proofs.Sharing.{share_map}
 use Rattle.bfd_gather.proofs.Sharing.{own_here, own_away, tick_here}
 
@@ -80,7 +80,7 @@ queued : (n number : ℕ) (o : Option ShardEvent) (rest : List Numbered) → map
 queued n number None rest = refl
 queued n number (Some e) rest = refl
 
-pub queue_events : (n r number : ℕ) (hs : List Happening) → map (λ (e : Numbered). e.event) (queue n r number hs) ≡ history_of n r (filter_map among hs)
+pub queue_events : (n r number : ℕ) (hs : List Happening) → map (λ (e : Numbered). e.event) (queue n r number hs) ≡ history_of n r (filter_map session_event hs)
 queue_events n r number [] = refl
 queue_events n r number (Apart o ∷ hs) = queue_events n r (number + 1) hs
 queue_events n r number (Among e ∷ hs) =
@@ -114,16 +114,16 @@ among_more number (Apart x ∷ hs) e = ap (λ ps. whole_piece number x ∷ ps) (
 among_more number (Among x ∷ hs) e = among_more (number + 1) hs e
 
 told_more : (last : ℕ) (xs : List Numbered) (x : Numbered) (ss : List Running)
-    → told last (xs ++ x ∷ []) ss ≡ told last xs ss ++ event_pieces x.number x.event (outcome_of (last_from last (map (λ (e : Numbered). e.event) xs)) x.event (left_by last (map (λ (e : Numbered). e.event) xs) ss))
+    → shard_tells last (xs ++ x ∷ []) ss ≡ shard_tells last xs ss ++ event_pieces x.number x.event (outcome_of (last_from last (map (λ (e : Numbered). e.event) xs)) x.event (left_by last (map (λ (e : Numbered). e.event) xs) ss))
 unfolding last_from
 told_more last [] x ss = append-nil (event_pieces x.number x.event (outcome_of last x.event ss))
 told_more last (y ∷ xs) x ss =
     ap (λ ps. event_pieces y.number y.event (outcome_of last y.event ss) ++ ps) (told_more (later last y.event) xs x (moved last y.event ss))
-    ∙ sym (append_assoc (event_pieces y.number y.event (outcome_of last y.event ss)) (told (later last y.event) xs (moved last y.event ss))
+    ∙ sym (append_assoc (event_pieces y.number y.event (outcome_of last y.event ss)) (shard_tells (later last y.event) xs (moved last y.event ss))
     (event_pieces x.number x.event (outcome_of (last_from (later last y.event) (map (λ (e : Numbered). e.event) xs)) x.event (left_by (later last y.event) (map (λ (e : Numbered). e.event) xs) (moved last y.event ss)))))
 
 pub told_runs : (xs : List Numbered) (x : Numbered) (cs : List SessionConfig)
-    → told 0 (xs ++ x ∷ []) (map started cs) ≡ told 0 xs (map started cs) ++ event_pieces x.number x.event (outcome_of (last_tick (map (λ (e : Numbered). e.event) xs)) x.event (runs (map (λ (e : Numbered). e.event) xs) cs))
+    → shard_tells 0 (xs ++ x ∷ []) (map started cs) ≡ shard_tells 0 xs (map started cs) ++ event_pieces x.number x.event (outcome_of (last_tick (map (λ (e : Numbered). e.event) xs)) x.event (runs (map (λ (e : Numbered). e.event) xs) cs))
 told_runs xs x cs =
     told_more 0 xs x (map started cs)
-    ∙ ap (λ ss. told 0 xs (map started cs) ++ event_pieces x.number x.event (outcome_of (last_tick (map (λ (e : Numbered). e.event) xs)) x.event ss)) (left_runs (map (λ (e : Numbered). e.event) xs) cs)
+    ∙ ap (λ ss. shard_tells 0 xs (map started cs) ++ event_pieces x.number x.event (outcome_of (last_tick (map (λ (e : Numbered). e.event) xs)) x.event ss)) (left_runs (map (λ (e : Numbered). e.event) xs) cs)

@@ -9,10 +9,10 @@ use Rattle.bfd_session.specs.declared.event.Answer.TheVariants.{Handled}
 use Rattle.bfd_session.specs.Alone.{Outcome}
 use Rattle.std.proofs.lemmas.Grind.{flat_map-append}
 use Rattle.bfd_rules.specs.Names.{named}
-use Rattle.bfd_script.specs.Report.{event_lines, item_line, sent_by}
+use Rattle.bfd_script.specs.Report.{event_lines, item_line, packets_sent_by}
 use Rattle.bfd_gather.specs.declared.key.Mark.{Mark}
 use Rattle.bfd_gather.specs.Pieces.{Piece, texts, key, whole_piece, item_piece}
-use Rattle.bfd_gather.specs.Inside.{pieces_at, key_of, mark, mark_of, IsPart}
+use Rattle.bfd_gather.specs.Inside.{pieces_at, mark_key, mark, mark_of, IsPart}
 use Rattle.bfd_script.proofs.Sizes.{item_some}
 use Rattle.bfd_gather.proofs.Sizes.{event_some}
 
@@ -39,9 +39,9 @@ pieces_append (m ∷ ms) ns t u h =
     let s = sum_by-cons (λ (n : Mark). n.long) m ms in
     let fits : m.long ≤ length t = omega (arith, h, s) in
     let left : long_of ms ≡ length (drop m.long t) = omega (arith, h, s, length-drop m.long t) in
-    ap (λ v. record { key = key_of m; text = v; txs = m.txs; drops = m.drops } ∷ pieces_at (ms ++ ns) (drop m.long (t ++ u))) (take-append-le m.long t u fits)
-    ∙ (ap (λ v. record { key = key_of m; text = take m.long t; txs = m.txs; drops = m.drops } ∷ pieces_at (ms ++ ns) v) (drop-append-le m.long t u fits)
-    ∙ ap (λ qs. record { key = key_of m; text = take m.long t; txs = m.txs; drops = m.drops } ∷ qs) (pieces_append ms ns (drop m.long t) u left))
+    ap (λ v. record { key = mark_key m; text = v; txs = m.txs; drops = m.drops } ∷ pieces_at (ms ++ ns) (drop m.long (t ++ u))) (take-append-le m.long t u fits)
+    ∙ (ap (λ v. record { key = mark_key m; text = take m.long t; txs = m.txs; drops = m.drops } ∷ pieces_at (ms ++ ns) v) (drop-append-le m.long t u fits)
+    ∙ ap (λ qs. record { key = mark_key m; text = take m.long t; txs = m.txs; drops = m.drops } ∷ qs) (pieces_append ms ns (drop m.long t) u left))
 
 -- marks have all of their pieces' text
 pub long_marks : (ps : List Piece) → long_of (map mark_of ps) ≡ length (texts ps)
@@ -97,11 +97,11 @@ one_text n [] = refl
 one_text n (o ∷ os) = append_assoc (item_line n o) (flat_map (item_line n) os) [] ∙ ap (λ t. item_line n o ++ t) (one_text n os)
 
 pub one_mark : (n : ℕ) (os : List Out) (o : Out) (long txs drops : ℕ) (m : Mark) → length os ≡ 1 → o ≡ get_or os 0 o
-    → long ≡ length (event_lines n (record { items = os; answer = Handled })) → txs ≡ sent_by o → drops ≡ 0 → m ≡ mark (key n (named o)) long txs drops → m ∷ [] ≡ map mark_of (map (item_piece n) os)
+    → long ≡ length (event_lines n (record { items = os; answer = Handled })) → txs ≡ packets_sent_by o → drops ≡ 0 → m ≡ mark (key n (named o)) long txs drops → m ∷ [] ≡ map mark_of (map (item_piece n) os)
 one_mark n (x ∷ []) o long txs drops m h e l t d is =
     let here : long ≡ length (item_line n x) = l ∙ (ap length (one_text n (x ∷ [])) ∙ ap length (append-nil (item_line n x))) in
     ap (λ (y : Mark). y ∷ []) (is ∙ (ap (λ y. mark (key n (named y)) long txs drops) e ∙ (ap (λ y. mark (key n (named x)) y txs drops) here
-    ∙ (ap (λ y. mark (key n (named x)) (length (item_line n x)) y drops) (t ∙ ap sent_by e) ∙ ap (λ y. mark (key n (named x)) (length (item_line n x)) (sent_by x) y) d))))
+    ∙ (ap (λ y. mark (key n (named x)) (length (item_line n x)) y drops) (t ∙ ap packets_sent_by e) ∙ ap (λ y. mark (key n (named x)) (length (item_line n x)) (packets_sent_by x) y) d))))
 one_mark n os o long txs drops m h e l t d is = absurd (omega (arith, h))
 
 -- a part has a mark for each piece

@@ -6,7 +6,7 @@ use Rattle.std.proofs.lemmas.Bool.Decides.{nat_tests}
 use Rattle.std.proofs.lemmas.List.Sums.{sum_by-cons}
 use Rattle.bfd_gather.specs.declared.key.Key.{Key}
 use Rattle.bfd_gather.specs.Pieces.{Piece, precedes}
-use Rattle.bfd_gather.specs.Spread.{Dealt, pieces_in, IsBefore, IsSpread, text_of}
+use Rattle.bfd_gather.specs.Spread.{Dealt, pieces_in, IsBefore, IsSpread, dealt_text}
 use Rattle.bfd_gather.specs.Inside.{IsLeast, first_key, first_text, first_txs, first_drops}
 
 -- how many packets dealt pieces tell were sent and were dropped
@@ -20,7 +20,7 @@ drops_of ds = sum_by (λ d. d.piece.drops) ds
 pub record Going (all : List Dealt) (parts : List (List Piece)) (before text : List ℕ) (txs drops : ℕ) : Type 0 where
   pub left : List Dealt
   pub spread : IsSpread left parts
-  pub told : text ++ text_of left ≡ before ++ text_of all
+  pub told : text ++ dealt_text left ≡ before ++ dealt_text all
   pub sent : txs + txs_of left ≡ txs_of all
   pub dropped : drops + drops_of left ≡ drops_of all
 
@@ -93,7 +93,7 @@ takes d ds parts s h e inside = record {
 }
 
 go_by : (all : List Dealt) (parts : List (List Piece)) (before text : List ℕ) (txs drops s : ℕ) (left : List Dealt)
-    → IsLeast parts s → IsSpread left parts → text ++ text_of left ≡ before ++ text_of all → txs + txs_of left ≡ txs_of all → drops + drops_of left ≡ drops_of all
+    → IsLeast parts s → IsSpread left parts → text ++ dealt_text left ≡ before ++ dealt_text all → txs + txs_of left ≡ txs_of all → drops + drops_of left ≡ drops_of all
     → Going all (set parts s (drop 1 (get_or parts s []))) before (text ++ first_text (get_or parts s [])) (txs + first_txs (get_or parts s [])) (drops + first_drops (get_or parts s []))
 go_by all parts before text txs drops s [] l h told sent dropped =
     absurd (let none : first_key (get_or parts s []) ≡ None = ap first_key (h.each s l.inside) in let some = l.there in cc)
@@ -103,7 +103,7 @@ go_by all parts before text txs drops s (d ∷ ds) l h told sent dropped =
     record {
       left = ds;
       spread = takes d ds parts s h mine l.inside;
-      told = ap (λ ps. (text ++ first_text ps) ++ text_of ds) is ∙ (append_assoc text d.piece.text (text_of ds) ∙ told);
+      told = ap (λ ps. (text ++ first_text ps) ++ dealt_text ds) is ∙ (append_assoc text d.piece.text (dealt_text ds) ∙ told);
       sent = (let one = ap first_txs is in let more = sum_by-cons (λ (x : Dealt). x.piece.txs) d ds in omega (arith, one, more, sent));
       dropped = (let one = ap first_drops is in let more = sum_by-cons (λ (x : Dealt). x.piece.drops) d ds in omega (arith, one, more, dropped));
     }
@@ -127,10 +127,10 @@ nothing (d ∷ ds) parts h none =
     absurd (let some : first_key (get_or parts d.part []) ≡ Some d.piece.key = ap first_key (h.each d.part h.within.0 ∙ here d ds d.part refl) in let empty = none d.part h.within.0 in cc)
 
 pub gone : (all : List Dealt) (parts : List (List Piece)) (before text : List ℕ) (txs drops : ℕ) → ((s : ℕ) → s < length parts → first_key (get_or parts s []) ≡ None)
-    → Going all parts before text txs drops → (text ≡ before ++ text_of all) × (txs ≡ txs_of all) × (drops ≡ drops_of all)
+    → Going all parts before text txs drops → (text ≡ before ++ dealt_text all) × (txs ≡ txs_of all) × (drops ≡ drops_of all)
 gone all parts before text txs drops none g =
     let empty : g.left ≡ [] = nothing g.left parts g.spread none in (
-      sym (append-nil text) ∙ (ap (λ ds. text ++ text_of ds) (sym empty) ∙ g.told),
+      sym (append-nil text) ∙ (ap (λ ds. text ++ dealt_text ds) (sym empty) ∙ g.told),
       omega (arith, g.sent, ap txs_of empty),
       omega (arith, g.dropped, ap drops_of empty),
     )

@@ -16,7 +16,7 @@ use Rattle.bfd_shard.specs.Dealing.{share}
 use Rattle.bfd_shard.specs.History.{later, moved, outcome_of}
 use Rattle.bfd_gather.specs.declared.queue.Numbered.{Numbered}
 use Rattle.bfd_gather.specs.Pieces.{Piece, whole_piece, item_piece, event_pieces}
-use Rattle.bfd_gather.specs.Happenings.{Happening, Apart, Among, numbered, queue, told, told_apart}
+use Rattle.bfd_gather.specs.Happenings.{Happening, Apart, Among, numbered, queue, shard_tells, told_apart}
 use Rattle.bfd_gather.specs.Spread.{Dealt, deal, pieces_in}
 use Rattle.bfd_gather.proofs.Sharing.{own_here, own_gives, own_away, tick_here}
 use Rattle.bfd_gather.proofs.Taking.{here, away}
@@ -111,24 +111,24 @@ items_none n number items k (s ∷ ss) some =
 
 -- what a shard of these sessions tells, where its first event is its own one or none
 abbrev pub begins : Bool → ℕ → ℕ → ℕ → ℕ → Event → List Numbered → List Running → List Piece
-begins b number last p m event rest ss = told last (cons_option (numbered number (if b then Some (Own p m event) else None)) rest) ss
+begins b number last p m event rest ss = shard_tells last (cons_option (numbered number (if b then Some (Own p m event) else None)) rest) ss
 
 own_each : (n number last k m : ℕ) (event : Event) (hs : List Happening) (ss : List Running) → 0 < n
-    → told last (queue n (k % n) (number + 1) hs) (share n (k % n) (moved last (Own k m event) ss)) ≡ pieces_in (k % n) (deal_all n (number + 1) last hs (moved last (Own k m event) ss))
-    → told last (queue n (k % n) number (Among (Own k m event) ∷ hs)) (share n (k % n) ss) ≡ pieces_in (k % n) (deal_all n number last (Among (Own k m event) ∷ hs) ss)
+    → shard_tells last (queue n (k % n) (number + 1) hs) (share n (k % n) (moved last (Own k m event) ss)) ≡ pieces_in (k % n) (deal_all n (number + 1) last hs (moved last (Own k m event) ss))
+    → shard_tells last (queue n (k % n) number (Among (Own k m event) ∷ hs)) (share n (k % n) ss) ≡ pieces_in (k % n) (deal_all n number last (Among (Own k m event) ∷ hs) ss)
 own_each n number last k m event hs ss some rest =
     ap (λ b. begins b number last (k / n) m event (queue n (k % n) (number + 1) hs) (share n (k % n) ss)) (eq-eqb (k % n) (k % n) refl)
-    ∙ (ap (λ o. whole_piece number o ∷ told last (queue n (k % n) (number + 1) hs) (moved last (Own (k / n) m event) (share n (k % n) ss))) (own_gives n k m last event ss some)
-    ∙ (ap (λ zs. whole_piece number (outcome_of last (Own k m event) ss) ∷ told last (queue n (k % n) (number + 1) hs) zs) (sym (own_here n k m last event ss some))
+    ∙ (ap (λ o. whole_piece number o ∷ shard_tells last (queue n (k % n) (number + 1) hs) (moved last (Own (k / n) m event) (share n (k % n) ss))) (own_gives n k m last event ss some)
+    ∙ (ap (λ zs. whole_piece number (outcome_of last (Own k m event) ss) ∷ shard_tells last (queue n (k % n) (number + 1) hs) zs) (sym (own_here n k m last event ss some))
     ∙ (ap (λ ps. whole_piece number (outcome_of last (Own k m event) ss) ∷ ps) rest
     ∙ sym (here (deal (k % n) (whole_piece number (outcome_of last (Own k m event) ss))) (deal_all n (number + 1) last hs (moved last (Own k m event) ss)) (k % n) refl))))
 
 own_others : (n number last r k m : ℕ) (event : Event) (hs : List Happening) (ss : List Running) → 0 < n → r < n → k % n ≢ r
-    → told last (queue n r (number + 1) hs) (share n r (moved last (Own k m event) ss)) ≡ pieces_in r (deal_all n (number + 1) last hs (moved last (Own k m event) ss))
-    → told last (queue n r number (Among (Own k m event) ∷ hs)) (share n r ss) ≡ pieces_in r (deal_all n number last (Among (Own k m event) ∷ hs) ss)
+    → shard_tells last (queue n r (number + 1) hs) (share n r (moved last (Own k m event) ss)) ≡ pieces_in r (deal_all n (number + 1) last hs (moved last (Own k m event) ss))
+    → shard_tells last (queue n r number (Among (Own k m event) ∷ hs)) (share n r ss) ≡ pieces_in r (deal_all n number last (Among (Own k m event) ∷ hs) ss)
 own_others n number last r k m event hs ss some h other rest =
     ap (λ b. begins b number last (k / n) m event (queue n r (number + 1) hs) (share n r ss)) (ne_eqb (k % n) r other)
-    ∙ (ap (told last (queue n r (number + 1) hs)) (sym (own_away n r k m last event ss some h other))
+    ∙ (ap (shard_tells last (queue n r (number + 1) hs)) (sym (own_away n r k m last event ss some h other))
     ∙ (rest ∙ sym (away (deal (k % n) (whole_piece number (outcome_of last (Own k m event) ss))) (deal_all n (number + 1) last hs (moved last (Own k m event) ss)) r other)))
 
 pub tick_gives : (number last t : ℕ) (ss : List Running) → event_pieces number (Tick t) (outcome_of last (Tick t) ss) ≡ map (item_piece number) (flat_map (tick_items (max last t)) ss)
@@ -139,22 +139,22 @@ in_turn : (n r : ℕ) → r < n → (0 + r) % n ≡ r
 in_turn n r h = ap (λ x. x % n) (let z : 0 + r ≡ r = omega arith in z) ∙ mod-eq_of_lt h
 
 tick_each : (n number last r t : ℕ) (hs : List Happening) (ss : List Running) → 0 < n → r < n
-    → told (max last t) (queue n r (number + 1) hs) (share n r (moved last (Tick t) ss)) ≡ pieces_in r (deal_all n (number + 1) (max last t) hs (moved last (Tick t) ss))
-    → told last (queue n r number (Among (Tick t) ∷ hs)) (share n r ss) ≡ pieces_in r (deal_all n number last (Among (Tick t) ∷ hs) ss)
+    → shard_tells (max last t) (queue n r (number + 1) hs) (share n r (moved last (Tick t) ss)) ≡ pieces_in r (deal_all n (number + 1) (max last t) hs (moved last (Tick t) ss))
+    → shard_tells last (queue n r number (Among (Tick t) ∷ hs)) (share n r ss) ≡ pieces_in r (deal_all n number last (Among (Tick t) ∷ hs) ss)
 tick_each n number last r t hs ss some h rest =
-    ap (λ ps. ps ++ told (max last t) (queue n r (number + 1) hs) (moved last (Tick t) (share n r ss))) (tick_gives number last t (share n r ss))
-    ∙ (ap (λ zs. map (item_piece number) (flat_map (tick_items (max last t)) (share n r ss)) ++ told (max last t) (queue n r (number + 1) hs) zs) (sym (tick_here n r t last ss))
+    ap (λ ps. ps ++ shard_tells (max last t) (queue n r (number + 1) hs) (moved last (Tick t) (share n r ss))) (tick_gives number last t (share n r ss))
+    ∙ (ap (λ zs. map (item_piece number) (flat_map (tick_items (max last t)) (share n r ss)) ++ shard_tells (max last t) (queue n r (number + 1) hs) zs) (sym (tick_here n r t last ss))
     ∙ (ap (λ ps. map (item_piece number) (flat_map (tick_items (max last t)) (share n r ss)) ++ ps) rest
     ∙ (ap (λ ps. ps ++ pieces_in r (deal_all n (number + 1) (max last t) hs (moved last (Tick t) ss))) (sym (items_in n number (tick_items (max last t)) r r 0 ss some h (in_turn n r h)))
     ∙ sym (in_append r (deal_items n number (tick_items (max last t)) 0 ss) (deal_all n (number + 1) (max last t) hs (moved last (Tick t) ss))))))
 
 pub told_each : (n number last r : ℕ) (hs : List Happening) (ss : List Running) → 0 < n → r < n
-    → told last (queue n r number hs) (share n r ss) ≡ pieces_in r (deal_all n number last hs ss)
+    → shard_tells last (queue n r number hs) (share n r ss) ≡ pieces_in r (deal_all n number last hs ss)
 told_each n number last r [] ss some h = refl
 told_each n number last r (Apart o ∷ hs) ss some h =
     told_each n (number + 1) last r hs ss some h ∙ sym (away (deal n (whole_piece number o)) (deal_all n (number + 1) last hs ss) r (λ z. omega (arith, z, h)))
 told_each n number last r (Among (Own k m event) ∷ hs) ss some h = elim (cases_eq (k % n) r) [
-  | inl same ↦ subst (λ i. told last (queue n i number (Among (Own k m event) ∷ hs)) (share n i ss) ≡ pieces_in i (deal_all n number last (Among (Own k m event) ∷ hs) ss)) same
+  | inl same ↦ subst (λ i. shard_tells last (queue n i number (Among (Own k m event) ∷ hs)) (share n i ss) ≡ pieces_in i (deal_all n number last (Among (Own k m event) ∷ hs) ss)) same
       (own_each n number last k m event hs ss some (told_each n (number + 1) last (k % n) hs (moved last (Own k m event) ss) some (mod-lt k some)))
   | inr other ↦ own_others n number last r k m event hs ss some h other (told_each n (number + 1) last r hs (moved last (Own k m event) ss) some h)
 ]

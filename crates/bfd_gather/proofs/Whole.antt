@@ -15,10 +15,10 @@ use Rattle.bfd_shard.specs.declared.entry.ShardEvent.{ShardEvent}
 use Rattle.bfd_shard.specs.declared.entry.ShardEvent.TheVariants.{Own, Tick}
 use Rattle.bfd_shard.specs.History.{later, moved, outcome_of}
 use Rattle.bfd_shard.proofs.Runs.{moved_configs}
-use Rattle.bfd_script.specs.Report.{item_line, event_lines, lines_from, sent_by, sent, dropped, done_line, report}
+use Rattle.bfd_script.specs.Report.{item_line, event_lines, lines_from, packets_sent_by, packets_sent, dropped, done_line, report}
 use Rattle.bfd_gather.specs.Pieces.{Piece, whole_piece, item_piece, event_pieces}
-use Rattle.bfd_gather.specs.Happenings.{Happening, Apart, Among, outcomes, told_whole, AreParts}
-use Rattle.bfd_gather.specs.Spread.{Dealt, deal, pieces_in, IsBefore, Ordered, IsSpread, AreGathered, text_of}
+use Rattle.bfd_gather.specs.Happenings.{Happening, Apart, Among, happening_outcomes, told_whole, AreParts}
+use Rattle.bfd_gather.specs.Spread.{Dealt, deal, pieces_in, IsBefore, Ordered, IsSpread, AreGathered, dealt_text}
 use Rattle.bfd_gather.proofs.Keys.{earlier, lower}
 use Rattle.bfd_gather.proofs.Scan.{before_or_at}
 use Rattle.bfd_gather.proofs.Taking.{txs_of, drops_of}
@@ -199,41 +199,41 @@ parts_gathered n number last hs ss parts p = record {
 
 -- their text, and what they count
 
-session_text : (number q : ℕ) (os : List Out) → text_of (map (λ o. deal q (item_piece number o)) os) ≡ flat_map (item_line number) os
+session_text : (number q : ℕ) (os : List Out) → dealt_text (map (λ o. deal q (item_piece number o)) os) ≡ flat_map (item_line number) os
 session_text number q [] = refl
 session_text number q (o ∷ os) = ap (λ t. item_line number o ++ t) (session_text number q os)
 
-text_append : (ds es : List Dealt) → text_of (ds ++ es) ≡ text_of ds ++ text_of es
+text_append : (ds es : List Dealt) → dealt_text (ds ++ es) ≡ dealt_text ds ++ dealt_text es
 text_append ds es = flat_map-append (λ (d : Dealt). d.piece.text) ds es
 
-items_text : (n number : ℕ) (items : Running → List Out) (k : ℕ) (ss : List Running) → text_of (deal_items n number items k ss) ≡ flat_map (item_line number) (flat_map items ss)
+items_text : (n number : ℕ) (items : Running → List Out) (k : ℕ) (ss : List Running) → dealt_text (deal_items n number items k ss) ≡ flat_map (item_line number) (flat_map items ss)
 items_text n number items k [] = refl
 items_text n number items k (s ∷ ss) =
     text_append (map (λ o. deal (k % n) (item_piece number o)) (items s)) (deal_items n number items (k + 1) ss)
-    ∙ (ap (λ t. t ++ text_of (deal_items n number items (k + 1) ss)) (session_text number (k % n) (items s))
+    ∙ (ap (λ t. t ++ dealt_text (deal_items n number items (k + 1) ss)) (session_text number (k % n) (items s))
     ∙ (ap (λ t. flat_map (item_line number) (items s) ++ t) (items_text n number items (k + 1) ss)
     ∙ sym (flat_map-append (item_line number) (items s) (flat_map items ss))))
 
-event_text : (n number last : ℕ) (e : ShardEvent) (ss : List Running) → text_of (deal_event n number last e ss) ≡ event_lines number (outcome_of last e ss)
+event_text : (n number last : ℕ) (e : ShardEvent) (ss : List Running) → dealt_text (deal_event n number last e ss) ≡ event_lines number (outcome_of last e ss)
 unfolding outcome_of
 event_text n number last (Own k m event) ss = append-nil (event_lines number (outcome_of last (Own k m event) ss))
 event_text n number last (Tick t) ss =
     items_text n number (tick_items (max last t)) 0 ss ∙ sym (append-nil (flat_map (item_line number) (flat_map (tick_items (max last t)) ss)))
 
-pub all_text : (n number last : ℕ) (hs : List Happening) (ss : List Running) → text_of (deal_all n number last hs ss) ≡ lines_from number (outcomes last hs ss)
+pub all_text : (n number last : ℕ) (hs : List Happening) (ss : List Running) → dealt_text (deal_all n number last hs ss) ≡ lines_from number (happening_outcomes last hs ss)
 all_text n number last [] ss = refl
 all_text n number last (Apart o ∷ hs) ss = ap (λ t. event_lines number o ++ t) (all_text n (number + 1) last hs ss)
 all_text n number last (Among e ∷ hs) ss =
     text_append (deal_event n number last e ss) (deal_all n (number + 1) (later last e) hs (moved last e ss))
-    ∙ (ap (λ t. t ++ text_of (deal_all n (number + 1) (later last e) hs (moved last e ss))) (event_text n number last e ss)
+    ∙ (ap (λ t. t ++ dealt_text (deal_all n (number + 1) (later last e) hs (moved last e ss))) (event_text n number last e ss)
     ∙ ap (λ t. event_lines number (outcome_of last e ss) ++ t) (all_text n (number + 1) (later last e) hs (moved last e ss)))
 
-session_txs : (number q : ℕ) (os : List Out) → txs_of (map (λ o. deal q (item_piece number o)) os) ≡ sum_by sent_by os
+session_txs : (number q : ℕ) (os : List Out) → txs_of (map (λ o. deal q (item_piece number o)) os) ≡ sum_by packets_sent_by os
 session_txs number q [] = refl
 session_txs number q (o ∷ os) =
-    omega (arith, sum_by-cons (λ (d : Dealt). d.piece.txs) (deal q (item_piece number o)) (map (λ x. deal q (item_piece number x)) os), sum_by-cons sent_by o os, session_txs number q os)
+    omega (arith, sum_by-cons (λ (d : Dealt). d.piece.txs) (deal q (item_piece number o)) (map (λ x. deal q (item_piece number x)) os), sum_by-cons packets_sent_by o os, session_txs number q os)
 
-items_txs : (n number : ℕ) (items : Running → List Out) (k : ℕ) (ss : List Running) → txs_of (deal_items n number items k ss) ≡ sum_by sent_by (flat_map items ss)
+items_txs : (n number : ℕ) (items : Running → List Out) (k : ℕ) (ss : List Running) → txs_of (deal_items n number items k ss) ≡ sum_by packets_sent_by (flat_map items ss)
 items_txs n number items k [] = refl
 items_txs n number items k (s ∷ ss) =
     omega (
@@ -241,32 +241,32 @@ items_txs n number items k (s ∷ ss) =
       sum_by-append (λ (d : Dealt). d.piece.txs) (map (λ o. deal (k % n) (item_piece number o)) (items s)) (deal_items n number items (k + 1) ss),
       session_txs number (k % n) (items s),
       items_txs n number items (k + 1) ss,
-      sum_by-append sent_by (items s) (flat_map items ss),
+      sum_by-append packets_sent_by (items s) (flat_map items ss),
     )
 
 -- what dealt pieces tell, added up, where each event's pieces tell what its outcome does
 all_sum : (n : ℕ) (f : Dealt → ℕ) (g : Outcome → ℕ) → ((number : ℕ) (o : Outcome) → f (deal n (whole_piece number o)) ≡ g o)
     → ((number last : ℕ) (e : ShardEvent) (ss : List Running) → sum_by f (deal_event n number last e ss) ≡ g (outcome_of last e ss))
-    → (number last : ℕ) (hs : List Happening) (ss : List Running) → sum_by f (deal_all n number last hs ss) ≡ sum_by g (outcomes last hs ss)
+    → (number last : ℕ) (hs : List Happening) (ss : List Running) → sum_by f (deal_all n number last hs ss) ≡ sum_by g (happening_outcomes last hs ss)
 all_sum n f g one event number last [] ss = refl
 all_sum n f g one event number last (Apart o ∷ hs) ss =
-    omega (arith, sum_by-cons f (deal n (whole_piece number o)) (deal_all n (number + 1) last hs ss), sum_by-cons g o (outcomes last hs ss), one number o, all_sum n f g one event (number + 1) last hs ss)
+    omega (arith, sum_by-cons f (deal n (whole_piece number o)) (deal_all n (number + 1) last hs ss), sum_by-cons g o (happening_outcomes last hs ss), one number o, all_sum n f g one event (number + 1) last hs ss)
 all_sum n f g one event number last (Among e ∷ hs) ss =
     omega (
       arith,
       sum_by-append f (deal_event n number last e ss) (deal_all n (number + 1) (later last e) hs (moved last e ss)),
       event number last e ss,
-      sum_by-cons g (outcome_of last e ss) (outcomes (later last e) hs (moved last e ss)),
+      sum_by-cons g (outcome_of last e ss) (happening_outcomes (later last e) hs (moved last e ss)),
       all_sum n f g one event (number + 1) (later last e) hs (moved last e ss),
     )
 
-event_txs : (n number last : ℕ) (e : ShardEvent) (ss : List Running) → txs_of (deal_event n number last e ss) ≡ sent (outcome_of last e ss)
+event_txs : (n number last : ℕ) (e : ShardEvent) (ss : List Running) → txs_of (deal_event n number last e ss) ≡ packets_sent (outcome_of last e ss)
 unfolding outcome_of
-event_txs n number last (Own k m event) ss = sum_by-cons (λ (d : Dealt). d.piece.txs) (deal (k % n) (whole_piece number (outcome_of last (Own k m event) ss))) [] ∙ (let z : sent (outcome_of last (Own k m event) ss) + 0 ≡ sent (outcome_of last (Own k m event) ss) = omega arith in z)
+event_txs n number last (Own k m event) ss = sum_by-cons (λ (d : Dealt). d.piece.txs) (deal (k % n) (whole_piece number (outcome_of last (Own k m event) ss))) [] ∙ (let z : packets_sent (outcome_of last (Own k m event) ss) + 0 ≡ packets_sent (outcome_of last (Own k m event) ss) = omega arith in z)
 event_txs n number last (Tick t) ss = items_txs n number (tick_items (max last t)) 0 ss
 
-pub all_txs : (n number last : ℕ) (hs : List Happening) (ss : List Running) → txs_of (deal_all n number last hs ss) ≡ sum_by sent (outcomes last hs ss)
-all_txs n number last hs ss = all_sum n (λ (d : Dealt). d.piece.txs) sent (λ _ o. refl) (event_txs n) number last hs ss
+pub all_txs : (n number last : ℕ) (hs : List Happening) (ss : List Running) → txs_of (deal_all n number last hs ss) ≡ sum_by packets_sent (happening_outcomes last hs ss)
+all_txs n number last hs ss = all_sum n (λ (d : Dealt). d.piece.txs) packets_sent (λ _ o. refl) (event_txs n) number last hs ss
 
 session_drops : (number q : ℕ) (os : List Out) → drops_of (map (λ o. deal q (item_piece number o)) os) ≡ 0
 session_drops number q [] = refl
@@ -288,21 +288,21 @@ unfolding outcome_of
 event_drops n number last (Own k m event) ss = sum_by-cons (λ (d : Dealt). d.piece.drops) (deal (k % n) (whole_piece number (outcome_of last (Own k m event) ss))) [] ∙ (let z : dropped (outcome_of last (Own k m event) ss) + 0 ≡ dropped (outcome_of last (Own k m event) ss) = omega arith in z)
 event_drops n number last (Tick t) ss = items_drops n number (tick_items (max last t)) 0 ss
 
-pub all_drops : (n number last : ℕ) (hs : List Happening) (ss : List Running) → drops_of (deal_all n number last hs ss) ≡ sum_by dropped (outcomes last hs ss)
+pub all_drops : (n number last : ℕ) (hs : List Happening) (ss : List Running) → drops_of (deal_all n number last hs ss) ≡ sum_by dropped (happening_outcomes last hs ss)
 all_drops n number last hs ss = all_sum n (λ (d : Dealt). d.piece.drops) dropped (λ _ o. refl) (event_drops n) number last hs ss
 
-one_each : (last : ℕ) (hs : List Happening) (ss : List Running) → length (outcomes last hs ss) ≡ length hs
+one_each : (last : ℕ) (hs : List Happening) (ss : List Running) → length (happening_outcomes last hs ss) ≡ length hs
 one_each last [] ss = refl
 one_each last (Apart o ∷ hs) ss = ap suc (one_each last hs ss)
 one_each last (Among e ∷ hs) ss = ap suc (one_each (later last e) hs (moved last e ss))
 
 -- the lines, and the last line behind them, are the report
 pub whole_report : (n last : ℕ) (hs : List Happening) (ss : List Running) (text more done : List ℕ) (events txs drops : ℕ) → length hs ≡ events
-    → text ≡ text_of (deal_all n 1 last hs ss) → txs ≡ txs_of (deal_all n 1 last hs ss) → drops ≡ drops_of (deal_all n 1 last hs ss)
-    → done ≡ done_line events txs drops → more ≡ text ++ done → more ≡ report (outcomes last hs ss)
+    → text ≡ dealt_text (deal_all n 1 last hs ss) → txs ≡ txs_of (deal_all n 1 last hs ss) → drops ≡ drops_of (deal_all n 1 last hs ss)
+    → done ≡ done_line events txs drops → more ≡ text ++ done → more ≡ report (happening_outcomes last hs ss)
 whole_report n last hs ss text more done events txs drops count told sends fell is added =
-    let os : List Outcome = outcomes last hs ss in
+    let os : List Outcome = happening_outcomes last hs ss in
     added ∙ (ap (λ ds. text ++ ds) is ∙ (ap (λ ts. ts ++ done_line events txs drops) (told ∙ all_text n 1 last hs ss)
     ∙ (ap (λ k. lines_from 1 os ++ done_line k txs drops) (sym (one_each last hs ss ∙ count))
     ∙ (ap (λ k. lines_from 1 os ++ done_line (length os) k drops) (sends ∙ all_txs n 1 last hs ss)
-    ∙ ap (λ k. lines_from 1 os ++ done_line (length os) (sum_by sent os) k) (fell ∙ all_drops n 1 last hs ss)))))
+    ∙ ap (λ k. lines_from 1 os ++ done_line (length os) (sum_by packets_sent os) k) (fell ∙ all_drops n 1 last hs ss)))))

@@ -17,15 +17,15 @@ pub data Happening : Type 0 where
   Among : ShardEvent → Happening
 
 -- what they give one after another, from these sessions and this last tick on
-abbrev pub outcomes : ℕ → List Happening → List Running → List Outcome
-outcomes last [] sessions = []
-outcomes last (Apart outcome ∷ rest) sessions = outcome ∷ outcomes last rest sessions
-outcomes last (Among event ∷ rest) sessions = outcome_of last event sessions ∷ outcomes (later last event) rest (moved last event sessions)
+abbrev pub happening_outcomes : ℕ → List Happening → List Running → List Outcome
+happening_outcomes last [] sessions = []
+happening_outcomes last (Apart outcome ∷ rest) sessions = outcome ∷ happening_outcomes last rest sessions
+happening_outcomes last (Among event ∷ rest) sessions = outcome_of last event sessions ∷ happening_outcomes (later last event) rest (moved last event sessions)
 
 -- an event of the sessions, if it is one
-abbrev pub among : Happening → Option ShardEvent
-among (Apart outcome) = None
-among (Among event) = Some event
+abbrev pub session_event : Happening → Option ShardEvent
+session_event (Apart outcome) = None
+session_event (Among event) = Some event
 
 -- an event as the shard of this number has it, if it has it, of so many shards
 abbrev pub in_shard : ℕ → ℕ → Happening → Option ShardEvent
@@ -48,10 +48,10 @@ AreQueued number event before after = (shard : ℕ) → shard < length before
     → slice_index_or after shard [] ≡ slice_index_or before shard [] ++ cons_option (numbered number (event_in (length before) shard event)) []
 
 -- what a shard tells of its events, from these sessions of its own and this last tick on
-abbrev pub told : ℕ → List Numbered → List Running → List Piece
-told last [] sessions = []
-told last (e ∷ rest) sessions =
-    event_pieces e.number e.event (outcome_of last e.event sessions) ++ told (later last e.event) rest (moved last e.event sessions)
+abbrev pub shard_tells : ℕ → List Numbered → List Running → List Piece
+shard_tells last [] sessions = []
+shard_tells last (e ∷ rest) sessions =
+    event_pieces e.number e.event (outcome_of last e.event sessions) ++ shard_tells (later last e.event) rest (moved last e.event sessions)
 
 -- what one shard with the whole table would tell of all these events, where the first has this number
 abbrev pub told_whole : ℕ → ℕ → List Happening → List Running → List Piece
@@ -72,6 +72,6 @@ pub record AreParts (shards number last : ℕ) (events : List Happening) (sessio
   pub some : 0 < shards
   pub long : length parts ≡ shards + 1
   pub each : (shard : ℕ) → shard < shards
-      → slice_index_or parts shard [] ≡ told last (queue shards shard number events) (share shards shard sessions)
+      → slice_index_or parts shard [] ≡ shard_tells last (queue shards shard number events) (share shards shard sessions)
   pub others : slice_index_or parts shards [] ≡ told_apart number events
   pub ascends : Ascends (configs_of sessions)

@@ -6,8 +6,8 @@ use Rattle.bfd_gather.specs.declared.key.Mark.{Mark}
 use Rattle.bfd_gather.specs.Pieces.{Piece, key, precedes}
 
 -- the key of a mark, and the mark with this key, of so many bytes of text and so many packets
-abbrev pub key_of : Mark → Key
-key_of m = key m.event m.discr
+abbrev pub mark_key : Mark → Key
+mark_key m = key m.event m.discr
 
 abbrev pub mark : Key → ℕ → ℕ → ℕ → Mark
 mark k long txs drops = record { event = k.event; discr = k.discr; long = long; txs = txs; drops = drops }
@@ -16,7 +16,7 @@ mark k long txs drops = record { event = k.event; discr = k.discr; long = long; 
 abbrev pub pieces_at : List Mark → List ℕ → List Piece
 pieces_at [] text = []
 pieces_at (m ∷ rest) text =
-    record { key = key_of m; text = take m.long text; txs = m.txs; drops = m.drops } ∷ pieces_at rest (drop m.long text)
+    record { key = mark_key m; text = take m.long text; txs = m.txs; drops = m.drops } ∷ pieces_at rest (drop m.long text)
 
 -- the mark of a piece
 abbrev pub mark_of : Piece → Mark

@@ -6,7 +6,7 @@ use Rattle.bfd_session.specs.Alone.{Outcome}
 use Rattle.bfd_rules.specs.Names.{named}
 use Rattle.bfd_shard.specs.declared.entry.ShardEvent.{ShardEvent}
 use Rattle.bfd_shard.specs.declared.entry.ShardEvent.TheVariants.{Own, Tick}
-use Rattle.bfd_script.specs.Report.{item_line, event_lines, sent, sent_by, dropped}
+use Rattle.bfd_script.specs.Report.{item_line, event_lines, packets_sent, packets_sent_by, dropped}
 use Rattle.bfd_gather.specs.declared.key.Key.{Key}
 
 -- a piece of a report: its key, its text, and how many packets it tells were sent and were dropped
@@ -32,11 +32,11 @@ precedes a b = nat_lt a.event b.event || (a.event == b.event && nat_lt a.discr b
 -- all lines of an event of one session or of none
 abbrev pub whole_piece : ℕ → Outcome → Piece
 whole_piece number outcome =
-    record { key = key number 0; text = event_lines number outcome; txs = sent outcome; drops = dropped outcome }
+    record { key = key number 0; text = event_lines number outcome; txs = packets_sent outcome; drops = dropped outcome }
 
 -- the line of one output of a tick
 abbrev pub item_piece : ℕ → Out → Piece
-item_piece number out = record { key = key number (named out); text = item_line number out; txs = sent_by out; drops = 0 }
+item_piece number out = record { key = key number (named out); text = item_line number out; txs = packets_sent_by out; drops = 0 }
 
 -- the pieces of an event of a shard, which gave this outcome
 abbrev pub event_pieces : ℕ → ShardEvent → Outcome → List Piece

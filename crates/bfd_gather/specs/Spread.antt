@@ -31,8 +31,8 @@ pub record IsSpread (dealt : List Dealt) (parts : List (List Piece)) : Type 0 wh
   pub ordered : Ordered dealt
 
 -- their text
-abbrev pub text_of : List Dealt → List ℕ
-text_of dealt = flat_map (λ d. d.piece.text) dealt
+abbrev pub dealt_text : List Dealt → List ℕ
+dealt_text dealt = flat_map (λ d. d.piece.text) dealt
 
 -- taken in the order of the report, the parts' pieces are these
 pub record AreGathered (parts : List (List Piece)) (pieces : List Piece) : Type 0 where

@@ -1,7 +1,7 @@
 //! What outputs name, and how many packets outputs and answers tell of.
 ghost use Rattle.std.specs.Prelude.{◌≡◌, ◌≤◌, length, sum_by};
 ghost use Rattle.bfd_rules.specs.Names as names;
-ghost use Rattle.bfd_script.specs.Report.{sent_by, dropped_by};
+ghost use Rattle.bfd_script.specs.Report.{packets_sent_by, dropped_by};
 
 use bfd_rules::Out;
 use bfd_session::Answer;
@@ -18,7 +18,7 @@ pub(crate) fn named(out: &Out) -> u32
 
 /// How many packets an output tells of.
 pub(crate) fn packets(out: &Out) -> u64
-    ensures value { result ≡ sent_by out.now }
+    ensures value { result ≡ packets_sent_by out.now }
     ensures few { result ≤ 1 }
 {
     match out {
@@ -29,7 +29,7 @@ pub(crate) fn packets(out: &Out) -> u64
 
 /// How many packets the outputs tell of.
 pub(crate) fn sent(outs: &[Out]) -> u64
-    ensures value { result ≡ sum_by sent_by outs.now }
+    ensures value { result ≡ sum_by packets_sent_by outs.now }
     ensures few { result ≤ length outs.now }
 {
     let mut count = 0u64;

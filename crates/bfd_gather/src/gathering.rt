@@ -1,6 +1,6 @@
 //! The parts' pieces, taken in the order of a report.
 ghost use Rattle.std.specs.Prelude.{ℕ, ◌≡◌, ◌≢◌, ◌<◌, ◌≤◌, ◌+◌, ◌++◌, [], List, None, IfNone, IfOk, IfSome, OnOk, length, slice_index_or, sum_by, true};
-ghost use Rattle.bfd_gather.specs.Spread.{Dealt, IsSpread, text_of};
+ghost use Rattle.bfd_gather.specs.Spread.{Dealt, IsSpread, dealt_text};
 ghost use Rattle.bfd_gather.specs.Inside.{BestOf, HasAll, IsLeast, first_key};
 ghost use Rattle.bfd_gather.specs.Inside as inside;
 
@@ -60,7 +60,7 @@ fn room_of(parts: &[Part]) -> usize {
 /// gives how many packets they tell were sent and were dropped. The one refusal is want of memory.
 pub(crate) fn gather(parts: &mut Vec<Part>, text: &mut Vec<u8>) -> Result<(u64, u64), AllocError>
     ensures told { (dealt : List Dealt) → IsSpread dealt parts.old.items
-        → OnOk result (text.new.items ≡ text.old.items ++ text_of dealt) }
+        → OnOk result (text.new.items ≡ text.old.items ++ dealt_text dealt) }
     ensures txs { (dealt : List Dealt) → IsSpread dealt parts.old.items
         → IfOk result (λ counts. counts.0 ≡ sum_by (λ d. d.piece.txs) dealt) }
     ensures drops { (dealt : List Dealt) → IsSpread dealt parts.old.items
@@ -105,7 +105,7 @@ pub(crate) fn gather_all(
     text: &mut Vec<u8>,
 ) -> Result<(u64, u64), AllocError>
     ensures told { (dealt : List Dealt) → IsSpread dealt parts.old.items
-        → OnOk result (text.new.items ≡ text.old.items ++ text_of dealt) }
+        → OnOk result (text.new.items ≡ text.old.items ++ dealt_text dealt) }
     ensures txs { (dealt : List Dealt) → IsSpread dealt parts.old.items
         → IfOk result (λ counts. counts.0 ≡ sum_by (λ d. d.piece.txs) dealt) }
     ensures drops { (dealt : List Dealt) → IsSpread dealt parts.old.items

@@ -39,7 +39,7 @@ impl Mark {
 
     /// The piece's key.
     pub(crate) fn key(self) -> Key
-        ensures { result ≡ inside.key_of self }
+        ensures { result ≡ inside.mark_key self }
     {
         Key {
             event: u64::from(self.event),

@@ -12,7 +12,7 @@ ghost use Rattle.bfd_shard.specs.Dealing.{history_of, share};
 ghost use Rattle.bfd_shard.specs.History.{last_tick, moved, outcome_of, runs};
 ghost use Rattle.bfd_gather.specs.declared.queue.Numbered.{Numbered};
 ghost use Rattle.bfd_gather.specs.Pieces.{Piece, event_pieces, whole_piece};
-ghost use Rattle.bfd_gather.specs.Happenings.{Happening, Apart, Among, AreParts, among, in_shard, numbered, queue, told, told_apart, told_whole};
+ghost use Rattle.bfd_gather.specs.Happenings.{Happening, Apart, Among, AreParts, session_event, in_shard, numbered, queue, shard_tells, told_apart, told_whole};
 ghost use Rattle.bfd_gather.specs.Spread.{AreGathered};
 
 /// Laws of sessions that are dealt out, and no work. A shard's sessions after its history are those of the whole table after
@@ -33,7 +33,7 @@ pub fn dealing_laws()
         → shard < shards → (k % shards ≡ shard → ⊥)
         → share shards shard (moved last (Own k moment event) sessions) ≡ share shards shard sessions }
     ensures queue { (shards shard number : ℕ) (events : List Happening)
-        → map (λ e. e.event) (queue shards shard number events) ≡ history_of shards shard (filter_map among events) }
+        → map (λ e. e.event) (queue shards shard number events) ≡ history_of shards shard (filter_map session_event events) }
     ensures queue_more { (shards shard number : ℕ) (events : List Happening) (event : Happening)
         → queue shards shard number (events ++ event ∷ [])
         ≡ queue shards shard number events
@@ -47,8 +47,8 @@ pub fn dealing_laws()
 #[tactic(auto, using(crate::proofs::Histories::told_runs, crate::proofs::Histories::apart_more, crate::proofs::Histories::among_more, crate::proofs::Whole::parts_gathered))]
 pub fn telling_laws()
     ensures more { (events : List Numbered) (event : Numbered) (configs : List SessionConfig)
-        → told 0 (events ++ event ∷ []) (map started configs)
-        ≡ told 0 events (map started configs) ++ event_pieces event.number event.event
+        → shard_tells 0 (events ++ event ∷ []) (map started configs)
+        ≡ shard_tells 0 events (map started configs) ++ event_pieces event.number event.event
         (outcome_of (last_tick (map (λ e. e.event) events)) event.event (runs (map (λ e. e.event) events) configs)) }
     ensures more_apart { (number : ℕ) (events : List Happening) (outcome : Outcome)
         → told_apart number (events ++ Apart outcome ∷ [])

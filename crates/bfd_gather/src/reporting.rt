@@ -3,7 +3,7 @@ ghost use Rattle.std.specs.Prelude.{ℕ, ◌≡◌, List, IfOk, length, string_b
 ghost use Rattle.bfd_session.specs.Kinds.{Running};
 ghost use Rattle.bfd_script.specs.Report.{done_line};
 ghost use Rattle.bfd_script.specs.Report as script;
-ghost use Rattle.bfd_gather.specs.Happenings.{Happening, AreParts, outcomes};
+ghost use Rattle.bfd_gather.specs.Happenings.{Happening, AreParts, happening_outcomes};
 
 use crate::gathering::gather_all;
 use crate::part::Part;
@@ -30,13 +30,13 @@ pub fn report(alloc: Global, parts: Vec<Part>, events: u64) -> Result<Gathered, 
     ensures text { (shards last : ℕ) (happenings : List Happening) (sessions : List Running)
         → length happenings ≡ events
         → AreParts shards 1 last happenings sessions parts.items
-        → IfOk result (λ report. report.text.items ≡ script.report (outcomes last happenings sessions)) }
+        → IfOk result (λ report. report.text.items ≡ script.report (happening_outcomes last happenings sessions)) }
     ensures txs { (shards last : ℕ) (happenings : List Happening) (sessions : List Running)
         → AreParts shards 1 last happenings sessions parts.items
-        → IfOk result (λ report. report.txs ≡ sum_by script.sent (outcomes last happenings sessions)) }
+        → IfOk result (λ report. report.txs ≡ sum_by script.packets_sent (happening_outcomes last happenings sessions)) }
     ensures drops { (shards last : ℕ) (happenings : List Happening) (sessions : List Running)
         → AreParts shards 1 last happenings sessions parts.items
-        → IfOk result (λ report. report.drops ≡ sum_by script.dropped (outcomes last happenings sessions)) }
+        → IfOk result (λ report. report.drops ≡ sum_by script.dropped (happening_outcomes last happenings sessions)) }
 {
     let mut parts = parts;
     let mut text = Vec::new(alloc);

@@ -2,12 +2,12 @@
 use Rattle.std.specs.Prelude.{ℕ, ◌+◌, ◌≤◌, List, length}
 
 -- the ids in their order, and how many more find room
-pub record Held : Type 0 where
+pub record HeldIds : Type 0 where
   pub items : List ℕ
   pub spare : ℕ
 
 -- how many ids find room in all
-abbrev pub room_of : Held → ℕ
+abbrev pub room_of : HeldIds → ℕ
 room_of h = length h.items + h.spare
 
 -- what is held fits the room, and the room is memory that was taken

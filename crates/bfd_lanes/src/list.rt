@@ -1,7 +1,7 @@
 //! A list of ids that takes its memory once.
 ghost use Rattle.std.specs.Prelude.{◌≡◌, ◌+◌, ◌-◌, ◌*◌, ◌<◌, ◌≤◌, List, [], ◌∷◌, ◌++◌, length, take, drop, IfOk, IsPermutation};
 ghost use Rattle.std.specs.List.Sorted.{IsNonDecreasing};
-ghost use Rattle.bfd_lanes.specs.Held.{Held, room_of};
+ghost use Rattle.bfd_lanes.specs.Held.{HeldIds, room_of};
 
 use std::alloc::{AllocError, Global};
 use std::marker::Model;
@@ -15,9 +15,9 @@ pub struct Ids {
 
 impl Model for Ids {
     ghost use Rattle.std.specs.Prelude.{◌-◌, length, vec_capacity};
-    ghost use Rattle.bfd_lanes.specs.Held.{Held, IsReserved};
+    ghost use Rattle.bfd_lanes.specs.Held.{HeldIds, IsReserved};
 
-    ghost Value = { Held };
+    ghost Value = { HeldIds };
 
     ghost view = { λ o. record { items = o.list.items; spare = o.room - length o.list.items } };
 

@@ -5,7 +5,7 @@ use Rattle.std.proofs.lemmas.Bool.Decides.{nat_tests}
 use Rattle.std.proofs.lemmas.Bool.{cases_lt}
 use Rattle.bfd_lanes.specs.Places.{without}
 use Rattle.bfd_levels.specs.Height.{height, weight, potential, Clocked, potential_of}
-use Rattle.bfd_levels.specs.Calls.{Call, Set, Clear, Advance, Made, after, Keeps, KeepsAll, after_all, steps_of, share, shares}
+use Rattle.bfd_levels.specs.Calls.{WheelCall, Set, Clear, Advance, Made, wheel_after, KeepsSteps, KeepsAll, after_all, steps_of, call_share, shares}
 use Rattle.bfd_levels.proofs.Digits.{height-le, height_later}
 
 -- ---- one due tick is written
@@ -16,11 +16,11 @@ write_adds now zero w d (e ∷ ds) h = omega arith
 write_adds now (suc id) w d (e ∷ ds) h = (let r = write_adds now id w d ds h in omega arith)
 
 -- a due tick that is set adds at most 9
-pub set_adds : (w : Clocked) (id due : ℕ) → potential_of (after (Set id due) w) ≤ potential_of w + 9
+pub set_adds : (w : Clocked) (id due : ℕ) → potential_of (wheel_after (Set id due) w) ≤ potential_of w + 9
 set_adds w id due = write_adds w.clock id 9 (Some due) w.dues (let h = height-le due w.clock in omega arith)
 
 -- one that is cleared adds nothing
-pub clear_falls : (w : Clocked) (id : ℕ) → potential_of (after (Clear id) w) ≤ potential_of w
+pub clear_falls : (w : Clocked) (id : ℕ) → potential_of (wheel_after (Clear id) w) ≤ potential_of w
 clear_falls w id = (let r = write_adds w.clock id 0 None w.dues (omega arith) in omega arith)
 
 -- the same of what a call left
@@ -51,12 +51,12 @@ potential_falls now t [] = omega arith
 potential_falls now t (d ∷ ds) = (let a = weight_falls now t d in let b = potential_falls now t ds in omega arith)
 
 -- an advance adds nothing
-pub advance_falls : (w : Clocked) (t : ℕ) → potential_of (after (Advance t) w) ≤ potential_of w
+pub advance_falls : (w : Clocked) (t : ℕ) → potential_of (wheel_after (Advance t) w) ≤ potential_of w
 advance_falls w t = potential_falls w.clock t w.dues
 
 -- ---- all calls
 
-one_call : (w : Clocked) (steps : ℕ) (call : Call) → Keeps w steps call → steps + potential_of (after call w) + 2 * w.clock ≤ share call + potential_of w + 2 * (after call w).clock
+one_call : (w : Clocked) (steps : ℕ) (call : WheelCall) → KeepsSteps w steps call → steps + potential_of (wheel_after call w) + 2 * w.clock ≤ call_share call + potential_of w + 2 * (wheel_after call w).clock
 one_call w steps (Set id due) k = (let a = set_adds w id due in omega arith)
 one_call w steps (Clear id) k = (let a = clear_falls w id in omega arith)
 one_call w steps (Advance t) k = elim (cases_lt t w.clock) [
@@ -66,7 +66,7 @@ one_call w steps (Advance t) k = elim (cases_lt t w.clock) [
 
 pub many_calls : (ms : List Made) (w : Clocked) → KeepsAll w ms → steps_of ms + potential_of (after_all ms w) + 2 * w.clock ≤ shares ms + potential_of w + 2 * (after_all ms w).clock
 many_calls [] w k = omega arith
-many_calls (m ∷ ms) w k = (let a = one_call w m.steps m.call k.0 in let b = many_calls ms (after m.call w) k.1 in omega arith)
+many_calls (m ∷ ms) w k = (let a = one_call w m.steps m.call k.0 in let b = many_calls ms (wheel_after m.call w) k.1 in omega arith)
 
 none_potential : (count : ℕ) → potential 0 (replicate count None) ≡ 0
 none_potential zero = refl

@@ -2,7 +2,7 @@
 ghost use Rattle.std.specs.Prelude.{◌≡◌, ◌≢◌, ◌⊎◌, ℕ, ◌+◌, ◌^◌, ◌<◌, ◌≤◌, ◌++◌, map, length, slice_index};
 ghost use Rattle.bfd_lanes.specs.Held.{room_of};
 ghost use Rattle.bfd_lanes.specs.Places.{never, due_of, come, without};
-ghost use Rattle.bfd_wheel.specs.Taken.{times, waits};
+ghost use Rattle.bfd_wheel.specs.Taken.{times, counts_due};
 ghost use Rattle.bfd_levels.specs.Lists.{at_tick, at_jump, loads};
 ghost use Rattle.bfd_levels.specs.Rings.{IsPlaced};
 
@@ -24,9 +24,9 @@ fn detach_all<L: Ledger>(
 )
     requires placed { IsPlaced (length dues.old) 1026 (at_tick (length dues.old) now dues.old) dues.old nodes.old }
     requires t { t < never }
-    requires ids { (x : ℕ) → times x ids.now ≡ waits t dues.old x }
+    requires ids { (x : ℕ) → times x ids.now ≡ counts_due t dues.old x }
     ensures placed { IsPlaced (length dues.old) 1026 (at_tick (length dues.old) now dues.new) dues.new nodes.new }
-    ensures left { (x : ℕ) → waits t dues.new x ≡ 0 }
+    ensures left { (x : ℕ) → counts_due t dues.new x ≡ 0 }
     ensures same_or_gone { (j : ℕ) → (slice_index dues.new j ≡ slice_index dues.old j)
         ⊎ ((slice_index dues.new j ≡ never) × (slice_index dues.old j ≤ t)) }
     ensures cost { steps.new + loads (length dues.old) (at_tick (length dues.old) now dues.new) dues.new

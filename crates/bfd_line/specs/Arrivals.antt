@@ -11,8 +11,8 @@ use Rattle.bfd_fields.specs.Gives.{◌>>=◌}
 use Rattle.bfd_fields.specs.Values.{address_of, payload_of}
 
 -- the kind of port
-abbrev pub port_of : List ℕ → Result Port LineFault
-port_of field =
+abbrev pub port_in : List ℕ → Result Port LineFault
+port_in field =
     if bytes_eq field (codes "single") then Ok Single
     else if bytes_eq field (codes "multi") then Ok Multi
     else if bytes_eq field (codes "echo") then Ok Echo

@@ -13,14 +13,14 @@ use Rattle.bfd_line.specs.declared.words.Version.TheVariants.{One, Two}
 use Rattle.bfd_line.specs.declared.entries.Entry.{Entry}
 use Rattle.bfd_line.specs.declared.entries.Entry.TheVariants as entries
 use Rattle.bfd_line.specs.declared.entries.Line.TheVariants as events
-use Rattle.bfd_line.specs.Arrivals.{port_of, arrival_fields}
-use Rattle.bfd_fields.specs.Fields.{text_of, fields_of, number_in}
+use Rattle.bfd_line.specs.Arrivals.{port_in, arrival_fields}
+use Rattle.bfd_fields.specs.Fields.{line_text, split_fields, number_in}
 use Rattle.bfd_fields.specs.Gives.{◌>>=◌}
-use Rattle.bfd_line.specs.Pairs.{pair_of}
-use Rattle.bfd_line.specs.Seamless.{reflector_of, seek_of}
+use Rattle.bfd_line.specs.Pairs.{p2p_row}
+use Rattle.bfd_line.specs.Seamless.{reflector_of, sbfd_row}
 use Rattle.bfd_line.specs.Secrets.{chain_of, key_of}
-use Rattle.bfd_line.specs.Trees.{head_of, tail_of}
-use Rattle.bfd_line.specs.Verbs.{verb_of, fits, known, command}
+use Rattle.bfd_line.specs.Trees.{head_row, tail_row}
+use Rattle.bfd_line.specs.Verbs.{verb_of, fits, known_verb, command}
 use Rattle.bfd_line.specs.Words.{word_of, stands}
 
 -- a line that is its word alone
@@ -38,13 +38,13 @@ versioned (number ∷ []) = number_in 1 2 number >>= λ n. Ok (entries.Version (
 versioned values = Err FieldCount
 
 -- `tick T`
-abbrev pub ticked : List (List ℕ) → Result Entry LineFault
-ticked (number ∷ []) = number_in 0 greatest_tick number >>= λ tick. Ok (entries.Event (events.Tick tick))
-ticked values = Err FieldCount
+abbrev pub tick_entry : List (List ℕ) → Result Entry LineFault
+tick_entry (number ∷ []) = number_in 0 greatest_tick number >>= λ tick. Ok (entries.Event (events.Tick tick))
+tick_entry values = Err FieldCount
 
 -- the table line of a session
-abbrev pub row_of : Result SessionConfig LineFault → Result Entry LineFault
-row_of read = read >>= λ config. Ok (entries.Row config)
+abbrev pub row_entry : Result SessionConfig LineFault → Result Entry LineFault
+row_entry read = read >>= λ config. Ok (entries.Row config)
 
 -- the table line of a reflector
 abbrev pub reflects_of : Result Reflector LineFault → Result Entry LineFault
@@ -74,7 +74,7 @@ added values = Err FieldCount
 unfoldable pub received_of : List ℕ → List ℕ → List ℕ → List (List ℕ) → Result Entry LineFault
 received_of moment port iface rest = do
   moment ← number_in 0 (moment_bound - 1) moment
-  port ← port_of port
+  port ← port_in port
   iface ← number_in 0 65535 iface
   arrival ← arrival_fields port iface rest
   Ok (entries.Event (events.Rx moment arrival))
@@ -85,15 +85,15 @@ received_fields (moment ∷ port ∷ iface ∷ rest) = received_of moment port i
 received_fields values = Err FieldCount
 
 -- `rx MOMENT single|multi|echo|sbfd|answer IFACE SRC DST TTL HEX`
-abbrev pub received : List (List ℕ) → Result Entry LineFault
-received values = if length values == 7 then received_fields values else Err FieldCount
+abbrev pub rx_entry : List (List ℕ) → Result Entry LineFault
+rx_entry values = if length values == 7 then received_fields values else Err FieldCount
 
 -- a `cmd` line of these values, without number
 unfoldable pub plain_of : Version → List ℕ → List ℕ → List ℕ → Result Entry LineFault
 plain_of version moment discr verb = do
   moment ← number_in 0 (moment_bound - 1) moment
   discr ← number_in 1 4294967295 discr
-  verb ← known (verb_of version verb)
+  verb ← known_verb (verb_of version verb)
   Ok (entries.Event (events.Cmd moment discr (command verb 0)))
 
 -- a `cmd` line of these values; the number has the range of its type, and the session tests its own
@@ -101,17 +101,17 @@ unfoldable pub numbered_of : Version → List ℕ → List ℕ → List ℕ → 
 numbered_of version moment discr verb number = do
   moment ← number_in 0 (moment_bound - 1) moment
   discr ← number_in 1 4294967295 discr
-  verb ← known (verb_of version verb)
+  verb ← known_verb (verb_of version verb)
   number ← number_in 0 (2 ^ 64 - 1) number
   Ok (entries.Event (events.Cmd moment discr (command verb number)))
 
 -- `cmd MOMENT DISCR VERB` or `cmd MOMENT DISCR VERB N`
-abbrev pub commanded : Version → List (List ℕ) → Result Entry LineFault
-commanded version (moment ∷ discr ∷ verb ∷ []) =
+abbrev pub cmd_entry : Version → List (List ℕ) → Result Entry LineFault
+cmd_entry version (moment ∷ discr ∷ verb ∷ []) =
     if fits (verb_of version verb) false then plain_of version moment discr verb else Err FieldCount
-commanded version (moment ∷ discr ∷ verb ∷ number ∷ []) =
+cmd_entry version (moment ∷ discr ∷ verb ∷ number ∷ []) =
     if fits (verb_of version verb) true then numbered_of version moment discr verb number else Err FieldCount
-commanded version values = Err FieldCount
+cmd_entry version values = Err FieldCount
 
 -- a `show` line of these values
 unfoldable pub shown_of : List ℕ → List ℕ → Result Entry LineFault
@@ -121,25 +121,25 @@ shown_of moment discr = do
   Ok (entries.Event (events.Show moment discr))
 
 -- `show MOMENT DISCR`
-abbrev pub shown : List (List ℕ) → Result Entry LineFault
-shown (moment ∷ discr ∷ []) = shown_of moment discr
-shown values = Err FieldCount
+abbrev pub show_entry : List (List ℕ) → Result Entry LineFault
+show_entry (moment ∷ discr ∷ []) = shown_of moment discr
+show_entry values = Err FieldCount
 
 -- what the values of a word say
 abbrev pub valued : Version → Word → List (List ℕ) → Result Entry LineFault
 valued version words.Bfd values = versioned values
-valued version words.P2p values = row_of (pair_of values)
-valued version words.Sbfd values = row_of (seek_of values)
+valued version words.P2p values = row_entry (p2p_row values)
+valued version words.Sbfd values = row_entry (sbfd_row values)
 valued version words.Reflector values = reflects_of (reflector_of values)
-valued version words.Head values = row_of (head_of values)
-valued version words.Tail values = row_of (tail_of values)
+valued version words.Head values = row_entry (head_row values)
+valued version words.Tail values = row_entry (tail_row values)
 valued version words.Auth values = keyed values
 valued version words.Key values = added values
 valued version words.Run values = alone entries.Run values
-valued version words.Rx values = received values
-valued version words.Tick values = ticked values
-valued version words.Cmd values = commanded version values
-valued version words.Show values = shown values
+valued version words.Rx values = rx_entry values
+valued version words.Tick values = tick_entry values
+valued version words.Cmd values = cmd_entry version values
+valued version words.Show values = show_entry values
 valued version words.End values = alone entries.End values
 
 -- a line of this word, with these values
@@ -153,5 +153,5 @@ worded version place live [] = Err UnknownWord
 worded version place live (name ∷ values) = placed version place live (word_of version name) values
 
 -- what a line says by itself; the order of its tests is the order of the cases
-abbrev pub entry_of : Version → Place → Bool → List ℕ → Result Entry LineFault
-entry_of version place live line = text_of line >>= λ text. worded version place live (fields_of text)
+abbrev pub entry_in_line : Version → Place → Bool → List ℕ → Result Entry LineFault
+entry_in_line version place live line = line_text line >>= λ text. worded version place live (split_fields text)

@@ -85,8 +85,8 @@ pair_fields (discr ∷ role ∷ iface ∷ local ∷ remote ∷ rest) = ends_of d
 pair_fields values = Err FieldCount
 
 -- the session of a `p2p` line
-abbrev pub pair_of : List (List ℕ) → Result SessionConfig LineFault
-pair_of values = if length values == 11 then pair_fields values else Err FieldCount
+abbrev pub p2p_row : List (List ℕ) → Result SessionConfig LineFault
+p2p_row values = if length values == 11 then pair_fields values else Err FieldCount
 
 -- the first five values are in their ranges
 pub record AreEnds (ends : Ends) : Type 0 where

@@ -20,7 +20,7 @@ use Rattle.bfd_line.specs.declared.entries.Line.{Line}
 use Rattle.bfd_line.specs.declared.entries.Line.TheVariants as events
 use Rattle.bfd_line.specs.Secrets.{key_fault}
 use Rattle.bfd_fields.specs.Values.{IsAddress}
-use Rattle.bfd_line.specs.Verbs.{number_of}
+use Rattle.bfd_line.specs.Verbs.{command_number}
 
 -- a key as a line gives it: its number and the bytes of its secret fit their fields
 pub record IsKey (key : Key) : Type 0 where
@@ -113,7 +113,7 @@ pub record IsAsked (moment discr : ℕ) : Type 0 where
 abbrev pub IsEvent : Line → Type 0
 IsEvent (events.Rx moment arrival) = IsReceived moment arrival
 IsEvent (events.Tick tick) = tick ≤ greatest_tick
-IsEvent (events.Cmd moment discr cmd) = IsAsked moment discr × (number_of cmd < 2 ^ 64)
+IsEvent (events.Cmd moment discr cmd) = IsAsked moment discr × (command_number cmd < 2 ^ 64)
 IsEvent (events.Show moment discr) = IsAsked moment discr
 
 -- what a line says, as the line gives it

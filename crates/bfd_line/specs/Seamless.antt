@@ -29,9 +29,9 @@ seek_with discr target (iface ∷ local ∷ remote ∷ tx ∷ mult ∷ seed ∷ 
 seek_with discr target values = Err FieldCount
 
 -- the initiator of an `sbfd` line
-abbrev pub seek_of : List (List ℕ) → Result SessionConfig LineFault
-seek_of (discr ∷ target ∷ rest) = seek_with discr target rest
-seek_of values = Err FieldCount
+abbrev pub sbfd_row : List (List ℕ) → Result SessionConfig LineFault
+sbfd_row (discr ∷ target ∷ rest) = seek_with discr target rest
+sbfd_row values = Err FieldCount
 
 -- whether the reflector is Up, or told to say AdminDown (RFC 7880 section 7.2.3)
 abbrev pub up_of : List ℕ → Result Bool LineFault

@@ -20,8 +20,8 @@ kind_by n =
     else MeticulousSha1
 
 -- a field that is an Auth Type
-abbrev pub kind_of : List ℕ → Result AuthType LineFault
-kind_of field = number_in 1 5 field >>= λ n. Ok (kind_by n)
+abbrev pub auth_type_of : List ℕ → Result AuthType LineFault
+auth_type_of field = number_in 1 5 field >>= λ n. Ok (kind_by n)
 
 -- bytes that are a secret: as many as the type has room for, and one at least
 abbrev pub fitting : AuthType → List ℕ → Result (List ℕ) LineFault
@@ -38,7 +38,7 @@ one_key kind id secret = record { kind = kind; list = record { id = id; secret =
 -- the last three values of an `auth` line
 unfoldable pub chain_of : List ℕ → List ℕ → List ℕ → Result KeyChain LineFault
 chain_of kind id secret = do
-  kind ← kind_of kind
+  kind ← auth_type_of kind
   id ← number_in 0 255 id
   secret ← secret_of kind secret
   Ok (one_key kind id secret)

@@ -22,9 +22,9 @@ sender_of discr iface local group tx mult seed = do
   Ok (Head (record { discr = discr; iface = iface; local = local; group = group; tx = tx; mult = mult; seed = seed }))
 
 -- the head of a `head` line
-abbrev pub head_of : List (List ℕ) → Result SessionConfig LineFault
-head_of (discr ∷ iface ∷ local ∷ group ∷ tx ∷ mult ∷ seed ∷ []) = sender_of discr iface local group tx mult seed
-head_of values = Err FieldCount
+abbrev pub head_row : List (List ℕ) → Result SessionConfig LineFault
+head_row (discr ∷ iface ∷ local ∷ group ∷ tx ∷ mult ∷ seed ∷ []) = sender_of discr iface local group tx mult seed
+head_row values = Err FieldCount
 
 -- a tail of these values
 unfoldable pub listener_of : List ℕ → List ℕ → List ℕ → List ℕ → List ℕ → Result SessionConfig LineFault
@@ -37,6 +37,6 @@ listener_of discr head iface group source = do
   Ok (Tail (record { discr = discr; head = head; iface = iface; group = group; source = source }))
 
 -- the tail of a `tail` line
-abbrev pub tail_of : List (List ℕ) → Result SessionConfig LineFault
-tail_of (discr ∷ head ∷ iface ∷ group ∷ source ∷ []) = listener_of discr head iface group source
-tail_of values = Err FieldCount
+abbrev pub tail_row : List (List ℕ) → Result SessionConfig LineFault
+tail_row (discr ∷ head ∷ iface ∷ group ∷ source ∷ []) = listener_of discr head iface group source
+tail_row values = Err FieldCount

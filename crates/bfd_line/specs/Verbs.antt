@@ -38,9 +38,9 @@ fits None numbered = true
 fits (Some verb) numbered = if numbered then takes_number verb else not (takes_number verb)
 
 -- a verb that is known
-abbrev pub known : Option Verb → Result Verb LineFault
-known None = Err UnknownWord
-known (Some verb) = Ok verb
+abbrev pub known_verb : Option Verb → Result Verb LineFault
+known_verb None = Err UnknownWord
+known_verb (Some verb) = Ok verb
 
 -- the command of a verb, with its number where it has one
 abbrev pub command : Verb → ℕ → Cmd
@@ -56,14 +56,14 @@ command Echo n = commands.EchoEvery n
 command Key n = commands.Key n
 
 -- the number of a command, 0 where it has none
-abbrev pub number_of : Cmd → ℕ
-number_of commands.Disable = 0
-number_of commands.Enable = 0
-number_of commands.Reset = 0
-number_of (commands.Path n) = n
-number_of (commands.Tx n) = n
-number_of (commands.Rx n) = n
-number_of (commands.Mult n) = n
-number_of (commands.Demand n) = n
-number_of (commands.EchoEvery n) = n
-number_of (commands.Key n) = n
+abbrev pub command_number : Cmd → ℕ
+command_number commands.Disable = 0
+command_number commands.Enable = 0
+command_number commands.Reset = 0
+command_number (commands.Path n) = n
+command_number (commands.Tx n) = n
+command_number (commands.Rx n) = n
+command_number (commands.Mult n) = n
+command_number (commands.Demand n) = n
+command_number (commands.EchoEvery n) = n
+command_number (commands.Key n) = n

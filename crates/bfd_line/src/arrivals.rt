@@ -1,7 +1,7 @@
 // The packet of an event line.
 ghost use Rattle.std.specs.Prelude.{◌≡◌, ◌<◌, ℕ, IfOk, map};
 ghost use Rattle.bfd_num.specs.Numbers.{moment_bound};
-ghost use Rattle.bfd_line.specs.Arrivals.{arrival_fields, arrival_of, port_of};
+ghost use Rattle.bfd_line.specs.Arrivals.{arrival_fields, arrival_of, port_in};
 ghost use Rattle.bfd_fields.specs.Gives.{Gives};
 ghost use Rattle.bfd_line.specs.Ranges.{IsReceived};
 
@@ -11,7 +11,7 @@ use std::alloc::Global;
 
 /// The kind of port.
 pub(crate) fn port_named(field: &[u8]) -> Result<Port, LineFault>
-    ensures { result ≡ port_of field.now }
+    ensures { result ≡ port_in field.now }
 {
     match field {
         b"single" => Ok(Port::Single),

@@ -1,6 +1,6 @@
 // What one line says.
 ghost use Rattle.std.specs.Prelude.{◌≡◌, Err, IfOk, false, if◌then◌else◌, map, true};
-ghost use Rattle.bfd_line.specs.Entries.{added, added_of, alone, commanded, keyed, keyed_of, numbered_of, plain_of, received, received_fields, received_of, shown, shown_of, ticked, valued, version_by, versioned};
+ghost use Rattle.bfd_line.specs.Entries.{added, added_of, alone, cmd_entry, keyed, keyed_of, numbered_of, plain_of, rx_entry, received_fields, received_of, show_entry, shown_of, tick_entry, valued, version_by, versioned};
 ghost use Rattle.bfd_fields.specs.Gives.{Gives};
 ghost use Rattle.bfd_line.specs.Ranges.{IsEntry, IsEvent};
 ghost use Rattle.bfd_line.specs.Verbs.{fits, verb_of};
@@ -95,8 +95,8 @@ fn versioned(values: &[&[u8]]) -> Result<Entry, LineFault>
 }
 
 /// `tick T`
-fn ticked(values: &[&[u8]]) -> Result<Entry, LineFault>
-    ensures value { result ≡ ticked (map (λ value. value.now) values.now) }
+fn tick_entry(values: &[&[u8]]) -> Result<Entry, LineFault>
+    ensures value { result ≡ tick_entry (map (λ value. value.now) values.now) }
     ensures sound { IfOk result IsEntry }
 {
     match values {
@@ -143,8 +143,8 @@ fn received_fields(alloc: Global, values: &[&[u8]]) -> Result<Line, ReadFault>
 }
 
 /// `rx MOMENT single|multi|echo|sbfd|answer IFACE SRC DST TTL HEX`
-pub fn received(alloc: Global, values: &[&[u8]]) -> Result<Line, ReadFault>
-    ensures value { Gives (λ line. Event line) result (received (map (λ value. value.now) values.now)) }
+pub fn rx_entry(alloc: Global, values: &[&[u8]]) -> Result<Line, ReadFault>
+    ensures value { Gives (λ line. Event line) result (rx_entry (map (λ value. value.now) values.now)) }
     ensures sound { IfOk result IsEvent }
 {
     if values.len() != RECEIVED_VALUES {
@@ -228,8 +228,8 @@ fn read_numbered(
 }
 
 /// `cmd MOMENT DISCR VERB` or `cmd MOMENT DISCR VERB N`
-fn commanded(version: Version, values: &[&[u8]]) -> Result<Entry, LineFault>
-    ensures value { result ≡ commanded version (map (λ value. value.now) values.now) }
+fn cmd_entry(version: Version, values: &[&[u8]]) -> Result<Entry, LineFault>
+    ensures value { result ≡ cmd_entry version (map (λ value. value.now) values.now) }
     ensures sound { IfOk result IsEntry }
 {
     match values {
@@ -254,8 +254,8 @@ fn shown_of(moment: &[u8], discr: &[u8]) -> Result<Entry, LineFault>
 }
 
 /// `show MOMENT DISCR`
-fn shown(values: &[&[u8]]) -> Result<Entry, LineFault>
-    ensures value { result ≡ shown (map (λ value. value.now) values.now) }
+fn show_entry(values: &[&[u8]]) -> Result<Entry, LineFault>
+    ensures value { result ≡ show_entry (map (λ value. value.now) values.now) }
     ensures sound { IfOk result IsEntry }
 {
     match values {
@@ -332,10 +332,10 @@ pub fn read_values(
         Word::Auth => keyed(alloc, values),
         Word::Key => added(alloc, values),
         Word::Run => Ok(alone(Entry::Run, values)?),
-        Word::Rx => Ok(Entry::Event(received(alloc, values)?)),
-        Word::Tick => Ok(ticked(values)?),
-        Word::Cmd => Ok(commanded(version, values)?),
-        Word::Show => Ok(shown(values)?),
+        Word::Rx => Ok(Entry::Event(rx_entry(alloc, values)?)),
+        Word::Tick => Ok(tick_entry(values)?),
+        Word::Cmd => Ok(cmd_entry(version, values)?),
+        Word::Show => Ok(show_entry(values)?),
         Word::End => Ok(alone(Entry::End, values)?),
     }
 }

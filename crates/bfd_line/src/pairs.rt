@@ -2,13 +2,13 @@
 ghost use Rattle.std.specs.Prelude.{◌≡◌, IfOk, IsTrue, map};
 ghost use Rattle.bfd_rules.specs.Sound.{is_echo_interval};
 ghost use Rattle.bfd_session.specs.Step.{IsFit};
-ghost use Rattle.bfd_line.specs.Pairs.{AreEnds, IsTiming, active_of, config_by, echo_of, ends_of, pair_fields, pair_of, pair_with, role_of, timing_fields, timing_of};
+ghost use Rattle.bfd_line.specs.Pairs.{AreEnds, IsTiming, active_of, config_by, echo_of, ends_of, pair_fields, p2p_row, pair_with, role_of, timing_fields, timing_of};
 ghost use Rattle.bfd_line.specs.Ranges.{IsRow};
 
 use crate::words::spells;
 use bfd_fields::{LineFault, address, number};
 use bfd_packet::Addr;
-use bfd_rules::{Config, LEAST_INTERVAL, MOST_INTERVAL, Role};
+use bfd_rules::{Config, LEAST_INTERVAL, MOST_INTERVAL, Role, is_interval};
 use bfd_session::SessionConfig;
 
 /// The values of a `p2p` line.
@@ -66,7 +66,7 @@ fn may_echo(role: Role, every: u64) -> bool
     ensures { result ≡ is_echo_interval role every }
 {
     match role {
-        Role::Single => every == 0 || (every >= LEAST_INTERVAL && every <= MOST_INTERVAL),
+        Role::Single => every == 0 || is_interval(every),
         Role::Multi => every == 0,
     }
 }
@@ -196,7 +196,7 @@ fn pair_fields(values: &[&[u8]]) -> Result<SessionConfig, LineFault>
 
 /// The session of a `p2p` line.
 pub(crate) fn read_pair(values: &[&[u8]]) -> Result<SessionConfig, LineFault>
-    ensures value { result ≡ pair_of (map (λ value. value.now) values.now) }
+    ensures value { result ≡ p2p_row (map (λ value. value.now) values.now) }
     ensures sound { IfOk result (λ c. IsFit c × IsRow c) }
 {
     if values.len() != PAIR_VALUES {

@@ -60,7 +60,7 @@ fn seek_with(discr: &[u8], target: &[u8], rest: &[&[u8]]) -> Result<SessionConfi
 
 /// The initiator of an `sbfd` line.
 pub(crate) fn read_seek(values: &[&[u8]]) -> Result<SessionConfig, LineFault>
-    ensures value { result ≡ lines.seek_of (map (λ value. value.now) values.now) }
+    ensures value { result ≡ lines.sbfd_row (map (λ value. value.now) values.now) }
     ensures sound { IfOk result (λ c. IsFit c × IsRow c) }
 {
     match values {

@@ -4,7 +4,7 @@ ghost use Rattle.std.specs.Option.{option_copied};
 ghost use Rattle.hex.specs.Hex.{IsBytes};
 ghost use Rattle.bfd_packet.specs.KeyChain.{fits_kind};
 ghost use Rattle.bfd_fields.specs.Gives.{Gives};
-ghost use Rattle.bfd_line.specs.Secrets.{chain_of, fitting, key_fault, key_of, kind_by, kind_of, one_key, secret_of};
+ghost use Rattle.bfd_line.specs.Secrets.{chain_of, fitting, key_fault, key_of, kind_by, auth_type_of, one_key, secret_of};
 ghost use Rattle.bfd_line.specs.Ranges.{IsChain, IsKey};
 
 use bfd_fields::{LineFault, ReadFault, bytes_read, number};
@@ -26,7 +26,7 @@ fn kind_by(n: u64) -> AuthType
 
 /// A field that is an Auth Type.
 fn kind_read(field: &[u8]) -> Result<AuthType, LineFault>
-    ensures { result ≡ kind_of field.now }
+    ensures { result ≡ auth_type_of field.now }
 {
     let n = number(field, 1, 5)?;
     Ok(kind_by(n))

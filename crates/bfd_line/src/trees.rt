@@ -43,7 +43,7 @@ fn sender(
 
 /// The head of a `head` line.
 pub(crate) fn read_head(values: &[&[u8]]) -> Result<SessionConfig, LineFault>
-    ensures value { result ≡ lines.head_of (map (λ value. value.now) values.now) }
+    ensures value { result ≡ lines.head_row (map (λ value. value.now) values.now) }
     ensures sound { IfOk result (λ c. IsFit c × IsRow c) }
 {
     match values {
@@ -82,7 +82,7 @@ fn listener(
 
 /// The tail of a `tail` line.
 pub(crate) fn read_tail(values: &[&[u8]]) -> Result<SessionConfig, LineFault>
-    ensures value { result ≡ lines.tail_of (map (λ value. value.now) values.now) }
+    ensures value { result ≡ lines.tail_row (map (λ value. value.now) values.now) }
     ensures sound { IfOk result (λ c. IsFit c × IsRow c) }
 {
     match values {

@@ -1,6 +1,6 @@
 // The verbs of a command line.
 ghost use Rattle.std.specs.Prelude.{◌≡◌, ◌<◌, ◌^◌};
-ghost use Rattle.bfd_line.specs.Verbs.{command, fits, known, number_of, takes_number, verb_of};
+ghost use Rattle.bfd_line.specs.Verbs.{command, fits, known_verb, command_number, takes_number, verb_of};
 
 use crate::words::{Version, spells};
 use bfd_fields::LineFault;
@@ -76,7 +76,7 @@ pub(crate) fn may_fit(verb: Option<Verb>, numbered: bool) -> bool
 
 /// A verb that is known.
 pub(crate) fn known_verb(verb: Option<Verb>) -> Result<Verb, LineFault>
-    ensures { result ≡ known verb }
+    ensures { result ≡ known_verb verb }
 {
     match verb {
         Some(verb) => Ok(verb),
@@ -87,7 +87,7 @@ pub(crate) fn known_verb(verb: Option<Verb>) -> Result<Verb, LineFault>
 /// The command of a verb, with its number where it has one.
 pub(crate) fn commanding(verb: Verb, number: u64) -> Cmd
     ensures value { result ≡ command verb number }
-    ensures range { number_of result < 2 ^ 64 }
+    ensures range { command_number result < 2 ^ 64 }
 {
     match verb {
         Verb::Disable => Cmd::Disable,

@@ -10,9 +10,7 @@ ghost use Rattle.bfd_mp.specs.Command as commands;
 use crate::counting::counted;
 use crate::{HeadConfig, TailConfig};
 use bfd_packet::State;
-use bfd_rules::{
-    Cmd, LEAST_INTERVAL, MOST_INTERVAL, Outs, Refusal, Vars, changes, enters, is_admin_down,
-};
+use bfd_rules::{Cmd, Outs, Refusal, Vars, changes, enters, is_admin_down, is_interval};
 
 /// A head doesn't know the command.
 fn is_wrong_for_head(cmd: &Cmd) -> bool
@@ -33,7 +31,7 @@ fn is_out_of_range(cmd: &Cmd) -> bool
     ensures { result ≡ commands.is_out_of_range cmd.now }
 {
     match *cmd {
-        Cmd::Tx(n) => !(LEAST_INTERVAL <= n && n <= MOST_INTERVAL),
+        Cmd::Tx(n) => !is_interval(n),
         Cmd::Mult(n) => !(1 <= n && n <= 255),
         _ => false,
     }

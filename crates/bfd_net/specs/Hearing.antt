@@ -23,12 +23,12 @@ port_at n =
     else Answer
 
 -- 127.0.0.1 for links 1 to 5, 127.0.0.2 for links 6 to 10, and so on
-abbrev pub address_of : ℕ → ℕ
-address_of number = 0x7f000001 + (number - 1) / 5
+abbrev pub loopback_of : ℕ → ℕ
+loopback_of number = 0x7f000001 + (number - 1) / 5
 
 -- the port and the address that a link hears: link 0 only sends
 abbrev pub hears_of : ℕ → Option (Port × ℕ)
-hears_of number = if number == 0 then None else Some (port_at ((number - 1) % 5), address_of number)
+hears_of number = if number == 0 then None else Some (port_at ((number - 1) % 5), loopback_of number)
 
 -- 127.0.0.0 to 127.255.255.255
 abbrev pub is_local_addr : Addr → Bool

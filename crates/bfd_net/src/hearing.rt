@@ -1,6 +1,6 @@
 // Which port and address a link hears, by its number.
 ghost use Rattle.std.specs.Prelude.{◌≡◌, ◌<◌, ◌-◌, ◌%◌};
-ghost use Rattle.bfd_net.specs.Hearing.{port_at, port_number, address_of, is_local_addr};
+ghost use Rattle.bfd_net.specs.Hearing.{port_at, port_number, loopback_of, is_local_addr};
 
 use bfd_packet::{Addr, Port, SOURCE_PORT};
 
@@ -36,7 +36,7 @@ pub(crate) fn port_of_link(number: u32) -> Port
 /// and so on.
 pub(crate) fn address_of_link(number: u32) -> u32
     requires { 0 < number }
-    ensures { result ≡ address_of number }
+    ensures { result ≡ loopback_of number }
 {
     0x7f00_0001 + (number - 1) / 5
 }

@@ -34,9 +34,9 @@ packet_of c v poll fin = record {
 }
 
 -- its bytes: plain, or sealed with the key that is sent with (section 6.7)
-abbrev pub bytes_of : Option KeyChain → ℕ → SeqState → Control → List ℕ
-bytes_of None sending seq packet = text_of packet []
-bytes_of (Some keys) sending seq packet = sealed keys sending seq packet
+abbrev pub packet_bytes : Option KeyChain → ℕ → SeqState → Control → List ℕ
+packet_bytes None sending seq packet = text_of packet []
+packet_bytes (Some keys) sending seq packet = sealed keys sending seq packet
 
 -- the sequence state after it
 abbrev pub seq_after : Option KeyChain → SeqState → SeqState
@@ -63,5 +63,5 @@ datagram_of c bytes = record {
 -- a packet is transmitted
 unfoldable pub transmits : Config → Bool → Bool → Course → Course
 transmits c poll fin s =
-    sends c.discr (datagram_of c (bytes_of c.keys s.vars.sending s.vars.seq (packet_of c s.vars poll fin)))
+    sends c.discr (datagram_of c (packet_bytes c.keys s.vars.sending s.vars.seq (packet_of c s.vars poll fin)))
     (record s { vars = record s.vars { seq = seq_after c.keys s.vars.seq } })

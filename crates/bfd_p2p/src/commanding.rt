@@ -6,22 +6,13 @@ ghost use Rattle.bfd_rules.specs.declared.config.Config.{Config as ConfigOf};
 ghost use Rattle.bfd_rules.specs.declared.variables.Mark.{Mark as MarkOf};
 ghost use Rattle.bfd_rules.specs.EventFrame.{course};
 ghost use Rattle.bfd_rules.specs.Sound.{IsPlain, HasPeerMult, IsSteady, IsPlace};
-ghost use Rattle.bfd_rules.specs.Sound as sound;
 ghost use Rattle.bfd_p2p.specs.Command as commands;
 
 use crate::frame::moves;
 use bfd_packet::{Keys, State};
 use bfd_rules::{
-    Cmd, Config, LEAST_INTERVAL, MOST_INTERVAL, Outs, Poll, Refusal, Role, Vars, demand_there,
-    enters, is_admin_down,
+    Cmd, Config, Outs, Poll, Refusal, Role, Vars, demand_there, enters, is_admin_down, is_interval,
 };
-
-/// An interval that may be configured, in microseconds.
-fn is_interval(n: u64) -> bool
-    ensures { result ≡ sound.is_interval n }
-{
-    LEAST_INTERVAL <= n && n <= MOST_INTERVAL
-}
 
 /// The place of the key with this id, among the keys of a session that has some.
 fn key_place(keys: &Option<Keys>, id: u64) -> Option<u8>

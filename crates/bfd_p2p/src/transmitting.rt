@@ -36,7 +36,7 @@ fn packet_of(config: &Config, v: &Vars, poll: bool, fin: bool) -> Control
 fn sealed(keys: &Option<Keys>, sending: u8, seq: &SeqState, packet: &Control) -> (Wire, SeqState)
     requires diag { packet.now.diag < 32 }
     requires place { IsPlace keys.now sending }
-    ensures bytes { result.0 ≡ transmit.bytes_of keys.now sending seq.now packet.now }
+    ensures bytes { result.0 ≡ transmit.packet_bytes keys.now sending seq.now packet.now }
     ensures seq { result.1 ≡ transmit.seq_after keys.now seq.now }
 {
     match keys {

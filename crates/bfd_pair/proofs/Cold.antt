@@ -23,7 +23,7 @@ use Rattle.bfd_rules.specs.declared.verdict.Verdict.TheVariants.{Accepted, Dropp
 use Rattle.bfd_rules.specs.Quantities.{is_admin_down, is_up}
 use Rattle.bfd_rules.specs.EventFrame.{Course, course, changes, sends, told}
 use Rattle.bfd_p2p.specs.Frame.{renews}
-use Rattle.bfd_p2p.specs.Transmit.{transmits, bytes_of, packet_of}
+use Rattle.bfd_p2p.specs.Transmit.{transmits, packet_bytes, packet_of}
 use Rattle.bfd_p2p.specs.Receive as receiving
 use Rattle.bfd_p2p.specs.Receive.{is_single}
 use Rattle.bfd_echo.specs.declared.echo.Echo.{Echo}
@@ -35,7 +35,7 @@ use Rattle.bfd_session.specs.declared.event.Answer.TheVariants.{Handled}
 use Rattle.bfd_session.specs.Kinds.{Running, Flow}
 use Rattle.bfd_session.specs.Echoing.{echoing, settles_echo}
 use Rattle.bfd_session.specs.Step.{begun, settled, acted, finished, step, step_from, stepped_flow, tick, tick_from, ticked_flow, next, emits, tick_next, tick_emits, reply, answer_of, answer_to_packet}
-use Rattle.bfd_pair.specs.Run.{packets_in}
+use Rattle.bfd_pair.specs.Run.{packets_among}
 use Rattle.bfd_pair.proofs.Points.{IsPoint}
 use Rattle.bfd_pair.proofs.Packets.{Each, each_append, packets-append, told_packets}
 use Rattle.bfd_session.proofs.Renewing.{renewed_state}
@@ -48,13 +48,13 @@ IsCold bytes = is_init_or_up (fields_of bytes).state ≡ false
 -- the session isn't in Init or Up, and has put out no packet in either
 pub record Cold (s : Course) : Type 0 where
   pub state : is_init_or_up s.vars.state ≡ false
-  pub packets : Each IsCold (packets_in s.outs)
+  pub packets : Each IsCold (packets_among s.outs)
 
 abbrev cold_state : State → Bool
 cold_state state = not (is_init_or_up state)
 
 bytes_state : (keys : Option KeyChain) (with : ℕ) (seq : SeqState) (packet : Control)
-    → (fields_of (bytes_of keys with seq packet)).state ≡ packet.state
+    → (fields_of (packet_bytes keys with seq packet)).state ≡ packet.state
 unfolding sealed
 bytes_state None with seq packet = reads_state packet []
 bytes_state (Some keys) with seq packet = reads_state packet (section_of keys.kind (key_at with keys.list) seq.xmit packet)
@@ -68,10 +68,10 @@ cold_to : (v w : Vars) → is_init_or_up v.state ≡ false → Goes cold_state v
 cold_to v w low (inl same) = ap is_init_or_up same ∙ low
 cold_to v w low (inr allowed) = not-true (is_init_or_up w.state) allowed
 
-put_cold : (xs ys : List Out) → Each IsCold (packets_in xs) → Each IsCold (packets_in ys) → Each IsCold (packets_in (xs ++ ys))
+put_cold : (xs ys : List Out) → Each IsCold (packets_among xs) → Each IsCold (packets_among ys) → Each IsCold (packets_among (xs ++ ys))
 put_cold xs ys h k =
     subst (λ (ps : List (List ℕ)). Each IsCold ps) (sym (packets-append xs ys))
-    (each_append IsCold (packets_in xs) (packets_in ys) h k)
+    (each_append IsCold (packets_among xs) (packets_among ys) h k)
 
 cold_goes : (discr : ℕ) (v : Vars) (s : Course) → Goes cold_state s.vars v → Cold s → Cold (changes discr v s)
 unfolding changes
@@ -134,7 +134,7 @@ unfolding ticked_flow
 tick_state s limit eff p low = (tick_cold s limit eff p low).state
 
 pub tick_packets : (s : Running) (limit eff : ℕ) → IsPoint s.config → is_init_or_up s.vars.state ≡ false
-    → Each IsCold (packets_in (tick_emits limit eff s))
+    → Each IsCold (packets_among (tick_emits limit eff s))
 unfolding tick_emits ticked_flow
 tick_packets s limit eff p low = (tick_cold s limit eff p low).packets
 
@@ -151,7 +151,7 @@ unfolding stepped_flow
 order_state s eff cmd p low = (order_cold s eff cmd p low).state
 
 pub order_packets : (s : Running) (eff : ℕ) (cmd : Cmd) → IsPoint s.config → is_init_or_up s.vars.state ≡ false
-    → Each IsCold (packets_in (emits eff (Command cmd) s))
+    → Each IsCold (packets_among (emits eff (Command cmd) s))
 unfolding emits stepped_flow
 order_packets s eff cmd p low = (order_cold s eff cmd p low).packets
 
@@ -205,6 +205,6 @@ unfolding stepped_flow
 packet_state s eff arrival p refused low = (packet_cold s eff arrival p refused low).state
 
 pub packet_packets : (s : Running) (eff : ℕ) (arrival : Arrival) → IsPoint s.config → is_handled (reply eff (Packet arrival) s) ≡ false
-    → is_init_or_up s.vars.state ≡ false → Each IsCold (packets_in (emits eff (Packet arrival) s))
+    → is_init_or_up s.vars.state ≡ false → Each IsCold (packets_among (emits eff (Packet arrival) s))
 unfolding emits stepped_flow
 packet_packets s eff arrival p refused low = (packet_cold s eff arrival p refused low).packets

@@ -15,7 +15,7 @@ use Rattle.bfd_pair.specs.declared.event.Side.{Side}
 use Rattle.bfd_pair.specs.declared.event.Side.TheVariants.{Left, Right}
 use Rattle.bfd_pair.specs.declared.event.PairEvent.{PairEvent}
 use Rattle.bfd_pair.specs.declared.event.PairEvent.TheVariants.{Tick, Give, Order}
-use Rattle.bfd_pair.specs.Run.{End, Both, Move, other, end_of, items_of, packet_at, arrival_to, screened, judged, comes, given, pair_run, turn}
+use Rattle.bfd_pair.specs.Run.{End, Both, Move, other, side_of, items_of, packet_at, arrival_to, screened, judged_move, comes, given_packet, pair_run, turn}
 use Rattle.bfd_pair.specs.Handshake.{Heard, IsHandshake, sent_by_then, tells_up, is_up_after}
 use Rattle.bfd_pair.proofs.Points.{IsPoint, way_point, run_point}
 use Rattle.bfd_pair.proofs.Calm.{tick_untold, tick_low, order_untold, order_low, packet_untold, packet_low}
@@ -28,9 +28,9 @@ record Rises (w : Both) (event : PairEvent) (side : Side) : Type 0 where
   number : ℕ
   gives : event ≡ Give side moment number
   bytes : List ℕ
-  sent : packet_at number (end_of (other side) w).sent ≡ Some bytes
+  sent : packet_at number (side_of (other side) w).sent ≡ Some bytes
   state : is_init_or_up (fields_of bytes).state ≡ true
-  your : (fields_of bytes).your ≡ discr_of (end_of side w).session.config
+  your : (fields_of bytes).your ≡ discr_of (side_of side w).session.config
 
 -- a side tells no change to Up, and is Up only if it was
 record Stays (e : End) (m : Move) : Type 0 where
@@ -38,9 +38,9 @@ record Stays (e : End) (m : Move) : Type 0 where
   low : is_up m.end.session.vars.state ≡ true → is_up e.session.vars.state ≡ true
 
 by_test : (w : Both) (side : Side) (moment number : ℕ) (bytes : List ℕ) (arrival : Arrival) (failing : Option Test) (warm : Bool)
-    → packet_at number (end_of (other side) w).sent ≡ Some bytes → arrival_to (end_of side w).session.config bytes ≡ Some arrival
-    → screened (end_of side w).session.config arrival ≡ failing → is_init_or_up (fields_of bytes).state ≡ warm
-    → Rises w (Give side moment number) side ⊎ Stays (end_of side w) (judged failing moment w.last arrival (end_of side w))
+    → packet_at number (side_of (other side) w).sent ≡ Some bytes → arrival_to (side_of side w).session.config bytes ≡ Some arrival
+    → screened (side_of side w).session.config arrival ≡ failing → is_init_or_up (fields_of bytes).state ≡ warm
+    → Rises w (Give side moment number) side ⊎ Stays (side_of side w) (judged_move failing moment w.last arrival (side_of side w))
 by_test w side moment number bytes arrival (Some test) warm sent way is state = inr (record { untold = refl; low = λ up. up })
 by_test w side moment number bytes arrival None true sent way is state = inl (record {
   moment = moment;
@@ -49,10 +49,10 @@ by_test w side moment number bytes arrival None true sent way is state = inl (re
   bytes = bytes;
   sent = sent;
   state = state;
-  your = names (end_of side w).session.config bytes arrival way state is;
+  your = names (side_of side w).session.config bytes arrival way state is;
 })
 by_test w side moment number bytes arrival None false sent way is state =
-    let e : End = end_of side w in
+    let e : End = side_of side w in
     let p : IsPoint e.session.config = way_point e.session.config bytes arrival way in
     let low : is_init_or_up (fields_of arrival.payload).state ≡ false =
     ap (λ (raw : List ℕ). is_init_or_up (fields_of raw).state) (way_payload e.session.config bytes arrival way) ∙ state in
@@ -62,24 +62,24 @@ by_test w side moment number bytes arrival None false sent way is state =
     })
 
 by_arrival : (w : Both) (side : Side) (moment number : ℕ) (bytes : List ℕ) (arrival : Option Arrival)
-    → packet_at number (end_of (other side) w).sent ≡ Some bytes → arrival_to (end_of side w).session.config bytes ≡ arrival
-    → Rises w (Give side moment number) side ⊎ Stays (end_of side w) (comes arrival moment w.last (end_of side w))
+    → packet_at number (side_of (other side) w).sent ≡ Some bytes → arrival_to (side_of side w).session.config bytes ≡ arrival
+    → Rises w (Give side moment number) side ⊎ Stays (side_of side w) (comes arrival moment w.last (side_of side w))
 by_arrival w side moment number bytes None sent way = inr (record { untold = refl; low = λ up. up })
 by_arrival w side moment number bytes (Some arrival) sent way = by_test w side moment number bytes arrival _ _ sent way refl refl
 
 by_packet : (w : Both) (side : Side) (moment number : ℕ) (found : Option (List ℕ))
-    → packet_at number (end_of (other side) w).sent ≡ found
+    → packet_at number (side_of (other side) w).sent ≡ found
     → Rises w (Give side moment number) side
-    ⊎ Stays (end_of side w) (given found (length (end_of (other side) w).sent) moment w.last (end_of side w))
+    ⊎ Stays (side_of side w) (given_packet found (length (side_of (other side) w).sent) moment w.last (side_of side w))
 by_packet w side moment number None is = inr (record { untold = refl; low = λ up. up })
 by_packet w side moment number (Some bytes) is = by_arrival w side moment number bytes _ is refl
 
 -- what an event is to one side
 abbrev part : Side → PairEvent → Both → Move
 part side event w =
-    record { end = end_of side (turn event w).both; items = items_of side (turn event w); answer = (turn event w).answer }
+    record { end = side_of side (turn event w).both; items = items_of side (turn event w); answer = (turn event w).answer }
 
-ticks : (w : Both) (t : ℕ) (side : Side) → IsPoint (end_of side w).session.config → Stays (end_of side w) (part side (Tick t) w)
+ticks : (w : Both) (t : ℕ) (side : Side) → IsPoint (side_of side w).session.config → Stays (side_of side w) (part side (Tick t) w)
 ticks w t Left p = record {
   untold = tick_untold w.left.session (1000 * max w.last t) (max (1000 * max w.last t) w.left.session.vars.at) p;
   low = tick_low w.left.session (1000 * max w.last t) (max (1000 * max w.last t) w.left.session.vars.at) p;
@@ -89,8 +89,8 @@ ticks w t Right p = record {
   low = tick_low w.right.session (1000 * max w.last t) (max (1000 * max w.last t) w.right.session.vars.at) p;
 }
 
-rises_or_stays : (w : Both) (event : PairEvent) (side : Side) → IsPoint (end_of side w).session.config
-    → Rises w event side ⊎ Stays (end_of side w) (part side event w)
+rises_or_stays : (w : Both) (event : PairEvent) (side : Side) → IsPoint (side_of side w).session.config
+    → Rises w event side ⊎ Stays (side_of side w) (part side event w)
 rises_or_stays w (Tick t) side p = inr (ticks w t side p)
 rises_or_stays w (Give Left moment number) Left p = by_packet w Left moment number _ refl
 rises_or_stays w (Give Right moment number) Right p = by_packet w Right moment number _ refl
@@ -135,7 +135,7 @@ module _ (left right : SessionConfig) (l : IsPoint left) (r : IsPoint right) whe
   comes_up past event side low up = elim (rises_or_stays (pair_run left right past) event side (run_point left right l r past side)) [
     | inl rises ↦ shakes past event side rises
     | inr stays ↦ absurd (both_ways _ low (stays.low
-        (ap (λ (w : Both). is_up (end_of side w).session.vars.state) (sym (run_more left right past event)) ∙ up)))
+        (ap (λ (w : Both). is_up (side_of side w).session.vars.state) (sym (run_more left right past event)) ∙ up)))
   ]
 
 -- the same of two point-to-point sessions

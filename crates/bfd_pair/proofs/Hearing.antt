@@ -13,7 +13,7 @@ use Rattle.bfd_pair.specs.declared.event.Side.{Side}
 use Rattle.bfd_pair.specs.declared.event.Side.TheVariants.{Left, Right}
 use Rattle.bfd_pair.specs.declared.event.PairEvent.{PairEvent}
 use Rattle.bfd_pair.specs.declared.event.PairEvent.TheVariants.{Give}
-use Rattle.bfd_pair.specs.Run.{End, Both, end_of, packet_at, after, pair_run, turn}
+use Rattle.bfd_pair.specs.Run.{End, Both, side_of, packet_at, both_after, pair_run, turn}
 use Rattle.bfd_pair.specs.Handshake.{Heard, sent_by_then}
 use Rattle.bfd_pair.proofs.Points.{IsPoint, run_point}
 use Rattle.bfd_pair.proofs.Packets.{each_at, Later, first_or_later}
@@ -23,7 +23,7 @@ use Rattle.bfd_pair.proofs.Sides.{Grows, Quiet, Hears, hears_or_quiet}
 
 -- one event more
 
-after-append : (w : Both) (xs ys : List PairEvent) → after (xs ++ ys) w ≡ after ys (after xs w)
+after-append : (w : Both) (xs ys : List PairEvent) → both_after (xs ++ ys) w ≡ both_after ys (both_after xs w)
 after-append w [] ys = refl
 after-append w (x ∷ xs) ys = after-append (turn x w).both xs ys
 
@@ -51,11 +51,11 @@ heard_still left right side past event m n le h = record {
     sent = h.heard.sent;
     handled = h.heard.handled;
   };
-  by = (let b : length (end_of side (pair_run left right h.heard.before)).sent ≤ m = h.by in omega arith);
+  by = (let b : length (side_of side (pair_run left right h.heard.before)).sent ≤ m = h.by in omega arith);
 }
 
 heard_now : (left right : SessionConfig) (side : Side) (past : List PairEvent) (event : PairEvent) (n : ℕ) (e e2 : End)
-    → length (end_of side (pair_run left right past)).sent ≤ n → Hears (pair_run left right past) event side e e2
+    → length (side_of side (pair_run left right past)).sent ≤ n → Hears (pair_run left right past) event side e e2
     → HeardBy left right side (past ++ event ∷ []) n
 heard_now left right side past event n e e2 le h = record {
   heard = record {
@@ -123,9 +123,9 @@ told_quiet left right side past event e e2 t q = elim (either (is_init_or_up e.s
 ]
 
 told_step : (left right : SessionConfig) (side : Side) (past : List PairEvent) (event : PairEvent)
-    → IsPoint (end_of side (pair_run left right past)).session.config
-    → Told left right side past (end_of side (pair_run left right past))
-    → Told left right side (past ++ event ∷ []) (end_of side (turn event (pair_run left right past)).both)
+    → IsPoint (side_of side (pair_run left right past)).session.config
+    → Told left right side past (side_of side (pair_run left right past))
+    → Told left right side (past ++ event ∷ []) (side_of side (turn event (pair_run left right past)).both)
 told_step left right side past event p t = elim (hears_or_quiet (pair_run left right past) event side p) [
   | inl quiet ↦ told_quiet left right side past event _ _ t quiet
   | inr hears ↦ told_warm left right side past event _ _ t hears.grows (λ n le. heard_now left right side past event n _ _ le hears)
@@ -137,22 +137,22 @@ started_cold (Pair c) p = ap is_init_or_up (drawn_state c.active _ _)
 started_cold config p = absurd p
 
 module _ (left right : SessionConfig) (l : IsPoint left) (r : IsPoint right) where
-  told_start : (side : Side) → Told left right side [] (end_of side (pair_run left right []))
+  told_start : (side : Side) → Told left right side [] (side_of side (pair_run left right []))
   unfolding pair_run
   told_start Left = record { state = λ warm. absurd (both_ways _ (started_cold left l) warm); packets = λ k bytes there warm. cc }
   told_start Right = record { state = λ warm. absurd (both_ways _ (started_cold right r) warm); packets = λ k bytes there warm. cc }
 
-  told_on : (side : Side) (past events : List PairEvent) → Told left right side past (end_of side (pair_run left right past))
-      → Told left right side (past ++ events) (end_of side (pair_run left right (past ++ events)))
+  told_on : (side : Side) (past events : List PairEvent) → Told left right side past (side_of side (pair_run left right past))
+      → Told left right side (past ++ events) (side_of side (pair_run left right (past ++ events)))
   told_on side past [] t =
-      subst (λ (es : List PairEvent). Told left right side es (end_of side (pair_run left right es))) (sym (append-nil past)) t
+      subst (λ (es : List PairEvent). Told left right side es (side_of side (pair_run left right es))) (sym (append-nil past)) t
   told_on side past (event ∷ events) t =
-      subst (λ (es : List PairEvent). Told left right side es (end_of side (pair_run left right es))) (append_assoc past (event ∷ []) events)
+      subst (λ (es : List PairEvent). Told left right side es (side_of side (pair_run left right es))) (append_assoc past (event ∷ []) events)
       (told_on side (past ++ event ∷ []) events
-      (subst (λ (w : Both). Told left right side (past ++ event ∷ []) (end_of side w)) (sym (run_more left right past event))
+      (subst (λ (w : Both). Told left right side (past ++ event ∷ []) (side_of side w)) (sym (run_more left right past event))
       (told_step left right side past event (run_point left right l r past side) t)))
 
-  told : (side : Side) (past : List PairEvent) → Told left right side past (end_of side (pair_run left right past))
+  told : (side : Side) (past : List PairEvent) → Told left right side past (side_of side (pair_run left right past))
   told side past = told_on side [] past (told_start side)
 
 -- where the packet of a number stands
@@ -172,9 +172,9 @@ place_by number sent bytes false is found = record {
 
 -- a packet in Init or Up was sent after its sender had heard the other side
 pub packet_heard : (left right : SessionConfig) → IsPoint left → IsPoint right → (side : Side) (past : List PairEvent) (number : ℕ) (bytes : List ℕ)
-    → packet_at number (end_of side (pair_run left right past)).sent ≡ Some bytes → is_init_or_up (fields_of bytes).state ≡ true
+    → packet_at number (side_of side (pair_run left right past)).sent ≡ Some bytes → is_init_or_up (fields_of bytes).state ≡ true
     → (heard : Heard left right side past) × (sent_by_then left right side past heard < number)
 packet_heard left right l r side past number bytes found warm =
-    let at : At number (end_of side (pair_run left right past)).sent bytes = place_by number _ bytes _ refl found in
+    let at : At number (side_of side (pair_run left right past)).sent bytes = place_by number _ bytes _ refl found in
     let h : HeardBy left right side past at.place = (told left right l r side past).packets at.place bytes at.there warm in
     (h.heard, (let b = h.by in let l = at.below in omega arith))

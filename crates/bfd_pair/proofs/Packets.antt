@@ -6,23 +6,23 @@ use Rattle.bfd_rules.specs.declared.outputs.Out.TheVariants.{Changed, Sent}
 use Rattle.bfd_rules.specs.declared.variables.Vars.{Vars}
 use Rattle.bfd_rules.specs.Quantities.{same_state}
 use Rattle.bfd_rules.specs.EventFrame.{told}
-use Rattle.bfd_pair.specs.Run.{packets_in}
+use Rattle.bfd_pair.specs.Run.{packets_among}
 
-pub packets-append : (xs ys : List Out) → packets_in (xs ++ ys) ≡ packets_in xs ++ packets_in ys
+pub packets-append : (xs ys : List Out) → packets_among (xs ++ ys) ≡ packets_among xs ++ packets_among ys
 packets-append [] ys = refl
 packets-append (Changed discr old new diag ∷ xs) ys = packets-append xs ys
 packets-append (Sent discr datagram ∷ xs) ys = ap (λ (ps : List (List ℕ)). datagram.bytes ∷ ps) (packets-append xs ys)
 
-pub packets_few : (items : List Out) → length (packets_in items) ≤ length items
+pub packets_few : (items : List Out) → length (packets_among items) ≤ length items
 packets_few [] = omega arith
 packets_few (Changed discr old new diag ∷ items) = let few = packets_few items in omega arith
 packets_few (Sent discr datagram ∷ items) = let few = packets_few items in omega arith
 
 -- a change of state is no packet
-pub told_packets : (discr : ℕ) (v w : Vars) → packets_in (told discr v w) ≡ []
+pub told_packets : (discr : ℕ) (v w : Vars) → packets_among (told discr v w) ≡ []
 told_packets discr v w = by_same (same_state v.state w.state)
   where
-    by_same : (same : Bool) → packets_in (if same then [] else Changed discr v.state w.state w.diag ∷ []) ≡ []
+    by_same : (same : Bool) → packets_among (if same then [] else Changed discr v.state w.state w.diag ∷ []) ≡ []
     by_same true = refl
     by_same false = refl
 

@@ -6,7 +6,7 @@ use Rattle.bfd_pair.specs.declared.event.Side.{Side}
 use Rattle.bfd_pair.specs.declared.event.Side.TheVariants.{Left, Right}
 use Rattle.bfd_pair.specs.declared.event.PairEvent.{PairEvent}
 use Rattle.bfd_pair.specs.declared.peer.Peer.{Peer}
-use Rattle.bfd_pair.specs.Run.{End, Both, items_of, opened, pair_run, turn}
+use Rattle.bfd_pair.specs.Run.{End, Both, items_of, opened_side, pair_run, turn}
 use Rattle.bfd_pair.specs.Handshake.{IsHandshake, tells_up, is_up_after}
 use Rattle.bfd_pair.specs.Inside.{seen, both_of, Pairing, pairing_of, IsPeer, IsPair}
 use Rattle.bfd_pair.proofs.Points.{IsPoint, way_point, turn_config}
@@ -63,14 +63,14 @@ module _ (l r l2 r2 : Peer) (last last2 : ℕ) (past past2 : List PairEvent) (ev
 
 -- two sides at the start
 pub pair_start : (l r : Peer) (left right : SessionConfig) (past : List PairEvent) → IsPeer l → IsPeer r
-    → seen l ≡ opened left → seen r ≡ opened right → past ≡ [] → IsPair l r 0 past
+    → seen l ≡ opened_side left → seen r ≡ opened_side right → past ≡ [] → IsPair l r 0 past
 unfolding pair_run
 pair_start l r left right past hl hr el er none = record {
   left_peer = hl;
   right_peer = hr;
   within = omega arith;
   run = ap (λ (e : End). record { left = e; right = seen r; last = 0 }) el
-      ∙ (ap (λ (e : End). record { left = opened left; right = e; last = 0 }) er
+      ∙ (ap (λ (e : End). record { left = opened_side left; right = e; last = 0 }) er
       ∙ (ap (λ (c : SessionConfig). pair_run c right []) (sym (ap (λ (e : End). e.session.config) el))
       ∙ (ap (λ (c : SessionConfig). pair_run l.session.config c []) (sym (ap (λ (e : End). e.session.config) er))
       ∙ ap (λ (es : List PairEvent). pair_run l.session.config r.session.config es) (sym none))));

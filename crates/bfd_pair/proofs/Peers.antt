@@ -17,7 +17,7 @@ use Rattle.bfd_session.specs.Rows.{row_of}
 use Rattle.bfd_session.specs.Step.{IsFit, IsSound, CanTake, sound_by, started}
 use Rattle.bfd_session.proofs.Tables.{no_fault as no_faults}
 use Rattle.bfd_pair.specs.declared.peer.Peer.{Peer}
-use Rattle.bfd_pair.specs.Run.{arrival_to, packets_in, arrives, comes}
+use Rattle.bfd_pair.specs.Run.{arrival_to, packets_among, arrives, comes}
 use Rattle.bfd_pair.specs.Inside.{seen, by_way, IsPeer}
 use Rattle.bfd_pair.proofs.Points.{IsPoint, way_point}
 use Rattle.bfd_pair.proofs.Packets.{packets_few}
@@ -36,7 +36,7 @@ opened_peer p config is table way = record {
 }
 
 -- no more packets are kept than there were outputs since
-pub few : (from : ℕ) (items : List Out) → length (packets_in (drop from items)) ≤ length items - from
+pub few : (from : ℕ) (items : List Out) → length (packets_among (drop from items)) ≤ length items - from
 few from items =
     let fewer = packets_few (drop from items) in
     let rest = length-drop from items in

@@ -8,7 +8,7 @@ use Rattle.bfd_pair.specs.declared.event.Side.{Side}
 use Rattle.bfd_pair.specs.declared.event.Side.TheVariants.{Left, Right}
 use Rattle.bfd_pair.specs.declared.event.PairEvent.{PairEvent}
 use Rattle.bfd_pair.specs.declared.event.PairEvent.TheVariants.{Tick, Give, Order}
-use Rattle.bfd_pair.specs.Run.{End, Both, end_of, packet_at, arrival_to, screened, judged, comes, given, opened, after, pair_run, turn}
+use Rattle.bfd_pair.specs.Run.{End, Both, side_of, packet_at, arrival_to, screened, judged_move, comes, given_packet, opened_side, both_after, pair_run, turn}
 
 -- a point-to-point session's configuration
 abbrev pub IsPoint : SessionConfig → Type 0
@@ -23,7 +23,7 @@ way_point config bytes arrival is = cc
 -- no event changes a configuration
 
 judged_config : (failing : Option Test) (moment last : ℕ) (arrival : Arrival) (e : End)
-    → (judged failing moment last arrival e).end.session.config ≡ e.session.config
+    → (judged_move failing moment last arrival e).end.session.config ≡ e.session.config
 judged_config (Some test) moment last arrival e = refl
 judged_config None moment last arrival e = refl
 
@@ -33,12 +33,12 @@ comes_config None moment last e = refl
 comes_config (Some arrival) moment last e = judged_config (screened e.session.config arrival) moment last arrival e
 
 given_config : (found : Option (List ℕ)) (count moment last : ℕ) (e : End)
-    → (given found count moment last e).end.session.config ≡ e.session.config
+    → (given_packet found count moment last e).end.session.config ≡ e.session.config
 given_config None count moment last e = refl
 given_config (Some bytes) count moment last e = comes_config (arrival_to e.session.config bytes) moment last e
 
 pub turn_config : (event : PairEvent) (w : Both) (side : Side)
-    → (end_of side (turn event w).both).session.config ≡ (end_of side w).session.config
+    → (side_of side (turn event w).both).session.config ≡ (side_of side w).session.config
 turn_config (Tick t) w Left = refl
 turn_config (Give Left moment number) w Left = given_config (packet_at number w.right.sent) (length w.right.sent) moment w.last w.left
 turn_config (Give Right moment number) w Right = given_config (packet_at number w.left.sent) (length w.left.sent) moment w.last w.right
@@ -48,14 +48,14 @@ turn_config (Order Left moment cmd) w Right = refl
 turn_config event w side = refl
 
 after_config : (events : List PairEvent) (w : Both) (side : Side)
-    → (end_of side (after events w)).session.config ≡ (end_of side w).session.config
+    → (side_of side (both_after events w)).session.config ≡ (side_of side w).session.config
 after_config [] w side = refl
 after_config (event ∷ events) w side = after_config events (turn event w).both side ∙ turn_config event w side
 
 pub run_point : (left right : SessionConfig) → IsPoint left → IsPoint right → (past : List PairEvent) (side : Side)
-    → IsPoint (end_of side (pair_run left right past)).session.config
+    → IsPoint (side_of side (pair_run left right past)).session.config
 unfolding pair_run
 run_point left right l r past Left =
-    subst IsPoint (sym (after_config past (record { left = opened left; right = opened right; last = 0 }) Left)) l
+    subst IsPoint (sym (after_config past (record { left = opened_side left; right = opened_side right; last = 0 }) Left)) l
 run_point left right l r past Right =
-    subst IsPoint (sym (after_config past (record { left = opened left; right = opened right; last = 0 }) Right)) r
+    subst IsPoint (sym (after_config past (record { left = opened_side left; right = opened_side right; last = 0 }) Right)) r

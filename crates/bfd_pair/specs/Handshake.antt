@@ -12,7 +12,7 @@ use Rattle.bfd_pair.specs.declared.event.Side.{Side}
 use Rattle.bfd_pair.specs.declared.event.PairEvent.{PairEvent}
 use Rattle.bfd_pair.specs.declared.event.PairEvent.TheVariants.{Give}
 use Rattle.bfd_pair.specs.declared.event.PairAnswer.TheVariants.{Did}
-use Rattle.bfd_pair.specs.Run.{other, end_of, packet_at, pair_run, turn}
+use Rattle.bfd_pair.specs.Run.{other, side_of, packet_at, pair_run, turn}
 
 -- a change to Up is told among these outputs
 abbrev pub tells_up : List Out → Bool
@@ -22,7 +22,7 @@ tells_up (Sent discr datagram ∷ items) = tells_up items
 
 -- the side's state is Up after these events
 abbrev pub is_up_after : SessionConfig → SessionConfig → Side → List PairEvent → Bool
-is_up_after left right side events = is_up (end_of side (pair_run left right events)).session.vars.state
+is_up_after left right side events = is_up (side_of side (pair_run left right events)).session.vars.state
 
 -- somewhere in the past the side was given a packet that the other side had sent, and handled it
 pub record Heard (left right : SessionConfig) (side : Side) (past : List PairEvent) : Type 0 where
@@ -32,12 +32,12 @@ pub record Heard (left right : SessionConfig) (side : Side) (past : List PairEve
   pub number : ℕ
   pub split : past ≡ before ++ Give side moment number ∷ later
   pub bytes : List ℕ
-  pub sent : packet_at number (end_of (other side) (pair_run left right before)).sent ≡ Some bytes
+  pub sent : packet_at number (side_of (other side) (pair_run left right before)).sent ≡ Some bytes
   pub handled : (turn (Give side moment number) (pair_run left right before)).answer ≡ Did Handled
 
 -- how many packets the side had sent when it was given that packet
 abbrev pub sent_by_then : (left right : SessionConfig) (side : Side) (past : List PairEvent) → Heard left right side past → ℕ
-sent_by_then left right side past h = length (end_of side (pair_run left right h.before)).sent
+sent_by_then left right side past h = length (side_of side (pair_run left right h.before)).sent
 
 -- this event after this past gives the side a packet of the other side that is in Init or Up and has the side's discriminator as
 -- Your Discriminator. In the past the other side handled a packet of this side, and the packet given is none that it had
@@ -47,8 +47,8 @@ pub record IsHandshake (left right : SessionConfig) (side : Side) (event : PairE
   pub number : ℕ
   pub gives : event ≡ Give side moment number
   pub bytes : List ℕ
-  pub sent : packet_at number (end_of (other side) (pair_run left right past)).sent ≡ Some bytes
+  pub sent : packet_at number (side_of (other side) (pair_run left right past)).sent ≡ Some bytes
   pub state : is_init_or_up (fields_of bytes).state ≡ true
-  pub your : (fields_of bytes).your ≡ discr_of (end_of side (pair_run left right past)).session.config
+  pub your : (fields_of bytes).your ≡ discr_of (side_of side (pair_run left right past)).session.config
   pub heard : Heard left right (other side) past
   pub answers : sent_by_then left right (other side) past heard < number

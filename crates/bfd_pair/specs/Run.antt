@@ -41,7 +41,7 @@ pub record Move : Type 0 where
   pub answer : PairAnswer
 
 -- what an event makes of both, what each puts out in it, and the answer
-pub record Turn : Type 0 where
+pub record PairTurn : Type 0 where
   pub both : Both
   pub left_items : List Out
   pub right_items : List Out
@@ -51,19 +51,19 @@ abbrev pub other : Side → Side
 other Left = Right
 other Right = Left
 
-abbrev pub end_of : Side → Both → End
-end_of Left w = w.left
-end_of Right w = w.right
+abbrev pub side_of : Side → Both → End
+side_of Left w = w.left
+side_of Right w = w.right
 
-abbrev pub items_of : Side → Turn → List Out
+abbrev pub items_of : Side → PairTurn → List Out
 items_of Left turn = turn.left_items
 items_of Right turn = turn.right_items
 
 -- the packets among outputs
-abbrev pub packets_in : List Out → List (List ℕ)
-packets_in [] = []
-packets_in (Changed discr old new diag ∷ items) = packets_in items
-packets_in (Sent discr datagram ∷ items) = datagram.bytes ∷ packets_in items
+abbrev pub packets_among : List Out → List (List ℕ)
+packets_among [] = []
+packets_among (Changed discr old new diag ∷ items) = packets_among items
+packets_among (Sent discr datagram ∷ items) = datagram.bytes ∷ packets_among items
 
 -- the packet of a number, the first being 1
 abbrev pub packet_at : ℕ → List (List ℕ) → Option (List ℕ)
@@ -90,54 +90,54 @@ screened config arrival = first_table_failing (row_of config ∷ []) arrival
 
 -- the packets that an event puts out have been sent
 abbrev pub sending : Running → List Out → End → End
-sending s items e = record { session = s; sent = e.sent ++ packets_in items }
+sending s items e = record { session = s; sent = e.sent ++ packets_among items }
 
 -- an own event of a side
-abbrev pub own : ℕ → ℕ → Event → End → Move
-own moment last event e = record {
+abbrev pub own_move : ℕ → ℕ → Event → End → Move
+own_move moment last event e = record {
   end = sending (stepped moment last event e.session) (step_outcome moment last event e.session).items e;
   items = (step_outcome moment last event e.session).items;
   answer = Did (step_outcome moment last event e.session).answer;
 }
 
 -- a side that nothing happens to
-abbrev pub rests : PairAnswer → End → Move
-rests answer e = record { end = e; items = []; answer = answer }
+abbrev pub side_rests : PairAnswer → End → Move
+side_rests answer e = record { end = e; items = []; answer = answer }
 
 -- a packet arrives: it is discarded by the first test that fails, or is an own event
-abbrev pub judged : Option Test → ℕ → ℕ → Arrival → End → Move
-judged (Some test) moment last arrival e = rests (Did (Dropped test)) e
-judged None moment last arrival e = own moment last (Packet arrival) e
+abbrev pub judged_move : Option Test → ℕ → ℕ → Arrival → End → Move
+judged_move (Some test) moment last arrival e = side_rests (Did (Dropped test)) e
+judged_move None moment last arrival e = own_move moment last (Packet arrival) e
 
 abbrev pub arrives : ℕ → ℕ → Arrival → End → Move
-arrives moment last arrival e = judged (screened e.session.config arrival) moment last arrival e
+arrives moment last arrival e = judged_move (screened e.session.config arrival) moment last arrival e
 
 -- a packet comes to a side
 abbrev pub comes : Option Arrival → ℕ → ℕ → End → Move
-comes None moment last e = rests (Did (Dropped NoSession)) e
+comes None moment last e = side_rests (Did (Dropped NoSession)) e
 comes (Some arrival) moment last e = arrives moment last arrival e
 
 -- a side is given a packet, or there is none among so many
-abbrev pub given : Option (List ℕ) → ℕ → ℕ → ℕ → End → Move
-given None count moment last e = rests (NoPacket count) e
-given (Some bytes) count moment last e = comes (arrival_to e.session.config bytes) moment last e
+abbrev pub given_packet : Option (List ℕ) → ℕ → ℕ → ℕ → End → Move
+given_packet None count moment last e = side_rests (NoPacket count) e
+given_packet (Some bytes) count moment last e = comes (arrival_to e.session.config bytes) moment last e
 
 -- a side is given the packet of a number among those that were sent
 abbrev pub gives : ℕ → List (List ℕ) → ℕ → ℕ → End → Move
-gives number sent moment last e = given (packet_at number sent) (length sent) moment last e
+gives number sent moment last e = given_packet (packet_at number sent) (length sent) moment last e
 
 -- a tick of a side
 abbrev pub ticking : ℕ → End → End
 ticking last e = sending (ticked last e.session) (tick_items last e.session) e
 
 -- one side moves, and the other rests
-abbrev pub moves : Side → Move → Both → Turn
-moves Left m w = record { both = record w { left = m.end }; left_items = m.items; right_items = []; answer = m.answer }
-moves Right m w = record { both = record w { right = m.end }; left_items = []; right_items = m.items; answer = m.answer }
+abbrev pub side_moves : Side → Move → Both → PairTurn
+side_moves Left m w = record { both = record w { left = m.end }; left_items = m.items; right_items = []; answer = m.answer }
+side_moves Right m w = record { both = record w { right = m.end }; left_items = []; right_items = m.items; answer = m.answer }
 
 -- a tick of both, with one last tick
-abbrev pub ticks : ℕ → Both → Turn
-ticks last w = record {
+abbrev pub both_tick : ℕ → Both → PairTurn
+both_tick last w = record {
   both = record { left = ticking last w.left; right = ticking last w.right; last = last };
   left_items = tick_items last w.left.session;
   right_items = tick_items last w.right.session;
@@ -145,20 +145,20 @@ ticks last w = record {
 }
 
 -- one event
-abbrev pub turn : PairEvent → Both → Turn
-turn (Tick t) w = ticks (max w.last t) w
-turn (Give to moment number) w = moves to (gives number (end_of (other to) w).sent moment w.last (end_of to w)) w
-turn (Order side moment cmd) w = moves side (own moment w.last (Command cmd) (end_of side w)) w
+abbrev pub turn : PairEvent → Both → PairTurn
+turn (Tick t) w = both_tick (max w.last t) w
+turn (Give to moment number) w = side_moves to (gives number (side_of (other to) w).sent moment w.last (side_of to w)) w
+turn (Order side moment cmd) w = side_moves side (own_move moment w.last (Command cmd) (side_of side w)) w
 
 -- the events one after another
-abbrev pub after : List PairEvent → Both → Both
-after [] w = w
-after (event ∷ events) w = after events (turn event w).both
+abbrev pub both_after : List PairEvent → Both → Both
+both_after [] w = w
+both_after (event ∷ events) w = both_after events (turn event w).both
 
 -- a side at the start
-abbrev pub opened : SessionConfig → End
-opened config = record { session = started config; sent = [] }
+abbrev pub opened_side : SessionConfig → End
+opened_side config = record { session = started config; sent = [] }
 
 -- both sides after these events
 unfoldable pub pair_run : SessionConfig → SessionConfig → List PairEvent → Both
-pair_run left right events = after events (record { left = opened left; right = opened right; last = 0 })
+pair_run left right events = both_after events (record { left = opened_side left; right = opened_side right; last = 0 })

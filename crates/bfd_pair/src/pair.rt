@@ -6,12 +6,12 @@ ghost use Rattle.bfd_session.specs.Alone as alone;
 ghost use Rattle.bfd_session.specs.Step.{IsFit};
 ghost use Rattle.bfd_pair.specs.declared.event.Side.{Side};
 ghost use Rattle.bfd_pair.specs.Events as events;
-ghost use Rattle.bfd_pair.specs.Run.{Both, Turn, end_of, items_of, pair_run, turn};
+ghost use Rattle.bfd_pair.specs.Run.{Both, PairTurn, side_of, items_of, pair_run, turn};
 ghost use Rattle.bfd_pair.specs.Run as run;
 ghost use Rattle.bfd_pair.specs.Handshake.{IsHandshake, tells_up, is_up_after};
 ghost use Rattle.bfd_pair.specs.Inside.{seen, both_of, IsPeer};
 
-use crate::peer::{Peer, give, open, own, tick};
+use crate::peer::{Peer, give, open, own_move, tick};
 use crate::{PairAnswer, PairEvent, PairFault, Side};
 use bfd_num::Moment;
 use bfd_packet::Wire;
@@ -75,13 +75,13 @@ fn order(peer: &mut Peer, last: u64, moment: Moment, cmd: Cmd, outs: &mut Outs) 
     requires room { 5 ≤ outs.old.spare }
     requires more { vec_len peer.old.sent + 5 ≤ vec_capacity peer.old.sent }
     ensures peer { IsPeer peer.new }
-    ensures seen { seen peer.new ≡ (run.own moment last (Event.Command cmd) (seen peer.old)).end }
-    ensures outs { outs.new.items ≡ outs.old.items ++ (run.own moment last (Event.Command cmd) (seen peer.old)).items }
-    ensures answer { result ≡ (run.own moment last (Event.Command cmd) (seen peer.old)).answer }
+    ensures seen { seen peer.new ≡ (run.own_move moment last (Event.Command cmd) (seen peer.old)).end }
+    ensures outs { outs.new.items ≡ outs.old.items ++ (run.own_move moment last (Event.Command cmd) (seen peer.old)).items }
+    ensures answer { result ≡ (run.own_move moment last (Event.Command cmd) (seen peer.old)).answer }
     ensures spare { outs.old.spare ≤ outs.new.spare + 5 }
     ensures room { outs.new.room ≡ outs.old.room }
 {
-    PairAnswer::Did(own(peer, last, moment.get(), &Event::Command(cmd), outs))
+    PairAnswer::Did(own_move(peer, last, moment.get(), &Event::Command(cmd), outs))
 }
 
 /// One event. Answers the greatest tick so far besides. After a refusal, for want of memory, all is as before.
@@ -187,7 +187,7 @@ impl Pair {
         ensures past { OnOk result (self.new ≡ record self.old { past = self.old.past ++ event ∷ [] }) }
         ensures answer { IfOk result (λ a. a
             ≡ (turn event (pair_run self.old.left self.old.right self.old.past)).answer) }
-        ensures outs { let t : Turn = turn event (pair_run self.old.left self.old.right self.old.past) in
+        ensures outs { let t : PairTurn = turn event (pair_run self.old.left self.old.right self.old.past) in
             OnOk result (outs.new.items ≡ outs.old.items ++ (t.left_items ++ t.right_items)) }
         ensures same { OnErr result (self.new ≡ self.old) }
         ensures same_outs { OnErr result (outs.new ≡ outs.old) }
@@ -218,7 +218,7 @@ impl Pair {
 
     /// The session of a side.
     pub fn session(&self, side: Side) -> &Session
-        ensures { result.now ≡ (end_of side (pair_run self.now.left self.now.right self.now.past)).session }
+        ensures { result.now ≡ (side_of side (pair_run self.now.left self.now.right self.now.past)).session }
     {
         match side {
             Side::Left => &self.left.session,
@@ -228,7 +228,7 @@ impl Pair {
 
     /// The packets that a side has sent, the first being number 1.
     pub fn sent(&self, side: Side) -> &[Wire]
-        ensures { result.now ≡ (end_of side (pair_run self.now.left self.now.right self.now.past)).sent }
+        ensures { result.now ≡ (side_of side (pair_run self.now.left self.now.right self.now.past)).sent }
     {
         match side {
             Side::Left => &self.left.sent,

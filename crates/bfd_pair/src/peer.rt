@@ -8,7 +8,7 @@ ghost use Rattle.bfd_session.specs.declared.event.SessionConfig.TheVariants.{Pai
 ghost use Rattle.bfd_session.specs.Alone as alone;
 ghost use Rattle.bfd_session.specs.Step.{IsFit, CanTake};
 ghost use Rattle.bfd_session.specs.Rows as rows;
-ghost use Rattle.bfd_pair.specs.Run.{arrival_to, packets_in, packet_at};
+ghost use Rattle.bfd_pair.specs.Run.{arrival_to, packets_among, packet_at};
 ghost use Rattle.bfd_pair.specs.Run as run;
 ghost use Rattle.bfd_pair.specs.Inside.{seen, by_way, IsPeer};
 
@@ -70,7 +70,7 @@ fn way_to(config: &Config) -> Way
 pub(crate) fn open(alloc: Global, config: Config) -> Result<Peer, AllocError>
     requires { IsFit (PairOf config) }
     ensures peer { IfOk result (λ p. IsPeer p) }
-    ensures opened { IfOk result (λ p. seen p ≡ run.opened (PairOf config)) }
+    ensures opened { IfOk result (λ p. seen p ≡ run.opened_side (PairOf config)) }
 {
     let way = way_to(&config);
     let config = SessionConfig::Pair(config);
@@ -85,9 +85,9 @@ pub(crate) fn open(alloc: Global, config: Config) -> Result<Peer, AllocError>
 
 /// Keeps the packet of an output.
 fn keep_one(sent: &mut Vec<Wire>, item: &Out)
-    requires room { vec_len sent.old + length (packets_in (item.now ∷ [])) ≤ vec_capacity sent.old }
-    ensures items { sent.new.items ≡ sent.old.items ++ packets_in (item.now ∷ []) }
-    ensures len { vec_len sent.new ≡ vec_len sent.old + length (packets_in (item.now ∷ [])) }
+    requires room { vec_len sent.old + length (packets_among (item.now ∷ [])) ≤ vec_capacity sent.old }
+    ensures items { sent.new.items ≡ sent.old.items ++ packets_among (item.now ∷ []) }
+    ensures len { vec_len sent.new ≡ vec_len sent.old + length (packets_among (item.now ∷ [])) }
     ensures capacity { vec_capacity sent.new ≡ vec_capacity sent.old }
 {
     if let Out::Sent { datagram, .. } = item {
@@ -97,8 +97,8 @@ fn keep_one(sent: &mut Vec<Wire>, item: &Out)
 
 /// Keeps the packets among outputs, for which there is room.
 fn keep(sent: &mut Vec<Wire>, items: &[Out])
-    requires room { vec_len sent.old + length (packets_in items.now) ≤ vec_capacity sent.old }
-    ensures items { sent.new.items ≡ sent.old.items ++ packets_in items.now }
+    requires room { vec_len sent.old + length (packets_among items.now) ≤ vec_capacity sent.old }
+    ensures items { sent.new.items ≡ sent.old.items ++ packets_among items.now }
 {
     for item in items {
         keep_one(sent, item);
@@ -137,7 +137,13 @@ pub(crate) fn tick(peer: &mut Peer, last: u64, outs: &mut Outs)
 
 /// An own event of a side.
 #[tactic(auto, using(crate::proofs::Peers::few, crate::proofs::Peers::put_since, crate::proofs::Peers::at_below))]
-pub(crate) fn own(peer: &mut Peer, last: u64, moment: u64, event: &Event, outs: &mut Outs) -> Answer
+pub(crate) fn own_move(
+    peer: &mut Peer,
+    last: u64,
+    moment: u64,
+    event: &Event,
+    outs: &mut Outs,
+) -> Answer
     requires peer { IsPeer peer.old }
     requires takes { CanTake peer.old.session.config event.now }
     requires last { last ≤ greatest_tick }
@@ -145,9 +151,9 @@ pub(crate) fn own(peer: &mut Peer, last: u64, moment: u64, event: &Event, outs: 
     requires room { 5 ≤ outs.old.spare }
     requires more { vec_len peer.old.sent + 5 ≤ vec_capacity peer.old.sent }
     ensures peer { IsPeer peer.new }
-    ensures seen { seen peer.new ≡ (run.own moment last event.now (seen peer.old)).end }
-    ensures outs { outs.new.items ≡ outs.old.items ++ (run.own moment last event.now (seen peer.old)).items }
-    ensures answer { PairAnswer.Did result ≡ (run.own moment last event.now (seen peer.old)).answer }
+    ensures seen { seen peer.new ≡ (run.own_move moment last event.now (seen peer.old)).end }
+    ensures outs { outs.new.items ≡ outs.old.items ++ (run.own_move moment last event.now (seen peer.old)).items }
+    ensures answer { PairAnswer.Did result ≡ (run.own_move moment last event.now (seen peer.old)).answer }
     ensures spare { outs.old.spare ≤ outs.new.spare + 5 }
     ensures room { outs.new.room ≡ outs.old.room }
 {
@@ -205,7 +211,7 @@ fn receive(peer: &mut Peer, last: u64, moment: u64, arrival: Arrival, outs: &mut
     ensures room { outs.new.room ≡ outs.old.room }
 {
     match screened::<Brand>(&peer.table, &arrival, Blank::new(1)) {
-        Ok(_) => PairAnswer::Did(own(peer, last, moment, &Event::Packet(arrival), outs)),
+        Ok(_) => PairAnswer::Did(own_move(peer, last, moment, &Event::Packet(arrival), outs)),
         Err(test) => PairAnswer::Did(Answer::Dropped(test)),
     }
 }

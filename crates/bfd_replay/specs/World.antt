@@ -18,7 +18,7 @@ use Rattle.bfd_session.specs.Alone.{Outcome, stepped, step_outcome, ticked, tick
 use Rattle.bfd_line.specs.declared.entries.Line.{Line}
 use Rattle.bfd_script.specs.Doing.{Doing, Rests, Reflects, Happens, Passes, doing}
 use Rattle.bfd_script.specs.Reading.{Lists}
-use Rattle.bfd_script.specs.Report.{sent, dropped, report}
+use Rattle.bfd_script.specs.Report.{packets_sent, dropped, report}
 
 -- the sessions and the reflectors, each by ascending discriminator, and the greatest tick so far
 pub record World : Type 0 where
@@ -34,11 +34,11 @@ pub record Turn : Type 0 where
 abbrev pub world_of : List Running → List Reflector → ℕ → World
 world_of sessions pool last = record { sessions = sessions; pool = pool; last = last }
 
-abbrev pub gives : World → List Out → Answer → Turn
-gives w items answer = record { world = w; outcome = record { items = items; answer = answer } }
+abbrev pub turn_giving : World → List Out → Answer → Turn
+turn_giving w items answer = record { world = w; outcome = record { items = items; answer = answer } }
 
 abbrev pub turned : List Running → List Reflector → ℕ → List Out → Answer → Turn
-turned sessions pool last items answer = gives (world_of sessions pool last) items answer
+turned sessions pool last items answer = turn_giving (world_of sessions pool last) items answer
 
 -- the world at the start
 abbrev pub opened : List SessionConfig → List Reflector → World
@@ -46,7 +46,7 @@ opened configs pool = world_of (map started configs) pool 0
 
 -- an event that changes no session, and has this answer
 abbrev pub rests : Answer → World → Turn
-rests answer w = gives w [] answer
+rests answer w = turn_giving w [] answer
 
 -- an own event of the session at this place, and of no other
 abbrev pub own_of : Option Running → ℕ → ℕ → Event → World → Turn
@@ -72,18 +72,18 @@ ticks t w =
 abbrev pub reflected : Option Reflector → Result Datagram Test → World → Turn
 reflected reflector (Err test) w = rests (Dropped test) w
 reflected None (Ok datagram) w = rests Handled w
-reflected (Some reflector) (Ok datagram) w = gives w (Sent reflector.discr datagram ∷ []) Handled
+reflected (Some reflector) (Ok datagram) w = turn_giving w (Sent reflector.discr datagram ∷ []) Handled
 
 -- what a line that comes to this does
-abbrev pub done : Doing → World → Turn
-done (Rests answer) w = rests answer w
-done (Reflects place arrival) w = reflected (slice_get w.pool place) (reflect w.pool arrival) w
-done (Happens place moment event) w = own place moment event w
-done (Passes t) w = ticks t w
+abbrev pub carried_out : Doing → World → Turn
+carried_out (Rests answer) w = rests answer w
+carried_out (Reflects place arrival) w = reflected (slice_get w.pool place) (reflect w.pool arrival) w
+carried_out (Happens place moment event) w = own place moment event w
+carried_out (Passes t) w = ticks t w
 
 -- a line of a script
 abbrev pub happens : Line → World → Turn
-happens line w = done (doing (configs_of w.sessions) w.pool line) w
+happens line w = carried_out (doing (configs_of w.sessions) w.pool line) w
 
 -- what the lines give, one after another
 abbrev pub outcomes : List Line → World → List Outcome
@@ -91,17 +91,17 @@ outcomes [] w = []
 outcomes (event ∷ events) w = (happens event w).outcome ∷ outcomes events (happens event w).world
 
 -- the world after the lines
-abbrev pub after : List Line → World → World
-after [] w = w
-after (event ∷ events) w = after events (happens event w).world
+abbrev pub world_after : List Line → World → World
+world_after [] w = w
+world_after (event ∷ events) w = world_after events (happens event w).world
 
 -- what the events of a script give
 abbrev pub world : Lists → List Outcome
 world script = outcomes script.events (opened script.configs script.pool)
 
 -- the world that a script leaves
-abbrev pub left_by : Lists → World
-left_by script = after script.events (opened script.configs script.pool)
+abbrev pub world_left : Lists → World
+world_left script = world_after script.events (opened script.configs script.pool)
 
 -- how many events there are, how many packets are sent and how many are dropped in them, and how many sessions are Up at the end
 pub record Totals : Type 0 where
@@ -113,9 +113,9 @@ pub record Totals : Type 0 where
 abbrev pub totals : Lists → Totals
 totals script = record {
   events = length (world script);
-  txs = sum_by sent (world script);
+  txs = sum_by packets_sent (world script);
   drops = sum_by dropped (world script);
-  ups = length (filter (λ s. is_up s.vars.state) (left_by script).sessions);
+  ups = length (filter (λ s. is_up s.vars.state) (world_left script).sessions);
 }
 
 -- the report of a replay of the script

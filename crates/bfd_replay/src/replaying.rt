@@ -3,7 +3,7 @@ ghost use Rattle.std.specs.Prelude.{◌≡◌, IfOk, map};
 ghost use Rattle.bfd_session.specs.Rows.{AreFit, table_of as table_in};
 ghost use Rattle.bfd_session.specs.Step.{started as started_of};
 ghost use Rattle.bfd_replay.specs.Stage.{IsStage, IsTable};
-ghost use Rattle.bfd_replay.specs.World.{gives, turned};
+ghost use Rattle.bfd_replay.specs.World.{turn_giving, turned};
 ghost use Rattle.bfd_replay.specs.World as world;
 
 use crate::world::happen;
@@ -106,7 +106,7 @@ impl Progress {
 
     /// One event: what it gave is in the outputs and the answer.
     pub fn happen(&mut self, line: Line) -> Answer
-        ensures { gives self.new.world self.new.items result ≡ world.happens line self.old.world }
+        ensures { turn_giving self.new.world self.new.items result ≡ world.happens line self.old.world }
     {
         let (last, answer) = turn(
             &mut self.sessions,

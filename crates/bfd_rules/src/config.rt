@@ -1,4 +1,6 @@
 //! How a point-to-point session is configured.
+ghost use Rattle.std.specs.Prelude.{◌≡◌};
+ghost use Rattle.bfd_rules.specs.Sound as sound;
 
 use bfd_packet::{Addr, Keys};
 
@@ -7,6 +9,13 @@ pub const LEAST_INTERVAL: u64 = 10_000;
 
 /// The greatest interval that may be configured, in microseconds.
 pub const MOST_INTERVAL: u64 = 60_000_000;
+
+/// Whether this is an interval that may be configured, in microseconds.
+pub fn is_interval(n: u64) -> bool
+    ensures { result ≡ sound.is_interval n }
+{
+    LEAST_INTERVAL <= n && n <= MOST_INTERVAL
+}
 
 /// Over how many hops a session runs.
 #[derive(Clone, Copy, Debug, PartialEq, Eq)]

@@ -19,7 +19,7 @@ mod variables;
 mod verdict;
 
 pub use commands::{Cmd, Refusal};
-pub use config::{Config, LEAST_INTERVAL, MOST_INTERVAL, Role};
+pub use config::{Config, LEAST_INTERVAL, MOST_INTERVAL, Role, is_interval};
 pub use frame::{begins, changes, draw, drawn, enters, is_untold, sends, stamped, tells};
 pub use jitter::pick;
 pub use outputs::{Out, Outs};

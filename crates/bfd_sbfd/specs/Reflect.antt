@@ -34,15 +34,15 @@ abbrev pub tests : List Test
 tests = header_tests Sbfd ++ YourUnknown ∷ AuthUnexpected ∷ NotDemand ∷ []
 
 -- a reflector is Up unless it was told AdminDown (RFC 7880 section 7.2.3)
-abbrev pub state_of : Reflector → State
-state_of reflector = if reflector.up then Up else AdminDown
+abbrev pub reflector_state : Reflector → State
+reflector_state reflector = if reflector.up then Up else AdminDown
 
 -- the fields of its answer: the received discriminators swapped, Detect Mult and Desired Min TX as they came, F where P
 -- came, and what the reflector can take (RFC 7880 section 7.2.2)
-abbrev pub answer_of : Reflector → Control → Control
-answer_of reflector packet = record {
+abbrev pub reflected_fields : Reflector → Control → Control
+reflected_fields reflector packet = record {
   diag = 0;
-  state = state_of reflector;
+  state = reflector_state reflector;
   poll = false;
   fin = packet.poll;
   cpi = false;
@@ -71,7 +71,7 @@ datagram_back arrival bytes = record {
 }
 
 abbrev pub answered : Reflector → Arrival → Datagram
-answered reflector arrival = datagram_back arrival (text_of (answer_of reflector (fields_of arrival.payload)) [])
+answered reflector arrival = datagram_back arrival (text_of (reflected_fields reflector (fields_of arrival.payload)) [])
 
 -- the first test that fails, or the answer of the reflector that is named; where no test fails one is
 abbrev pub answer_unless : Option Test → Option Reflector → Arrival → Result Datagram Test

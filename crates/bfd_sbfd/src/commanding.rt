@@ -10,7 +10,7 @@ ghost use Rattle.bfd_sbfd.specs.Command as commands;
 use crate::SeekConfig;
 use crate::frame::moves;
 use bfd_packet::State;
-use bfd_rules::{Cmd, LEAST_INTERVAL, MOST_INTERVAL, Outs, Refusal, Vars, enters, is_admin_down};
+use bfd_rules::{Cmd, Outs, Refusal, Vars, enters, is_admin_down, is_interval};
 
 /// Initiators don't know the command: all but four.
 fn is_wrong_kind(cmd: &Cmd) -> bool
@@ -24,7 +24,7 @@ fn is_out_of_range(cmd: &Cmd) -> bool
     ensures { result ≡ commands.is_out_of_range cmd.now }
 {
     match *cmd {
-        Cmd::Tx(n) => !(LEAST_INTERVAL <= n && n <= MOST_INTERVAL),
+        Cmd::Tx(n) => !is_interval(n),
         Cmd::Mult(n) => !(1 <= n && n <= 255),
         _ => false,
     }

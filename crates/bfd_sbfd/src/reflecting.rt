@@ -36,7 +36,7 @@ fn named(pool: &[Reflector], discr: u32) -> Option<Reflector>
 
 /// The fields of the answer to a packet.
 fn answer(reflector: &Reflector, packet: &Control) -> Control
-    ensures { result ≡ reflecting.answer_of reflector.now packet.now }
+    ensures { result ≡ reflecting.reflected_fields reflector.now packet.now }
 {
     Control {
         diag: 0,

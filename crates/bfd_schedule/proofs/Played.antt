@@ -3,18 +3,18 @@ use Rattle.std.proofs.Common.{◌≡◌, ◌≤◌, ◌+◌, ◌*◌, ◌++◌, 
 use Rattle.bfd_num.specs.Numbers.{next_j}
 use Rattle.bfd_session.specs.declared.event.SessionConfig.TheVariants.{Pair}
 use Rattle.bfd_pair.specs.declared.event.PairEvent.{PairEvent}
-use Rattle.bfd_pair.specs.Run.{Both, Turn, pair_run, turn}
+use Rattle.bfd_pair.specs.Run.{Both, PairTurn, pair_run, turn}
 use Rattle.bfd_pair.specs.Inside.{Pairing}
 use Rattle.bfd_schedule.specs.declared.playing.Tally.{Tally}
-use Rattle.bfd_schedule.specs.Schedule.{left, right, run, draw, event_by, schedule}
-use Rattle.bfd_schedule.specs.Line.{given_in, rises_in, total, total_of, line_by, sent_in, pair_line}
+use Rattle.bfd_schedule.specs.Schedule.{left, right, run_of_seed, draw, event_by, schedule}
+use Rattle.bfd_schedule.specs.Line.{given_in, rises_in, total_over, total_of, line_by, sent_in, pair_line}
 use Rattle.bfd_schedule.specs.Inside.{IsPlayed}
 use Rattle.bfd_schedule.proofs.Totals.{total_more, length_schedule}
 
 -- at the start nothing was played
 pub starts : (seed : ℕ) (p : Pairing) → p ≡ record { left = Pair (left seed); right = Pair (right seed); past = [] }
     → IsPlayed seed 0 p (record { draw = seed; given = 0; rises = 0 })
-unfolding schedule draw total
+unfolding schedule draw total_over
 starts seed p is = record {
   pair = is;
   draw = refl;
@@ -25,8 +25,8 @@ starts seed p is = record {
 }
 
 -- a sum over the schedule and one event more
-sum_more : (count : PairEvent → Turn → ℕ) (seed e sum sum2 : ℕ) (event : PairEvent) (w : Both)
-    → sum ≡ total_of count seed (schedule seed e) → w ≡ run seed (schedule seed e)
+sum_more : (count : PairEvent → PairTurn → ℕ) (seed e sum sum2 : ℕ) (event : PairEvent) (w : Both)
+    → sum ≡ total_of count seed (schedule seed e) → w ≡ run_of_seed seed (schedule seed e)
     → schedule seed e ++ event ∷ [] ≡ schedule seed (suc e) → sum2 ≡ sum + count event (turn event w)
     → sum2 ≡ total_of count seed (schedule seed (suc e))
 sum_more count seed e sum sum2 event w before is past_is more =
@@ -40,7 +40,7 @@ draw_more : (seed e before after : ℕ) → before ≡ draw seed e → after ≡
 unfolding draw
 draw_more seed e before after is more = more ∙ ap next_j is
 
-schedule_more : (seed e : ℕ) (event : PairEvent) → event ≡ event_by (suc e) (draw seed (suc e)) (run seed (schedule seed e))
+schedule_more : (seed e : ℕ) (event : PairEvent) → event ≡ event_by (suc e) (draw seed (suc e)) (run_of_seed seed (schedule seed e))
     → schedule seed e ++ event ∷ [] ≡ schedule seed (suc e)
 unfolding schedule
 schedule_more seed e event is = ap (λ (x : PairEvent). schedule seed e ++ x ∷ []) is
@@ -53,7 +53,7 @@ plays_next : (seed e : ℕ) (pair pair2 : Pairing) (tally tally2 : Tally) (event
     → tally2.given ≤ tally.given + 1 → tally2.rises ≤ tally.rises + 10 → IsPlayed seed (suc e) pair2 tally2
 plays_next seed e pair pair2 tally tally2 event h more draws is given rises few_given few_rises =
     let w : Both = pair_run pair.left pair.right pair.past in
-    let run_is : w ≡ run seed (schedule seed e) = ap (λ (p : Pairing). pair_run p.left p.right p.past) h.pair in
+    let run_is : w ≡ run_of_seed seed (schedule seed e) = ap (λ (p : Pairing). pair_run p.left p.right p.past) h.pair in
     let draw_is : tally2.draw ≡ draw seed (suc e) = draw_more seed e tally.draw tally2.draw h.draw draws in
     let past_is : schedule seed e ++ event ∷ [] ≡ schedule seed (suc e) =
     schedule_more seed e event
@@ -88,9 +88,9 @@ pub line_is : (seed e : ℕ) (p : Pairing) (t : Tally) → IsPlayed seed e p t
     ≡ pair_line seed (schedule seed e)
 line_is seed e p t h =
     ap (λ (q : Pairing). line_with e (pair_run q.left q.right q.past) t.given t.rises) h.pair
-    ∙ (ap (λ (n : ℕ). line_with n (run seed (schedule seed e)) t.given t.rises) (sym (length_schedule seed e))
-    ∙ (ap (λ (n : ℕ). line_with (length (schedule seed e)) (run seed (schedule seed e)) n t.rises) h.given
-    ∙ ap (λ (n : ℕ). line_with (length (schedule seed e)) (run seed (schedule seed e)) (total_of given_in seed (schedule seed e)) n) h.rises))
+    ∙ (ap (λ (n : ℕ). line_with n (run_of_seed seed (schedule seed e)) t.given t.rises) (sym (length_schedule seed e))
+    ∙ (ap (λ (n : ℕ). line_with (length (schedule seed e)) (run_of_seed seed (schedule seed e)) n t.rises) h.given
+    ∙ ap (λ (n : ℕ). line_with (length (schedule seed e)) (run_of_seed seed (schedule seed e)) (total_of given_in seed (schedule seed e)) n) h.rises))
   where
     line_with : ℕ → Both → ℕ → ℕ → List ℕ
     line_with n w given rises = line_by n (sent_in w) given w.left.session.vars.state w.right.session.vars.state rises

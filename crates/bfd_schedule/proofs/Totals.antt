@@ -1,20 +1,20 @@
 -- Sums over events, and one event more.
 use Rattle.std.proofs.Common.{◌≡◌, ◌+◌, ◌++◌, ℕ, List, [], ◌∷◌, zero, suc, length, length-append, refl, arith}
 use Rattle.bfd_pair.specs.declared.event.PairEvent.{PairEvent}
-use Rattle.bfd_pair.specs.Run.{Both, Turn, turn, after, pair_run}
-use Rattle.bfd_schedule.specs.Schedule.{run, schedule}
-use Rattle.bfd_schedule.specs.Line.{total, total_of}
+use Rattle.bfd_pair.specs.Run.{Both, PairTurn, turn, both_after, pair_run}
+use Rattle.bfd_schedule.specs.Schedule.{run_of_seed, schedule}
+use Rattle.bfd_schedule.specs.Line.{total_over, total_of}
 
-total-append : (count : PairEvent → Turn → ℕ) (past : List PairEvent) (event : PairEvent) (w : Both)
-    → total count (past ++ event ∷ []) w ≡ total count past w + count event (turn event (after past w))
-unfolding total
+total-append : (count : PairEvent → PairTurn → ℕ) (past : List PairEvent) (event : PairEvent) (w : Both)
+    → total_over count (past ++ event ∷ []) w ≡ total_over count past w + count event (turn event (both_after past w))
+unfolding total_over
 total-append count [] event w = omega arith
 total-append count (x ∷ past) event w = let rest = total-append count past event (turn x w).both in omega arith
 
-pub total_more : (count : PairEvent → Turn → ℕ) (seed : ℕ) (past : List PairEvent) (event : PairEvent)
-    → total_of count seed (past ++ event ∷ []) ≡ total_of count seed past + count event (turn event (run seed past))
+pub total_more : (count : PairEvent → PairTurn → ℕ) (seed : ℕ) (past : List PairEvent) (event : PairEvent)
+    → total_of count seed (past ++ event ∷ []) ≡ total_of count seed past + count event (turn event (run_of_seed seed past))
 unfolding pair_run
-total_more count seed past event = total-append count past event (run seed [])
+total_more count seed past event = total-append count past event (run_of_seed seed [])
 
 pub length_schedule : (seed e : ℕ) → length (schedule seed e) ≡ e
 unfolding schedule

@@ -10,8 +10,8 @@ use Rattle.bfd_pair.specs.declared.event.PairEvent.{PairEvent}
 use Rattle.bfd_pair.specs.declared.event.PairEvent.TheVariants.{Give}
 use Rattle.bfd_pair.specs.declared.event.PairAnswer.{PairAnswer}
 use Rattle.bfd_pair.specs.declared.event.PairAnswer.TheVariants.{Did, NoPacket}
-use Rattle.bfd_pair.specs.Run.{Both, Turn, turn}
-use Rattle.bfd_schedule.specs.Schedule.{run}
+use Rattle.bfd_pair.specs.Run.{Both, PairTurn, turn}
+use Rattle.bfd_schedule.specs.Schedule.{run_of_seed}
 
 -- a packet was found, by the answer to a Give
 abbrev pub found : PairAnswer → ℕ
@@ -19,7 +19,7 @@ found (Did answer) = 1
 found (NoPacket count) = 0
 
 -- the packets that an event gives: one, where it is a Give that found its packet, though a test may discard it
-abbrev pub given_in : PairEvent → Turn → ℕ
+abbrev pub given_in : PairEvent → PairTurn → ℕ
 given_in (Give to moment number) t = found t.answer
 given_in event t = 0
 
@@ -29,17 +29,17 @@ is_rise (Changed discr old new diag) = is_up new
 is_rise (Sent discr datagram) = false
 
 -- how many such outputs there are in an event, of both sides
-abbrev pub rises_in : PairEvent → Turn → ℕ
+abbrev pub rises_in : PairEvent → PairTurn → ℕ
 rises_in event t = count_by is_rise (t.left_items ++ t.right_items)
 
 -- the sum of a number over events, by each and by what it makes of both
-unfoldable pub total : (PairEvent → Turn → ℕ) → List PairEvent → Both → ℕ
-total count [] w = 0
-total count (event ∷ events) w = count event (turn event w) + total count events (turn event w).both
+unfoldable pub total_over : (PairEvent → PairTurn → ℕ) → List PairEvent → Both → ℕ
+total_over count [] w = 0
+total_over count (event ∷ events) w = count event (turn event w) + total_over count events (turn event w).both
 
 -- the same over all events of the two of a seed
-abbrev pub total_of : (PairEvent → Turn → ℕ) → ℕ → List PairEvent → ℕ
-total_of count seed past = total count past (run seed [])
+abbrev pub total_of : (PairEvent → PairTurn → ℕ) → ℕ → List PairEvent → ℕ
+total_of count seed past = total_over count past (run_of_seed seed [])
 
 -- `pair EVENTS SENT GIVEN LEFT RIGHT UPS`
 abbrev pub line_by : ℕ → ℕ → ℕ → State → State → ℕ → List ℕ
@@ -58,4 +58,4 @@ line_of seed past w =
     (total_of rises_in seed past)
 
 abbrev pub pair_line : ℕ → List PairEvent → List ℕ
-pair_line seed past = line_of seed past (run seed past)
+pair_line seed past = line_of seed past (run_of_seed seed past)

@@ -10,7 +10,7 @@ use Rattle.bfd_pair.specs.declared.event.Side.{Side}
 use Rattle.bfd_pair.specs.declared.event.Side.TheVariants.{Left, Right}
 use Rattle.bfd_pair.specs.declared.event.PairEvent.{PairEvent}
 use Rattle.bfd_pair.specs.declared.event.PairEvent.TheVariants.{Tick, Give}
-use Rattle.bfd_pair.specs.Run.{Both, other, end_of, pair_run}
+use Rattle.bfd_pair.specs.Run.{Both, other, side_of, pair_run}
 
 -- the addresses of the two, 10.0.0.1 and 10.0.0.2
 abbrev pub first : Addr
@@ -43,8 +43,8 @@ abbrev pub right : ℕ → Config
 right seed = side 2 second first seed
 
 -- the two of this seed after these events
-abbrev pub run : ℕ → List PairEvent → Both
-run seed past = pair_run (Pair (left seed)) (Pair (right seed)) past
+abbrev pub run_of_seed : ℕ → List PairEvent → Both
+run_of_seed seed past = pair_run (Pair (left seed)) (Pair (right seed)) past
 
 -- the draw of an event, by its number from 1: each follows the one before, and the first the seed
 unfoldable pub draw : ℕ → ℕ → ℕ
@@ -57,7 +57,7 @@ packet_by j count = if count == 0 then 1 else 1 + (j % 65536) % count
 
 -- at the moment of the tick of the event's number, a side is given a packet of all that the other side has sent
 abbrev pub giving : Side → ℕ → ℕ → Both → PairEvent
-giving to e j w = Give to (1000 * e) (packet_by j (length (end_of (other to) w).sent))
+giving to e j w = Give to (1000 * e) (packet_by j (length (side_of (other to) w).sent))
 
 -- the two bits above those choose
 abbrev pub choice : ℕ → ℕ
@@ -73,4 +73,4 @@ event_by e j w =
 -- the first so many events of the seed: each is chosen over what the ones before it have made of the two
 unfoldable pub schedule : ℕ → ℕ → List PairEvent
 schedule seed zero = []
-schedule seed (suc e) = schedule seed e ++ event_by (suc e) (draw seed (suc e)) (run seed (schedule seed e)) ∷ []
+schedule seed (suc e) = schedule seed e ++ event_by (suc e) (draw seed (suc e)) (run_of_seed seed (schedule seed e)) ∷ []

@@ -1,6 +1,6 @@
 //! Playing a schedule, and the line of it.
 ghost use Rattle.std.specs.Prelude.{◌≡◌, ◌<◌, ◌≤◌, ◌+◌, ◌*◌, ℕ, IfOk, OnOk, count_by, length, string_bytes};
-ghost use Rattle.bfd_pair.specs.Run.{Both, end_of, pair_run, turn};
+ghost use Rattle.bfd_pair.specs.Run.{Both, side_of, pair_run, turn};
 ghost use Rattle.bfd_fields.specs.Spelling.{state_name};
 ghost use Rattle.bfd_schedule.specs.Schedule as schedule;
 ghost use Rattle.bfd_schedule.specs.Line as line;
@@ -98,7 +98,7 @@ fn play(alloc: Global, events: u64, seed: u32) -> Result<(Pair, Tally), AllocErr
 }
 
 /// The line of these numbers and states.
-fn line_text(
+fn line_bytes(
     alloc: Global,
     events: u64,
     sent: u64,
@@ -125,7 +125,7 @@ fn sent_in(pair: &Pair) -> u64
 
 /// The state of a side.
 fn state_of(pair: &Pair, side: Side) -> State
-    ensures { result ≡ (end_of side (pair_run pair.now.left pair.now.right pair.now.past)).session.vars.state }
+    ensures { result ≡ (side_of side (pair_run pair.now.left pair.now.right pair.now.past)).session.vars.state }
 {
     pair.session(side).vars().state
 }
@@ -140,5 +140,5 @@ pub fn pair_line(alloc: Global, events: u64, seed: u32) -> Result<String, AllocE
 {
     let (pair, tally) = play(alloc, events, seed)?;
     let (left, right) = (state_of(&pair, Side::Left), state_of(&pair, Side::Right));
-    line_text(alloc, events, sent_in(&pair), tally, left, right)
+    line_bytes(alloc, events, sent_in(&pair), tally, left, right)
 }

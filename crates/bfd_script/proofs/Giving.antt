@@ -21,7 +21,7 @@ use Rattle.bfd_script.specs.Rows.{by_discr, changed, has_selector, keyed_more, k
 use Rattle.bfd_line.specs.Secrets.{key_fault}
 use Rattle.bfd_line.specs.Ranges.{AreKeys, AreNext, IsChain, IsKey, IsNext, IsRow}
 use Rattle.bfd_script.specs.Sound.{AreConfigs}
-use Rattle.bfd_script.specs.Tables.{IsTable}
+use Rattle.bfd_script.specs.Tables.{IsIndexed}
 use Rattle.bfd_script.proofs.Elements.{each_to}
 use Rattle.bfd_script.proofs.Numbered.{values_by}
 
@@ -158,9 +158,9 @@ pub rows_changed : (f : SessionConfig → SessionConfig) (k : ℕ) (cs : List Se
 rows_changed f k cs entries more view e = ap (λ es. values_of es) e ∙ values_by discr_of (changed k f (values_of entries)) ∙ ap (changed k f) view
 
 -- the whole table
-table_changed : (f : SessionConfig → SessionConfig) → Keeps f → (k : ℕ) (entries more : List (ℕ × SessionConfig)) (has : RowKind → Bool) → IsTable entries has
+table_changed : (f : SessionConfig → SessionConfig) → Keeps f → (k : ℕ) (entries more : List (ℕ × SessionConfig)) (has : RowKind → Bool) → IsIndexed entries has
     → ((c : SessionConfig) → Some c ≡ find (λ d. k == discr_of d) (values_of entries) → IsRow c → IsRow (f c))
-    → more ≡ by_discr (changed k f (values_of entries)) → IsTable more has
+    → more ≡ by_discr (changed k f (values_of entries)) → IsIndexed more has
 table_changed f kept k entries more has were row e =
     let are : values_of more ≡ changed k f (values_of entries) = rows_changed f k (values_of entries) entries more refl e in
     record {
@@ -207,8 +207,8 @@ with_row keys are c h = h
 pub with_keeps : (keys : KeyChain) → Keeps (keyed_with keys)
 with_keeps keys = record { discr = with_discr keys; place = with_place keys; fit = with_fit keys }
 
-pub table_given : (k : ℕ) (keys : KeyChain) (entries more : List (ℕ × SessionConfig)) (has : RowKind → Bool) → IsTable entries has
-    → IsChain keys → more ≡ by_discr (changed k (keyed_with keys) (values_of entries)) → IsTable more has
+pub table_given : (k : ℕ) (keys : KeyChain) (entries more : List (ℕ × SessionConfig)) (has : RowKind → Bool) → IsIndexed entries has
+    → IsChain keys → more ≡ by_discr (changed k (keyed_with keys) (values_of entries)) → IsIndexed more has
 table_given k keys entries more has were are e =
     table_changed (keyed_with keys) (with_keeps keys) k entries more has were (λ c here h. with_row keys are c h) e
 
@@ -251,9 +251,9 @@ more_row : (key : Key) (c : SessionConfig) → key_fault (keys_in (Some c)) key 
 more_row key (Pair c) free is h = row_keyed (one_more key c.keys) c (more_keys c.keys key free is h.keys) h
 more_row key c free is h = h
 
-pub table_more_keys : (k : ℕ) (key : Key) (cs : List SessionConfig) (entries more : List (ℕ × SessionConfig)) (has : RowKind → Bool) → IsTable entries has
+pub table_more_keys : (k : ℕ) (key : Key) (cs : List SessionConfig) (entries more : List (ℕ × SessionConfig)) (has : RowKind → Bool) → IsIndexed entries has
     → values_of entries ≡ cs → key_fault (keys_of k cs) key ≡ None → IsKey key
-    → more ≡ by_discr (changed k (keyed_more key) (values_of entries)) → IsTable more has
+    → more ≡ by_discr (changed k (keyed_more key) (values_of entries)) → IsIndexed more has
 table_more_keys k key cs entries more has were view free is e =
     table_changed (keyed_more key) (more_keeps key) k entries more has were
     (λ c here h. more_row key c (ap (λ o. key_fault (keys_in o) key) here ∙ ap (λ xs. key_fault (keys_of k xs) key) view ∙ free) is h) e

@@ -18,7 +18,7 @@ use Rattle.bfd_session.proofs.Tables.{same_turned}
 use Rattle.bfd_script.specs.Rows.{has_discr, has_place, has_selector, inserted, by_discr}
 use Rattle.bfd_line.specs.Ranges.{IsRow}
 use Rattle.bfd_script.specs.Sound.{AreConfigs}
-use Rattle.bfd_script.specs.Tables.{IsTable}
+use Rattle.bfd_script.specs.Tables.{IsIndexed}
 use Rattle.bfd_script.proofs.Elements.{each_to}
 use Rattle.bfd_script.proofs.Numbered.{any_inserted, each_inserted, entries_more, known_among, length_inserted, none_any}
 
@@ -84,10 +84,10 @@ rows_more c k cs entries more keyed view key none e =
 
 -- the whole table
 pub table_more : (c : SessionConfig) (k : ℕ) (s : RowKind) (cs : List SessionConfig) (entries more : List (ℕ × SessionConfig)) (old new : RowKind → Bool)
-    → IsTable entries old → values_of entries ≡ cs → k ≡ discr_of c → s ≡ (row_of c).kind
+    → IsIndexed entries old → values_of entries ≡ cs → k ≡ discr_of c → s ≡ (row_of c).kind
     → has_discr (discr_of c) cs ≡ false → has_place c cs ≡ false → length cs < 65536 → IsFit c → IsRow c
     → more ≡ insert_entry nat_cmp entries k c → ((q : RowKind) → new q ≡ (same_kind q s || old q))
-    → IsTable more new
+    → IsIndexed more new
 table_more c k s cs entries more old new were view key place_is discr place room fit row e places =
     let same : k ≡ discr_of c = key in
     let none : has_discr (discr_of c) (values_of entries) ≡ false = ap (has_discr (discr_of c)) view ∙ discr in

@@ -9,7 +9,7 @@ use Rattle.bfd_line.specs.declared.entries.Line.TheVariants as events
 use Rattle.bfd_script.specs.Reading.{is_named}
 use Rattle.bfd_script.specs.Rows.{changed, has_discr, inserted}
 use Rattle.bfd_sbfd.specs.declared.reflecting.Reflector.{Reflector}
-use Rattle.bfd_script.specs.Rows.{has_reflector, number_of, pooled}
+use Rattle.bfd_script.specs.Rows.{has_reflector, reflector_discr, pooled}
 use Rattle.bfd_script.specs.Sound.{AreApart, AreNamed}
 use Rattle.bfd_script.specs.Tables.{IsReading}
 use Rattle.bfd_script.proofs.Numbered.{length_inserted}
@@ -63,7 +63,7 @@ pub reading_reflector : (r : Reflector) (taken full : Bool) (cs : List SessionCo
     → full ≡ nat_le 65536 (length cs + length pool) → full ≡ false → IsReading cs more lines
 reading_reflector r taken full cs pool more lines were e taken_is free full_is room =
     let none = or_parts (has_discr r.discr cs) (has_reflector r.discr pool) (sym taken_is ∙ free) in
-    let longer = length_inserted number_of r pool in
+    let longer = length_inserted reflector_discr r pool in
     let few = has_room full (length cs + length pool) full_is room in
     subst (λ xs. IsReading cs xs lines) (sym e) (record {
       apart = apart_pooled cs r pool none.0 were.apart;

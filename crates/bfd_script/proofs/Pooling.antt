@@ -10,7 +10,7 @@ use Rattle.bfd_sbfd.specs.Reflect.{Ascends}
 use Rattle.bfd_sbfd.specs.declared.reflecting.Reflector.{Reflector}
 use Rattle.bfd_session.specs.declared.event.SessionConfig.{SessionConfig}
 use Rattle.bfd_session.specs.Kinds.{discr_of}
-use Rattle.bfd_script.specs.Rows.{has_discr, has_reflector, inserted, number_of, pool_by_discr, pooled}
+use Rattle.bfd_script.specs.Rows.{has_discr, has_reflector, inserted, reflector_discr, pool_by_discr, pooled}
 use Rattle.bfd_line.specs.Ranges.{IsReflector}
 use Rattle.bfd_script.specs.Sound.{AreApart, ArePool}
 use Rattle.bfd_script.specs.Tables.{IsPool}
@@ -19,7 +19,7 @@ use Rattle.bfd_script.proofs.Numbered.{any_inserted, each_inserted, entries_more
 
 pub known_at : (k : ℕ) (entries : List (ℕ × Reflector)) → entries ≡ pool_by_discr (values_of entries)
     → is_some (lookup (is_at (nat_cmp k)) entries) ≡ has_reflector k (values_of entries)
-known_at k entries keyed = known_among number_of k entries keyed
+known_at k entries keyed = known_among reflector_discr k entries keyed
 
 -- ---- one more reflector
 
@@ -31,7 +31,7 @@ ascends_cond true same has r q pool l s none all more =
     ((low, each_to pool (λ x h. let k : q.discr < x.discr = h in omega arith) all.0), all)
 ascends_cond false true has r q pool l s none all more = cc
 ascends_cond false false has r q pool l s none all more =
-    (each_inserted number_of (λ x. q.discr < x.discr) r pool (is_above r.discr q.discr l s) all.0, more none)
+    (each_inserted reflector_discr (λ x. q.discr < x.discr) r pool (is_above r.discr q.discr l s) all.0, more none)
 
 ascends_pooled : (r : Reflector) (pool : List Reflector) → has_reflector r.discr pool ≡ false → Ascends pool → Ascends (pooled r pool)
 ascends_pooled r [] none all = (tt, tt)
@@ -43,17 +43,17 @@ pub rows_pooled : (r : Reflector) (pool : List Reflector) (entries more : List (
     → values_of entries ≡ pool → has_reflector r.discr pool ≡ false → more ≡ insert_entry nat_cmp entries r.discr r
     → values_of more ≡ pooled r pool
 rows_pooled r pool entries more keyed view none e =
-    (entries_more number_of r entries more keyed (ap (has_reflector r.discr) view ∙ none) e).1 ∙ ap (pooled r) view
+    (entries_more reflector_discr r entries more keyed (ap (has_reflector r.discr) view ∙ none) e).1 ∙ ap (pooled r) view
 
 -- the whole pool
 pub pool_more : (r : Reflector) (pool : List Reflector) (entries more : List (ℕ × Reflector)) → IsPool entries → values_of entries ≡ pool
     → has_reflector r.discr pool ≡ false → IsReflector r → more ≡ insert_entry nat_cmp entries r.discr r → IsPool more
 pool_more r pool entries more were view none row e =
     let free : has_reflector r.discr (values_of entries) ≡ false = ap (has_reflector r.discr) view ∙ none in
-    let m = entries_more number_of r entries more were.keyed free e in
+    let m = entries_more reflector_discr r entries more were.keyed free e in
     let now : ArePool (pooled r (values_of entries)) = record {
       ascends = ascends_pooled r (values_of entries) free were.reflectors.ascends;
-      rows = each_inserted number_of IsReflector r (values_of entries) row were.reflectors.rows;
+      rows = each_inserted reflector_discr IsReflector r (values_of entries) row were.reflectors.rows;
     } in
     record { keyed = m.0 ∙ ap pool_by_discr (sym m.1); reflectors = subst (λ rs. ArePool rs) (sym m.1) now }
 
@@ -73,4 +73,4 @@ apart_inserted c cs (r ∷ pool) none apart =
 
 -- one more reflector with a discriminator that no session has
 pub apart_pooled : (cs : List SessionConfig) (r : Reflector) (pool : List Reflector) → has_discr r.discr cs ≡ false → AreApart cs pool → AreApart cs (pooled r pool)
-apart_pooled cs r pool none apart = each_inserted number_of (λ q. has_discr q.discr cs ≡ false) r pool none apart
+apart_pooled cs r pool none apart = each_inserted reflector_discr (λ q. has_discr q.discr cs ≡ false) r pool none apart

@@ -16,7 +16,7 @@ use Rattle.bfd_line.specs.declared.entries.Line.{Line}
 use Rattle.bfd_line.specs.declared.entries.Line.TheVariants as events
 use Rattle.bfd_line.specs.declared.entries.Entry.{Entry}
 use Rattle.bfd_line.specs.declared.entries.Entry.TheVariants as entries
-use Rattle.bfd_line.specs.Entries.{entry_of}
+use Rattle.bfd_line.specs.Entries.{entry_in_line}
 use Rattle.bfd_fields.specs.Fields.{lines_of}
 use Rattle.bfd_fields.specs.Gives.{◌>>=◌}
 use Rattle.bfd_script.specs.Rows.{given, given_more, has_discr, has_keys, has_pair, has_place, has_reflector, inserted, keys_of, pooled}
@@ -101,19 +101,19 @@ with_event event s =
     else Ok (record s { events = s.events ++ event ∷ [] })
 
 -- a line is taken after those before it, or has a fault because of them
-abbrev pub accepted : Entry → State → Result State LineFault
-accepted (entries.Version version) s = Ok (record s { version = version; place = places.Table })
-accepted entries.Run s = Ok (record s { place = places.Events })
-accepted (entries.Row config) s = with_config config s
-accepted (entries.Reflect reflector) s = with_reflector reflector s
-accepted (entries.Auth discr keys) s = with_keys discr keys s
-accepted (entries.Key discr key) s = with_key discr key s
-accepted (entries.Event event) s = with_event event s
-accepted entries.End s = Ok (record s { place = places.Over })
+abbrev pub admitted : Entry → State → Result State LineFault
+admitted (entries.Version version) s = Ok (record s { version = version; place = places.Table })
+admitted entries.Run s = Ok (record s { place = places.Events })
+admitted (entries.Row config) s = with_config config s
+admitted (entries.Reflect reflector) s = with_reflector reflector s
+admitted (entries.Auth discr keys) s = with_keys discr keys s
+admitted (entries.Key discr key) s = with_key discr key s
+admitted (entries.Event event) s = with_event event s
+admitted entries.End s = Ok (record s { place = places.Over })
 
 -- one line
-abbrev pub step : Bool → State → List ℕ → Result State LineFault
-step live s line = entry_of s.version s.place live line >>= λ entry. accepted entry s
+abbrev pub line_read : Bool → State → List ℕ → Result State LineFault
+line_read live s line = entry_in_line s.version s.place live line >>= λ entry. admitted entry s
 
 -- the text ended with this place, where the next line would have had this number
 abbrev pub finished_at : Place → ℕ → Lists → Result Lists BadLine
@@ -121,18 +121,18 @@ finished_at places.Over number script = Ok script
 finished_at place number script = Err (record { line = number; fault = MissingEnd })
 
 -- the text ended
-abbrev pub finished : ℕ → State → Result Lists BadLine
-finished number s = finished_at s.place number (record { configs = s.configs; pool = s.pool; events = s.events })
+abbrev pub text_ended : ℕ → State → Result Lists BadLine
+text_ended number s = finished_at s.place number (record { configs = s.configs; pool = s.pool; events = s.events })
 
 -- go on, or stop at the faulty line of this number
-abbrev pub after : {X Y : Type 0} → ℕ → Result X LineFault → (X → Result Y BadLine) → Result Y BadLine
-after number (Ok value) next = next value
-after number (Err fault) next = Err (record { line = number; fault = fault })
+abbrev pub go_on : {X Y : Type 0} → ℕ → Result X LineFault → (X → Result Y BadLine) → Result Y BadLine
+go_on number (Ok value) next = next value
+go_on number (Err fault) next = Err (record { line = number; fault = fault })
 
 -- what the lines from this number on say
 abbrev pub told_from : Bool → State → ℕ → List (List ℕ) → Result Lists BadLine
-told_from live s number [] = finished number s
-told_from live s number (line ∷ lines) = after number (step live s line) (λ next. told_from live next (number + 1) lines)
+told_from live s number [] = text_ended number s
+told_from live s number (line ∷ lines) = go_on number (line_read live s line) (λ next. told_from live next (number + 1) lines)
 
 -- the script that a text spells, or its first faulty line with that line's first fault; in a live script packets and
 -- ticks come from outside, and their lines may not stand

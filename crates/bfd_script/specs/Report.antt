@@ -49,13 +49,13 @@ lines_from number [] = []
 lines_from number (outcome ∷ outcomes) = event_lines number outcome ++ lines_from (number + 1) outcomes
 
 -- how many packets an output tells of
-abbrev pub sent_by : Out → ℕ
-sent_by (Changed discr before after diag) = 0
-sent_by (Sent discr datagram) = 1
+abbrev pub packets_sent_by : Out → ℕ
+packets_sent_by (Changed discr before after diag) = 0
+packets_sent_by (Sent discr datagram) = 1
 
 -- how many packets were sent in an event
-abbrev pub sent : Outcome → ℕ
-sent outcome = sum_by sent_by outcome.items
+abbrev pub packets_sent : Outcome → ℕ
+packets_sent outcome = sum_by packets_sent_by outcome.items
 
 -- how many packets an answer says were dropped
 abbrev pub dropped_by : Answer → ℕ
@@ -72,4 +72,4 @@ done_line events txs drops = line (codes "done" ∷ decimal events ∷ decimal t
 
 -- the report of a run whose events gave this, one after another
 abbrev pub report : List Outcome → List ℕ
-report outcomes = lines_from 1 outcomes ++ done_line (length outcomes) (sum_by sent outcomes) (sum_by dropped outcomes)
+report outcomes = lines_from 1 outcomes ++ done_line (length outcomes) (sum_by packets_sent outcomes) (sum_by dropped outcomes)

@@ -27,20 +27,20 @@ by_number number xs = map (λ x. (number x, x)) xs
 -- ---- reflectors
 
 -- the discriminator of a reflector
-abbrev pub number_of : Reflector → ℕ
-number_of reflector = reflector.discr
+abbrev pub reflector_discr : Reflector → ℕ
+reflector_discr reflector = reflector.discr
 
 -- a reflector has this discriminator
 abbrev pub has_reflector : ℕ → List Reflector → Bool
-has_reflector discr pool = has_number number_of discr pool
+has_reflector discr pool = has_number reflector_discr discr pool
 
 -- one more reflector
 abbrev pub pooled : Reflector → List Reflector → List Reflector
-pooled reflector pool = insert_by number_of reflector pool
+pooled reflector pool = insert_by reflector_discr reflector pool
 
 -- reflectors, each with its discriminator
 abbrev pub pool_by_discr : List Reflector → List (ℕ × Reflector)
-pool_by_discr pool = by_number number_of pool
+pool_by_discr pool = by_number reflector_discr pool
 
 -- ---- sessions
 

@@ -27,7 +27,7 @@ pub record AreRows (rising : List SessionConfig) (others : List (ℕ × SessionC
   pub few : length rising + length others ≤ 65536
 
 -- the entries are those of the sessions by discriminator, and the set has exactly their selecting addresses
-pub record IsTable (entries : List (ℕ × SessionConfig)) (has : RowKind → Bool) : Type 0 where
+pub record IsIndexed (entries : List (ℕ × SessionConfig)) (has : RowKind → Bool) : Type 0 where
   pub keyed : entries ≡ by_discr (values_of entries)
   pub places : (q : RowKind) → has q ≡ has_selector q (values_of entries)
   pub configs : AreConfigs (values_of entries)

@@ -2,13 +2,13 @@
 ghost use Rattle.std.specs.Prelude.{IfOk, map};
 ghost use Rattle.bfd_line.specs.Entries.{valued, worded};
 ghost use Rattle.bfd_fields.specs.Gives.{◌>>=◌ as on_to, Gives, GivesScript};
-ghost use Rattle.bfd_script.specs.Reading.{accepted, script_of, step};
+ghost use Rattle.bfd_script.specs.Reading.{admitted, script_of, line_read};
 ghost use Rattle.bfd_script.specs.Sound.{IsScript};
 
 use crate::script::Script;
 use crate::state::Reading;
 use bfd_fields::{BadLine, LineFault, ReadFault, ScriptFault, first_line, line_text, split_fields};
-use bfd_line::{Word, read_values, received, word_named};
+use bfd_line::{Word, read_values, rx_entry, word_named};
 use std::alloc::Global;
 
 /// Takes in one more line of these values. An `rx` line, which most lines are, goes to the others as it is read.
@@ -20,11 +20,11 @@ fn take_values(
 ) -> Result<(), ReadFault>
     ensures { Gives (λ _. reading.new)
         result (on_to (valued reading.old.version word (map (λ value. value.now) values.now))
-        (λ entry. accepted entry reading.old)) }
+        (λ entry. admitted entry reading.old)) }
 {
     match word {
         Word::Rx => {
-            let line = received(alloc, values)?;
+            let line = rx_entry(alloc, values)?;
             reading.push(line)
         }
         other => {
@@ -43,7 +43,7 @@ fn take_fields(
 ) -> Result<(), ReadFault>
     ensures { Gives (λ _. reading.new)
         result (on_to (worded reading.old.version reading.old.place live (map (λ field. field.now) fields.now))
-        (λ entry. accepted entry reading.old)) }
+        (λ entry. admitted entry reading.old)) }
 {
     let Some((name, values)) = fields.split_first() else {
         return Err(ReadFault::Fault(LineFault::UnknownWord));
@@ -65,7 +65,7 @@ fn read_step<'a>(
     line: &'a [u8],
     fields: &mut Vec<&'a [u8]>,
 ) -> Result<(), ReadFault>
-    ensures { Gives (λ _. reading.new) result (step live reading.old line.now) }
+    ensures { Gives (λ _. reading.new) result (line_read live reading.old line.now) }
 {
     let text = line_text(line)?;
     split_fields(text, fields)?;

@@ -3,7 +3,7 @@ ghost use Rattle.std.specs.Prelude.{◌≡◌, IfOk};
 ghost use Rattle.bfd_session.specs.Step.{IsFit};
 ghost use Rattle.bfd_fields.specs.Gives.{Gives, GivesScript};
 ghost use Rattle.bfd_script.specs.Reading as reading;
-ghost use Rattle.bfd_script.specs.Reading.{accepted, finished, is_full, is_taken, start, with_config, with_event, with_key, with_keys, with_reflector};
+ghost use Rattle.bfd_script.specs.Reading.{admitted, text_ended, is_full, is_taken, start, with_config, with_event, with_key, with_keys, with_reflector};
 ghost use Rattle.bfd_line.specs.Ranges.{IsChain, IsEntry, IsEvent, IsKey, IsReflector, IsRow};
 ghost use Rattle.bfd_script.specs.Sound.{IsScript};
 
@@ -184,7 +184,7 @@ impl Reading {
     /// The state after a line that says this, or the fault that it has because of the lines before it.
     fn with(self, entry: Entry) -> Result<Reading, ReadFault>
         requires { IsEntry entry }
-        ensures { Gives (λ s. s) result (accepted entry self) }
+        ensures { Gives (λ s. s) result (admitted entry self) }
     {
         match entry {
             Entry::Version(version) => Ok(self.begun(version)),
@@ -206,7 +206,7 @@ impl Reading {
     /// lines are, goes to its place without the state being moved.
     pub(crate) fn accept(&mut self, alloc: Global, entry: Entry) -> Result<(), ReadFault>
         requires { IsEntry entry }
-        ensures { Gives (λ _. self.new) result (accepted entry self.old) }
+        ensures { Gives (λ _. self.new) result (admitted entry self.old) }
     {
         match entry {
             Entry::Event(line) => self.push(line),
@@ -217,7 +217,7 @@ impl Reading {
     /// The same of any line, with the state moved out and in again.
     fn renew(&mut self, alloc: Global, entry: Entry) -> Result<(), ReadFault>
         requires { IsEntry entry }
-        ensures { Gives (λ _. self.new) result (accepted entry self.old) }
+        ensures { Gives (λ _. self.new) result (admitted entry self.old) }
     {
         let before = mem::replace(self, Reading::new(alloc));
         *self = before.with(entry)?;
@@ -259,7 +259,7 @@ impl Reading {
 
     /// The script, where the text ended after `end`; `number` is that of the line that would come next.
     pub(crate) fn finish(self, alloc: Global, number: u64) -> Result<Script, ScriptFault>
-        ensures script { GivesScript result (finished number self) }
+        ensures script { GivesScript result (text_ended number self) }
         ensures sound { IfOk result IsScript }
     {
         match self.place {

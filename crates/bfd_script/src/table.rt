@@ -33,13 +33,13 @@ impl Model for Table {
     ghost use Rattle.std.specs.Prelude.{List};
     ghost use Rattle.std.specs.Map.{values_of};
     ghost use Rattle.bfd_session.specs.declared.event.SessionConfig.{SessionConfig};
-    ghost use Rattle.bfd_script.specs.Tables.{IsTable, among};
+    ghost use Rattle.bfd_script.specs.Tables.{IsIndexed, among};
 
     ghost Value = { List SessionConfig };
 
     ghost view = { λ t. values_of t.rows };
 
-    ghost invariant = { λ t. IsTable t.rows (among t.places) };
+    ghost invariant = { λ t. IsIndexed t.rows (among t.places) };
 }
 
 /// The keys of a session.

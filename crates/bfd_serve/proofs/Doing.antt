@@ -13,11 +13,11 @@ use Rattle.bfd_engine.specs.declared.fault.EngineFault.{EngineFault}
 use Rattle.bfd_engine.specs.declared.fault.EngineFault.TheVariants as fault
 use Rattle.bfd_engine.specs.Turned.{by, entry_of, given_after}
 use Rattle.bfd_engine.specs.Engines.{Shards, Knows, configs_at}
-use Rattle.bfd_engine.specs.Calls.{Act, Turns, Rests, seen_at, word_at, mine, IsDone, IsCall, IsFailed, IsCause}
+use Rattle.bfd_engine.specs.Calls.{Act, Turns, Rests, seen_at, met_word, mine, IsDone, IsCall, IsFailed, IsCause}
 use Rattle.bfd_serve.specs.declared.ending.End.{End}
 use Rattle.bfd_serve.specs.declared.ending.End.TheVariants.{Full, Spent, Memory}
-use Rattle.bfd_serve.specs.Calls.{calls_of, entries, until, datagrams, given_by, sends}
-use Rattle.bfd_serve.specs.Works.{HasSent, IsSettled, Did, Stops, IsAside, IsStopped, IsWhole, AreDone, end_of}
+use Rattle.bfd_serve.specs.Calls.{calls_of, entries, until, datagrams, given_by, sends_of_acts}
+use Rattle.bfd_serve.specs.Works.{HasSent, IsSentAfter, Did, Stops, IsAside, IsStopped, IsWhole, AreDone, end_of}
 use Rattle.bfd_serve.proofs.Packets.{traffic_same, traffic_join, risen_same, risen_join, lacks_append}
 use Rattle.bfd_serve.proofs.Histories.{until_last, entries_append, calls_of_append, weight, weight_append, sends_append, sends_base, sends_grow}
 use Rattle.bfd_serve.proofs.Gains.{begins_self, begins_trans, calls_append, mine_call, mine_fault, grows, words, taken_call}
@@ -30,7 +30,7 @@ module _ (engine : Shards) where
     used = refl;
     gains = λ s. sym (append-nil (mine k s));
     grows = λ s. begins_self (seen_at k s);
-    words = λ s. le_refl (word_at k s);
+    words = λ s. le_refl (met_word k s);
     taken = λ s. omega arith;
     made = λ s. refl;
     keeps = λ s. refl;
@@ -54,7 +54,7 @@ module _ (engine : Shards) where
 
   -- the sends are the same where the histories grow
   pub sends_later : (k l : Knows) (t u : LinkTold) (hs : List (ℕ × Arrival)) (xs cut : List Act) (untried : List Datagram) (a b : ℕ) (h : ℕ → List Entry) → ((s : ℕ) → Begins (seen_at l s) (h s))
-      → (d : Did engine k l t u hs xs cut untried a b) → sends engine k.0 h (λ i. length (mine k i)) [] xs ≡ d.tried ++ untried
+      → (d : Did engine k l t u hs xs cut untried a b) → sends_of_acts engine k.0 h (λ i. length (mine k i)) [] xs ≡ d.tried ++ untried
   sends_later k l t u hs xs cut untried a b h longer d = sends_grow engine k.0 (seen_at l) h (λ i. length (mine k i)) [] xs longer
       (λ i. (let c = count_of k l t u hs xs cut untried a b d i in let z = ap (λ n. length (calls by n (seen_at l i))) d.number in omega arith)) ∙ d.sends_are
 
@@ -62,10 +62,10 @@ module _ (engine : Shards) where
       → Did engine k l t u hs xs [] [] a b → Did engine l m u v hs2 ys cut untried b c → Did engine k m t v (hs ++ hs2) (xs ++ ys) cut untried a c
   did_then k l m t u v hs hs2 xs ys cut untried a b c d f =
       let had : ℕ → ℕ = λ i. length (mine k i) in
-      let old : sends engine k.0 (seen_at m) had [] xs ≡ d.tried = sends_later k l t u hs xs [] [] a b (seen_at m) f.grows d ∙ append-nil d.tried in
-      let new : sends engine k.0 (seen_at m) had (calls_of xs) ys ≡ f.tried ++ untried =
+      let old : sends_of_acts engine k.0 (seen_at m) had [] xs ≡ d.tried = sends_later k l t u hs xs [] [] a b (seen_at m) f.grows d ∙ append-nil d.tried in
+      let new : sends_of_acts engine k.0 (seen_at m) had (calls_of xs) ys ≡ f.tried ++ untried =
       sym (sends_base engine k.0 (seen_at m) had (λ i. length (mine l i)) (calls_of xs) [] ys (λ i. let e = count_of k l t u hs xs [] [] a b d i in omega arith))
-      ∙ (ap (λ n. sends engine n (seen_at m) (λ i. length (mine l i)) [] ys) (sym d.number) ∙ f.sends_are) in
+      ∙ (ap (λ n. sends_of_acts engine n (seen_at m) (λ i. length (mine l i)) [] ys) (sym d.number) ∙ f.sends_are) in
       record {
         number = f.number ∙ d.number;
         used = f.used ∙ d.used;
@@ -144,7 +144,7 @@ module _ (engine : Shards) where
     used = refl;
     gains = λ i. sym (append-nil (mine l i));
     grows = λ i. begins_self (seen_at l i);
-    words = λ i. le_refl (word_at l i);
+    words = λ i. le_refl (met_word l i);
     taken = λ i. omega arith;
     made = λ i. refl;
     keeps = λ i. refl;
@@ -183,10 +183,10 @@ module _ (engine : Shards) where
     lost_is = risen_same a;
   }
 
-  stops_of : (m : Knows) (shard : ℕ) (event : ShardEvent) (f : EngineFault) → IsCause f engine shard m → Stops engine (seen_at m) (word_at m) (Turns shard event ∷ []) [] (end_of f)
+  stops_of : (m : Knows) (shard : ℕ) (event : ShardEvent) (f : EngineFault) → IsCause f engine shard m → Stops engine (seen_at m) (met_word m) (Turns shard event ∷ []) [] (end_of f)
   stops_of m shard event fault.Memory i = tt
   stops_of m shard event (fault.Full at n) i = (refl, (let e = i.2 in subst (λ s. n ≤ length (seen_at m s)) (sym i.0) (omega arith)), (event, [], ap (λ s. Turns s event ∷ []) (sym i.0)), i.1)
-  stops_of m shard event (fault.Spent at word) i = (refl, i.1, (let e = i.2 in subst (λ s. word ≤ word_at m s) (sym i.0) (omega arith)), (event, [], ap (λ s. Turns s event ∷ []) (sym i.0)))
+  stops_of m shard event (fault.Spent at word) i = (refl, i.1, (let e = i.2 in subst (λ s. word ≤ met_word m s) (sym i.0) (omega arith)), (event, [], ap (λ s. Turns s event ∷ []) (sym i.0)))
 
   pub aside_same : (t : LinkTold) → IsAside t t
   aside_same t = record { over = refl; receive_faults = refl; gave = refl }
@@ -204,7 +204,7 @@ module _ (engine : Shards) where
 
   -- one call of the engine, and its sends
   pub done_one : (x : Act) (l m : Knows) (u v : LinkTold) (a b : ℕ) (outs : List Out) (q : Result Answer EngineFault) (r : Result (Unit {0}) End)
-      → IsDone x engine l m [] outs q → IsSettled q outs u v a b r → AreDone engine (x ∷ []) l m u v a b r
+      → IsDone x engine l m [] outs q → IsSentAfter q outs u v a b r → AreDone engine (x ∷ []) l m u v a b r
   done_one x l m u v a b outs (Err f) r d s = subst (λ z. AreDone engine (x ∷ []) l m u v a b z) (sym s.0)
       (subst (λ (y : LinkTold × ℕ). IsStopped engine (x ∷ []) l m u y.0 a y.1 (end_of f)) (λ i. (sym s.1 i, sym s.2 i)) (refused_one x l m u a outs f d))
   done_one x l m u v a b outs (Ok answer) (Ok z) d s = record { did = did_step l m u v x outs answer [] a b d s; aside = aside_sent (datagrams outs) [] u v a b s }
@@ -215,7 +215,7 @@ module _ (engine : Shards) where
     all = refl;
     did = did_step l m u v x outs answer s.0 a b d s.1;
     aside = aside_sent (datagrams outs) s.0 u v a b s.1;
-    stops = subst (λ z. Stops engine (seen_at m) (word_at m) [] s.0 z) (sym s.2) tt;
+    stops = subst (λ z. Stops engine (seen_at m) (met_word m) [] s.0 z) (sym s.2) tt;
   }
 
   pub whole_none : (k : Knows) (t : LinkTold) (a : ℕ) → IsWhole engine [] k k t t a a
@@ -250,7 +250,7 @@ module _ (engine : Shards) where
     all = sym (append_assoc q.done q.cut more) ∙ ap (λ w. w ++ more) q.all;
     did = did_less k l t u [] q.done q.cut more q.untried a b q.did;
     aside = q.aside;
-    stops = stops_less (seen_at l) (word_at l) q.cut more q.untried end q.stops;
+    stops = stops_less (seen_at l) (met_word l) q.cut more q.untried end q.stops;
   }
 
   -- histories and words that grow make no end untrue

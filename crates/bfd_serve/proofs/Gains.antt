@@ -9,7 +9,7 @@ use Rattle.bfd_shard.specs.declared.entry.ShardEvent.{ShardEvent}
 use Rattle.bfd_turn.specs.Lists.{Begins, calls}
 use Rattle.bfd_engine.specs.Turned.{by, entry_of}
 use Rattle.bfd_engine.specs.Engines.{Knows}
-use Rattle.bfd_engine.specs.Calls.{seen_at, word_at, taken_at, mine, Turned}
+use Rattle.bfd_engine.specs.Calls.{seen_at, met_word, taken_at, mine, Turned}
 use Rattle.bfd_serve.specs.Calls.{Call, entries}
 
 pub begins_self : (h : List Entry) → Begins h h
@@ -35,9 +35,9 @@ module _ (k l : Knows) (shard : ℕ) (between : List Entry) where
       (λ is. subst (λ i. Begins (seen_at k i) (seen_at l i)) (sym is) (between ++ new, t.here ∙ append_assoc (seen_at k shard) between new))
       (λ other. subst (λ h. Begins (seen_at k r) h) (sym (t.seen_elsewhere r other)) (begins_self (seen_at k r)))
 
-  pub words : (new : List Entry) → Turned k l shard between new → (r : ℕ) → word_at k r ≤ word_at l r
+  pub words : (new : List Entry) → Turned k l shard between new → (r : ℕ) → met_word k r ≤ met_word l r
   words new t r = dite (ℕ_discrete r shard)
-      (λ is. subst (λ i. word_at k i ≤ word_at l i) (sym is) t.word)
+      (λ is. subst (λ i. met_word k i ≤ met_word l i) (sym is) t.word)
       (λ other. let e = t.word_elsewhere r other in omega arith)
 
   -- a call adds its entry on its shard, and nothing elsewhere

@@ -7,7 +7,7 @@ use Rattle.bfd_turn.specs.Lists.{Begins, calls}
 use Rattle.bfd_engine.specs.Turned.{by, given_after}
 use Rattle.bfd_engine.specs.Engines.{Shards, configs_at}
 use Rattle.bfd_engine.specs.Calls.{Act, Turns, Rests}
-use Rattle.bfd_serve.specs.Calls.{Call, call_in, calls_of, on_shard, entries, until, datagrams, given_by, sends}
+use Rattle.bfd_serve.specs.Calls.{Call, call_in, calls_of, on_shard, entries, until, datagrams, given_by, sends_of_acts}
 
 until_more_by : (n i : ℕ) (x : Entry) (h more : List Entry) (b : Bool) → (x.caller == n) ≡ b → i < length (calls by n (x ∷ h)) → ((j : ℕ) → j < length (calls by n h) → until n j (h ++ more) ≡ until n j h) → until n i ((x ∷ h) ++ more) ≡ until n i (x ∷ h)
 until_more_by n zero x h more true is less rec = rw is refl
@@ -48,12 +48,12 @@ weight_append n s xs ys = ap (λ cs. length (entries n s cs)) (calls_of_append x
 
 module _ (engine : Shards) (n : ℕ) where
   pub sends_append : (h : ℕ → List Entry) (had : ℕ → ℕ) (before : List Call) (xs ys : List Act)
-      → sends engine n h had before (xs ++ ys) ≡ sends engine n h had before xs ++ sends engine n h had (before ++ calls_of xs) ys
-  sends_append h had before [] ys = ap (λ b. sends engine n h had b ys) (sym (append-nil before))
+      → sends_of_acts engine n h had before (xs ++ ys) ≡ sends_of_acts engine n h had before xs ++ sends_of_acts engine n h had (before ++ calls_of xs) ys
+  sends_append h had before [] ys = ap (λ b. sends_of_acts engine n h had b ys) (sym (append-nil before))
   sends_append h had before (x ∷ xs) ys =
       ap (λ w. datagrams (given_by engine n h had before x) ++ w) (sends_append h had (before ++ calls_of (x ∷ [])) xs ys
-      ∙ ap (λ b. sends engine n h had (before ++ calls_of (x ∷ [])) xs ++ sends engine n h had b ys) (append_assoc before (calls_of (x ∷ [])) (calls_of xs) ∙ ap (λ w. before ++ w) (sym (calls_of_append (x ∷ []) xs))))
-      ∙ sym (append_assoc (datagrams (given_by engine n h had before x)) (sends engine n h had (before ++ calls_of (x ∷ [])) xs) (sends engine n h had (before ++ calls_of (x ∷ xs)) ys))
+      ∙ ap (λ b. sends_of_acts engine n h had (before ++ calls_of (x ∷ [])) xs ++ sends_of_acts engine n h had b ys) (append_assoc before (calls_of (x ∷ [])) (calls_of xs) ∙ ap (λ w. before ++ w) (sym (calls_of_append (x ∷ []) xs))))
+      ∙ sym (append_assoc (datagrams (given_by engine n h had before x)) (sends_of_acts engine n h had (before ++ calls_of (x ∷ [])) xs) (sends_of_acts engine n h had (before ++ calls_of (x ∷ xs)) ys))
 
   given_base : (h : ℕ → List Entry) (had had2 : ℕ → ℕ) (before before2 : List Call) (a : Act)
       → ((s : ℕ) → had2 s + length (entries n s before2) ≡ had s + length (entries n s before)) → given_by engine n h had2 before2 a ≡ given_by engine n h had before a
@@ -63,7 +63,7 @@ module _ (engine : Shards) (n : ℕ) where
 
   -- of the calls before only the count on each shard matters
   pub sends_base : (h : ℕ → List Entry) (had had2 : ℕ → ℕ) (before before2 : List Call) (xs : List Act)
-      → ((s : ℕ) → had2 s + length (entries n s before2) ≡ had s + length (entries n s before)) → sends engine n h had2 before2 xs ≡ sends engine n h had before xs
+      → ((s : ℕ) → had2 s + length (entries n s before2) ≡ had s + length (entries n s before)) → sends_of_acts engine n h had2 before2 xs ≡ sends_of_acts engine n h had before xs
   sends_base h had had2 before before2 [] same = refl
   sends_base h had had2 before before2 (x ∷ xs) same = ap₂ ◌++◌ (ap datagrams (given_base h had had2 before before2 x same))
       (sends_base h had had2 (before ++ calls_of (x ∷ [])) (before2 ++ calls_of (x ∷ [])) xs (λ s.
@@ -90,7 +90,7 @@ module _ (engine : Shards) (n : ℕ) where
 
   -- where each history only grows, the calls that are there send what they did
   pub sends_grow : (h h2 : ℕ → List Entry) (had : ℕ → ℕ) (before : List Call) (xs : List Act) → ((s : ℕ) → Begins (h s) (h2 s))
-      → AreThere h had (before ++ calls_of xs) → sends engine n h2 had before xs ≡ sends engine n h had before xs
+      → AreThere h had (before ++ calls_of xs) → sends_of_acts engine n h2 had before xs ≡ sends_of_acts engine n h had before xs
   sends_grow h h2 had before [] grows there = refl
   sends_grow h h2 had before (x ∷ xs) grows there = ap₂ ◌++◌ (ap datagrams (given_grow h h2 had before x (calls_of xs) grows (subst (λ w. AreThere h had (before ++ w)) (calls_of_append (x ∷ []) xs) there)))
       (sends_grow h h2 had (before ++ calls_of (x ∷ [])) xs grows (subst (λ w. AreThere h had w) (ap (λ w. before ++ w) (calls_of_append (x ∷ []) xs) ∙ sym (append_assoc before (calls_of (x ∷ [])) (calls_of xs))) there))

@@ -6,7 +6,7 @@ use Rattle.std.proofs.lemmas.List.Sums.{sum_by-append}
 use Rattle.bfd_turn.specs.Lists.{Begins}
 use Rattle.bfd_turn.proofs.Beginnings.{begins_itself, begins_through, longer_begins}
 use Rattle.bfd_engine.specs.Engines.{Shards, Knows, IsOf, AllThere}
-use Rattle.bfd_engine.specs.Calls.{seen_at, word_at, taken_at, kept_at, mine}
+use Rattle.bfd_engine.specs.Calls.{seen_at, met_word, taken_at, kept_at, mine}
 use Rattle.bfd_engine.specs.Passes.{Joined}
 use Rattle.bfd_serve.specs.Joins.{calls_kept, AreJoined}
 
@@ -21,8 +21,8 @@ joined_none k s = record {
   first = begins_itself (seen_at k s);
   each = All-nil (λ (o : Knows). Begins (seen_at o s) (seen_at k s));
   least = λ h p a. p;
-  word = le_refl (word_at k s);
-  words = All-nil (λ (o : Knows). word_at o s ≤ word_at k s);
+  word = le_refl (met_word k s);
+  words = All-nil (λ (o : Knows). met_word o s ≤ met_word k s);
   taken = omega arith;
   made = refl;
 }
@@ -38,7 +38,7 @@ joined_one k l m o os s j t = record {
   least = λ h p a. (let q = All-pop (λ (x : Knows). Begins (seen_at x s) h) (os ++ o ∷ []) os (Some o) refl a in
       subst (λ w. Begins w h) (sym t.seen) (longer_begins (seen_at l s) (seen_at o s) h (j.least h p q.0) q.1));
   word = (let a = t.word in let b = j.word in omega arith);
-  words = All-push (λ (x : Knows). word_at x s ≤ word_at m s) os o (λ i d h. (let a = j.words i d h in let b = t.word in omega arith)) t.word_other;
+  words = All-push (λ (x : Knows). met_word x s ≤ met_word m s) os o (λ i d h. (let a = j.words i d h in let b = t.word in omega arith)) t.word_other;
   taken = (let a = t.taken in let b = j.taken in let d = sum_by-append (λ (x : Knows). taken_at x s) os (o ∷ []) in omega arith);
   made = t.made ∙ j.made;
 }

@@ -5,21 +5,21 @@ use Rattle.bfd_shard.specs.declared.entry.ShardEvent.TheVariants.{Tick as TickEv
 use Rattle.bfd_line.specs.declared.entries.Line.{Line}
 use Rattle.bfd_engine.specs.Engines.{Shards}
 use Rattle.bfd_engine.specs.Calls.{Act, Turns}
-use Rattle.bfd_serve.specs.Orders.{is_due, due, order_act, orders_acts, advances, tick_acts, ticks_acts, orders_left}
+use Rattle.bfd_serve.specs.Orders.{is_due, orders_due, order_act, orders_acts, advances, tick_acts, ticks_acts, orders_left}
 
 -- the order at a place is due
-pub due_next : (t i : ℕ) (orders : List Line) (order : Line) → i < length orders → get_or orders i order ≡ order → is_due t order ≡ true → due t (drop i orders) ≡ due t (drop (i + 1) orders) + 1
+pub due_next : (t i : ℕ) (orders : List Line) (order : Line) → i < length orders → get_or orders i order ≡ order → is_due t order ≡ true → orders_due t (drop i orders) ≡ orders_due t (drop (i + 1) orders) + 1
 due_next t i [] order h here is = absurd (omega arith)
 due_next t zero (o ∷ os) order h here is = let b : is_due t o ≡ true = ap (is_due t) here ∙ is in rw b refl
 due_next t (suc i) (o ∷ os) order h here is = let e : suc i + 1 ≡ suc (i + 1) = omega arith in rw e (due_next t i os order (omega arith) here is)
 
 -- .. or isn't
-pub due_stop : (t i : ℕ) (orders : List Line) (order : Line) → i < length orders → get_or orders i order ≡ order → is_due t order ≡ false → due t (drop i orders) ≡ 0
+pub due_stop : (t i : ℕ) (orders : List Line) (order : Line) → i < length orders → get_or orders i order ≡ order → is_due t order ≡ false → orders_due t (drop i orders) ≡ 0
 due_stop t i [] order h here is = absurd (omega arith)
 due_stop t zero (o ∷ os) order h here is = let b : is_due t o ≡ false = ap (is_due t) here ∙ is in rw b refl
 due_stop t (suc i) (o ∷ os) order h here is = due_stop t i os order (omega arith) here is
 
-pub due_none : (t i : ℕ) (orders : List Line) → length orders ≤ i → due t (drop i orders) ≡ 0
+pub due_none : (t i : ℕ) (orders : List Line) → length orders ≤ i → orders_due t (drop i orders) ≡ 0
 due_none t zero [] h = refl
 due_none t (suc i) [] h = refl
 due_none t zero (o ∷ os) h = absurd (omega arith)
@@ -34,9 +34,9 @@ advances_rest i zero t = let e : i ≡ zero + i = omega arith in ([], append-nil
 advances_rest i (suc j) t = let r = advances_rest i j t in let e : suc (j + i) ≡ suc j + i = omega arith in
     (r.0 ++ Turns (j + i) (TickEvent t) ∷ [], sym (append_assoc (advances i t) r.0 (Turns (j + i) (TickEvent t) ∷ [])) ∙ (ap (λ w. w ++ Turns (j + i) (TickEvent t) ∷ []) r.1 ∙ ap (λ m. advances m t) e))
 
-pub left_snoc : (orders : List Line) (ts : List ℕ) (t : ℕ) → orders_left orders (ts ++ t ∷ []) ≡ drop (due t (orders_left orders ts)) (orders_left orders ts)
+pub left_snoc : (orders : List Line) (ts : List ℕ) (t : ℕ) → orders_left orders (ts ++ t ∷ []) ≡ drop (orders_due t (orders_left orders ts)) (orders_left orders ts)
 left_snoc orders [] t = refl
-left_snoc orders (u ∷ ts) t = left_snoc (drop (due u orders) orders) ts t
+left_snoc orders (u ∷ ts) t = left_snoc (drop (orders_due u orders) orders) ts t
 
 module _ (engine : Shards) where
   orders_append : (xs ys : List Line) → orders_acts engine (xs ++ ys) ≡ orders_acts engine xs ++ orders_acts engine ys
@@ -54,5 +54,5 @@ module _ (engine : Shards) where
 
   pub ticks_snoc : (orders : List Line) (ts : List ℕ) (t : ℕ) → ticks_acts engine orders (ts ++ t ∷ []) ≡ ticks_acts engine orders ts ++ tick_acts engine (orders_left orders ts) t
   ticks_snoc orders [] t = append-nil (tick_acts engine orders t)
-  ticks_snoc orders (u ∷ ts) t = ap (λ w. tick_acts engine orders u ++ w) (ticks_snoc (drop (due u orders) orders) ts t)
-      ∙ sym (append_assoc (tick_acts engine orders u) (ticks_acts engine (drop (due u orders) orders) ts) (tick_acts engine (orders_left (drop (due u orders) orders) ts) t))
+  ticks_snoc orders (u ∷ ts) t = ap (λ w. tick_acts engine orders u ++ w) (ticks_snoc (drop (orders_due u orders) orders) ts t)
+      ∙ sym (append_assoc (tick_acts engine orders u) (ticks_acts engine (drop (orders_due u orders) orders) ts) (tick_acts engine (orders_left (drop (orders_due u orders) orders) ts) t))

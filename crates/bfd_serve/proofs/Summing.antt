@@ -19,11 +19,11 @@ use Rattle.bfd_edge.specs.Links.{LinkTold}
 use Rattle.bfd_edge.specs.Tickers.{TickerTold}
 use Rattle.bfd_engine.specs.Turned.{by}
 use Rattle.bfd_engine.specs.Engines.{Shards, Knows, IsOf}
-use Rattle.bfd_engine.specs.Calls.{Act, seen_of, word_of, seen_at, word_at, taken_at, kept_at, mine}
+use Rattle.bfd_engine.specs.Calls.{Act, seen_of, met_word_of, seen_at, met_word, taken_at, kept_at, mine}
 use Rattle.bfd_serve.specs.declared.ending.End.{End}
 use Rattle.bfd_serve.specs.declared.ending.End.TheVariants.{Full, Spent}
 use Rattle.bfd_serve.specs.declared.jobs.Job.{Job}
-use Rattle.bfd_serve.specs.Calls.{calls_of, entries, sends, worker_acts}
+use Rattle.bfd_serve.specs.Calls.{calls_of, entries, sends_of_acts, worker_acts}
 use Rattle.bfd_serve.specs.Works.{Did, IsWorkerEnd, HasWorked}
 use Rattle.bfd_serve.specs.Ticks.{IsTimerEnd, HasTimed, is_clock_fault}
 use Rattle.bfd_serve.specs.Jobs.{pass_of, link_of, end_of_job, lost_of, IsOpen, IsReady, IsWorked}
@@ -44,8 +44,8 @@ module _ (engine : Shards) where
   seen_beyond : (k : Knows) (s : ℕ) → IsOf engine k.1 → length engine.locks ≤ s → seen_at k s ≡ []
   seen_beyond k s of h = ap seen_of (slice_get_past k.1 s (let a = of.long in omega arith))
 
-  word_beyond : (k : Knows) (s : ℕ) → IsOf engine k.1 → length engine.locks ≤ s → word_at k s ≡ 0
-  word_beyond k s of h = ap word_of (slice_get_past k.1 s (let a = of.long in omega arith))
+  word_beyond : (k : Knows) (s : ℕ) → IsOf engine k.1 → length engine.locks ≤ s → met_word k s ≡ 0
+  word_beyond k s of h = ap met_word_of (slice_get_past k.1 s (let a = of.long in omega arith))
 
   none_seen : (k : Knows) → IsOf engine k.1 → ((s : ℕ) → s < length engine.locks → seen_at k s ≡ []) → (s : ℕ) → seen_at k s ≡ []
   none_seen k of each s = by_shard (λ i. seen_at k i ≡ []) s (length engine.locks) (each s) (seen_beyond k s of)
@@ -54,8 +54,8 @@ module _ (engine : Shards) where
   begins_everywhere k l of each s = by_shard (λ i. Begins (seen_at k i) (seen_at l i)) s (length engine.locks) (each s)
       (λ far. subst (λ w. Begins w (seen_at l s)) (sym (seen_beyond k s of far)) (seen_at l s, refl))
 
-  words_everywhere : (k l : Knows) → IsOf engine k.1 → ((s : ℕ) → s < length engine.locks → word_at k s ≤ word_at l s) → (s : ℕ) → word_at k s ≤ word_at l s
-  words_everywhere k l of each s = by_shard (λ i. word_at k i ≤ word_at l i) s (length engine.locks) (each s)
+  words_everywhere : (k l : Knows) → IsOf engine k.1 → ((s : ℕ) → s < length engine.locks → met_word k s ≤ met_word l s) → (s : ℕ) → met_word k s ≤ met_word l s
+  words_everywhere k l of each s = by_shard (λ i. met_word k i ≤ met_word l i) s (length engine.locks) (each s)
       (λ far. let z = word_beyond k s of far in omega arith)
 
   -- what a caller did that had seen nothing, by the histories in the end
@@ -66,7 +66,7 @@ module _ (engine : Shards) where
     tried = d.tried;
     kept = d.kept;
     missing = d.missing;
-    sends_are = ap (λ i. sends engine i (seen_at m) (λ s. 0) [] done) (sym num)
+    sends_are = ap (λ i. sends_of_acts engine i (seen_at m) (λ s. 0) [] done) (sym num)
         ∙ (sends_base engine k.0 (seen_at m) (λ s. length (mine k s)) (λ s. 0) [] [] done (λ s. let a = ap (λ h. length (calls by k.0 h)) (none s) in omega arith)
         ∙ sends_later engine k o t u heard done cut untried 0 lost (seen_at m) grows d);
     lacks = d.lacks;
@@ -88,18 +88,18 @@ module _ (engine : Shards) where
   timer_end_grows h h2 w w2 c d got ticks cut untried end longer more i = i
 
   worker_did : (k o m : Knows) (n : ℕ) (t u : LinkTold) (turns : ℕ) (end : End) (lost : ℕ) → HasWorked engine k o t u turns end lost → k.0 ≡ n → ((s : ℕ) → seen_at k s ≡ [])
-      → ((s : ℕ) → Begins (seen_at o s) (seen_at m s)) → ((s : ℕ) → word_at o s ≤ word_at m s) → WorkerDid engine n (mine o) (seen_at m) (word_at m) t u turns end lost
+      → ((s : ℕ) → Begins (seen_at o s) (seen_at m s)) → ((s : ℕ) → met_word o s ≤ met_word m s) → WorkerDid engine n (mine o) (seen_at m) (met_word m) t u turns end lost
   worker_did k o m n t u turns end lost w num none grows words = record {
     done = w.done;
     cut = w.cut;
     untried = w.untried;
     did = done_of k o m n t u (w.done ++ w.cut) (worker_acts engine w.done) (worker_acts engine w.cut) w.untried lost w.did num none grows;
-    ends = worker_end_grows (seen_at o) (seen_at m) (word_at o) (word_at m) t u turns (worker_acts engine w.cut) w.untried end (λ s. begins_length (seen_at o s) (seen_at m s) (grows s)) words w.ends;
+    ends = worker_end_grows (seen_at o) (seen_at m) (met_word o) (met_word m) t u turns (worker_acts engine w.cut) w.untried end (λ s. begins_length (seen_at o s) (seen_at m s) (grows s)) words w.ends;
     few = w.few;
   }
 
   timer_did : (k o m : Knows) (t u : LinkTold) (c d : TickerTold) (orders : List Line) (ticks : ℕ) (end : End) (lost : ℕ) → HasTimed engine k o t u c d orders ticks end lost → k.0 ≡ 0 → ((s : ℕ) → seen_at k s ≡ [])
-      → ((s : ℕ) → Begins (seen_at o s) (seen_at m s)) → ((s : ℕ) → word_at o s ≤ word_at m s) → TimerDid engine (mine o) (seen_at m) (word_at m) t u c d orders ticks end lost
+      → ((s : ℕ) → Begins (seen_at o s) (seen_at m s)) → ((s : ℕ) → met_word o s ≤ met_word m s) → TimerDid engine (mine o) (seen_at m) (met_word m) t u c d orders ticks end lost
   timer_did k o m t u c d orders ticks end lost w num none grows words = record {
     got = w.got;
     done = w.done;
@@ -111,7 +111,7 @@ module _ (engine : Shards) where
     given = w.given;
     gave = w.gave;
     few = w.few;
-    ends = timer_end_grows (seen_at o) (seen_at m) (word_at o) (word_at m) c d w.got ticks w.cut w.untried end (λ s. begins_length (seen_at o s) (seen_at m s) (grows s)) words w.ends;
+    ends = timer_end_grows (seen_at o) (seen_at m) (met_word o) (met_word m) c d w.got ticks w.cut w.untried end (λ s. begins_length (seen_at o s) (seen_at m s) (grows s)) words w.ends;
   }
 
 numbers_long : (n : ℕ) → length (numbers n) ≡ n
@@ -188,9 +188,9 @@ module _ {L : Type 0} (told : L → LinkTold) (engine : Shards) (k : Knows) (tur
     grows_to i j h = begins_everywhere engine (get_or after i j).pass m (each i j h).of (λ s less. subst (λ (o : Knows). Begins (seen_at o s) (seen_at m s)) (pass_after i j h)
         (All-get_or (λ (o : Knows). Begins (seen_at o s) (seen_at m s)) (map pass_of after) i j.pass (let a = length-map after pass_of in omega (arith, long)) (joined s less).each))
 
-    words_to : (i : ℕ) (j : Job L) → i < length before → (s : ℕ) → word_at (get_or after i j).pass s ≤ word_at m s
-    words_to i j h = words_everywhere engine (get_or after i j).pass m (each i j h).of (λ s less. subst (λ (o : Knows). word_at o s ≤ word_at m s) (pass_after i j h)
-        (All-get_or (λ (o : Knows). word_at o s ≤ word_at m s) (map pass_of after) i j.pass (let a = length-map after pass_of in omega (arith, long)) (joined s less).words))
+    words_to : (i : ℕ) (j : Job L) → i < length before → (s : ℕ) → met_word (get_or after i j).pass s ≤ met_word m s
+    words_to i j h = words_everywhere engine (get_or after i j).pass m (each i j h).of (λ s less. subst (λ (o : Knows). met_word o s ≤ met_word m s) (pass_after i j h)
+        (All-get_or (λ (o : Knows). met_word o s ≤ met_word m s) (map pass_of after) i j.pass (let a = length-map after pass_of in omega (arith, long)) (joined s less).words))
 
     kept_is : (s : ℕ) → s < length engine.locks → kept_at m s ≡ calls_kept s (map pass_of after)
     kept_is s h = (joined s h).kept ∙ ap (λ w. w ++ calls_kept s (map pass_of after)) (tended.timed.did.keeps s ∙ split.kept s h)

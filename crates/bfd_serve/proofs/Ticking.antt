@@ -9,10 +9,10 @@ use Rattle.bfd_edge.specs.Faults.{risen}
 use Rattle.bfd_edge.specs.Links.{LinkTold}
 use Rattle.bfd_edge.specs.Tickers.{Ticks, TickerTold, after_next, one_given}
 use Rattle.bfd_engine.specs.Engines.{Shards, Knows}
-use Rattle.bfd_engine.specs.Calls.{Act, seen_at, word_at}
+use Rattle.bfd_engine.specs.Calls.{Act, seen_at, met_word}
 use Rattle.bfd_serve.specs.declared.ending.End.{End}
 use Rattle.bfd_serve.specs.declared.ending.End.TheVariants.{ClockFault, Full, Spent, Memory}
-use Rattle.bfd_serve.specs.Orders.{due, orders_acts, tick_acts, ticks_acts, orders_left, timer_acts}
+use Rattle.bfd_serve.specs.Orders.{orders_due, orders_acts, tick_acts, ticks_acts, orders_left, timer_acts}
 use Rattle.bfd_serve.specs.Works.{Stops, IsStopped, IsWhole}
 use Rattle.bfd_serve.specs.Ticks.{more_given, IsTimerEnd, is_clock_fault, HasTimed, IsTicking, IsFinished}
 use Rattle.bfd_serve.proofs.Packets.{risen_same, risen_join}
@@ -33,12 +33,12 @@ module _ (engine : Shards) where
   ticking_start k t c orders over = record { got = []; whole = whole_none engine k t 0; left_is = refl; given = given_none c.ticks; count_is = refl; gave = risen_same c.gave; no_fault = refl; over = over }
 
   pub ticking_more : (k l m : Knows) (t u v : LinkTold) (c d f : TickerTold) (orders left rest : List Line) (n tick lost after : ℕ) → IsTicking engine k l t u c d orders left n lost → f ≡ after_next (next.Got tick) d
-      → IsWhole engine (tick_acts engine left tick) l m u v lost after → rest ≡ drop (due tick left) left → IsTicking engine k m t v c f orders rest (n + 1) after
+      → IsWhole engine (tick_acts engine left tick) l m u v lost after → rest ≡ drop (orders_due tick left) left → IsTicking engine k m t v c f orders rest (n + 1) after
   ticking_more k l m t u v c d f orders left rest n tick lost after g is w rest_is = record {
     got = g.got ++ tick ∷ [];
     whole = subst (λ xs. IsWhole engine xs k m t v 0 after) (ap (λ os. ticks_acts engine orders g.got ++ tick_acts engine os tick) g.left_is ∙ sym (ticks_snoc engine orders g.got tick))
         (whole_then engine (ticks_acts engine orders g.got) (tick_acts engine left tick) k l m t u v 0 lost after g.whole w);
-    left_is = rest_is ∙ (ap (λ os. drop (due tick os) os) g.left_is ∙ sym (left_snoc orders g.got tick));
+    left_is = rest_is ∙ (ap (λ os. drop (orders_due tick os) os) g.left_is ∙ sym (left_snoc orders g.got tick));
     given = ap (λ (x : TickerTold). x.ticks) is ∙ (ap (one_given tick) g.given ∙ given_one g.got tick c.ticks);
     count_is = length-append g.got (tick ∷ []) ∙ ap (λ x. x + 1) g.count_is;
     gave = ap (λ (x : TickerTold). x.gave) is ∙ (ap (λ x. risen x 1) g.gave ∙ risen_join c.gave n 1);
@@ -66,13 +66,13 @@ module _ (engine : Shards) where
     done = s.done;
     cut = s.cut;
     untried = s.untried;
-    all = s.all ∙ ap (timer_acts engine orders got) (sym (no_clock_fault (seen_at l) (word_at l) s.cut s.untried end s.stops));
+    all = s.all ∙ ap (timer_acts engine orders got) (sym (no_clock_fault (seen_at l) (met_word l) s.cut s.untried end s.stops));
     did = s.did;
     aside = s.aside;
     given = given;
     gave = gave;
     few = few;
-    ends = timer_end (seen_at l) (word_at l) c d got ticks s.cut s.untried end s.stops none;
+    ends = timer_end (seen_at l) (met_word l) c d got ticks s.cut s.untried end s.stops none;
   }
 
   -- a tick was stopped, or the orders before it

@@ -7,7 +7,7 @@ use Rattle.bfd_edge.specs.declared.link.Received.TheVariants as received
 use Rattle.bfd_edge.specs.Faults.{risen}
 use Rattle.bfd_edge.specs.Links.{LinkTold, after_receive}
 use Rattle.bfd_engine.specs.Engines.{Shards, Knows}
-use Rattle.bfd_engine.specs.Calls.{Act, seen_at, word_at}
+use Rattle.bfd_engine.specs.Calls.{Act, seen_at, met_word}
 use Rattle.bfd_serve.specs.declared.ending.End.{End}
 use Rattle.bfd_serve.specs.declared.ending.End.TheVariants.{Ended, LinkFault, Full, Turns as TurnsMade, Spent, Memory}
 use Rattle.bfd_serve.specs.Calls.{act_at, worker_acts}
@@ -40,14 +40,14 @@ module _ (engine : Shards) where
   one_cut (z ∷ z2 ∷ xs) ys x is = absurd (cc is)
 
   worked_cut : (k m : Knows) (t w : LinkTold) (done : List (ℕ × Arrival)) (a : ℕ × Arrival) (xs ys : List Act) (untried : List Datagram) (lost turns : ℕ) (end : End) → ((xs ≡ []) × (ys ≡ act_at engine a ∷ [])) ⊎ ((xs ≡ act_at engine a ∷ []) × (ys ≡ []))
-      → Did engine k m t w (done ++ a ∷ []) (worker_acts engine done ++ xs) ys untried 0 lost → IsWorkerEnd engine (seen_at m) (word_at m) t w turns ys untried end → length (done ++ a ∷ []) ≤ turns → HasWorked engine k m t w turns end lost
+      → Did engine k m t w (done ++ a ∷ []) (worker_acts engine done ++ xs) ys untried 0 lost → IsWorkerEnd engine (seen_at m) (met_word m) t w turns ys untried end → length (done ++ a ∷ []) ≤ turns → HasWorked engine k m t w turns end lost
   worked_cut k m t w done a xs ys untried lost turns end (inl (p, q)) d i few = record {
     done = done;
     cut = a ∷ [];
     untried = untried;
     few = few;
     did = subst (λ (y : List Act × List Act). Did engine k m t w (done ++ a ∷ []) y.0 y.1 untried 0 lost) (λ j. ((ap (λ z. worker_acts engine done ++ z) p ∙ append-nil (worker_acts engine done)) j, q j)) d;
-    ends = subst (λ y. IsWorkerEnd engine (seen_at m) (word_at m) t w turns y untried end) q i;
+    ends = subst (λ y. IsWorkerEnd engine (seen_at m) (met_word m) t w turns y untried end) q i;
   }
   worked_cut k m t w done a xs ys untried lost turns end (inr (p, q)) d i few = record {
     done = done ++ a ∷ [];
@@ -56,7 +56,7 @@ module _ (engine : Shards) where
     few = (let b = ap length (append-nil (done ++ a ∷ [])) in omega arith);
     did = subst (λ (y : List (ℕ × Arrival) × List Act × List Act). Did engine k m t w y.0 y.1 y.2 untried 0 lost)
         (λ j. (sym (append-nil (done ++ a ∷ [])) j, (ap (λ z. worker_acts engine done ++ z) p ∙ sym (acts_append done (a ∷ []))) j, q j)) d;
-    ends = subst (λ y. IsWorkerEnd engine (seen_at m) (word_at m) t w turns y untried end) q i;
+    ends = subst (λ y. IsWorkerEnd engine (seen_at m) (met_word m) t w turns y untried end) q i;
   }
 
   worker_end : (h : ℕ → List Entry) (w : ℕ → ℕ) (t u : LinkTold) (turns : ℕ) (cut : List Act) (untried : List Datagram) (end : End) → Stops engine h w cut untried end → u.counts.over ≡ false → u.counts.receive_faults ≡ t.counts.receive_faults → IsWorkerEnd engine h w t u turns cut untried end
@@ -101,7 +101,7 @@ module _ (engine : Shards) where
         λ y same. absurd (cc same),
         λ turns end2 less same. let ends : end ≡ end2 = cc same in subst (λ x. HasWorked engine k m t w turns x after) ends
             (worked_cut k m t w g.done a made.done made.cut made.untried after turns end (one_cut made.done made.cut (act_at engine a) made.all) did
-            (worker_end (seen_at m) (word_at m) t w turns made.cut made.untried end made.stops (made.aside.over ∙ (ap (λ (x : LinkTold). x.counts.over) is ∙ g.over)) (made.aside.receive_faults ∙ (ap (λ (x : LinkTold). x.counts.receive_faults) is ∙ g.no_fault)))
+            (worker_end (seen_at m) (met_word m) t w turns made.cut made.untried end made.stops (made.aside.over ∙ (ap (λ (x : LinkTold). x.counts.over) is ∙ g.over)) (made.aside.receive_faults ∙ (ap (λ (x : LinkTold). x.counts.receive_faults) is ∙ g.no_fault)))
             (let f = g.few in omega (arith, length-append g.done (a ∷ [])))),
       )
 
@@ -110,7 +110,7 @@ module _ (engine : Shards) where
 
   -- nothing was left out
   working_end : (k l : Knows) (t u v : LinkTold) (n lost turns : ℕ) (end : End) → IsWorking engine k l t u n lost → n ≤ turns → v.traffic ≡ u.traffic → v.counts.send_faults ≡ u.counts.send_faults
-      → IsWorkerEnd engine (seen_at l) (word_at l) t v turns [] [] end → HasWorked engine k l t v turns end lost
+      → IsWorkerEnd engine (seen_at l) (met_word l) t v turns [] [] end → HasWorked engine k l t v turns end lost
   working_end k l t u v n lost turns end g few traffic faults i = record {
     done = g.done;
     cut = [];

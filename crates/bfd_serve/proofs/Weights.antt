@@ -11,7 +11,7 @@ use Rattle.bfd_line.specs.declared.entries.Line.{Line}
 use Rattle.bfd_engine.specs.Engines.{Shards}
 use Rattle.bfd_engine.specs.Calls.{Act, Turns, Rests}
 use Rattle.bfd_serve.specs.Calls.{act_at, worker_acts}
-use Rattle.bfd_serve.specs.Orders.{due, order_act, orders_acts, advances, tick_acts, ticks_acts, orders_left, timer_acts}
+use Rattle.bfd_serve.specs.Orders.{orders_due, order_act, orders_acts, advances, tick_acts, ticks_acts, orders_left, timer_acts}
 use Rattle.bfd_serve.proofs.Histories.{weight, weight_append}
 
 module _ (n s : ℕ) where
@@ -51,10 +51,10 @@ module _ (n s : ℕ) where
     ticks_weight : (orders : List Line) (ts : List ℕ) → weight n s (ticks_acts engine orders ts) + length (orders_left orders ts) ≤ length ts + length orders
     ticks_weight orders [] = omega arith
     ticks_weight orders (t ∷ ts) =
-        let first : List Line = take (due t orders) orders in let rest : List Line = drop (due t orders) orders in
+        let first : List Line = take (orders_due t orders) orders in let rest : List Line = drop (orders_due t orders) orders in
         let a = orders_weight first in let b = advances_weight (length engine.locks) t in let d = weight_append n s (orders_acts engine first) (advances (length engine.locks) t) in
         let f = weight_append n s (tick_acts engine orders t) (ticks_acts engine rest ts) in let g = ticks_weight rest ts in
-        let h = ap length (take-append-drop (due t orders) orders) in let i = length-append first rest in omega arith
+        let h = ap length (take-append-drop (orders_due t orders) orders) in let i = length-append first rest in omega arith
 
     -- the timer takes at most one turn for each tick and each order
     pub timer_weight : (orders : List Line) (ts : List ℕ) (failed : Bool) → weight n s (timer_acts engine orders ts failed) ≤ length ts + length orders

@@ -64,11 +64,11 @@ given_by engine caller histories had before (Turns shard event) =
     (given_after (configs_at engine shard) (until caller (had shard + length (entries caller shard before)) (histories shard)) event).items
 
 -- what the acts of a caller send, in order
-abbrev pub sends : Shards → ℕ → (ℕ → List Entry) → (ℕ → ℕ) → List Call → List Act → List Datagram
-sends engine caller histories had before [] = []
-sends engine caller histories had before (act ∷ acts) =
+abbrev pub sends_of_acts : Shards → ℕ → (ℕ → List Entry) → (ℕ → ℕ) → List Call → List Act → List Datagram
+sends_of_acts engine caller histories had before [] = []
+sends_of_acts engine caller histories had before (act ∷ acts) =
     datagrams (given_by engine caller histories had before act)
-    ++ sends engine caller histories had (before ++ calls_of (act ∷ [])) acts
+    ++ sends_of_acts engine caller histories had (before ++ calls_of (act ∷ [])) acts
 
 -- the second list is the first without so many of its elements
 abbrev pub Lacks : List Datagram → List Datagram → ℕ → Type 0

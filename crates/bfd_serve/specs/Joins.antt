@@ -4,7 +4,7 @@ use Rattle.std.specs.List.{All, sum_by}
 use Rattle.bfd_shard.specs.declared.entry.Entry.{Entry}
 use Rattle.bfd_turn.specs.Lists.{Begins, numbers_of}
 use Rattle.bfd_engine.specs.Engines.{Shards, Knows, IsOf, AllThere}
-use Rattle.bfd_engine.specs.Calls.{seen_at, word_at, taken_at, kept_at, made_at, mine}
+use Rattle.bfd_engine.specs.Calls.{seen_at, met_word, taken_at, kept_at, made_at, mine}
 
 abbrev pub number_of : Knows → ℕ
 number_of pass = pass.0
@@ -52,8 +52,8 @@ pub record AreJoined (k : Knows) (passes : List Knows) (l : Knows) (shard : ℕ)
   pub first : Begins (seen_at k shard) (seen_at l shard)
   pub each : All (λ pass. Begins (seen_at pass shard) (seen_at l shard)) passes
   pub least : (h : List Entry) → Begins (seen_at k shard) h → All (λ pass. Begins (seen_at pass shard) h) passes → Begins (seen_at l shard) h
-  pub word : word_at k shard ≤ word_at l shard
-  pub words : All (λ pass. word_at pass shard ≤ word_at l shard) passes
+  pub word : met_word k shard ≤ met_word l shard
+  pub words : All (λ pass. met_word pass shard ≤ met_word l shard) passes
   pub taken : taken_at l shard ≡ taken_at k shard + sum_by (λ pass. taken_at pass shard) passes
   pub made : made_at l shard ≡ made_at k shard
 

@@ -6,7 +6,7 @@ use Rattle.bfd_shard.specs.declared.entry.ShardEvent.TheVariants.{Tick as TickEv
 use Rattle.bfd_line.specs.declared.entries.Line.{Line}
 use Rattle.bfd_line.specs.declared.entries.Line.TheVariants.{Rx, Tick, Cmd, Show}
 use Rattle.bfd_engine.specs.Engines.{Shards}
-use Rattle.bfd_engine.specs.Calls.{Act, Turns, Rests, asking}
+use Rattle.bfd_engine.specs.Calls.{Act, Turns, Rests, asking_by_discr}
 
 -- the line's moment has come by a tick
 abbrev pub is_due : ℕ → Line → Bool
@@ -16,16 +16,16 @@ is_due t (Cmd moment discr cmd) = leb moment (1000 * t)
 is_due t (Show moment discr) = leb moment (1000 * t)
 
 -- how many leading orders are due by a tick
-abbrev pub due : ℕ → List Line → ℕ
-due t [] = 0
-due t (order ∷ orders) = if is_due t order then due t orders + 1 else 0
+abbrev pub orders_due : ℕ → List Line → ℕ
+orders_due t [] = 0
+orders_due t (order ∷ orders) = if is_due t order then orders_due t orders + 1 else 0
 
 -- what an order comes to; a packet and a tick are no orders, and come to nothing
 abbrev pub order_act : Shards → Line → Act
 order_act engine (Rx moment arrival) = Rests [] Handled
 order_act engine (Tick t) = Rests [] Handled
-order_act engine (Cmd moment discr cmd) = asking engine moment discr (Command cmd)
-order_act engine (Show moment discr) = asking engine moment discr Showing
+order_act engine (Cmd moment discr cmd) = asking_by_discr engine moment discr (Command cmd)
+order_act engine (Show moment discr) = asking_by_discr engine moment discr Showing
 
 abbrev pub orders_acts : Shards → List Line → List Act
 orders_acts engine orders = map (order_act engine) orders
@@ -37,17 +37,17 @@ advances (suc n) t = advances n t ++ Turns n (TickEvent t) ∷ []
 
 -- a tick: first the leading orders that are due by it, then every shard
 abbrev pub tick_acts : Shards → List Line → ℕ → List Act
-tick_acts engine orders t = orders_acts engine (take (due t orders) orders) ++ advances (length engine.locks) t
+tick_acts engine orders t = orders_acts engine (take (orders_due t orders) orders) ++ advances (length engine.locks) t
 
 -- tick after tick, each with the orders that the earlier ones left
 abbrev pub ticks_acts : Shards → List Line → List ℕ → List Act
 ticks_acts engine orders [] = []
-ticks_acts engine orders (t ∷ ts) = tick_acts engine orders t ++ ticks_acts engine (drop (due t orders) orders) ts
+ticks_acts engine orders (t ∷ ts) = tick_acts engine orders t ++ ticks_acts engine (drop (orders_due t orders) orders) ts
 
 -- the orders that the ticks leave
 abbrev pub orders_left : List Line → List ℕ → List Line
 orders_left orders [] = orders
-orders_left orders (t ∷ ts) = orders_left (drop (due t orders) orders) ts
+orders_left orders (t ∷ ts) = orders_left (drop (orders_due t orders) orders) ts
 
 -- all that the timer has to do: after the last tick the orders that are left, unless the ticker failed
 abbrev pub timer_acts : Shards → List Line → List ℕ → Bool → List Act

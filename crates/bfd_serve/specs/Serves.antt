@@ -10,10 +10,10 @@ use Rattle.bfd_edge.specs.Faults.{risen}
 use Rattle.bfd_edge.specs.Links.{LinkTold, more_traffic}
 use Rattle.bfd_edge.specs.Tickers.{TickerTold}
 use Rattle.bfd_engine.specs.Engines.{Shards, Knows, IsOf, AllThere}
-use Rattle.bfd_engine.specs.Calls.{Act, seen_at, word_at, taken_at, kept_at, made_at, mine}
+use Rattle.bfd_engine.specs.Calls.{Act, seen_at, met_word, taken_at, kept_at, made_at, mine}
 use Rattle.bfd_serve.specs.declared.ending.End.{End}
 use Rattle.bfd_serve.specs.declared.serving.Limits.{Limits}
-use Rattle.bfd_serve.specs.Calls.{calls_of, entries, sends, Lacks, worker_acts}
+use Rattle.bfd_serve.specs.Calls.{calls_of, entries, sends_of_acts, Lacks, worker_acts}
 use Rattle.bfd_serve.specs.Works.{IsAside, IsWorkerEnd}
 use Rattle.bfd_serve.specs.Orders.{timer_acts}
 use Rattle.bfd_serve.specs.Ticks.{IsTimerEnd, is_clock_fault, more_given, HasTimed}
@@ -32,7 +32,7 @@ pub record HasDone (engine : Shards) (caller : ℕ) (own histories : ℕ → Lis
   pub tried : List Datagram
   pub kept : List Datagram
   pub missing : ℕ
-  pub sends_are : sends engine caller histories (λ shard. 0) [] done ≡ tried ++ untried
+  pub sends_are : sends_of_acts engine caller histories (λ shard. 0) [] done ≡ tried ++ untried
   pub lacks : Lacks tried kept missing
   pub traffic : u.traffic ≡ more_traffic heard kept t.traffic
   pub send_faults : u.counts.send_faults ≡ risen t.counts.send_faults missing
@@ -68,7 +68,7 @@ module _ {L : Type 0} (told : L → LinkTold) (engine : Shards) where
   pub record IsServedBy (l : Knows) (turns at : ℕ) (link back : L) (end : End) (lost : ℕ) : Type 0 where
     pub own : ℕ → List Entry
     pub kept : (shard : ℕ) → shard < length engine.locks → slice_get (kept_at l shard) at ≡ Some (at + 1, own shard)
-    pub worked : WorkerDid engine (at + 1) own (seen_at l) (word_at l) (told link) (told back) turns end lost
+    pub worked : WorkerDid engine (at + 1) own (seen_at l) (met_word l) (told link) (told back) turns end lost
 
   -- what all did, by the pass l of caller 0 in the end: its own calls are the timer's, and it keeps the calls of each worker and
   -- of nobody else. Every pass that was made was joined
@@ -77,7 +77,7 @@ module _ {L : Type 0} (told : L → LinkTold) (engine : Shards) where
     pub own_is : (shard : ℕ) → shard < length engine.locks → mine l shard ≡ own shard
     pub timer_end : End
     pub timer_lost : ℕ
-    pub timed : TimerDid engine own (seen_at l) (word_at l) t u c d orders limits.ticks timer_end timer_lost
+    pub timed : TimerDid engine own (seen_at l) (met_word l) t u c d orders limits.ticks timer_end timer_lost
     pub worker_ends : List End
     pub worker_losts : List ℕ
     pub ends_are : ends ≡ timer_end ∷ worker_ends

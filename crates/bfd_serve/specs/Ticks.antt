@@ -7,7 +7,7 @@ use Rattle.bfd_edge.specs.Faults.{risen}
 use Rattle.bfd_edge.specs.Links.{LinkTold}
 use Rattle.bfd_edge.specs.Tickers.{Ticks, TickerTold}
 use Rattle.bfd_engine.specs.Engines.{Shards, Knows}
-use Rattle.bfd_engine.specs.Calls.{Act, seen_at, word_at}
+use Rattle.bfd_engine.specs.Calls.{Act, seen_at, met_word}
 use Rattle.bfd_serve.specs.declared.ending.End.{End}
 use Rattle.bfd_serve.specs.declared.ending.End.TheVariants.{Ended, LinkFault, ClockFault, Full, Turns as TurnsMade, Spent, Memory}
 use Rattle.bfd_serve.specs.Works.{Did, Stops, IsAside, IsStopped, IsWhole}
@@ -54,7 +54,7 @@ pub record HasTimed (engine : Shards) (k l : Knows) (t u : LinkTold) (c d : Tick
   pub given : d.ticks ≡ more_given got c.ticks
   pub gave : d.gave ≡ risen c.gave (length got)
   pub few : length got ≤ ticks
-  pub ends : IsTimerEnd engine (seen_at l) (word_at l) c d got ticks cut untried end
+  pub ends : IsTimerEnd engine (seen_at l) (met_word l) c d got ticks cut untried end
 
 -- the same after so many ticks, with no end, where these orders are left
 pub record IsTicking (engine : Shards) (k l : Knows) (t u : LinkTold) (c d : TickerTold) (orders left : List Line) (count : ℕ) (lost : ℕ) : Type 0 where

@@ -13,10 +13,10 @@ use Rattle.bfd_edge.specs.Links.{LinkTold, more_traffic}
 use Rattle.bfd_engine.specs.declared.fault.EngineFault.{EngineFault}
 use Rattle.bfd_engine.specs.declared.fault.EngineFault.TheVariants as fault
 use Rattle.bfd_engine.specs.Engines.{Shards, Knows, configs_at}
-use Rattle.bfd_engine.specs.Calls.{Act, Turns, seen_at, word_at, taken_at, made_at, kept_at, mine}
+use Rattle.bfd_engine.specs.Calls.{Act, Turns, seen_at, met_word, taken_at, made_at, kept_at, mine}
 use Rattle.bfd_serve.specs.declared.ending.End.{End}
 use Rattle.bfd_serve.specs.declared.ending.End.TheVariants.{Ended, LinkFault, ClockFault, Full, Turns as TurnsMade, Spent, Memory}
-use Rattle.bfd_serve.specs.Calls.{calls_of, entries, datagrams, sends, Lacks, worker_acts}
+use Rattle.bfd_serve.specs.Calls.{calls_of, entries, datagrams, sends_of_acts, Lacks, worker_acts}
 
 -- the packets of some outputs were sent, but for those that failed and for these last ones that weren't tried
 pub record HasSent (packets untried : List Datagram) (t u : LinkTold) (lost after : ℕ) : Type 0 where
@@ -38,10 +38,10 @@ end_of (fault.Full shard length) = Full shard length
 end_of (fault.Spent shard word) = Spent shard word
 
 -- what was sent after a call of the engine: nothing after a fault; all, or with want of memory the first ones
-abbrev pub IsSettled : Result Answer EngineFault → List Out → LinkTold → LinkTold → ℕ → ℕ → Result (Unit {0}) End → Type 0
-IsSettled (Err f) outs t u lost after result = (result ≡ Err (end_of f)) × (u ≡ t) × (after ≡ lost)
-IsSettled (Ok answer) outs t u lost after (Ok done) = HasSent (datagrams outs) [] t u lost after
-IsSettled (Ok answer) outs t u lost after (Err end) =
+abbrev pub IsSentAfter : Result Answer EngineFault → List Out → LinkTold → LinkTold → ℕ → ℕ → Result (Unit {0}) End → Type 0
+IsSentAfter (Err f) outs t u lost after result = (result ≡ Err (end_of f)) × (u ≡ t) × (after ≡ lost)
+IsSentAfter (Ok answer) outs t u lost after (Ok done) = HasSent (datagrams outs) [] t u lost after
+IsSentAfter (Ok answer) outs t u lost after (Err end) =
     (untried : List Datagram) × HasSent (datagrams outs) untried t u lost after × (end ≡ Memory)
 
 -- a caller's pass k became l by the acts `done`, and its link told t and then u. What it gained on each shard are exactly the
@@ -52,14 +52,14 @@ pub record Did (engine : Shards) (k l : Knows) (t u : LinkTold) (heard : List (�
   pub used : l.2 ≡ k.2
   pub gains : (shard : ℕ) → mine l shard ≡ mine k shard ++ entries k.0 shard (calls_of done)
   pub grows : (shard : ℕ) → Begins (seen_at k shard) (seen_at l shard)
-  pub words : (shard : ℕ) → word_at k shard ≤ word_at l shard
+  pub words : (shard : ℕ) → met_word k shard ≤ met_word l shard
   pub taken : (shard : ℕ) → taken_at l shard ≤ taken_at k shard + length (entries k.0 shard (calls_of (done ++ cut)))
   pub made : (shard : ℕ) → made_at l shard ≡ made_at k shard
   pub keeps : (shard : ℕ) → kept_at l shard ≡ kept_at k shard
   pub tried : List Datagram
   pub kept : List Datagram
   pub missing : ℕ
-  pub sends_are : sends engine k.0 (seen_at l) (λ shard. length (mine k shard)) [] done ≡ tried ++ untried
+  pub sends_are : sends_of_acts engine k.0 (seen_at l) (λ shard. length (mine k shard)) [] done ≡ tried ++ untried
   pub lacks : Lacks tried kept missing
   pub traffic : u.traffic ≡ more_traffic heard kept t.traffic
   pub send_faults : u.counts.send_faults ≡ risen t.counts.send_faults missing
@@ -97,7 +97,7 @@ pub record IsStopped (engine : Shards) (acts : List Act) (k l : Knows) (t u : Li
   pub all : done ++ cut ≡ acts
   pub did : Did engine k l t u [] done cut untried lost after
   pub aside : IsAside t u
-  pub stops : Stops engine (seen_at l) (word_at l) cut untried end
+  pub stops : Stops engine (seen_at l) (met_word l) cut untried end
 
 -- all acts were done
 pub record IsWhole (engine : Shards) (acts : List Act) (k l : Knows) (t u : LinkTold) (lost after : ℕ) : Type 0 where
@@ -144,7 +144,7 @@ pub record HasWorked (engine : Shards) (k l : Knows) (t u : LinkTold) (turns : �
   pub cut : List (ℕ × Arrival)
   pub untried : List Datagram
   pub did : Did engine k l t u (done ++ cut) (worker_acts engine done) (worker_acts engine cut) untried 0 lost
-  pub ends : IsWorkerEnd engine (seen_at l) (word_at l) t u turns (worker_acts engine cut) untried end
+  pub ends : IsWorkerEnd engine (seen_at l) (met_word l) t u turns (worker_acts engine cut) untried end
   pub few : length (done ++ cut) ≤ turns
 
 -- the same after so many turns, with no end

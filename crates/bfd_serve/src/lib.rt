@@ -7,7 +7,7 @@
 //! `timing` (the timer), `ending` (why they end), `jobs` (what each worker works with), `passes` (their making and joining),
 //! `threads` (all at once), `serving` (a run).
 //!
-//! It stands on `bfd_engine`, on `bfd_edge` for links, gates and tickers, on `bfd_script` for orders, and on what those stand on. It
+//! It stands on `bfd_engine`, on `bfd_edge` for links, gates and tickers, on `bfd_line` for orders, and on what those stand on. It
 //! promises, for every link and every interleaving with other callers: what a caller's pass gains on each shard are exactly the
 //! entries of its calls, without the last ones by Full, Spent or want of memory; what they put out was sent in order, but for the
 //! sends that failed, which are counted; and each end comes by its cause. It promises nothing of waiting.

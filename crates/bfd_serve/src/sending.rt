@@ -2,7 +2,7 @@
 ghost use Rattle.std.specs.Prelude.{◌≡◌, [], ◌∷◌, List, OnOk, OnErr};
 ghost use Rattle.bfd_packet.specs.declared.arrival.Datagram.{Datagram as Packet};
 ghost use Rattle.bfd_serve.specs.Calls.{datagrams};
-ghost use Rattle.bfd_serve.specs.Works.{HasSent, IsSettled, end_of};
+ghost use Rattle.bfd_serve.specs.Works.{HasSent, IsSentAfter, end_of};
 
 use crate::ending::End;
 use bfd_edge::{Fault, Link};
@@ -63,7 +63,7 @@ pub(crate) fn settle<L: Link>(
     outs: &[Out],
     lost: &mut u64,
 ) -> Result<(), End>
-    ensures { IsSettled outcome outs.now (L.told link.old) (L.told link.new) lost.old lost.new result }
+    ensures { IsSentAfter outcome outs.now (L.told link.old) (L.told link.new) lost.old lost.new result }
 {
     if let Err(fault) = outcome {
         return Err(ended(fault));

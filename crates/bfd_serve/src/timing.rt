@@ -2,7 +2,7 @@
 ghost use Rattle.std.specs.Prelude.{◌≡◌, ◌<◌, ◌≤◌, ◌*◌, false, length, IfNone, IfSome};
 ghost use Rattle.bfd_engine.specs.Engines.{IsOf, AllThere, configs_at};
 ghost use Rattle.bfd_serve.specs.Orders as todo;
-ghost use Rattle.bfd_serve.specs.Orders.{due, advances, orders_acts, tick_acts};
+ghost use Rattle.bfd_serve.specs.Orders.{orders_due, advances, orders_acts, tick_acts};
 ghost use Rattle.bfd_serve.specs.Works.{AreDone, HasRoom, IsTooWide};
 ghost use Rattle.bfd_serve.specs.Ticks.{HasTimed, IsFinished};
 
@@ -32,7 +32,7 @@ fn is_due(order: &Line, tick: Tick) -> bool
 
 /// How many leading orders are due by a tick.
 fn due_by(orders: &[Line], tick: Tick) -> usize
-    ensures value { result ≡ due tick orders.now }
+    ensures value { result ≡ orders_due tick orders.now }
     ensures few { result ≤ length orders.now }
 {
     for at in 0..orders.len() {
@@ -112,7 +112,7 @@ fn on_tick<W: Timers, L: Link, R: Wait>(
     requires of { IsOf engine.now pass.old.1 }
     requires there { AllThere pass.old.1 }
     requires room { HasRoom engine.now outs.old.room }
-    requires due { due_orders ≡ due tick orders.now }
+    requires due { due_orders ≡ orders_due tick orders.now }
     requires few { due_orders ≤ length orders.now }
     ensures of { IsOf engine.now pass.new.1 }
     ensures there { AllThere pass.new.1 }

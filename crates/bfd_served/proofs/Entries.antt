@@ -8,7 +8,7 @@ use Rattle.bfd_session.specs.Alone.{Outcome}
 use Rattle.bfd_shard.specs.declared.entry.Entry.{Entry}
 use Rattle.bfd_shard.specs.History.{events_of}
 use Rattle.bfd_shard.specs.Shard.{CanHappen, IsHistory}
-use Rattle.bfd_script.specs.Report.{event_lines, sent}
+use Rattle.bfd_script.specs.Report.{event_lines, packets_sent}
 use Rattle.bfd_served.proofs.Sizes.{entry_some}
 use Rattle.bfd_served.specs.Served.{discr_in, entry_text, entries_text, entries_sent, reply_at, turn_line}
 
@@ -39,7 +39,7 @@ entry_told cs before entry n discr items answer now turned new n_is discr_is ite
 
 -- and is longer than the number of packets that it sent
 pub entry_long : (cs : List SessionConfig) (before : List Entry) (entry : Entry) (count : ℕ) (now new : List ℕ)
-    → new ≡ now ++ entry_text cs before entry → count ≡ sent (reply_at cs before entry) → length now + count + 1 ≤ length new
+    → new ≡ now ++ entry_text cs before entry → count ≡ packets_sent (reply_at cs before entry) → length now + count + 1 ≤ length new
 entry_long cs before entry count now new told is =
     let long = ap length told in
     omega (arith, long, is, entry_some cs before entry, length-append now (entry_text cs before entry))
@@ -76,13 +76,13 @@ module _ (cs : List SessionConfig) (js : List Entry) (i : ℕ) (own : List Sessi
       ∙ (ap (λ b. entry_text cs b entry ++ entries_text cs (take (i + 1) js) (drop (i + 1) js)) (sym n.journal)
       ∙ ap (λ xs. entry_text xs taken entry ++ entries_text cs (take (i + 1) js) (drop (i + 1) js)) (sym n.configs)))
 
-  sent_split : entries_sent cs (take i js) (drop i js) ≡ sent (reply_at own taken entry) + entries_sent cs (take (i + 1) js) (drop (i + 1) js)
+  sent_split : entries_sent cs (take i js) (drop i js) ≡ packets_sent (reply_at own taken entry) + entries_sent cs (take (i + 1) js) (drop (i + 1) js)
   unfolding entries_sent
   sent_split =
       ap (entries_sent cs (take i js)) left
-      ∙ (ap (λ b. sent (reply_at cs (take i js) entry) + entries_sent cs b (drop (i + 1) js)) more
-      ∙ (ap (λ b. sent (reply_at cs b entry) + entries_sent cs (take (i + 1) js) (drop (i + 1) js)) (sym n.journal)
-      ∙ ap (λ xs. sent (reply_at xs taken entry) + entries_sent cs (take (i + 1) js) (drop (i + 1) js)) (sym n.configs)))
+      ∙ (ap (λ b. packets_sent (reply_at cs (take i js) entry) + entries_sent cs b (drop (i + 1) js)) more
+      ∙ (ap (λ b. packets_sent (reply_at cs b entry) + entries_sent cs (take (i + 1) js) (drop (i + 1) js)) (sym n.journal)
+      ∙ ap (λ xs. packets_sent (reply_at xs taken entry) + entries_sent cs (take (i + 1) js) (drop (i + 1) js)) (sym n.configs)))
 
   -- with the entries that are left, the text so far is the whole, and so is the count
   pub text_next : (now new goal : List ℕ) → now ++ entries_text cs (take i js) (drop i js) ≡ goal → new ≡ now ++ entry_text own taken entry
@@ -92,7 +92,7 @@ module _ (cs : List SessionConfig) (js : List Entry) (i : ℕ) (own : List Sessi
       let rest : List ℕ = entries_text cs (take (i + 1) js) (drop (i + 1) js) in
       ap (λ t. t ++ rest) told ∙ (append_assoc now one rest ∙ (ap (λ t. now ++ t) (sym text_split) ∙ so_far))
 
-  pub sent_next : (now count goal : ℕ) → now + entries_sent cs (take i js) (drop i js) ≡ goal → count ≡ sent (reply_at own taken entry)
+  pub sent_next : (now count goal : ℕ) → now + entries_sent cs (take i js) (drop i js) ≡ goal → count ≡ packets_sent (reply_at own taken entry)
       → now + count + entries_sent cs (take (i + 1) js) (drop (i + 1) js) ≡ goal
   sent_next now count goal so_far is = let s = sent_split in omega (arith, so_far, is, s)
 

@@ -8,7 +8,7 @@ use Rattle.bfd_session.specs.declared.event.SessionConfig.{SessionConfig}
 use Rattle.bfd_session.specs.Kinds.{configs_of}
 use Rattle.bfd_session.specs.Rows.{AreFit}
 use Rattle.bfd_shard.specs.Shard.{Shard}
-use Rattle.bfd_served.specs.Served.{History, history_of, shard_sent, shard_text, shards_text, served, served_line}
+use Rattle.bfd_served.specs.Served.{History, shard_history, shard_sent, shard_text, shards_text, served, served_line}
 
 -- the configurations with which a shard was made
 abbrev pub made_with : Shard → List SessionConfig
@@ -41,23 +41,23 @@ module _ (ss : List Shard) (i : ℕ) (state : Shard) (inside : i < length ss) (i
   left : drop i ss ≡ state ∷ drop (i + 1) ss
   left = drop_more ss i state inside ∙ ap (λ s. s ∷ drop (i + 1) ss) (sym is)
 
-  text_split : shards_text i (map history_of (drop i ss)) ≡ shard_text i (history_of state) ++ shards_text (i + 1) (map history_of (drop (i + 1) ss))
+  text_split : shards_text i (map shard_history (drop i ss)) ≡ shard_text i (shard_history state) ++ shards_text (i + 1) (map shard_history (drop (i + 1) ss))
   unfolding shards_text
-  text_split = ap (λ xs. shards_text i (map history_of xs)) left
+  text_split = ap (λ xs. shards_text i (map shard_history xs)) left
 
   -- with the shards that are left, the text so far is the whole, and so are the counts
-  pub text_next : (now new goal : List ℕ) → now ++ shards_text i (map history_of (drop i ss)) ≡ goal → new ≡ now ++ shard_text i (history_of state)
-      → new ++ shards_text (i + 1) (map history_of (drop (i + 1) ss)) ≡ goal
+  pub text_next : (now new goal : List ℕ) → now ++ shards_text i (map shard_history (drop i ss)) ≡ goal → new ≡ now ++ shard_text i (shard_history state)
+      → new ++ shards_text (i + 1) (map shard_history (drop (i + 1) ss)) ≡ goal
   text_next now new goal so_far told =
-      let one : List ℕ = shard_text i (history_of state) in
-      let rest : List ℕ = shards_text (i + 1) (map history_of (drop (i + 1) ss)) in
+      let one : List ℕ = shard_text i (shard_history state) in
+      let rest : List ℕ = shards_text (i + 1) (map shard_history (drop (i + 1) ss)) in
       ap (λ t. t ++ rest) told ∙ (append_assoc now one rest ∙ (ap (λ t. now ++ t) (sym text_split) ∙ so_far))
 
-  pub sum_next : (f : History → ℕ) (now count goal : ℕ) → now + sum_by f (map history_of (drop i ss)) ≡ goal → count ≡ f (history_of state)
-      → now + count + sum_by f (map history_of (drop (i + 1) ss)) ≡ goal
+  pub sum_next : (f : History → ℕ) (now count goal : ℕ) → now + sum_by f (map shard_history (drop i ss)) ≡ goal → count ≡ f (shard_history state)
+      → now + count + sum_by f (map shard_history (drop (i + 1) ss)) ≡ goal
   sum_next f now count goal so_far told =
-      let e = ap (λ xs. sum_by f (map history_of xs)) left in
-      omega (arith, so_far, told, e, sum_by-cons f (history_of state) (map history_of (drop (i + 1) ss)))
+      let e = ap (λ xs. sum_by f (map shard_history xs)) left in
+      omega (arith, so_far, told, e, sum_by-cons f (shard_history state) (map shard_history (drop (i + 1) ss)))
 
 -- behind the last there is none
 none_left : (ss : List Shard) (i : ℕ) → [] ≡ map made_with (drop i ss) → drop i ss ≡ []
@@ -66,20 +66,20 @@ none_left ss i made =
     nil_from_length (drop i ss) (omega (arith, long, length-map (drop i ss) made_with))
 
 pub whole : (ss : List Shard) (i : ℕ) (now new : List ℕ) (entries txs lost : ℕ) → [] ≡ map made_with (drop i ss)
-    → now ++ shards_text i (map history_of (drop i ss)) ≡ shards_text 0 (map history_of ss)
-    → entries + sum_by (λ history. length history.journal) (map history_of (drop i ss)) ≡ sum_by (λ history. length history.journal) (map history_of ss)
-    → txs + sum_by shard_sent (map history_of (drop i ss)) ≡ sum_by shard_sent (map history_of ss)
-    → new ≡ now ++ served_line entries txs lost → new ≡ served (map history_of ss) lost
+    → now ++ shards_text i (map shard_history (drop i ss)) ≡ shards_text 0 (map shard_history ss)
+    → entries + sum_by (λ history. length history.journal) (map shard_history (drop i ss)) ≡ sum_by (λ history. length history.journal) (map shard_history ss)
+    → txs + sum_by shard_sent (map shard_history (drop i ss)) ≡ sum_by shard_sent (map shard_history ss)
+    → new ≡ now ++ served_line entries txs lost → new ≡ served (map shard_history ss) lost
 unfolding shards_text
 whole ss i now new entries txs lost made text counted sent told =
     let none = none_left ss i made in
-    let all : now ≡ shards_text 0 (map history_of ss) =
-    sym (append-nil now) ∙ (ap (λ xs. now ++ shards_text i (map history_of xs)) (sym none) ∙ text) in
-    let a = ap (λ xs. sum_by (λ history. length history.journal) (map history_of xs)) none in
-    let b = ap (λ xs. sum_by shard_sent (map history_of xs)) none in
-    let entries_are : entries ≡ sum_by (λ history. length history.journal) (map history_of ss) = omega (arith, counted, a) in
-    let txs_are : txs ≡ sum_by shard_sent (map history_of ss) = omega (arith, sent, b) in
+    let all : now ≡ shards_text 0 (map shard_history ss) =
+    sym (append-nil now) ∙ (ap (λ xs. now ++ shards_text i (map shard_history xs)) (sym none) ∙ text) in
+    let a = ap (λ xs. sum_by (λ history. length history.journal) (map shard_history xs)) none in
+    let b = ap (λ xs. sum_by shard_sent (map shard_history xs)) none in
+    let entries_are : entries ≡ sum_by (λ history. length history.journal) (map shard_history ss) = omega (arith, counted, a) in
+    let txs_are : txs ≡ sum_by shard_sent (map shard_history ss) = omega (arith, sent, b) in
     told
     ∙ (ap (λ t. t ++ served_line entries txs lost) all
-    ∙ (ap (λ n. shards_text 0 (map history_of ss) ++ served_line n txs lost) entries_are
-    ∙ ap (λ n. shards_text 0 (map history_of ss) ++ served_line (sum_by (λ history. length history.journal) (map history_of ss)) n lost) txs_are))
+    ∙ (ap (λ n. shards_text 0 (map shard_history ss) ++ served_line n txs lost) entries_are
+    ∙ ap (λ n. shards_text 0 (map shard_history ss) ++ served_line (sum_by (λ history. length history.journal) (map shard_history ss)) n lost) txs_are))

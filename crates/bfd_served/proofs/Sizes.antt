@@ -4,18 +4,18 @@ use Rattle.std.specs.List.{flat_map}
 use Rattle.bfd_session.specs.declared.event.SessionConfig.{SessionConfig}
 use Rattle.bfd_session.specs.Alone.{Outcome}
 use Rattle.bfd_shard.specs.declared.entry.Entry.{Entry}
-use Rattle.bfd_script.specs.Report.{sent, item_line, answer_line, event_lines}
+use Rattle.bfd_script.specs.Report.{packets_sent, item_line, answer_line, event_lines}
 use Rattle.bfd_script.proofs.Sizes.{sent_short}
 use Rattle.bfd_served.specs.Served.{discr_in, entry_text, reply_at, turn_line}
 
-lines_some : (n : ℕ) (o : Outcome) → sent o ≤ length (event_lines n o)
+lines_some : (n : ℕ) (o : Outcome) → packets_sent o ≤ length (event_lines n o)
 lines_some n o = omega (arith, sent_short n o.items, length-append (flat_map (item_line n) o.items) (answer_line n o.answer))
 
 turn_some : (n discr : ℕ) (entry : Entry) → 1 ≤ length (turn_line n discr entry)
 turn_some n discr entry = omega arith
 
 pub entry_some : (cs : List SessionConfig) (before : List Entry) (entry : Entry)
-    → sent (reply_at cs before entry) + 1 ≤ length (entry_text cs before entry)
+    → packets_sent (reply_at cs before entry) + 1 ≤ length (entry_text cs before entry)
 entry_some cs before entry =
     let n : ℕ = length before + 1 in
     let a = turn_some n (discr_in cs entry.event) entry in

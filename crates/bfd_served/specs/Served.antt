@@ -9,7 +9,7 @@ use Rattle.bfd_shard.specs.declared.entry.ShardEvent.{ShardEvent}
 use Rattle.bfd_shard.specs.declared.entry.ShardEvent.TheVariants.{Own, Tick}
 use Rattle.bfd_shard.specs.History.{events_of, last_tick, outcome_of, runs}
 use Rattle.bfd_shard.specs.Shard.{Shard}
-use Rattle.bfd_script.specs.Report.{event_lines, sent}
+use Rattle.bfd_script.specs.Report.{event_lines, packets_sent}
 use Rattle.bfd_fields.specs.Spelling.{line, spaced}
 use Rattle.bfd_spelling.specs.Happening.{happening_fields}
 
@@ -18,8 +18,8 @@ pub record History : Type 0 where
   pub configs : List SessionConfig
   pub journal : List Entry
 
-abbrev pub history_of : Shard → History
-history_of shard = record { configs = configs_of shard.sessions; journal = shard.journal }
+abbrev pub shard_history : Shard → History
+shard_history shard = record { configs = configs_of shard.sessions; journal = shard.journal }
 
 -- what an entry gave that comes after these: the outputs and the answer of its event, of the sessions as the entries before it
 -- have left them
@@ -58,7 +58,7 @@ entries_text configs before (entry ∷ entries) =
 unfoldable pub entries_sent : List SessionConfig → List Entry → List Entry → ℕ
 entries_sent configs before [] = 0
 entries_sent configs before (entry ∷ entries) =
-    sent (reply_at configs before entry) + entries_sent configs (before ++ entry ∷ []) entries
+    packets_sent (reply_at configs before entry) + entries_sent configs (before ++ entry ∷ []) entries
 
 -- `shard NUMBER`
 abbrev pub shard_line : ℕ → List ℕ

@@ -4,7 +4,7 @@
 //! configurations of its sessions, gives it the journal's entries one by one, and writes for each the turn and the report lines of
 //! what it gave; a last line has the numbers of entries, of packets sent and of sends that failed.
 //!
-//! Modules: `turns` is one entry's turn, `telling` one entry and what it gave, `serving` one shard and all.
+//! Modules: `turn_lines` is the line of one entry's turn, `telling` one entry and what it gave, `serving` one shard and all.
 //!
 //! It stands on `bfd_shard` for what entries give, on `bfd_script` and `bfd_spelling` for their lines, and on what those stand on. It
 //! promises that the text is that of `specs/Served.antt`, a definition over configurations and journals alone: it knows no lock, no

@@ -3,7 +3,7 @@ ghost use Rattle.std.specs.Prelude.{◌≡◌, ◌+◌, ◌≤◌, ◌++◌, IfO
 ghost use Rattle.std.specs.List.{AllByRecursion};
 ghost use Rattle.bfd_session.specs.Kinds.{configs_of};
 ghost use Rattle.bfd_session.specs.Rows.{AreFit};
-ghost use Rattle.bfd_served.specs.Served.{history_of};
+ghost use Rattle.bfd_served.specs.Served.{shard_history};
 ghost use Rattle.bfd_served.specs.Served as definition;
 
 use crate::telling::tell_entries;
@@ -31,8 +31,8 @@ fn tell_shard<W: Timers>(
     requires fit { AreFit configs.items }
     requires made { configs.items ≡ configs_of state.now.sessions }
     ensures text { OnOk result (text.new.items
-        ≡ text.old.items ++ definition.shard_text number (history_of state.now)) }
-    ensures sent { IfOk result (λ count. count ≡ definition.shard_sent (history_of state.now)) }
+        ≡ text.old.items ++ definition.shard_text number (shard_history state.now)) }
+    ensures sent { IfOk result (λ count. count ≡ definition.shard_sent (shard_history state.now)) }
     ensures few { IfOk result (λ count. length text.old.items + count + length state.now.journal
         ≤ length text.new.items) }
 {
@@ -62,7 +62,7 @@ pub fn served<W: Timers>(
 ) -> Result<Vec<u8>, AllocError>
     requires fit { AllByRecursion AreFit (map (λ part. part.items) parts.items) }
     requires made { map (λ part. part.items) parts.items ≡ map (λ state. configs_of state.sessions) states.now }
-    ensures { IfOk result (λ text. text.items ≡ definition.served (map history_of states.now) lost) }
+    ensures { IfOk result (λ text. text.items ≡ definition.served (map shard_history states.now) lost) }
 {
     let mut text = Vec::new(alloc);
     let mut entries = 0u64;

@@ -19,7 +19,7 @@ use std::sync::ledger::{Blank, Ledger};
 
 /// How many packets an output tells of.
 fn packets(out: &Out) -> u64
-    ensures value { result ≡ report.sent_by out.now }
+    ensures value { result ≡ report.packets_sent_by out.now }
     ensures few { result ≤ 1 }
 {
     match out {
@@ -30,7 +30,7 @@ fn packets(out: &Out) -> u64
 
 /// How many packets the outputs tell of.
 fn sent(outs: &[Out]) -> u64
-    ensures { result ≡ sum_by report.sent_by outs.now }
+    ensures { result ≡ sum_by report.packets_sent_by outs.now }
 {
     let mut count = 0u64;
     for out in outs {
@@ -83,7 +83,7 @@ fn tell_entry<W: Timers>(
     ensures text { OnOk result (text.new.items
         ≡ text.old.items ++ entry_text (configs_of shard.old.sessions) shard.old.journal entry.now) }
     ensures sent { IfOk result (λ count. count
-        ≡ report.sent (reply_at (configs_of shard.old.sessions) shard.old.journal entry.now)) }
+        ≡ report.packets_sent (reply_at (configs_of shard.old.sessions) shard.old.journal entry.now)) }
     ensures few { IfOk result (λ count. length text.old.items + count + 1 ≤ length text.new.items) }
     ensures room { OnOk result (outs.new.room ≡ outs.old.room) }
 {

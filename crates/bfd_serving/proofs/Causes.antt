@@ -26,9 +26,9 @@ use Rattle.bfd_serve.proofs.Histories.{weight_append}
 use Rattle.bfd_serve.proofs.Turning.{acts_append}
 use Rattle.bfd_serving.specs.declared.finish.Finish.{Finish}
 use Rattle.bfd_serving.specs.declared.finish.Finish.TheVariants.{Done, LinkFault, ClockFault, JournalFull, Turns}
-use Rattle.bfd_serving.specs.Finishes.{finish_by, finish_from, IsPlain}
+use Rattle.bfd_serving.specs.Finishes.{finish_by, finish_from, HadMemory}
 use Rattle.bfd_serving.specs.Runs.{calls_on, journal_in, history_at, no_words, HaveRun, AreClosedShards}
-use Rattle.bfd_serving.specs.Causes.{IsDone, IsAll, IsOver, IsCause, Completes}
+use Rattle.bfd_serving.specs.Causes.{IsRunDone, IsAll, IsOverfull, IsFinishCause, Completes}
 use Rattle.bfd_serving.proofs.Counts.{all_counted, bonus, bonus_some, gather}
 use Rattle.bfd_serving.proofs.Closings.{there_is}
 
@@ -68,15 +68,15 @@ blame_end : (i : ℕ) (xs : List End) → (AllEnded xs × (finish_from (i + 1) x
 blame_end i xs (inl (all, is)) = inl (ended_more xs all, is)
 blame_end i xs (inr b) = inr (blame_later i xs (finish_from (i + 1) xs) b)
 
-pub blame : (i : ℕ) (ends : List End) → All IsPlain ends → (AllEnded ends × (finish_from i ends ≡ Done)) ⊎ Blamed i ends (finish_from i ends)
+pub blame : (i : ℕ) (ends : List End) → All HadMemory ends → (AllEnded ends × (finish_from i ends ≡ Done)) ⊎ Blamed i ends (finish_from i ends)
 blame i [] plain = inl ((λ j h. absurd (omega (arith, h))), refl)
 blame i (end.LinkFault ∷ xs) plain = inr (blame_now i end.LinkFault xs (LinkFault i) (λ e. absurd (cc e)) refl)
 blame i (end.ClockFault ∷ xs) plain = inr (blame_now i end.ClockFault xs ClockFault (λ e. absurd (cc e)) refl)
 blame i (end.Full s n ∷ xs) plain = inr (blame_now i (end.Full s n) xs (JournalFull s) (λ e. absurd (cc e)) refl)
 blame i (end.Turns n ∷ xs) plain = inr (blame_now i (end.Turns n) xs (Turns i) (λ e. absurd (cc e)) refl)
-blame i (end.Spent s n ∷ xs) plain = absurd (All-head IsPlain (end.Spent s n) xs plain)
-blame i (end.Memory ∷ xs) plain = absurd (All-head IsPlain end.Memory xs plain)
-blame i (end.Ended ∷ xs) plain = blame_end i xs (blame (i + 1) xs (All-tail IsPlain end.Ended xs plain))
+blame i (end.Spent s n ∷ xs) plain = absurd (All-head HadMemory (end.Spent s n) xs plain)
+blame i (end.Memory ∷ xs) plain = absurd (All-head HadMemory end.Memory xs plain)
+blame i (end.Ended ∷ xs) plain = blame_end i xs (blame (i + 1) xs (All-tail HadMemory end.Ended xs plain))
 
 begins_one : (n s : ℕ) (cut : List Act) → StartsOn s cut → 1 ≤ calls_on n s cut
 begins_one n s cut b =
@@ -139,7 +139,7 @@ module _ (engine : Shards) (states : List Shard) (orders : List Line) (workers :
         let g = bonus_of at (suc i) (i + 1) s (worker_acts engine w.cut) (λ is. (worker_is i less (end.Full s n) (ap (λ j. get_or ends j end.Ended) is ∙ blamed)).2.2) in
         (worker_acts engine (w.done ++ w.cut), omega (arith, a, e, f, g), (less, refl))
 
-    is_over : journal ≤ length (history_at states s) → IsOver engine (history_at states) orders workers limits before after c d ends lost run journal s
+    is_over : journal ≤ length (history_at states s) → IsOverfull engine (history_at states) orders workers limits before after c d ends lost run journal s
     is_over full =
         let g = gather s (history_at states s) at (IsAll engine (history_at states) orders workers limits before after c d ends lost run) workers worker_counts in
         let all = all_counted workers (history_at states s) (λ m far. run.others m s here far) in
@@ -148,8 +148,8 @@ module _ (engine : Shards) (states : List Shard) (orders : List Line) (workers :
         let f = ap (λ z. calls_on 0 s (timer_acts engine orders run.timer.did.got z)) (no_clock at refl) in
         record { acts = g.0; long = g.1; each = g.2; over = (let x = g.3 in omega (arith, x, all, b, t, f, full)) }
 
-  by_blame : (at : ℕ) (x : End) → at < workers + 1 → get_or ends at end.Ended ≡ x → x ≢ end.Ended → ((j : ℕ) → j < at → get_or ends j end.Ended ≡ end.Ended) → IsPlain x
-      → IsCause engine (history_at states) orders workers limits before after c d ends lost run journal (finish_by at x Done)
+  by_blame : (at : ℕ) (x : End) → at < workers + 1 → get_or ends at end.Ended ≡ x → x ≢ end.Ended → ((j : ℕ) → j < at → get_or ends j end.Ended ≡ end.Ended) → HadMemory x
+      → IsFinishCause engine (history_at states) orders workers limits before after c d ends lost run journal (finish_by at x Done)
   by_blame at end.Ended inner is other first plain = absurd (other refl)
   by_blame zero (end.Full s n) inner is other first plain =
       let w = (timer_is (end.Full s n) is).1 in let f = full_at s n w.1 w.3 in record {
@@ -203,7 +203,7 @@ module _ (engine : Shards) (states : List Shard) (orders : List Line) (workers :
       let less : i < workers = omega (arith, h) in let w = worker_is i less end.Ended (all (suc i) (let a = ends_count in omega (arith, a, less))) in let e : i + 1 ≡ suc i = omega arith in
       (subst (λ n. (after n).counts.over ≡ true) e w.2, subst (λ n. (after n).counts.receive_faults ≡ 0) e (w.3 ∙ no_faults i less))
 
-  by_ended : AllEnded ends → IsDone engine (history_at states) orders workers limits before after c d ends lost run
+  by_ended : AllEnded ends → IsRunDone engine (history_at states) orders workers limits before after c d ends lost run
   by_ended all =
       let t = timer_is end.Ended (all 0 (let a = ends_count in omega (arith, a))) in record {
         links = link_done all;
@@ -213,22 +213,22 @@ module _ (engine : Shards) (states : List Shard) (orders : List Line) (workers :
         workers_are = λ at less. (worker_is at less end.Ended (all (suc at) (let a = ends_count in omega (arith, a, less)))).0;
       }
 
-  by_either : (AllEnded ends × (finish_from 0 ends ≡ Done)) ⊎ Blamed 0 ends (finish_from 0 ends) → All IsPlain ends
-      → IsCause engine (history_at states) orders workers limits before after c d ends lost run journal (finish_from 0 ends)
-  by_either (inl (all, is)) plain = subst (IsCause engine (history_at states) orders workers limits before after c d ends lost run journal) (sym is) (by_ended all)
-  by_either (inr m) plain = subst (IsCause engine (history_at states) orders workers limits before after c d ends lost run journal) (sym m.finish_is)
-      (let e : m.at ≡ 0 + m.at = omega arith in subst (λ n. IsCause engine (history_at states) orders workers limits before after c d ends lost run journal (finish_by n (get_or ends m.at end.Ended) Done)) e
+  by_either : (AllEnded ends × (finish_from 0 ends ≡ Done)) ⊎ Blamed 0 ends (finish_from 0 ends) → All HadMemory ends
+      → IsFinishCause engine (history_at states) orders workers limits before after c d ends lost run journal (finish_from 0 ends)
+  by_either (inl (all, is)) plain = subst (IsFinishCause engine (history_at states) orders workers limits before after c d ends lost run journal) (sym is) (by_ended all)
+  by_either (inr m) plain = subst (IsFinishCause engine (history_at states) orders workers limits before after c d ends lost run journal) (sym m.finish_is)
+      (let e : m.at ≡ 0 + m.at = omega arith in subst (λ n. IsFinishCause engine (history_at states) orders workers limits before after c d ends lost run journal (finish_by n (get_or ends m.at end.Ended) Done)) e
       (by_blame m.at (get_or ends m.at end.Ended) (let a = ends_count in let i = m.inside in omega (arith, a, i)) refl m.other m.before (plain m.at end.Ended m.inside)))
 
-  pub cause : All IsPlain ends → (finish : Finish) → finish ≡ finish_from 0 ends → IsCause engine (history_at states) orders workers limits before after c d ends lost run journal finish
-  cause plain finish is = subst (IsCause engine (history_at states) orders workers limits before after c d ends lost run journal) (sym is) (by_either (blame 0 ends plain) plain)
+  pub cause : All HadMemory ends → (finish : Finish) → finish ≡ finish_from 0 ends → IsFinishCause engine (history_at states) orders workers limits before after c d ends lost run journal finish
+  cause plain finish is = subst (IsFinishCause engine (history_at states) orders workers limits before after c d ends lost run journal) (sym is) (by_either (blame 0 ends plain) plain)
 
-  completes_by : (finish : Finish) → IsCause engine (history_at states) orders workers limits before after c d ends lost run journal finish → Completes engine (history_at states) orders workers limits before after c d ends lost run journal finish
+  completes_by : (finish : Finish) → IsFinishCause engine (history_at states) orders workers limits before after c d ends lost run journal finish → Completes engine (history_at states) orders workers limits before after c d ends lost run journal finish
   completes_by Done x links clock few = refl
   completes_by (LinkFault n) x links clock few = absurd (let a = (links n x.some x.few).1 in let b = x.faults in omega (arith, a, b))
   completes_by ClockFault x links clock few = absurd (omega (arith, x, clock))
   completes_by (JournalFull s) x links clock few = absurd (few s x.inside x.over)
   completes_by (Turns n) x links clock few = absurd (cc (sym (links n x.some x.few).0 ∙ x.over))
 
-  pub completes : All IsPlain ends → (finish : Finish) → finish ≡ finish_from 0 ends → Completes engine (history_at states) orders workers limits before after c d ends lost run journal finish
+  pub completes : All HadMemory ends → (finish : Finish) → finish ≡ finish_from 0 ends → Completes engine (history_at states) orders workers limits before after c d ends lost run journal finish
   completes plain finish is = completes_by finish (cause plain finish is)

@@ -18,7 +18,7 @@ use Rattle.bfd_edge.specs.Tickers.{TickerTold}
 use Rattle.bfd_packet.specs.declared.arrival.Datagram.{Datagram}
 use Rattle.bfd_engine.specs.Turned.{by}
 use Rattle.bfd_engine.specs.Engines.{Shards, Knows, IsOf}
-use Rattle.bfd_engine.specs.Calls.{Act, seen_of, word_of, seen_at, word_at, made_at, kept_at}
+use Rattle.bfd_engine.specs.Calls.{Act, seen_of, met_word_of, seen_at, met_word, made_at, kept_at}
 use Rattle.bfd_engine.specs.Passes.{EachJoined, IsClosed, AreClosed}
 use Rattle.bfd_serve.specs.declared.ending.End.{End}
 use Rattle.bfd_serve.specs.declared.ending.End.TheVariants.{Ended, Spent}
@@ -27,7 +27,7 @@ use Rattle.bfd_serve.specs.Works.{IsWorkerEnd}
 use Rattle.bfd_serve.specs.Ticks.{IsTimerEnd}
 use Rattle.bfd_serve.specs.Calls.{worker_acts}
 use Rattle.bfd_serve.specs.Serves.{TimerDid, WorkerDid, HasServed}
-use Rattle.bfd_serving.specs.Runs.{journal_in, history_at, no_words, told_by, TimerRan, WorkerRan, HaveRun, AreClosedShards}
+use Rattle.bfd_serving.specs.Runs.{journal_in, history_at, no_words, told_on_link, TimerRan, WorkerRan, HaveRun, AreClosedShards}
 use Rattle.bfd_serving.specs.Finishes.{IsUnspent}
 
 pub there_is : {X : Type 0} (xs : List X) (i : ℕ) → i < length xs → (x : X) × (slice_get xs i ≡ Some x)
@@ -81,16 +81,16 @@ module _ {L : Type 0} (told : L → LinkTold) (engine : Shards) (l : Knows) (own
   histories_are : seen_at l ≡ history_at states
   histories_are i s = sym (history_is s) i
 
-  words_small : AreSmall (word_at l)
+  words_small : AreSmall (met_word l)
   words_small s = let p = product (length links) limits.turns few turns_few in dite (dec_lt s (length engine.locks))
       (λ less. let a = at_shard s less in let b = a.2.word in let z = served.taken s less in omega (arith, b, z, p, ticks_few, orders_few))
-      (λ far. let x = ap word_of (slice_get_past l.1 s (let f = of.long in omega (arith, f, far))) in omega (arith, x))
+      (λ far. let x = ap met_word_of (slice_get_past l.1 s (let f = of.long in omega (arith, f, far))) in omega (arith, x))
 
-  timer_did : TimerDid engine served.own (history_at states) (word_at l) (told own) (told own2) c d orders limits.ticks served.timer_end served.timer_lost
-  timer_did = subst (λ h. TimerDid engine served.own h (word_at l) (told own) (told own2) c d orders limits.ticks served.timer_end served.timer_lost) histories_are served.timed
+  timer_did : TimerDid engine served.own (history_at states) (met_word l) (told own) (told own2) c d orders limits.ticks served.timer_end served.timer_lost
+  timer_did = subst (λ h. TimerDid engine served.own h (met_word l) (told own) (told own2) c d orders limits.ticks served.timer_end served.timer_lost) histories_are served.timed
 
   timer_end_is : IsUnspent served.timer_end × IsTimerEnd engine (history_at states) no_words c d timer_did.got limits.ticks timer_did.cut timer_did.untried served.timer_end
-  timer_end_is = timer_unspent engine (history_at states) (word_at l) c d timer_did.got limits.ticks timer_did.cut timer_did.untried served.timer_end words_small timer_did.ends
+  timer_end_is = timer_unspent engine (history_at states) (met_word l) c d timer_did.got limits.ticks timer_did.cut timer_did.untried served.timer_end words_small timer_did.ends
 
   timer_ran : TimerRan engine (history_at states) (told own) (told own2) c d orders limits.ticks served.timer_end served.timer_lost
   timer_ran = record {
@@ -119,8 +119,8 @@ module _ {L : Type 0} (told : L → LinkTold) (engine : Shards) (l : Knows) (own
       let t = told (slice_index_or links at link) in let u = told (slice_index_or back at link) in
       let e : End = slice_index_or served.worker_ends at end in let m : ℕ = slice_index_or served.worker_losts at miss in
       let w = served.workers at link end miss inner in
-      let d : WorkerDid engine (at + 1) w.own (history_at states) (word_at l) t u limits.turns e m = subst (λ h. WorkerDid engine (at + 1) w.own h (word_at l) t u limits.turns e m) histories_are w.worked in
-      let x = worker_unspent engine (history_at states) (word_at l) t u limits.turns (worker_acts engine d.cut) d.untried e words_small d.ends in (
+      let d : WorkerDid engine (at + 1) w.own (history_at states) (met_word l) t u limits.turns e m = subst (λ h. WorkerDid engine (at + 1) w.own h (met_word l) t u limits.turns e m) histories_are w.worked in
+      let x = worker_unspent engine (history_at states) (met_word l) t u limits.turns (worker_acts engine d.cut) d.untried e words_small d.ends in (
         x.0,
         record {
           own = w.own;
@@ -144,15 +144,15 @@ module _ {L : Type 0} (told : L → LinkTold) (engine : Shards) (l : Knows) (own
       ap (calls by n) (ap journal_in a.1) ∙ a.2.unmade n (λ z. absurd (omega (arith, z, far)))
       (ap (has n) (served.made s less) ∙ none_has n (kept_at l s) (kept_numbers s less n far))
 
-  each_ran : (at : ℕ) → at < length links → WorkerRan engine (history_at states) (at + 1) ((told_by told own links) (at + 1)) ((told_by told own2 back) (at + 1)) limits.turns (slice_index_or served.worker_ends at Ended) (slice_index_or served.worker_losts at 0)
+  each_ran : (at : ℕ) → at < length links → WorkerRan engine (history_at states) (at + 1) ((told_on_link told own links) (at + 1)) ((told_on_link told own2 back) (at + 1)) limits.turns (slice_index_or served.worker_ends at Ended) (slice_index_or served.worker_losts at 0)
   each_ran at inner =
       let e : suc at ≡ at + 1 = omega arith in
       let x : LinkTold = told (slice_index_or links at own) in
-      let same : told (slice_index_or back at own) ≡ (told_by told own2 back) (at + 1) = ap told (get_or_default back at own own2 (let b = served.back_long in omega (arith, b, inner))) ∙ ap (told_by told own2 back) e in
-      subst (λ u. WorkerRan engine (history_at states) (at + 1) ((told_by told own links) (at + 1)) u limits.turns (slice_index_or served.worker_ends at Ended) (slice_index_or served.worker_losts at 0)) same
-      (subst (λ t. WorkerRan engine (history_at states) (at + 1) t (told (slice_index_or back at own)) limits.turns (slice_index_or served.worker_ends at Ended) (slice_index_or served.worker_losts at 0)) (ap (told_by told own links) e) (worker_ran at own Ended 0 inner).1)
+      let same : told (slice_index_or back at own) ≡ (told_on_link told own2 back) (at + 1) = ap told (get_or_default back at own own2 (let b = served.back_long in omega (arith, b, inner))) ∙ ap (told_on_link told own2 back) e in
+      subst (λ u. WorkerRan engine (history_at states) (at + 1) ((told_on_link told own links) (at + 1)) u limits.turns (slice_index_or served.worker_ends at Ended) (slice_index_or served.worker_losts at 0)) same
+      (subst (λ t. WorkerRan engine (history_at states) (at + 1) t (told (slice_index_or back at own)) limits.turns (slice_index_or served.worker_ends at Ended) (slice_index_or served.worker_losts at 0)) (ap (told_on_link told own links) e) (worker_ran at own Ended 0 inner).1)
 
-  pub have_run : HaveRun engine (history_at states) orders (length links) limits (told_by told own links) (told_by told own2 back) c d ends lost
+  pub have_run : HaveRun engine (history_at states) orders (length links) limits (told_on_link told own links) (told_on_link told own2 back) c d ends lost
   have_run = record {
     timer_end = served.timer_end;
     timer_missing = served.timer_lost;

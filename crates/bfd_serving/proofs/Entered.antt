@@ -44,7 +44,7 @@ use Rattle.bfd_engine.proofs.Verdicts.{own_answer, packet_is, return_is, runs_th
 use Rattle.bfd_serve.specs.declared.ending.End.{End}
 use Rattle.bfd_serve.specs.declared.serving.Limits.{Limits}
 use Rattle.bfd_serve.specs.Calls.{calls_of, entries, worker_acts}
-use Rattle.bfd_serve.specs.Orders.{advances, due, order_act, orders_acts, orders_left, ticks_acts, timer_acts}
+use Rattle.bfd_serve.specs.Orders.{advances, orders_due, order_act, orders_acts, orders_left, ticks_acts, timer_acts}
 use Rattle.bfd_serve.specs.Ticks.{is_clock_fault}
 use Rattle.bfd_serving.specs.Entered.{AreTimely, AreJudged, HasAnswer}
 use Rattle.bfd_serving.specs.Runs.{journal_in, history_at, HaveRun, AreClosedShards}
@@ -149,9 +149,9 @@ module _ (engine : Shards) where
   ticks_fit : (orders : List Line) (ticks : List ℕ) → AllByRecursion ActFits (ticks_acts engine orders ticks)
   ticks_fit orders [] = tt
   ticks_fit orders (t ∷ ts) =
-      each_more ActFits (orders_acts engine (take (due t orders) orders) ++ advances (length engine.locks) t) (ticks_acts engine (drop (due t orders) orders) ts)
-      (each_more ActFits (orders_acts engine (take (due t orders) orders)) (advances (length engine.locks) t) (orders_fit (take (due t orders) orders)) (advances_fit (length engine.locks) t))
-      (ticks_fit (drop (due t orders) orders) ts)
+      each_more ActFits (orders_acts engine (take (orders_due t orders) orders) ++ advances (length engine.locks) t) (ticks_acts engine (drop (orders_due t orders) orders) ts)
+      (each_more ActFits (orders_acts engine (take (orders_due t orders) orders)) (advances (length engine.locks) t) (orders_fit (take (orders_due t orders) orders)) (advances_fit (length engine.locks) t))
+      (ticks_fit (drop (orders_due t orders) orders) ts)
 
   timer_fits : (orders : List Line) (ticks : List ℕ) (failed : Bool) → AllByRecursion ActFits (timer_acts engine orders ticks failed)
   timer_fits orders ticks true = each_more ActFits (ticks_acts engine orders ticks) [] (ticks_fit orders ticks) tt

@@ -13,11 +13,11 @@ use Rattle.bfd_edge.specs.Tickers.{TickerTold}
 use Rattle.bfd_engine.specs.Engines.{Shards}
 use Rattle.bfd_serve.specs.declared.ending.End.{End}
 use Rattle.bfd_serve.specs.declared.serving.Limits.{Limits}
-use Rattle.bfd_served.specs.Served.{history_of, served}
+use Rattle.bfd_served.specs.Served.{shard_history, served}
 use Rattle.bfd_serving.specs.declared.finish.Finish.{Finish}
-use Rattle.bfd_serving.specs.Finishes.{finish_from, IsPlain}
-use Rattle.bfd_serving.specs.Linking.{IsNew, IsOpenTo, AreShut}
-use Rattle.bfd_serving.specs.Runs.{history_at, told_by, HaveRun, IsOpened, AreClosedShards}
+use Rattle.bfd_serving.specs.Finishes.{finish_from, HadMemory}
+use Rattle.bfd_serving.specs.Linking.{IsUncalled, IsOpenTo, AreShut}
+use Rattle.bfd_serving.specs.Runs.{history_at, told_on_link, HaveRun, IsOpened, AreClosedShards}
 use Rattle.bfd_serving.specs.Wholes.{HasRun}
 use Rattle.bfd_serving.proofs.Causes.{cause, completes}
 use Rattle.bfd_serving.proofs.Entered.{timely, judged}
@@ -41,30 +41,30 @@ still_open last first p q opened same faults = record {
 
 pub whole_run : {L : Type 0} (told : L → LinkTold) (own own2 : L) (links back : List L) (given script : Lists) (orders : List Line) (shards workers journal : ℕ) (limits : Limits) (q : PortsTold) (c d : TickerTold) (engine : Shards)
     (states : List Shard) (text : List ℕ) (ends : List End) (lost : ℕ) (finish : Finish)
-    → IsOpened engine given shards journal → given ≡ script → orders ≡ given.events → AreClosedShards engine states → text ≡ served (map history_of states) lost
-    → IsNewLink (told own) → All (IsNew told) links → length links ≡ workers → length back ≡ length links
+    → IsOpened engine given shards journal → given ≡ script → orders ≡ given.events → AreClosedShards engine states → text ≡ served (map shard_history states) lost
+    → IsNewLink (told own) → All (IsUncalled told) links → length links ≡ workers → length back ≡ length links
     → ((n : ℕ) → n ≤ length back → q.shut n ≡ Some (told (slice_index_or (own2 ∷ back) n own2)))
-    → HaveRun engine (history_at states) orders (length links) limits (told_by told own links) (told_by told own2 back) c d ends lost
-    → limits.turns ≤ 1000000000 → 0 < journal → All IsPlain ends → finish ≡ finish_from 0 ends → HasRun script shards workers journal limits q c d states text lost finish
+    → HaveRun engine (history_at states) orders (length links) limits (told_on_link told own links) (told_on_link told own2 back) c d ends lost
+    → limits.turns ≤ 1000000000 → 0 < journal → All HadMemory ends → finish ≡ finish_from 0 ends → HasRun script shards workers journal limits q c d states text lost finish
 whole_run told own own2 links back given script orders shards workers journal limits q c d engine states text ends lost finish opened same orders_are closed text_is own_new new long same_long shut run turns_few some plain finish_is =
-    let all : HaveRun engine (history_at states) script.events workers limits (told_by told own links) (told_by told own2 back) c d ends lost =
-    subst (λ n. HaveRun engine (history_at states) script.events n limits (told_by told own links) (told_by told own2 back) c d ends lost) long
-    (subst (λ os. HaveRun engine (history_at states) os (length links) limits (told_by told own links) (told_by told own2 back) c d ends lost) (orders_are ∙ ap (λ (s : Lists). s.events) same) run) in
-    let all_new : (n : ℕ) → n ≤ workers → IsNewLink (told_by told own links n) = (λ n h. All-get_or (IsNew told) (own ∷ links) n own (omega (arith, h, long)) (All-cons (IsNew told) own links own_new new)) in record {
+    let all : HaveRun engine (history_at states) script.events workers limits (told_on_link told own links) (told_on_link told own2 back) c d ends lost =
+    subst (λ n. HaveRun engine (history_at states) script.events n limits (told_on_link told own links) (told_on_link told own2 back) c d ends lost) long
+    (subst (λ os. HaveRun engine (history_at states) os (length links) limits (told_on_link told own links) (told_on_link told own2 back) c d ends lost) (orders_are ∙ ap (λ (s : Lists). s.events) same) run) in
+    let all_new : (n : ℕ) → n ≤ workers → IsNewLink (told_on_link told own links n) = (λ n h. All-get_or (IsUncalled told) (own ∷ links) n own (omega (arith, h, long)) (All-cons (IsUncalled told) own links own_new new)) in record {
       engine = engine;
       opened = subst (λ s. IsOpened engine s shards journal) same opened;
       closed = closed;
       timely = timely engine states closed;
-      judged = judged engine states script.events workers limits (told_by told own links) (told_by told own2 back) c d ends lost closed all;
+      judged = judged engine states script.events workers limits (told_on_link told own links) (told_on_link told own2 back) c d ends lost closed all;
       text_is = text_is;
-      before = told_by told own links;
-      after = told_by told own2 back;
+      before = told_on_link told own links;
+      after = told_on_link told own2 back;
       new = all_new;
       shut = λ n h. shut n (omega (arith, h, long, same_long));
       ends = ends;
       run = all;
       plain = plain;
       finish_is = finish_is;
-      cause = cause engine states script.events workers limits (told_by told own links) (told_by told own2 back) c d ends lost all all_new turns_few journal opened.limit some closed plain finish finish_is;
-      complete = completes engine states script.events workers limits (told_by told own links) (told_by told own2 back) c d ends lost all all_new turns_few journal opened.limit some closed plain finish finish_is;
+      cause = cause engine states script.events workers limits (told_on_link told own links) (told_on_link told own2 back) c d ends lost all all_new turns_few journal opened.limit some closed plain finish finish_is;
+      complete = completes engine states script.events workers limits (told_on_link told own links) (told_on_link told own2 back) c d ends lost all all_new turns_few journal opened.limit some closed plain finish finish_is;
     }

@@ -20,7 +20,7 @@ use Rattle.bfd_serving.specs.Runs.{HaveRun, all_on}
 module _ (engine : Shards) (histories : ℕ → List Entry) (orders : List Line) (workers : ℕ) (limits : Limits) (before after : ℕ → LinkTold) (c d : TickerTold) (ends : List End) (lost : ℕ)
     (run : HaveRun engine histories orders workers limits before after c d ends lost) where
   -- every link of a worker and the ticker ended, or it gave its limit of ticks, and no call of any caller is left out
-  pub record IsDone : Type 0 where
+  pub record IsRunDone : Type 0 where
     pub links : (number : ℕ) → 0 < number → number ≤ workers → ((after number).counts.over ≡ true) × ((after number).counts.receive_faults ≡ 0)
     pub ticker : (d.over ≡ true) ⊎ (d.gave ≡ risen c.gave limits.ticks)
     pub faults : d.faults ≡ c.faults
@@ -43,16 +43,16 @@ module _ (engine : Shards) (histories : ℕ → List Entry) (orders : List Line)
     pub gave : (after number).counts.gave ≡ limits.turns
 
   -- the first of the calls that this caller's entries lack is on the shard
-  abbrev pub Lacks : ℕ → ℕ → Type 0
-  Lacks zero shard = StartsOn shard run.timer.did.cut
-  Lacks (suc at) shard = (less : at < workers) × StartsOn shard (worker_acts engine (run.each at less).did.cut)
+  abbrev pub LacksAt : ℕ → ℕ → Type 0
+  LacksAt zero shard = StartsOn shard run.timer.did.cut
+  LacksAt (suc at) shard = (less : at < workers) × StartsOn shard (worker_acts engine (run.each at less).did.cut)
 
   -- the acts of the worker of the link at this place: what every arrival that the link gave comes to
   abbrev pub IsAll : ℕ → List Act → Type 0
   IsAll at acts = (less : at < workers) × (acts ≡ worker_acts engine ((run.each at less).did.done ++ (run.each at less).did.cut))
 
   -- on the shard all callers have more calls than this: the timer at its ticks, and each worker by all that its link gave
-  pub record IsOver (journal shard : ℕ) : Type 0 where
+  pub record IsOverfull (journal shard : ℕ) : Type 0 where
     pub acts : List (List Act)
     pub long : length acts ≡ workers
     pub each : (at : ℕ) (other : List Act) → at < workers → IsAll at (slice_index_or acts at other)
@@ -65,15 +65,15 @@ module _ (engine : Shards) (histories : ℕ → List Entry) (orders : List Line)
     pub caller : ℕ
     pub first : (number : ℕ) → number < caller → slice_index_or ends number kinds.Ended ≡ kinds.Ended
     pub end : slice_index_or ends caller kinds.Ended ≡ kinds.Full shard journal
-    pub lacks : Lacks caller shard
-    pub over : IsOver journal shard
+    pub lacks : LacksAt caller shard
+    pub over : IsOverfull journal shard
 
-  abbrev pub IsCause : ℕ → Finish → Type 0
-  IsCause journal Done = IsDone
-  IsCause journal (LinkFault number) = IsLinkFault number
-  IsCause journal ClockFault = d.faults ≡ risen c.faults 1
-  IsCause journal (JournalFull shard) = IsFull journal shard
-  IsCause journal (Turns number) = IsTurns number
+  abbrev pub IsFinishCause : ℕ → Finish → Type 0
+  IsFinishCause journal Done = IsRunDone
+  IsFinishCause journal (LinkFault number) = IsLinkFault number
+  IsFinishCause journal ClockFault = d.faults ≡ risen c.faults 1
+  IsFinishCause journal (JournalFull shard) = IsFull journal shard
+  IsFinishCause journal (Turns number) = IsTurns number
 
   -- where every link of a worker ended, no count of a link or of the ticker rose, and no shard has more calls than a journal
   -- takes, the run is done
@@ -81,5 +81,5 @@ module _ (engine : Shards) (histories : ℕ → List Entry) (orders : List Line)
   Completes journal finish =
       ((number : ℕ) → 0 < number → number ≤ workers → ((after number).counts.over ≡ true) × ((after number).counts.receive_faults ≡ 0))
       → d.faults < risen c.faults 1
-      → ((shard : ℕ) → shard < length engine.locks → IsOver journal shard → ⊥)
+      → ((shard : ℕ) → shard < length engine.locks → IsOverfull journal shard → ⊥)
       → finish ≡ Done

@@ -9,9 +9,9 @@ use Rattle.bfd_serving.specs.declared.finish.Finish.TheVariants.{Done, LinkFault
 use Rattle.bfd_serving.specs.declared.finish.Refused.{Refused}
 use Rattle.bfd_serving.specs.declared.finish.Refused.TheVariants.{PortFault, Memory}
 
-abbrev pub refused_by : Fault → Refused
-refused_by fault.Failed = PortFault
-refused_by fault.Memory = Memory
+abbrev pub refused_as : Fault → Refused
+refused_as fault.Failed = PortFault
+refused_as fault.Memory = Memory
 
 -- no lock was spent
 abbrev pub IsUnspent : End → Type 0
@@ -24,14 +24,14 @@ IsUnspent (ends.Turns n) = Unit {0}
 IsUnspent ends.Memory = Unit {0}
 
 -- .. and there was memory
-abbrev pub IsPlain : End → Type 0
-IsPlain (ends.Spent shard word) = ⊥
-IsPlain ends.Ended = Unit {0}
-IsPlain ends.LinkFault = Unit {0}
-IsPlain ends.ClockFault = Unit {0}
-IsPlain (ends.Full shard n) = Unit {0}
-IsPlain (ends.Turns n) = Unit {0}
-IsPlain ends.Memory = ⊥
+abbrev pub HadMemory : End → Type 0
+HadMemory (ends.Spent shard word) = ⊥
+HadMemory ends.Ended = Unit {0}
+HadMemory ends.LinkFault = Unit {0}
+HadMemory ends.ClockFault = Unit {0}
+HadMemory (ends.Full shard n) = Unit {0}
+HadMemory (ends.Turns n) = Unit {0}
+HadMemory ends.Memory = ⊥
 
 -- the finish by the end of the caller of this number, which stands before the others
 abbrev pub finish_by : ℕ → End → Finish → Finish

@@ -8,8 +8,8 @@ use Rattle.bfd_serving.specs.declared.finish.Refused.{Refused}
 use Rattle.bfd_serving.specs.declared.finish.Refused.TheVariants.{PortFault, Memory}
 
 -- the link was never called
-abbrev pub IsNew : {L : Type 0} → (L → LinkTold) → L → Type 0
-IsNew told link = IsNewLink (told link)
+abbrev pub IsUncalled : {L : Type 0} → (L → LinkTold) → L → Type 0
+IsUncalled told link = IsNewLink (told link)
 
 -- exactly the links 0 to this number were opened, and opening didn't fail
 pub record IsOpenTo (last : ℕ) (before after : PortsTold) : Type 0 where
@@ -36,6 +36,6 @@ pub record IsUnopened (refused : Refused) (before after : PortsTold) : Type 0 wh
   pub uncalled : AreUncalled after
 
 -- a port couldn't be opened: the links that were are shut, and nothing ran; want of memory may come at any place
-abbrev pub IsRefused : Refused → PortsTold → PortsTold → TickerTold → TickerTold → Type 0
-IsRefused PortFault before after c d = IsUnopened PortFault before after × (d ≡ c)
-IsRefused Memory before after c d = after.faults ≡ before.faults
+abbrev pub IsLinkRefused : Refused → PortsTold → PortsTold → TickerTold → TickerTold → Type 0
+IsLinkRefused PortFault before after c d = IsUnopened PortFault before after × (d ≡ c)
+IsLinkRefused Memory before after c d = after.faults ≡ before.faults

@@ -35,8 +35,8 @@ abbrev pub no_words : ℕ → ℕ
 no_words shard = 0
 
 -- what the link of a number tells, of caller 0's and the workers'
-abbrev pub told_by : {L : Type 0} → (L → LinkTold) → L → List L → ℕ → LinkTold
-told_by told own links number = told (slice_index_or (own ∷ links) number own)
+abbrev pub told_on_link : {L : Type 0} → (L → LinkTold) → L → List L → ℕ → LinkTold
+told_on_link told own links number = told (slice_index_or (own ∷ links) number own)
 
 -- what the timer did: of all that it had to do at the ticks that its ticker gave, the entries of caller 0 in the histories are,
 -- shard by shard, those of its calls, without those that Full left out
@@ -66,8 +66,8 @@ pub record HaveRun (engine : Shards) (histories : ℕ → List Entry) (orders : 
   pub others : (number shard : ℕ) → shard < length engine.locks → workers < number → calls by number (histories shard) ≡ []
   pub lost_is : lost ≡ risen 0 (timer_missing + sum missing)
 
-abbrev pub script_of : List SessionConfig → List Reflector → List Line → Lists
-script_of configs pool events = record { configs = configs; pool = pool; events = events }
+abbrev pub script_with : List SessionConfig → List Reflector → List Line → Lists
+script_with configs pool events = record { configs = configs; pool = pool; events = events }
 
 -- an engine that was opened with a script
 pub record IsOpened (engine : Shards) (script : Lists) (shards journal : ℕ) : Type 0 where

@@ -9,11 +9,11 @@ use Rattle.bfd_edge.specs.Tickers.{TickerTold}
 use Rattle.bfd_engine.specs.Engines.{Shards}
 use Rattle.bfd_serve.specs.declared.ending.End.{End}
 use Rattle.bfd_serve.specs.declared.serving.Limits.{Limits}
-use Rattle.bfd_served.specs.Served.{history_of, served}
+use Rattle.bfd_served.specs.Served.{shard_history, served}
 use Rattle.bfd_serving.specs.declared.finish.Finish.{Finish}
-use Rattle.bfd_serving.specs.Finishes.{finish_from, IsPlain}
+use Rattle.bfd_serving.specs.Finishes.{finish_from, HadMemory}
 use Rattle.bfd_serving.specs.Runs.{HaveRun, IsOpened, AreClosedShards, history_at}
-use Rattle.bfd_serving.specs.Causes.{IsCause, Completes}
+use Rattle.bfd_serving.specs.Causes.{IsFinishCause, Completes}
 use Rattle.bfd_serving.specs.Entered.{AreTimely, AreJudged}
 
 -- a run of a script: its engine, its links from their opening to their shutting, and what all did, to the text; each tick in a
@@ -24,14 +24,14 @@ pub record HasRun (script : Lists) (shards workers journal : ℕ) (limits : Limi
   pub closed : AreClosedShards engine states
   pub timely : AreTimely engine (history_at states)
   pub judged : AreJudged engine (history_at states)
-  pub text_is : text ≡ served (map history_of states) lost
+  pub text_is : text ≡ served (map shard_history states) lost
   pub before : ℕ → LinkTold
   pub after : ℕ → LinkTold
   pub new : (number : ℕ) → number ≤ workers → IsNewLink (before number)
   pub shut : (number : ℕ) → number ≤ workers → q.shut number ≡ Some (after number)
   pub ends : List End
   pub run : HaveRun engine (history_at states) script.events workers limits before after c d ends lost
-  pub plain : All IsPlain ends
+  pub plain : All HadMemory ends
   pub finish_is : finish ≡ finish_from 0 ends
-  pub cause : IsCause engine (history_at states) script.events workers limits before after c d ends lost run journal finish
+  pub cause : IsFinishCause engine (history_at states) script.events workers limits before after c d ends lost run journal finish
   pub complete : Completes engine (history_at states) script.events workers limits before after c d ends lost run journal finish

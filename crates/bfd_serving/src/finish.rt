@@ -2,7 +2,7 @@
 ghost use Rattle.std.specs.Prelude.{◌≡◌, ◌≤◌, ℕ, Some, length, slice_get, IfOk, OnErr};
 ghost use Rattle.std.specs.List.{All};
 ghost use Rattle.bfd_serve.specs.declared.ending.End.TheVariants.{Memory as OutOfMemory};
-ghost use Rattle.bfd_serving.specs.Finishes.{finish_from, IsPlain, IsUnspent};
+ghost use Rattle.bfd_serving.specs.Finishes.{finish_from, HadMemory, IsUnspent};
 
 use bfd_edge::Fault;
 use bfd_serve::End;
@@ -38,8 +38,8 @@ pub enum Refused {
 }
 
 /// The fault of a port.
-pub(crate) fn refused_by(fault: Fault) -> Refused
-    ensures { result ≡ Rattle.bfd_serving.specs.Finishes.refused_by fault }
+pub(crate) fn refused_as(fault: Fault) -> Refused
+    ensures { result ≡ Rattle.bfd_serving.specs.Finishes.refused_as fault }
 {
     match fault {
         Fault::Failed => Refused::PortFault,
@@ -53,7 +53,7 @@ pub(crate) fn finish_of(ends: &[End]) -> Result<Finish, AllocError>
     requires unspent { All IsUnspent ends.now }
     requires few { length ends.now ≤ 65 }
     ensures value { IfOk result (λ finish. finish ≡ finish_from 0 ends.now) }
-    ensures plain { IfOk result (λ finish. All IsPlain ends.now) }
+    ensures plain { IfOk result (λ finish. All HadMemory ends.now) }
     ensures wanting { OnErr result ((number : ℕ) × (slice_get ends.now number ≡ Some OutOfMemory)) }
 {
     let mut finish = Finish::Done;

@@ -2,9 +2,9 @@
 ghost use Rattle.std.specs.Prelude.{◌≡◌, ◌<◌, ◌≤◌, ◌+◌, ◌∷◌, ℕ, false, true, length, Some, IfOk, MatchResult, slice_index_or};
 ghost use Rattle.std.specs.List.{All};
 ghost use Rattle.bfd_edge.specs.Links.{IsNewLink};
-ghost use Rattle.bfd_serving.specs.Linking.{IsNew, IsOpenTo, IsUnopened};
+ghost use Rattle.bfd_serving.specs.Linking.{IsUncalled, IsOpenTo, IsUnopened};
 
-use crate::finish::{Refused, refused_by};
+use crate::finish::{Refused, refused_as};
 use bfd_edge::Ports;
 use std::alloc::Global;
 
@@ -34,14 +34,14 @@ pub(crate) fn open_all<P: Ports>(
     requires new { (number : ℕ) → (P.told ports.old).opened number ≡ false }
     requires few { workers ≤ 64 }
     ensures own { IfOk result (λ r. IsNewLink (P.Link.told r.0)) }
-    ensures links { IfOk result (λ r. All (IsNew P.Link.told) r.1.items) }
+    ensures links { IfOk result (λ r. All (IsUncalled P.Link.told) r.1.items) }
     ensures opened { MatchResult result (λ r. IsOpenTo workers (P.told ports.old) (P.told ports.new))
         (λ refused. IsUnopened refused (P.told ports.old) (P.told ports.new)) }
     ensures long { IfOk result (λ r. length r.1.items ≡ workers) }
 {
     let own = match ports.open(0) {
         Ok(link) => link,
-        Err(fault) => return Err(refused_by(fault)),
+        Err(fault) => return Err(refused_as(fault)),
     };
     let Ok(mut links) = Vec::with_capacity(alloc, workers as usize) else {
         ports.shut(0, own);
@@ -52,7 +52,7 @@ pub(crate) fn open_all<P: Ports>(
             Ok(link) => links.push_reserved(link),
             Err(fault) => {
                 shut_all(ports, own, links);
-                return Err(refused_by(fault));
+                return Err(refused_as(fault));
             }
         }
     }

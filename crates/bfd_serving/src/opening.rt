@@ -2,7 +2,7 @@
 ghost use Rattle.std.specs.Prelude.{◌≡◌, ◌<◌, ◌≤◌, IfOk, length};
 ghost use Rattle.bfd_script.specs.Sound.{IsScript};
 ghost use Rattle.bfd_engine.specs.Opening.{IsNewPass};
-ghost use Rattle.bfd_serving.specs.Runs.{IsOpened, script_of};
+ghost use Rattle.bfd_serving.specs.Runs.{IsOpened, script_with};
 
 use bfd_engine::{Engine, EnginePass, OpenFault};
 use bfd_line::Line;
@@ -22,8 +22,8 @@ pub(crate) fn opened<W: Timers>(
     journal: usize,
 ) -> Result<(Engine<W>, EnginePass), AllocError>
     requires shards { (0 < shards) × (shards ≤ 64) }
-    requires script { IsScript (script_of configs.items pool.items events.now) }
-    ensures engine { IfOk result (λ r. IsOpened r.0 (script_of configs.items pool.items events.now) shards journal) }
+    requires script { IsScript (script_with configs.items pool.items events.now) }
+    ensures engine { IfOk result (λ r. IsOpened r.0 (script_with configs.items pool.items events.now) shards journal) }
     ensures pass { IfOk result (λ r. IsNewPass r.0 r.1) }
 {
     match Engine::open(alloc, configs, pool, shards, journal) {

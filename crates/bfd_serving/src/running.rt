@@ -5,7 +5,7 @@ ghost use Rattle.bfd_shard.specs.Shard.{IsShard};
 ghost use Rattle.bfd_engine.specs.Opening.{IsNewPass};
 ghost use Rattle.bfd_serve.specs.Jobs.{IsOpen};
 ghost use Rattle.bfd_serving.specs.Finishes.{IsUnspent};
-ghost use Rattle.bfd_serving.specs.Runs.{AreClosedShards, HaveRun, history_at, told_by};
+ghost use Rattle.bfd_serving.specs.Runs.{AreClosedShards, HaveRun, history_at, told_on_link};
 
 use bfd_edge::{Gate, Link, Ticker};
 use bfd_engine::{Engine, EnginePass, Unclosed};
@@ -62,8 +62,8 @@ pub(crate) fn run_all<
     requires orders { length orders.now ≤ 200000 }
     ensures back { length result.0.items ≡ length links.items }
     ensures run { IfOk result.1 (λ closed. HaveRun engine (history_at closed.states.items)
-        orders.now (length links.items) limits (told_by L.told own.old links.items)
-        (told_by L.told own.new result.0.items) (T.told ticker.old) (T.told ticker.new)
+        orders.now (length links.items) limits (told_on_link L.told own.old links.items)
+        (told_on_link L.told own.new result.0.items) (T.told ticker.old) (T.told ticker.new)
         closed.ends.items closed.lost) }
     ensures closed { IfOk result.1 (λ closed. AreClosedShards engine closed.states.items) }
     ensures unspent { IfOk result.1 (λ closed. All IsUnspent closed.ends.items) }

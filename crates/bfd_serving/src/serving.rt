@@ -1,7 +1,7 @@
 //! A run of a script.
 ghost use Rattle.std.specs.Prelude.{◌≡◌, ◌<◌, ◌≤◌, ℕ, false, IfOk, IfErr};
 ghost use Rattle.bfd_script.specs.Sound.{IsScript};
-ghost use Rattle.bfd_serving.specs.Linking.{AreShut, IsOpenTo, IsRefused};
+ghost use Rattle.bfd_serving.specs.Linking.{AreShut, IsOpenTo, IsLinkRefused};
 ghost use Rattle.bfd_serving.specs.Wholes.{HasRun};
 
 use crate::copying::dealt;
@@ -76,7 +76,7 @@ where
         (T.told ticker.old) (T.told ticker.new) run.states.items run.text.items run.lost run.finish) }
     ensures opened { IfOk result (λ _. IsOpenTo workers (P.told ports.old) (P.told ports.new)) }
     ensures shut { AreShut (P.told ports.new) }
-    ensures refused { IfErr result (λ refused. IsRefused refused (P.told ports.old) (P.told ports.new)
+    ensures refused { IfErr result (λ refused. IsLinkRefused refused (P.told ports.old) (P.told ports.new)
         (T.told ticker.old) (T.told ticker.new)) }
 {
     let Script {

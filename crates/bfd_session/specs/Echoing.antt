@@ -13,7 +13,7 @@ use Rattle.bfd_echo.specs.declared.echo.Echo.{Echo}
 use Rattle.bfd_echo.specs.declared.echo.EchoResult.{EchoResult}
 use Rattle.bfd_echo.specs.declared.echo.EchoResult.TheVariants.{Nothing, Sent, Failed}
 use Rattle.bfd_echo.specs.Packet.{echo_datagram}
-use Rattle.bfd_echo.specs.Rules.{begun, outcome, returned, settled}
+use Rattle.bfd_echo.specs.Rules.{echo_begun, outcome, returned, settled}
 use Rattle.bfd_echo.specs.Sequence.{is_outstanding}
 use Rattle.bfd_echo.specs.Timing.{is_echo_wanted, echo_interval, due}
 use Rattle.bfd_session.specs.Kinds.{Flow, along}
@@ -67,7 +67,7 @@ takes_back c eff sequence f = record f { echo = back_to eff sequence (echoing c 
 
 -- one that runs goes on; else one begins, with the next number
 abbrev pub goes_on : ℕ → ℕ → Option Echo → Echo
-goes_on eff next None = begun eff next
+goes_on eff next None = echo_begun eff next
 goes_on eff next (Some e) = e
 
 -- at the end of an event the Echo function runs exactly where it should

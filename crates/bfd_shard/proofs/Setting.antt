@@ -2,7 +2,7 @@
 use Rattle.std.proofs.Common.{◌≡◌, ◌<◌, ◌≤◌, ◌+◌, ◌++◌, subst, ℕ, zero, suc, List, [], ◌∷◌, length, map, take, drop, get_or, set, refl, sym, ap, ◌∙◌, add-one, arith, Option}
 use Rattle.std.specs.List.{AllByRecursion}
 use Rattle.std.proofs.lemmas.List.{length-map, map-append}
-use Rattle.bfd_lanes.specs.Held.{Held, room_of}
+use Rattle.bfd_lanes.specs.Held.{HeldIds, room_of}
 use Rattle.bfd_session.specs.declared.event.SessionConfig.{SessionConfig}
 use Rattle.bfd_session.specs.Due.{due}
 use Rattle.bfd_session.specs.Kinds.{Running, configs_of}
@@ -61,7 +61,7 @@ shard_at cs limit room few sound = record {
 }
 
 -- a shard at the start
-pub shard_made : (cs : List SessionConfig) (ss : List Running) (limit room : ℕ) (journal : List Entry) (dues : List (Option ℕ)) (ids : Held) → length cs ≤ 65536
+pub shard_made : (cs : List SessionConfig) (ss : List Running) (limit room : ℕ) (journal : List Entry) (dues : List (Option ℕ)) (ids : HeldIds) → length cs ≤ 65536
     → ss ≡ map started cs → AllByRecursion IsSound ss → journal ≡ [] → dues ≡ map due ss → length ss ≤ room_of ids
     → IsTimed (shard_of ss 0 journal limit room) dues ids
 shard_made cs ss limit room journal dues ids few made sound empty timed fit =

@@ -3,7 +3,7 @@ use Rattle.std.specs.Prelude.{ℕ, ◌≡◌, ◌≤◌, ◌*◌, ◌++◌, fals
 use Rattle.std.specs.List.{AllByRecursion}
 use Rattle.bfd_num.specs.Numbers.{greatest_tick}
 use Rattle.bfd_num.specs.Due.{has_come}
-use Rattle.bfd_lanes.specs.Held.{Held, room_of}
+use Rattle.bfd_lanes.specs.Held.{HeldIds, room_of}
 use Rattle.bfd_session.specs.declared.event.SessionConfig.{SessionConfig}
 use Rattle.bfd_session.specs.declared.event.Event.{Event}
 use Rattle.bfd_session.specs.Due.{due}
@@ -66,7 +66,7 @@ pub record IsShard (shard : Shard) : Type 0 where
   pub timely : IsOnTime (configs_of shard.sessions) (events_of shard.journal)
 
 -- a shard with its timers, whose list is the due tick of each session, and with ids that find room for all of them
-pub record IsTimed (shard : Shard) (dues : List (Option ℕ)) (ids : Held) : Type 0 where
+pub record IsTimed (shard : Shard) (dues : List (Option ℕ)) (ids : HeldIds) : Type 0 where
   pub shown : IsShard shard
   pub timed : dues ≡ map due shard.sessions
   pub ids_fit : length shard.sessions ≤ room_of ids

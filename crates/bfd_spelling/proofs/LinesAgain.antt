@@ -25,14 +25,14 @@ use Rattle.bfd_line.specs.declared.verbs.Verb.TheVariants as verbs
 use Rattle.bfd_line.specs.declared.words.Place.TheVariants as places
 use Rattle.bfd_line.specs.declared.words.Version.{Version}
 use Rattle.bfd_line.specs.declared.words.Version.TheVariants.{One, Two}
-use Rattle.bfd_line.specs.Arrivals.{arrival_of, port_of}
-use Rattle.bfd_line.specs.Entries.{commanded, entry_of, numbered_of, plain_of, received_of, shown_of}
+use Rattle.bfd_line.specs.Arrivals.{arrival_of, port_in}
+use Rattle.bfd_line.specs.Entries.{cmd_entry, entry_in_line, numbered_of, plain_of, received_of, shown_of}
 use Rattle.bfd_fields.specs.Fields.{number_in}
 use Rattle.bfd_fields.specs.Gives.{◌>>=◌}
-use Rattle.bfd_line.specs.Secrets.{chain_of, fitting, key_of, kind_by, kind_of, one_key, secret_of}
+use Rattle.bfd_line.specs.Secrets.{chain_of, fitting, key_of, kind_by, auth_type_of, one_key, secret_of}
 use Rattle.bfd_line.specs.Ranges.{IsAsked, IsEvent, IsKey, IsReceived}
 use Rattle.bfd_fields.specs.Spelling.{hex_field, spaced}
-use Rattle.bfd_line.specs.Verbs.{command, fits, number_of, verb_of}
+use Rattle.bfd_line.specs.Verbs.{command, fits, command_number, verb_of}
 use Rattle.bfd_spelling.specs.Written.{address_field, auth_fields, event_fields, is_new_line, key_fields, port_field, verb_fields}
 use Rattle.bfd_spelling.proofs.Numerals.{number_again, number_field, number_short}
 use Rattle.bfd_spelling.proofs.Rereading.{address_again, address_is_field, address_short, bytes_again, hex_is_field, hex_short, payload_again}
@@ -48,7 +48,7 @@ Speaks Two new = Unit {0}
 
 -- ---- words
 
-port_again : (port : Port) → port_of (port_field port) ≡ Ok port
+port_again : (port : Port) → port_in (port_field port) ≡ Ok port
 port_again ports.Single = refl
 port_again port = refl
 
@@ -71,7 +71,7 @@ tick_is_field = word (codes "tick") refl
 
 -- ---- the keys of a session
 
-kind_again : (kind : AuthType) → kind_of (decimal (type_number kind)) ≡ Ok kind
+kind_again : (kind : AuthType) → auth_type_of (decimal (type_number kind)) ≡ Ok kind
 kind_again kinds.Password = ap (λ r. r >>= λ n. Ok (kind_by n)) (number_again 1 5 1 (omega arith) (omega arith) (omega arith))
 kind_again kinds.KeyedMd5 = ap (λ r. r >>= λ n. Ok (kind_by n)) (number_again 1 5 2 (omega arith) (omega arith) (omega arith))
 kind_again kinds.MeticulousMd5 = ap (λ r. r >>= λ n. Ok (kind_by n)) (number_again 1 5 3 (omega arith) (omega arith) (omega arith))
@@ -129,7 +129,7 @@ auth_short d kind key below h few =
     omega arith
 
 pub auth_again : (version : Version) (live : Bool) (d : ℕ) (kind : AuthType) (key : Key) → 0 < d → d < 2 ^ 32 → IsKey key → fits_kind kind key.secret ≡ true
-    → entry_of version places.Table live (spaced (auth_fields d kind key) []) ≡ Ok (entries.Auth d (one_key kind key.id key.secret))
+    → entry_in_line version places.Table live (spaced (auth_fields d kind key) []) ≡ Ok (entries.Auth d (one_key kind key.id key.secret))
 auth_again version live d kind key some below h fits =
     entry_again version places.Table live (codes "auth") (decimal d ∷ decimal (type_number kind) ∷ decimal key.id ∷ hex_field key.secret ∷ [])
     (auth_fields_fit d kind key below h) (auth_short d kind key below h (secret_few kind key.secret fits))
@@ -168,7 +168,7 @@ key_read kind key h fits = rw (
 ) refl
 
 pub key_again : (live : Bool) (d : ℕ) (kind : AuthType) (key : Key) → 0 < d → d < 2 ^ 32 → IsKey key → fits_kind kind key.secret ≡ true
-    → entry_of Two places.Table live (spaced (key_fields d key) []) ≡ Ok (entries.Key d key)
+    → entry_in_line Two places.Table live (spaced (key_fields d key) []) ≡ Ok (entries.Key d key)
 key_again live d kind key some below h fits =
     entry_again Two places.Table live (codes "key") (decimal d ∷ decimal key.id ∷ hex_field key.secret ∷ [])
     (key_fields_fit d key below h) (key_short d key below h (secret_few kind key.secret fits))
@@ -232,7 +232,7 @@ tick_short tick h = let l = number_short tick (omega arith) in omega arith
 -- ---- a command
 
 -- the fields of a command after its discriminator
-verb_fits : (cmd : Cmd) → number_of cmd < 2 ^ 64 → AllByRecursion IsField (verb_fields cmd)
+verb_fits : (cmd : Cmd) → command_number cmd < 2 ^ 64 → AllByRecursion IsField (verb_fields cmd)
 verb_fits commands.Disable h = (word (codes "disable") refl, tt)
 verb_fits commands.Enable h = (word (codes "enable") refl, tt)
 verb_fits commands.Reset h = (word (codes "reset") refl, tt)
@@ -244,7 +244,7 @@ verb_fits (commands.Demand n) h = (word (codes "demand") refl, (number_field n h
 verb_fits (commands.EchoEvery n) h = (word (codes "echo") refl, (number_field n h, tt))
 verb_fits (commands.Key n) h = (word (codes "key") refl, (number_field n h, tt))
 
-verb_short : (cmd : Cmd) → number_of cmd < 2 ^ 64 → total (verb_fields cmd) ≤ 40
+verb_short : (cmd : Cmd) → command_number cmd < 2 ^ 64 → total (verb_fields cmd) ≤ 40
 verb_short (commands.Path n) h = let l = number_short n h in omega arith
 verb_short (commands.Tx n) h = let l = number_short n h in omega arith
 verb_short (commands.Rx n) h = let l = number_short n h in omega arith
@@ -278,8 +278,8 @@ key_verb : (version : Version) → Speaks version true → verb_of version (code
 key_verb One h = cc
 key_verb Two h = refl
 
-command_again : (version : Version) (m d : ℕ) (cmd : Cmd) → IsAsked m d → number_of cmd < 2 ^ 64 → Speaks version (is_new_line (events.Cmd m d cmd))
-    → commanded version (decimal m ∷ decimal d ∷ verb_fields cmd) ≡ Ok (entries.Event (events.Cmd m d cmd))
+command_again : (version : Version) (m d : ℕ) (cmd : Cmd) → IsAsked m d → command_number cmd < 2 ^ 64 → Speaks version (is_new_line (events.Cmd m d cmd))
+    → cmd_entry version (decimal m ∷ decimal d ∷ verb_fields cmd) ≡ Ok (entries.Event (events.Cmd m d cmd))
 command_again version m d commands.Disable h n new = plain_again version m d (codes "disable") verbs.Disable h refl
 command_again version m d commands.Enable h n new = plain_again version m d (codes "enable") verbs.Enable h refl
 command_again version m d commands.Reset h n new = plain_again version m d (codes "reset") verbs.Reset h refl
@@ -293,13 +293,13 @@ command_again version m d (commands.Key n) h below new =
     ap (λ o. cond (fits o true) (numbered_of version (decimal m) (decimal d) (codes "key") (decimal n)) (Err FieldCount)) (key_verb version new)
     ∙ numbered_again version m d n (codes "key") verbs.Key h below (key_verb version new)
 
-cmd_is_fields : (m d : ℕ) (cmd : Cmd) → IsAsked m d → number_of cmd < 2 ^ 64 → AllByRecursion IsField (event_fields (events.Cmd m d cmd))
+cmd_is_fields : (m d : ℕ) (cmd : Cmd) → IsAsked m d → command_number cmd < 2 ^ 64 → AllByRecursion IsField (event_fields (events.Cmd m d cmd))
 cmd_is_fields m d cmd h below = (
   word (codes "cmd") refl,
   (number_field m (let k = h.moment_below in omega arith), (number_field d (let k = h.discr_below in omega arith), verb_fits cmd below)),
 )
 
-cmd_short : (m d : ℕ) (cmd : Cmd) → IsAsked m d → number_of cmd < 2 ^ 64 → total (event_fields (events.Cmd m d cmd)) ≤ 4096
+cmd_short : (m d : ℕ) (cmd : Cmd) → IsAsked m d → command_number cmd < 2 ^ 64 → total (event_fields (events.Cmd m d cmd)) ≤ 4096
 cmd_short m d cmd h below =
     let l1 = number_short m (let k = h.moment_below in omega arith) in
     let l2 = number_short d (let k = h.discr_below in omega arith) in
@@ -333,7 +333,7 @@ event_fields_fit (events.Cmd m d cmd) h = cmd_is_fields m d cmd h.0 h.1
 event_fields_fit (events.Show m d) h = show_is_fields m d h
 
 pub event_again : (version : Version) (event : Line) → IsEvent event → Speaks version (is_new_line event)
-    → entry_of version places.Events false (spaced (event_fields event) []) ≡ Ok (entries.Event event)
+    → entry_in_line version places.Events false (spaced (event_fields event) []) ≡ Ok (entries.Event event)
 event_again version (events.Rx m a) h new =
     entry_again version places.Events false (codes "rx") (decimal m ∷ port_field a.port ∷ decimal a.iface ∷ address_field a.src ∷ address_field a.dst ∷ decimal a.ttl ∷ hex_field a.payload ∷ [])
     (rx_is_fields m a h) (rx_short m a h) ∙ received_again m a h

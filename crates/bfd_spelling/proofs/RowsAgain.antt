@@ -21,9 +21,9 @@ use Rattle.bfd_fields.specs.declared.fault.LineFault.TheVariants.{OutOfRange}
 use Rattle.bfd_line.specs.declared.entries.Entry.TheVariants as entries
 use Rattle.bfd_line.specs.declared.words.Place.TheVariants as places
 use Rattle.bfd_line.specs.declared.words.Version.{Version}
-use Rattle.bfd_line.specs.Entries.{entry_of}
+use Rattle.bfd_line.specs.Entries.{entry_in_line}
 use Rattle.bfd_fields.specs.Gives.{◌>>=◌}
-use Rattle.bfd_line.specs.Pairs.{active_of, config_by, echo_of, ends_of, pair_of, pair_with, role_of, timing_of}
+use Rattle.bfd_line.specs.Pairs.{active_of, config_by, echo_of, ends_of, p2p_row, pair_with, role_of, timing_of}
 use Rattle.bfd_line.specs.Seamless.{initiator_of, reflecting_of, up_of}
 use Rattle.bfd_line.specs.Ranges.{IsHeadRow, IsPairRow, IsReflector, IsRow, IsSeekRow, IsTailRow}
 use Rattle.bfd_fields.specs.Spelling.{spaced}
@@ -111,7 +111,7 @@ timing_again c fit row high = rw (
 ) refl
 
 pair_again : (c : Config) → IsConfig c → IsPairRow c → c.echo ≤ 60000000
-    → pair_of (decimal c.discr ∷ role_field c.role ∷ decimal c.iface ∷ address_field c.local ∷ address_field c.remote
+    → p2p_row (decimal c.discr ∷ role_field c.role ∷ decimal c.iface ∷ address_field c.local ∷ address_field c.remote
     ∷ mode_field c.active ∷ decimal c.tx ∷ decimal c.rx ∷ decimal c.mult ∷ decimal c.echo ∷ decimal c.seed ∷ []) ≡ Ok (Pair (record c { keys = None }))
 pair_again c fit row high =
     ap (λ r. r >>= λ ends. pair_with ends (mode_field c.active ∷ decimal c.tx ∷ decimal c.rx ∷ decimal c.mult ∷ decimal c.echo ∷ decimal c.seed ∷ [])) (ends_again c fit row)
@@ -269,7 +269,7 @@ row_fields_fit (Tail c) fit row = tail_fields c fit row
 
 -- the row tells of no keys
 pub row_again : (version : Version) (live : Bool) (c : SessionConfig) → IsFit c → IsRow c
-    → entry_of version places.Table live (spaced (row_fields c) []) ≡ Ok (entries.Row (bare c))
+    → entry_in_line version places.Table live (spaced (row_fields c) []) ≡ Ok (entries.Row (bare c))
 row_again version live (Pair c) fit row =
     let high = echo_most c.role c.echo fit.echo_range in
     entry_again version places.Table live (codes "p2p") (decimal c.discr ∷ role_field c.role ∷ decimal c.iface ∷ address_field c.local ∷ address_field c.remote ∷ mode_field c.active ∷ decimal c.tx ∷ decimal c.rx ∷ decimal c.mult ∷ decimal c.echo ∷ decimal c.seed ∷ [])
@@ -312,7 +312,7 @@ reflector_short r row =
     omega arith
 
 pub reflector_again : (version : Version) (live : Bool) (r : Reflector) → IsReflector r
-    → entry_of version places.Table live (spaced (reflector_fields r) []) ≡ Ok (entries.Reflect r)
+    → entry_in_line version places.Table live (spaced (reflector_fields r) []) ≡ Ok (entries.Reflect r)
 reflector_again version live r row =
     entry_again version places.Table live (codes "reflector") (decimal r.discr ∷ decimal r.rx ∷ up_field r.up ∷ []) (reflector_fields_fit r row) (reflector_short r row)
     ∙ ap (λ read. read >>= λ reflector. Ok (entries.Reflect reflector)) (reflector_read r row)

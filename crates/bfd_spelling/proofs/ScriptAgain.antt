@@ -22,7 +22,7 @@ use Rattle.bfd_line.specs.declared.words.Version.{Version}
 use Rattle.bfd_line.specs.declared.words.Version.TheVariants.{One, Two}
 use Rattle.bfd_fields.specs.Fields.{lines_of}
 use Rattle.bfd_fields.specs.Gives.{◌>>=◌}
-use Rattle.bfd_script.specs.Reading.{Lists, State, accepted, after, is_named, script_of, start, step, told_from, unless, with_config, with_event, with_key, with_keys, with_reflector}
+use Rattle.bfd_script.specs.Reading.{Lists, State, admitted, go_on, is_named, script_of, start, line_read, told_from, unless, with_config, with_event, with_key, with_keys, with_reflector}
 use Rattle.bfd_script.proofs.Rising.{inserted_last}
 use Rattle.bfd_script.specs.Rows.{changed, given, has_discr, has_keys, has_pair, has_place, has_reflector, inserted, is_pair, pooled, keyed_more, keyed_with, keys_in, keys_of}
 use Rattle.bfd_line.specs.Secrets.{key_fault, one_key}
@@ -43,11 +43,11 @@ use Rattle.bfd_spelling.proofs.Splitting.{lines_again}
 -- a line that is read and taken
 line_taken : (s next : State) (number : ℕ) (fields : List (List ℕ)) (rest : List ℕ)
     → lines_of (line fields ++ rest) ≡ spaced fields [] ∷ lines_of rest
-    → step false s (spaced fields []) ≡ Ok next
+    → line_read false s (spaced fields []) ≡ Ok next
     → told_from false s number (lines_of (line fields ++ rest)) ≡ told_from false next (number + 1) (lines_of rest)
 line_taken s next number fields rest split taken =
     ap (told_from false s number) split
-    ∙ ap (λ (r : Result State LineFault). after number r (λ n. told_from false n (number + 1) (lines_of rest))) taken
+    ∙ ap (λ (r : Result State LineFault). go_on number r (λ n. told_from false n (number + 1) (lines_of rest))) taken
 
 -- the table is read: these sessions and reflectors stood
 abbrev at_pool : Version → List SessionConfig → List Reflector → State
@@ -92,9 +92,9 @@ follows_bare (Pair c) done h = record { above = h.above; apart = h.apart }
 follows_bare c done h = h
 
 row_step : (version : Version) (c : SessionConfig) (done : List SessionConfig) → IsFit c → IsRow c → Follows done c → length done < 65536
-    → step false (at_table version done) (spaced (row_fields c) []) ≡ Ok (at_table version (done ++ bare c ∷ []))
+    → line_read false (at_table version done) (spaced (row_fields c) []) ≡ Ok (at_table version (done ++ bare c ∷ []))
 row_step version c done fit row follows room =
-    ap (λ r. r >>= λ entry. accepted entry (at_table version done)) (row_again version false c fit row)
+    ap (λ r. r >>= λ entry. admitted entry (at_table version done)) (row_again version false c fit row)
     ∙ row_taken version (bare c) done (follows_bare c done follows) room
 
 -- the keys of the last session
@@ -128,10 +128,10 @@ keys_taken version c keys done bare h =
 
 auth_step : (version : Version) (c : Config) (kind : AuthType) (key : Key) (done : List SessionConfig) → c.keys ≡ None → 0 < c.discr → c.discr < 2 ^ 32
     → IsKey key → fits_kind kind key.secret ≡ true → AllByRecursion (λ d. discr_of d < c.discr) done
-    → step false (at_table version (done ++ Pair c ∷ [])) (spaced (auth_fields c.discr kind key) [])
+    → line_read false (at_table version (done ++ Pair c ∷ [])) (spaced (auth_fields c.discr kind key) [])
     ≡ Ok (at_table version (done ++ Pair (record c { keys = Some (one_key kind key.id key.secret) }) ∷ []))
 auth_step version c kind key done bare some below fit fits h =
-    ap (λ r. r >>= λ entry. accepted entry (at_table version (done ++ Pair c ∷ []))) (auth_again version false c.discr kind key some below fit fits)
+    ap (λ r. r >>= λ entry. admitted entry (at_table version (done ++ Pair c ∷ []))) (auth_again version false c.discr kind key some below fit fits)
     ∙ keys_taken version c (one_key kind key.id key.secret) done bare h
 
 -- a session with these keys
@@ -161,10 +161,10 @@ has_room kind before key e = room_step (fits_kind kind key.secret) (has_id key.i
 
 key_step : (c : Config) (kind : AuthType) (before : List Key) (key : Key) (done : List SessionConfig) → 0 < c.discr → c.discr < 2 ^ 32
     → IsNext kind before key → AllByRecursion (λ d. discr_of d < c.discr) done
-    → step false (at_table Two (done ++ with_list c kind before ∷ [])) (spaced (key_fields c.discr key) [])
+    → line_read false (at_table Two (done ++ with_list c kind before ∷ [])) (spaced (key_fields c.discr key) [])
     ≡ Ok (at_table Two (done ++ with_list c kind (before ++ key ∷ []) ∷ []))
 key_step c kind before key done some below next h =
-    ap (λ r. r >>= λ entry. accepted entry (at_table Two (done ++ with_list c kind before ∷ [])))
+    ap (λ r. r >>= λ entry. admitted entry (at_table Two (done ++ with_list c kind before ∷ [])))
     (key_again false c.discr kind key some below next.fits (has_room kind before key next.free))
     ∙ key_taken c kind before key done next.free h
 
@@ -304,9 +304,9 @@ reflector_taken version cs r done apart h room =
 
 reflector_step : (version : Version) (cs : List SessionConfig) (r : Reflector) (done : List Reflector) → IsReflector r → has_discr r.discr cs ≡ false
     → AllByRecursion (λ d. d.discr < r.discr) done → length cs + length done < 65536
-    → step false (at_pool version cs done) (spaced (reflector_fields r) []) ≡ Ok (at_pool version cs (done ++ r ∷ []))
+    → line_read false (at_pool version cs done) (spaced (reflector_fields r) []) ≡ Ok (at_pool version cs (done ++ r ∷ []))
 reflector_step version cs r done row apart h room =
-    ap (λ e. e >>= λ entry. accepted entry (at_pool version cs done)) (reflector_again version false r row) ∙ reflector_taken version cs r done apart h room
+    ap (λ e. e >>= λ entry. admitted entry (at_pool version cs done)) (reflector_again version false r row) ∙ reflector_taken version cs r done apart h room
 
 pool_again : (version : Version) (cs : List SessionConfig) (pool done : List Reflector) (number : ℕ) (rest : List ℕ) → AllByRecursion IsReflector pool → AreApart cs pool
     → pools.Ascends pool → AllBelow done pool → length cs + (length done + length pool) ≤ 65536
@@ -336,10 +336,10 @@ event_taken event s named room =
     rw (named, few) refl
 
 event_step : (version : Version) (event : Line) (configs : List SessionConfig) (pool : List Reflector) (done : List Line) → IsEvent event → is_named event configs ≡ true → length done < 200000 → Speaks version (is_new_line event)
-    → step false (at_events version configs pool done) (spaced (event_fields event) [])
+    → line_read false (at_events version configs pool done) (spaced (event_fields event) [])
     ≡ Ok (at_events version configs pool (done ++ event ∷ []))
 event_step version event configs pool done fit named room new =
-    ap (λ r. r >>= λ entry. accepted entry (at_events version configs pool done)) (event_again version event fit new)
+    ap (λ r. r >>= λ entry. admitted entry (at_events version configs pool done)) (event_again version event fit new)
     ∙ event_taken event (at_events version configs pool done) named room
 
 events_again : (version : Version) (events : List Line) (configs : List SessionConfig) (pool : List Reflector) (done : List Line) (number : ℕ) (rest : List ℕ) → AllByRecursion IsEvent events → AreNamed configs events

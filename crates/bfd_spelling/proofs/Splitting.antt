@@ -4,8 +4,8 @@ use Rattle.std.proofs.lemmas.Bool.Decides.{nat_tests}
 use Rattle.std.specs.List.{list_all, slice_split, AllByRecursion}
 use Rattle.bfd_line.specs.declared.words.Place.{Place}
 use Rattle.bfd_line.specs.declared.words.Version.{Version}
-use Rattle.bfd_line.specs.Entries.{entry_of, placed, worded}
-use Rattle.bfd_fields.specs.Fields.{fields_of, is_printable, lines_of, onto_line, text_of}
+use Rattle.bfd_line.specs.Entries.{entry_in_line, placed, worded}
+use Rattle.bfd_fields.specs.Fields.{split_fields, is_printable, lines_of, onto_line, line_text}
 use Rattle.bfd_fields.specs.Gives.{◌>>=◌}
 use Rattle.bfd_fields.specs.Spelling.{spaced, line}
 use Rattle.bfd_line.specs.Words.{word_of}
@@ -30,8 +30,8 @@ no_lf : (field : List ℕ) → IsField field → AllByRecursion (λ b. (b == 10)
 no_lf field all = each_to field (λ b h. let low = h.above in grind (arith, nat_tests)) all
 
 -- the fields of spaced fields
-pub fields_again : (field : List ℕ) (fields : List (List ℕ)) → AllByRecursion IsField (field ∷ fields) → fields_of (spaced (field ∷ fields) []) ≡ field ∷ fields
-fields_again field [] all = ap fields_of (append-nil field) ∙ split_last 32 field (no_space field all.0)
+pub fields_again : (field : List ℕ) (fields : List (List ℕ)) → AllByRecursion IsField (field ∷ fields) → split_fields (spaced (field ∷ fields) []) ≡ field ∷ fields
+fields_again field [] all = ap split_fields (append-nil field) ∙ split_last 32 field (no_space field all.0)
 fields_again field (next ∷ fields) all =
     split_front 32 field (spaced (next ∷ fields) []) (no_space field all.0) refl ∙ ap (λ t. field ∷ t) (fields_again next fields all.1)
 
@@ -85,7 +85,7 @@ length_spaced (field ∷ next ∷ fields) =
     let e = length-append field (32 ∷ spaced (next ∷ fields) []) in
     let k = length_spaced (next ∷ fields) in omega arith
 
-text_again : (fields : List (List ℕ)) → AllByRecursion IsField fields → total fields ≤ 4096 → text_of (spaced fields []) ≡ Ok (spaced fields [])
+text_again : (fields : List (List ℕ)) → AllByRecursion IsField fields → total fields ≤ 4096 → line_text (spaced fields []) ≡ Ok (spaced fields [])
 text_again fields all few =
     let k = length_spaced fields in
     let short : nat_lt 4096 (length (spaced fields [])) ≡ false = grind (arith, nat_tests) in
@@ -93,7 +93,7 @@ text_again fields all few =
 
 -- what a line of fields says
 pub entry_again : (version : Version) (place : Place) (live : Bool) (field : List ℕ) (fields : List (List ℕ)) → AllByRecursion IsField (field ∷ fields) → total (field ∷ fields) ≤ 4096
-    → entry_of version place live (spaced (field ∷ fields) []) ≡ placed version place live (word_of version field) fields
+    → entry_in_line version place live (spaced (field ∷ fields) []) ≡ placed version place live (word_of version field) fields
 entry_again version place live field fields all few =
-    ap (λ r. r >>= λ text. worded version place live (fields_of text)) (text_again (field ∷ fields) all few)
+    ap (λ r. r >>= λ text. worded version place live (split_fields text)) (text_again (field ∷ fields) all few)
     ∙ ap (worded version place live) (fields_again field fields all)

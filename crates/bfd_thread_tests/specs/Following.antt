@@ -3,14 +3,14 @@ use Rattle.std.specs.Prelude.{◌≡◌, List}
 use Rattle.bfd_shard.specs.declared.entry.Entry.{Entry}
 use Rattle.bfd_shard.specs.History.{events_of}
 use Rattle.bfd_watch.specs.declared.change.Change.{Change}
-use Rattle.bfd_watch.specs.Changes.{changes}
+use Rattle.bfd_watch.specs.Changes.{history_changes}
 use Rattle.bfd_watch.specs.Watching.{Watching}
 
 -- these are the changes of the entries that the watch has taken: each once and in order
-abbrev pub AreTold : Watching → List Change → Type 0
-AreTold watch told = told ≡ changes watch.configs (events_of watch.entries)
+abbrev pub AreItsChanges : Watching → List Change → Type 0
+AreItsChanges watch told = told ≡ history_changes watch.configs (events_of watch.entries)
 
 -- a client whose watch has taken these entries, and which was told their changes
-pub record IsTold (seen : List Entry) (watch : Watching) (told : List Change) : Type 0 where
+pub record IsClientTold (seen : List Entry) (watch : Watching) (told : List Change) : Type 0 where
   pub taken : watch.entries ≡ seen
-  pub changes_are : AreTold watch told
+  pub changes_are : AreItsChanges watch told

@@ -4,9 +4,9 @@ ghost use Rattle.std.specs.List.{All};
 ghost use Rattle.bfd_engine.specs.Calls.{seen_at};
 ghost use Rattle.bfd_engine.specs.Engines.{IsOf, AllThere};
 ghost use Rattle.bfd_engine_use.specs.Calling.{HasGrown};
-ghost use Rattle.bfd_thread_tests.specs.Following.{AreTold, IsTold};
+ghost use Rattle.bfd_thread_tests.specs.Following.{AreItsChanges, IsClientTold};
 ghost use Rattle.bfd_engine_use.specs.Joining.{HasOpen};
-ghost use Rattle.bfd_engine_use.specs.Ready.{IsReady, number_of};
+ghost use Rattle.bfd_engine_use.specs.Ready.{IsJobReady, number_of};
 
 use crate::eight::calls;
 use crate::engine::{configs_of, opened};
@@ -29,7 +29,7 @@ struct Client {
 /// A client that has taken no entry.
 #[tactic(auto, unfolding(bfd_watch::specs::Changes::changes_from, bfd_watch::specs::Changes::outcomes_after))]
 fn new_client(alloc: Global) -> Option<Client>
-    ensures { IfSome result (λ client. IsTold [] client.watch client.told.items) }
+    ensures { IfSome result (λ client. IsClientTold [] client.watch client.told.items) }
 {
     let configs = configs_of(alloc, 0).ok()?;
     let watch = Watch::make(alloc, configs, 100_000).ok()?;
@@ -41,8 +41,8 @@ fn new_client(alloc: Global) -> Option<Client>
 
 /// The next entry of the shard. None where it is none of the shard's, or for want of memory.
 fn take(client: &mut Client, entry: Entry) -> Option<()>
-    requires told { AreTold client.old.watch client.old.told.items }
-    ensures told { IfSome result (λ _. AreTold client.new.watch client.new.told.items) }
+    requires told { AreItsChanges client.old.watch client.old.told.items }
+    ensures told { IfSome result (λ _. AreItsChanges client.new.watch client.new.told.items) }
     ensures taken { IfSome result (λ _. client.new.watch.entries ≡ client.old.watch.entries ++ entry ∷ []) }
 {
     if !client.watch.takes(&entry) {
@@ -56,8 +56,8 @@ fn take(client: &mut Client, entry: Entry) -> Option<()>
 
 /// The next entries of the shard.
 fn take_all(alloc: Global, client: &mut Client, list: &[Entry]) -> Option<()>
-    requires told { AreTold client.old.watch client.old.told.items }
-    ensures told { IfSome result (λ _. AreTold client.new.watch client.new.told.items) }
+    requires told { AreItsChanges client.old.watch client.old.told.items }
+    ensures told { IfSome result (λ _. AreItsChanges client.new.watch client.new.told.items) }
     ensures taken { IfSome result (λ _. client.new.watch.entries ≡ client.old.watch.entries ++ list.now) }
 {
     for entry in list {
@@ -80,7 +80,7 @@ fn start<W: Timers, R: Wait>(
     ensures of { IsOf engine.now pass.new.1 }
     ensures there { AllThere pass.new.1 }
     ensures grown { HasGrown pass.old pass.new }
-    ensures told { IfSome result (λ client. IsTold (seen_at pass.new 0) client.watch client.told.items) }
+    ensures told { IfSome result (λ client. IsClientTold (seen_at pass.new 0) client.watch client.told.items) }
 {
     let mut client = new_client(alloc)?;
     let mut list = Vec::new(alloc);
@@ -103,11 +103,11 @@ fn poll<W: Timers, R: Wait>(
     requires of { IsOf engine.now pass.old.1 }
     requires there { AllThere pass.old.1 }
     requires shards { length engine.now.locks ≡ 3 }
-    requires told { IsTold (seen_at pass.old 0) client.old.watch client.old.told.items }
+    requires told { IsClientTold (seen_at pass.old 0) client.old.watch client.old.told.items }
     ensures of { IsOf engine.now pass.new.1 }
     ensures there { AllThere pass.new.1 }
     ensures grown { HasGrown pass.old pass.new }
-    ensures told { IfSome result (λ _. IsTold (seen_at pass.new 0) client.new.watch client.new.told.items) }
+    ensures told { IfSome result (λ _. IsClientTold (seen_at pass.new 0) client.new.watch client.new.told.items) }
 {
     let mut list = Vec::new(alloc);
     let from = client.watch.taken();
@@ -129,11 +129,11 @@ fn polls<W: Timers, R: Wait>(
     requires of { IsOf engine.now pass.old.1 }
     requires there { AllThere pass.old.1 }
     requires shards { length engine.now.locks ≡ 3 }
-    requires told { IsTold (seen_at pass.old 0) client.old.watch client.old.told.items }
+    requires told { IsClientTold (seen_at pass.old 0) client.old.watch client.old.told.items }
     ensures of { IsOf engine.now pass.new.1 }
     ensures there { AllThere pass.new.1 }
     ensures grown { HasGrown pass.old pass.new }
-    ensures told { IfSome result (λ _. IsTold (seen_at pass.new 0) client.new.watch client.new.told.items) }
+    ensures told { IfSome result (λ _. IsClientTold (seen_at pass.new 0) client.new.watch client.new.told.items) }
 {
     for count in 0u32..500 {
         poll(rt, alloc, engine, pass, client)?;
@@ -152,27 +152,27 @@ fn beside<W: Timers + Send, R: Threads + Wait + Sync>(
     client: &mut Client,
 ) -> Option<()>
     requires passes { HasOpen engine.now first.old (map number_of jobs.old) }
-    requires ready { All (λ (j : _). IsReady engine.now j) jobs.old }
+    requires ready { All (λ (j : _). IsJobReady engine.now j) jobs.old }
     requires shards { length engine.now.locks ≡ 3 }
-    requires told { IsTold (seen_at first.old 0) client.old.watch client.old.told.items }
+    requires told { IsClientTold (seen_at first.old 0) client.old.watch client.old.told.items }
     ensures long { length jobs.new ≡ length jobs.old }
     ensures passes { HasOpen engine.now first.new (map number_of jobs.new) }
-    ensures ready { All (λ (j : _). IsReady engine.now j) jobs.new }
-    ensures told { IfSome result (λ _. IsTold (seen_at first.new 0) client.new.watch client.new.told.items) }
+    ensures ready { All (λ (j : _). IsJobReady engine.now j) jobs.new }
+    ensures told { IfSome result (λ _. IsClientTold (seen_at first.new 0) client.new.watch client.new.told.items) }
 {
     let mut polled = || -> Option<()>
         requires { IsOf engine.now first.now.1 × AllThere first.now.1 × (length engine.now.locks ≡ 3)
-            × IsTold (seen_at first.now 0) client.now.watch client.now.told.items }
+            × IsClientTold (seen_at first.now 0) client.now.watch client.now.told.items }
         ensures of { IsOf engine.entry.now first.exit.now.1 }
         ensures there { AllThere first.exit.now.1 }
         ensures grown { HasGrown first.entry.now first.exit.now }
-        ensures told { IfSome result (λ _. IsTold (seen_at first.exit.now 0)
+        ensures told { IfSome result (λ _. IsClientTold (seen_at first.exit.now 0)
             client.exit.now.watch client.exit.now.told.items) }
     { polls(rt, alloc, engine, first, client) };
     let mut worked = ||
-        requires { All (λ (j : _). IsReady engine.now j) jobs.now }
+        requires { All (λ (j : _). IsJobReady engine.now j) jobs.now }
         ensures long { length jobs.exit.now ≡ length jobs.entry.now }
-        ensures ready { All (λ (j : _). IsReady engine.entry.now j) jobs.exit.now }
+        ensures ready { All (λ (j : _). IsJobReady engine.entry.now j) jobs.exit.now }
         ensures numbers { map number_of jobs.exit.now ≡ map number_of jobs.entry.now }
     { at_once(rt, alloc, engine, jobs) };
     let (_, told) = join_mut(rt, &mut worked, &mut polled);

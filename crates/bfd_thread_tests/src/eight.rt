@@ -2,7 +2,7 @@
 ghost use Rattle.std.specs.Prelude.{◌≡◌, ◌<◌, [], IfSome, length, map};
 ghost use Rattle.std.specs.List.{All};
 ghost use Rattle.bfd_engine_use.specs.Joining.{HasOpen};
-ghost use Rattle.bfd_engine_use.specs.Ready.{IsReady, number_of};
+ghost use Rattle.bfd_engine_use.specs.Ready.{IsJobReady, number_of};
 
 use crate::engine::{Plain, fresh, opened, play};
 use bfd_engine::EnginePass;
@@ -183,7 +183,7 @@ fn jobs(alloc: Global, engine: &Plain, first: &mut EnginePass) -> Option<Vec<Job
     requires used { first.old.2 ≡ 0 }
     requires configs { length engine.now.configs ≡ 4 }
     ensures passes { IfSome result (λ list. HasOpen engine.now first.new (map number_of list.items)) }
-    ensures ready { IfSome result (λ list. All (λ (j : _). IsReady engine.now j) list.items) }
+    ensures ready { IfSome result (λ list. All (λ (j : _). IsJobReady engine.now j) list.items) }
 {
     let mut list = Vec::new(alloc);
     for number in 0..8 {

@@ -15,7 +15,7 @@ use Rattle.bfd_turn.specs.declared.view.Role.{Role}
 use Rattle.bfd_turn.specs.declared.view.Role.TheVariants.{Idle, Holding, Joined}
 use Rattle.bfd_turn.specs.Lists.{Begins, calls}
 use Rattle.bfd_turn.specs.Plays.{AllKept}
-use Rattle.bfd_turn.specs.Rule.{total, Fits, AtHome, Out, Keeps}
+use Rattle.bfd_turn.specs.Rule.{total_taken, Fits, AtHome, Out, Keeps}
 use Rattle.bfd_turn.proofs.Beginnings.{begins_through}
 use Rattle.bfd_turn.proofs.Seats.{at_below, at_same}
 
@@ -73,7 +73,7 @@ module _ {V N B : Type 0} (notes : V → List N) (base : V → B) (h : List N) (
   Place now s = AtHome notes base h lb now s ⊎ Out h now (s.homes ≡ none ∷ []) s.views
 
   -- the value stays where it is, and who holds the turn holds it still
-  pub place_moves : (s : State (Option V) (View N B)) (words : List ℕ) (views : List (View N B)) (now : ℕ) → total views ≡ total s.views
+  pub place_moves : (s : State (Option V) (View N B)) (words : List ℕ) (views : List (View N B)) (now : ℕ) → total_taken views ≡ total_taken s.views
       → ((j : ℕ) (u : View N B) → get_elem? s.views j ≡ some u → u.role ≡ Holding → get_elem? views j ≡ some u)
       → ((j : ℕ) (u : View N B) → get_elem? views j ≡ some u → u.role ≡ Holding → get_elem? s.views j ≡ some u)
       → Place now s → Place now record { words = words; homes = s.homes; views = views }

@@ -8,7 +8,7 @@ use Rattle.bfd_turn.specs.declared.view.View.{View}
 use Rattle.bfd_turn.specs.declared.view.Role.TheVariants.{Idle, Holding, Joined}
 use Rattle.bfd_turn.specs.Views.{newcomer, met}
 use Rattle.bfd_turn.specs.Plays.{Shows, looked, checked}
-use Rattle.bfd_turn.specs.Rule.{total, Fits, Keeps}
+use Rattle.bfd_turn.specs.Rule.{total_taken, Fits, Keeps}
 use Rattle.bfd_turn.proofs.Beginnings.{begins_begins}
 use Rattle.bfd_turn.proofs.Seats.{put, put_here, total_set}
 use Rattle.bfd_turn.proofs.Kept.{idle_holds_not, idle_lives, quiet_to, quiet_from, Place, place_moves, one_seat}
@@ -71,7 +71,7 @@ module _ {V N B : Type 0} (notes : V → List N) (by : N → ℕ) (base : V → 
   pub reads : (s : State (Option V) (View N B)) (k : Rule s) (i : ℕ) (v : View N B) (word : ℕ) → get_elem? s.views i ≡ some v → v.role ≡ Idle → word ≤ k.now
       → Rule record { words = set s.words 0 (get_or s.words 0 0); homes = s.homes; views = set s.views i (met word v) }
   reads s k i v word at idle le = let n : ℕ = get_or s.words 0 0 in let is : n ≡ k.now = word_is s k in let room = k.room in let f = fits_of s k i v at idle in
-      let sum : total (set s.views i (met word v)) + v.taken ≡ total s.views + v.taken = total_set s.views i v (met word v) at in
+      let sum : total_taken (set s.views i (met word v)) + v.taken ≡ total_taken s.views + v.taken = total_set s.views i v (met word v) at in
       let place : Place notes base k.history k.lock_base n s = subst (λ m. Place notes base k.history k.lock_base m s) (sym is) k.place in
       one_seat notes by base s k (set s.words 0 n) s.homes n i v (met word v) at (idle_lives v.role idle) (ap (λ ws. set ws 0 n) k.words) (omega arith) (omega arith)
       (place_moves notes base k.history k.lock_base s (set s.words 0 n) (set s.views i (met word v)) n (omega arith)

@@ -9,7 +9,7 @@ use native.Mathlib.Decide.{ℕ_discrete}
 use lib.ListN.{get_elem?}
 use Rattle.bfd_turn.specs.declared.view.View.{View}
 use Rattle.bfd_turn.specs.Lists.{has, numbers_of}
-use Rattle.bfd_turn.specs.Rule.{total}
+use Rattle.bfd_turn.specs.Rule.{total_taken}
 
 pub has_older : (k : ℕ) (ms : List ℕ) (n : ℕ) → has k ms ≡ true → has k (ms ++ n ∷ []) ≡ true
 has_older k [] n e = absurd cc
@@ -76,21 +76,21 @@ module _ {A : Type 0} where
   at_newest (x ∷ xs) a b (suc j) e = ⊎_elim (λ t. let p = t.0 in inl (omega arith, t.1)) (λ t. let p = t.0 in inr (omega arith, t.1)) (at_newest xs a b j e)
 
 module _ {N B : Type 0} where
-  pub total_set : (views : List (View N B)) (i : ℕ) (v w : View N B) → get_elem? views i ≡ some v → total (set views i w) + v.taken ≡ total views + w.taken
+  pub total_set : (views : List (View N B)) (i : ℕ) (v w : View N B) → get_elem? views i ≡ some v → total_taken (set views i w) + v.taken ≡ total_taken views + w.taken
   total_set [] i v w e = absurd (some-ne-none v (sym e))
   total_set (u ∷ us) zero v w e = let p : u.taken ≡ v.taken = ap (λ (x : View N B). x.taken) (some-injective u v e) in omega arith
   total_set (u ∷ us) (suc i) v w e = let p = total_set us i v w e in omega arith
 
-  pub total_newest : (views : List (View N B)) (w : View N B) → total (views ++ w ∷ []) ≡ total views + w.taken
+  pub total_newest : (views : List (View N B)) (w : View N B) → total_taken (views ++ w ∷ []) ≡ total_taken views + w.taken
   total_newest [] w = omega arith
   total_newest (u ∷ us) w = let p = total_newest us w in omega arith
 
-  none_taken : (views : List (View N B)) → ((j : ℕ) (u : View N B) → get_elem? views j ≡ some u → u.taken ≡ 0) → total views ≡ 0
+  none_taken : (views : List (View N B)) → ((j : ℕ) (u : View N B) → get_elem? views j ≡ some u → u.taken ≡ 0) → total_taken views ≡ 0
   none_taken [] h = refl
   none_taken (u ∷ us) h = let p = h 0 u refl in let q = none_taken us (λ j x e. h (suc j) x e) in omega arith
 
   -- where no other view has given back a turn
-  pub total_one : (views : List (View N B)) (i : ℕ) (v : View N B) → get_elem? views i ≡ some v → ((j : ℕ) (u : View N B) → get_elem? views j ≡ some u → j ≢ i → u.taken ≡ 0) → total views ≡ v.taken
+  pub total_one : (views : List (View N B)) (i : ℕ) (v : View N B) → get_elem? views i ≡ some v → ((j : ℕ) (u : View N B) → get_elem? views j ≡ some u → j ≢ i → u.taken ≡ 0) → total_taken views ≡ v.taken
   total_one [] i v e h = absurd (some-ne-none v (sym e))
   total_one (u ∷ us) zero v e h =
       let p : u.taken ≡ v.taken = ap (λ (x : View N B). x.taken) (some-injective u v e) in

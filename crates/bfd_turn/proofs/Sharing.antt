@@ -18,7 +18,7 @@ use Rattle.bfd_turn.specs.Lists.{Begins, longer, calls, has, numbers_of}
 use Rattle.bfd_turn.specs.Views.{known, parent, offspring, glued, joined_view}
 use Rattle.bfd_turn.specs.Plays.{AllKept}
 use Rattle.bfd_turn.specs.Passes.{IsNew, AllJoined}
-use Rattle.bfd_turn.specs.Rule.{total, Fits, AtHome}
+use Rattle.bfd_turn.specs.Rule.{total_taken, Fits, AtHome}
 use Rattle.bfd_turn.proofs.Beginnings.{begins_itself, begins_begins, begins_whole, longer_begins, shorter_begins, longer_length, calls_front, calls_between}
 use Rattle.bfd_turn.proofs.Seats.{has_above, has_older, has_either, has_not, put, put_here, put_else, put_none, at_below, at_same, at_newest, total_set, total_newest, total_one}
 use Rattle.bfd_turn.proofs.Kept.{idle_holds_not, idle_lives, holding_lives, no_place, one_place, fits_moved, kept_of, quiet_to, quiet_from, place_moves}
@@ -36,8 +36,8 @@ module _ {V N B : Type 0} (notes : V → List N) (by : N → ℕ) (base : V → 
       let ls : List (View N B) = set s.views id l in
       let there = at_below s.views id v at in
       let made : List ℕ = k.made ++ n ∷ [] in let seat : ℕ → Option ℕ = put k.seat n (Some (length ls)) in
-      let sum : total ls + v.taken ≡ total s.views + v.taken = total_set s.views id v l at in
-      let sum' : total (ls ++ r ∷ []) ≡ total ls + 0 = total_newest ls r in
+      let sum : total_taken ls + v.taken ≡ total_taken s.views + v.taken = total_set s.views id v l at in
+      let sum' : total_taken (ls ++ r ∷ []) ≡ total_taken ls + 0 = total_newest ls r in
       let older : (j : ℕ) (u : View N B) → get_elem? (ls ++ r ∷ []) j ≡ some u → (get_elem? ls j ≡ some u) ⊎ ((j ≡ length ls) × (r ≡ u)) = λ j u e. ⊎_elim (λ (t : (j < length ls) × (get_elem? ls j ≡ some u)). inl t.1) (λ (t : (j ≡ length ls) × (r ≡ u)). inr t) (at_newest ls r u j e) in
       record {
         history = k.history;
@@ -115,8 +115,8 @@ module _ {V N B : Type 0} (notes : V → List N) (by : N → ℕ) (base : V → 
       let g = fits_of notes by base s k od w atw idle' in
       let m : ℕ = w.number in
       let l1 : List (View N B) = set s.views id b in let l2 : List (View N B) = set l1 od joined_view in
-      let sum : total l1 + v.taken ≡ total s.views + (v.taken + w.taken) = total_set s.views id v b at in
-      let sum' : total l2 + w.taken ≡ total l1 + 0 = total_set l1 od w joined_view at' in
+      let sum : total_taken l1 + v.taken ≡ total_taken s.views + (v.taken + w.taken) = total_set s.views id v b at in
+      let sum' : total_taken l2 + w.taken ≡ total_taken l1 + 0 = total_set l1 od w joined_view at' in
       let seat : ℕ → Option ℕ = put k.seat m None in
       let joined : List (ℕ × List N) = k.joined ++ (m, calls by m w.seen) ∷ [] in
       let lb : Begins (longer v.seen w.seen) k.history = longer_begins v.seen w.seen k.history f.seen g.seen in
@@ -224,7 +224,7 @@ module _ {V N B : Type 0} (notes : V → List N) (by : N → ℕ) (base : V → 
         | Holding ↦ λ j u is e ne. absurd (ne (only j u e (holding_lives u.role is)))
         | Joined ↦ λ j u is e ne. k.spent j u e is
       ] in
-      let sum : total s.views ≡ v.taken = total_one s.views id v at (λ j u e ne. none_else u.role j u refl e ne) in
+      let sum : total_taken s.views ≡ v.taken = total_one s.views id v at (λ j u e ne. none_else u.role j u refl e ne) in
       let reached = f.word in let even = a.even in
       record {
         value = a.value;

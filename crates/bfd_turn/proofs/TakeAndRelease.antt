@@ -14,7 +14,7 @@ use Rattle.bfd_turn.specs.Lists.{Begins, calls}
 use Rattle.bfd_turn.specs.Views.{known, met, holding, idle_after}
 use Rattle.bfd_turn.specs.Plays.{Lent, took, released}
 use Rattle.bfd_turn.specs.Passes.{Grows}
-use Rattle.bfd_turn.specs.Rule.{total, Fits, AtHome, Out}
+use Rattle.bfd_turn.specs.Rule.{total_taken, Fits, AtHome, Out}
 use Rattle.bfd_turn.proofs.Beginnings.{begins_itself, begins_through, calls_added, calls_other}
 use Rattle.bfd_turn.proofs.Seats.{at_below, at_same, total_set, has_number}
 use Rattle.bfd_turn.proofs.Kept.{idle_holds_not, idle_lives, holding_lives, no_place, one_place, fits_moved, kept_of, one_seat}
@@ -33,7 +33,7 @@ module _ {V N B : Type 0} (notes : V → List N) (by : N → ℕ) (base : V → 
       let f = fits_of notes by base s k id v at idle in let reached = f.word in let now_is : k.now ≡ read = sym is ∙ hit in
       let a = home_at_even s k (ap (λ (m : ℕ). m % 2) now_is ∙ even) in let twice = a.even in
       let x : V = a.value in let w : View N B = holding (notes x) (n + 1) v in
-      let sum : total (set s.views id w) + v.taken ≡ total s.views + v.taken = total_set s.views id v w at in
+      let sum : total_taken (set s.views id w) + v.taken ≡ total_taken s.views + v.taken = total_set s.views id v w at in
       let seen_all : notes x ≡ k.history = a.notes_are in
       let after : State (Option V) (View N B) = record { words = set s.words 0 (read + 1); homes = set s.homes 0 none; views = set s.views id w } in
       let out : Out k.history (read + 1) (set s.homes 0 none ≡ none ∷ []) (set s.views id w) = record {
@@ -111,7 +111,7 @@ module _ {V N B : Type 0} (notes : V → List N) (by : N → ℕ) (base : V → 
       let at_word : v.word ≡ k.now = sym (ap (λ (u : View N B). u.word) mine) ∙ o.word in
       let odd = o.odd in let room = k.room in
       let w : View N B = idle_after (notes x) v in
-      let sum : total (set s.views id w) + v.taken ≡ total s.views + (v.taken + 1) = total_set s.views id v w at in
+      let sum : total_taken (set s.views id w) + v.taken ≡ total_taken s.views + (v.taken + 1) = total_set s.views id v w at in
       let more : Begins k.history (notes x) = subst (λ h. Begins h (notes x)) seen_all (grown v x grows) in
       let else_same : (n : ℕ) → n ≢ v.number → calls by n (notes x) ≡ calls by n k.history = λ n other. grown_else v x n other grows ∙ ap (calls by n) seen_all in
       let base_is : base x ≡ k.lock_base = one_place v.base (base x) k.lock_base (sym same_base) f.base in

@@ -7,8 +7,8 @@ use Rattle.bfd_turn.specs.Plays.{Adds, AllKept}
 
 module _ {N B : Type 0} where
   -- caller 0 of a new lock
-  abbrev pub opened : B → ℕ → Known N B
-  opened base turns = record { number = 0; base = Some base; seen = []; word = 2 * turns; taken = turns; made = []; joined = [] }
+  abbrev pub opened_pass : B → ℕ → Known N B
+  opened_pass base turns = record { number = 0; base = Some base; seen = []; word = 2 * turns; taken = turns; made = []; joined = [] }
 
   -- caller 0, once it has made the pass n
   abbrev pub having_made : ℕ → Known N B → Known N B
@@ -68,8 +68,8 @@ module _ {N B : Type 0} where
   IsBack id v n p = (p.0 ≡ id) × (p.1 ≡ having_met n v)
 
   -- a pass of this lock, with the number, the passes made and those joined as they were
-  abbrev pub IsOf : TableId → Known N B → TableId × Known N B → Type 0
-  IsOf id v p = (p.0 ≡ id) × (p.1.number ≡ v.number) × (p.1.made ≡ v.made) × (p.1.joined ≡ v.joined)
+  abbrev pub IsPassOf : TableId → Known N B → TableId × Known N B → Type 0
+  IsPassOf id v p = (p.0 ≡ id) × (p.1.number ≡ v.number) × (p.1.made ≡ v.made) × (p.1.joined ≡ v.joined)
 
   -- the word read was odd, or the exchange found another word
   abbrev pub WasBusy : Known N B → ℕ → ℕ → Type 0

@@ -9,9 +9,9 @@ use Rattle.bfd_turn.specs.Lists.{Begins, calls, has, numbers_of}
 
 module _ {N B : Type 0} where
   -- the turns given back, over all views
-  abbrev pub total : List (View N B) → ℕ
-  total [] = 0
-  total (v ∷ vs) = v.taken + total vs
+  abbrev pub total_taken : List (View N B) → ℕ
+  total_taken [] = 0
+  total_taken (v ∷ vs) = v.taken + total_taken vs
 
   -- what a live view knows is true of the one history, and it alone has its number
   pub record Fits (by : N → ℕ) (history : List N) (lock_base : B) (now : ℕ) (made : List ℕ) (joined : List (ℕ × List N)) (seat : ℕ → Option ℕ) (i : ℕ) (v : View N B) : Type 0 where
@@ -32,7 +32,7 @@ module _ {V N B : Type 0} where
     pub home : s.homes ≡ some (Some value) ∷ []
     pub notes_are : notes value ≡ history
     pub base_is : base value ≡ lock_base
-    pub even : now ≡ 2 * total s.views
+    pub even : now ≡ 2 * total_taken s.views
     pub nobody : (i : ℕ) (v : View N B) → get_elem? s.views i ≡ some v → v.role ≢ Holding
 
 module _ {N B : Type 0} where
@@ -44,7 +44,7 @@ module _ {N B : Type 0} where
     pub holds : view.role ≡ Holding
     pub seen : view.seen ≡ history
     pub word : view.word ≡ now
-    pub odd : now ≡ 2 * total views + 1
+    pub odd : now ≡ 2 * total_taken views + 1
     pub away : homes_out
     pub alone : (i : ℕ) (v : View N B) → get_elem? views i ≡ some v → v.role ≡ Holding → i ≡ holder
 

@@ -4,7 +4,7 @@ ghost use Rattle.bfd_turn.specs.Lists.{Begins, calls, has};
 ghost use Rattle.bfd_turn.specs.Views.{known};
 ghost use Rattle.bfd_turn.specs.declared.view.Role.TheVariants.{Holding};
 ghost use Rattle.bfd_turn.specs.Plays.{AllKept};
-ghost use Rattle.bfd_turn.specs.Passes.{opened, having_made, made_by, having_joined, having_done, IsLent, Grows, IsNew, AllJoined};
+ghost use Rattle.bfd_turn.specs.Passes.{opened_pass, having_made, made_by, having_joined, having_done, IsLent, Grows, IsNew, AllJoined};
 ghost use Rattle.bfd_turn.specs.Refusals.{IsRefused, IsUsedUp};
 
 use crate::board::{Board, Opening, Place};
@@ -51,7 +51,7 @@ impl<V: Recorded> TurnLock<V> {
         V: Drop,
         requires turns { turns < 2 ^ 63 }
         requires fresh { V.noted value ≡ [] }
-        ensures { IfOk result (λ r. r.1 ≡ (r.0, opened (V.base value) turns)) }
+        ensures { IfOk result (λ r. r.1 ≡ (r.0, opened_pass (V.base value) turns)) }
     {
         let about = Opening {
             value: Snapshot::of(&value),

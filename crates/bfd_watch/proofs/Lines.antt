@@ -6,7 +6,7 @@ use Rattle.bfd_watch.specs.declared.change.Change.{Change}
 use Rattle.bfd_watch.specs.declared.group.Member.{Member}
 use Rattle.bfd_watch.specs.Changes.{changes_in, changes_from}
 use Rattle.bfd_watch.specs.Groups.{Group, group, heard, member_after, group_after}
-use Rattle.bfd_watch.specs.Watched.{event_lines, lines_from}
+use Rattle.bfd_watch.specs.Watched.{watched_lines, watched_lines_from}
 use Rattle.bfd_watch.proofs.Telling.{from_more}
 
 -- no change leaves a group as it is
@@ -30,37 +30,37 @@ group_twice cs ds g = ap (group g.need) (members_twice cs ds g.members)
 
 -- one event more
 
-first : (n : ℕ) (o : Outcome) (g : Group) → lines_from n (o ∷ []) g ≡ event_lines (n + 0) (changes_in (n + 0) o.items) (group_after [] g)
-unfolding lines_from
+first : (n : ℕ) (o : Outcome) (g : Group) → watched_lines_from n (o ∷ []) g ≡ watched_lines (n + 0) (changes_in (n + 0) o.items) (group_after [] g)
+unfolding watched_lines_from
 first n o g =
     let same : n ≡ n + 0 = omega arith in
-    append-nil (event_lines n (changes_in n o.items) g)
-    ∙ (ap (λ k. event_lines k (changes_in k o.items) g) same
-    ∙ ap (λ h. event_lines (n + 0) (changes_in (n + 0) o.items) h) (sym (none_heard g)))
+    append-nil (watched_lines n (changes_in n o.items) g)
+    ∙ (ap (λ k. watched_lines k (changes_in k o.items) g) same
+    ∙ ap (λ h. watched_lines (n + 0) (changes_in (n + 0) o.items) h) (sym (none_heard g)))
 
 more_from : (n : ℕ) (os : List Outcome) (o : Outcome) (g : Group)
-    → lines_from n (os ++ o ∷ []) g
-    ≡ lines_from n os g ++ event_lines (n + length os) (changes_in (n + length os) o.items) (group_after (changes_from n os) g)
-unfolding lines_from changes_from
+    → watched_lines_from n (os ++ o ∷ []) g
+    ≡ watched_lines_from n os g ++ watched_lines (n + length os) (changes_in (n + length os) o.items) (group_after (changes_from n os) g)
+unfolding watched_lines_from changes_from
 more_from n [] o g = first n o g
 more_from n (x ∷ os) o g =
     let here : List Change = changes_in n x.items in
     let next : n + 1 + length os ≡ n + length (x ∷ os) = omega arith in
-    ap (λ ls. event_lines n here g ++ ls)
+    ap (λ ls. watched_lines n here g ++ ls)
     (more_from (n + 1) os o (group_after here g)
-    ∙ (ap (λ k. lines_from (n + 1) os (group_after here g)
-    ++ event_lines k (changes_in k o.items) (group_after (changes_from (n + 1) os) (group_after here g))) next
-    ∙ ap (λ h. lines_from (n + 1) os (group_after here g) ++ event_lines (n + length (x ∷ os)) (changes_in (n + length (x ∷ os)) o.items) h)
+    ∙ (ap (λ k. watched_lines_from (n + 1) os (group_after here g)
+    ++ watched_lines k (changes_in k o.items) (group_after (changes_from (n + 1) os) (group_after here g))) next
+    ∙ ap (λ h. watched_lines_from (n + 1) os (group_after here g) ++ watched_lines (n + length (x ∷ os)) (changes_in (n + length (x ∷ os)) o.items) h)
     (sym (group_twice here (changes_from (n + 1) os) g))))
-    ∙ sym (append_assoc (event_lines n here g) (lines_from (n + 1) os (group_after here g))
-    (event_lines (n + length (x ∷ os)) (changes_in (n + length (x ∷ os)) o.items) (group_after (here ++ changes_from (n + 1) os) g)))
+    ∙ sym (append_assoc (watched_lines n here g) (watched_lines_from (n + 1) os (group_after here g))
+    (watched_lines (n + length (x ∷ os)) (changes_in (n + length (x ∷ os)) o.items) (group_after (here ++ changes_from (n + 1) os) g)))
 
 pub lines_more : (os : List Outcome) (o : Outcome) (g : Group)
-    → lines_from 1 (os ++ o ∷ []) g
-    ≡ lines_from 1 os g ++ event_lines (length os + 1) (changes_in (length os + 1) o.items) (group_after (changes_from 1 os) g)
+    → watched_lines_from 1 (os ++ o ∷ []) g
+    ≡ watched_lines_from 1 os g ++ watched_lines (length os + 1) (changes_in (length os + 1) o.items) (group_after (changes_from 1 os) g)
 lines_more os o g =
     let number : 1 + length os ≡ length os + 1 = omega arith in
-    more_from 1 os o g ∙ ap (λ k. lines_from 1 os g ++ event_lines k (changes_in k o.items) (group_after (changes_from 1 os) g)) number
+    more_from 1 os o g ∙ ap (λ k. watched_lines_from 1 os g ++ watched_lines k (changes_in k o.items) (group_after (changes_from 1 os) g)) number
 
 pub group_more : (os : List Outcome) (o : Outcome) (g : Group)
     → group_after (changes_from 1 (os ++ o ∷ [])) g

@@ -10,7 +10,7 @@ use Rattle.bfd_shard.specs.declared.entry.ShardEvent.{ShardEvent}
 use Rattle.bfd_shard.specs.declared.entry.Entry.{Entry}
 use Rattle.bfd_shard.specs.History.{events_of, last_tick, runs, outcome_of}
 use Rattle.bfd_watch.specs.declared.change.Change.{Change}
-use Rattle.bfd_watch.specs.Changes.{changes_in, changes_from, outcomes_after, outcomes, changes}
+use Rattle.bfd_watch.specs.Changes.{changes_in, changes_from, outcomes_after, history_outcomes, history_changes}
 use Rattle.bfd_watch.specs.Watching.{watching}
 
 -- an event more
@@ -28,7 +28,7 @@ outcomes_more configs past (x ∷ es) e =
     (append_assoc past (x ∷ []) es))
 
 pub outcomes_grow : (configs : List SessionConfig) (es : List ShardEvent) (e : ShardEvent)
-    → outcomes configs (es ++ e ∷ []) ≡ outcomes configs es ++ outcome_of (last_tick es) e (runs es configs) ∷ []
+    → history_outcomes configs (es ++ e ∷ []) ≡ history_outcomes configs es ++ outcome_of (last_tick es) e (runs es configs) ∷ []
 outcomes_grow configs es e = outcomes_more configs [] es e
 
 outcomes_long : (configs : List SessionConfig) (past es : List ShardEvent) → length (outcomes_after configs past es) ≡ length es
@@ -46,31 +46,31 @@ from_more n (x ∷ os) o =
     ∙ sym (append_assoc (changes_in n x.items) (changes_from (n + 1) os) (changes_in (n + length (x ∷ os)) o.items))
 
 pub changes_more : (configs : List SessionConfig) (es : List ShardEvent) (e : ShardEvent)
-    → changes configs (es ++ e ∷ []) ≡ changes configs es ++ changes_in (length es + 1) (outcome_of (last_tick es) e (runs es configs)).items
+    → history_changes configs (es ++ e ∷ []) ≡ history_changes configs es ++ changes_in (length es + 1) (outcome_of (last_tick es) e (runs es configs)).items
 changes_more configs es e =
     let o : Outcome = outcome_of (last_tick es) e (runs es configs) in
     let long = outcomes_long configs [] es in
     let number : 1 + length (outcomes_after configs [] es) ≡ length es + 1 = omega (arith, long) in
     ap (changes_from 1) (outcomes_more configs [] es e)
-    ∙ (from_more 1 (outcomes_after configs [] es) o ∙ ap (λ k. changes configs es ++ changes_in k o.items) number)
+    ∙ (from_more 1 (outcomes_after configs [] es) o ∙ ap (λ k. history_changes configs es ++ changes_in k o.items) number)
 
 -- what a watch has told of all the entries that it took, with one more
 pub whole_more : (configs configs2 : List SessionConfig) (js js2 : List Entry) (entry : Entry) (told more : List Change) → configs2 ≡ configs
     → js2 ≡ js ++ entry ∷ []
     → more ≡ told ++ changes_in (length js + 1) (outcome_of (last_tick (events_of js)) entry.event (runs (events_of js) configs)).items
-    → (before : List Change) → told ≡ before ++ changes configs (events_of js) → more ≡ before ++ changes configs2 (events_of js2)
+    → (before : List Change) → told ≡ before ++ history_changes configs (events_of js) → more ≡ before ++ history_changes configs2 (events_of js2)
 whole_more configs configs2 js js2 entry told more same grown added before so_far =
     let o : Outcome = outcome_of (last_tick (events_of js)) entry.event (runs (events_of js) configs) in
     let long = length-map js (λ (x : Entry). x.event) in
     let number : length js + 1 ≡ length (events_of js) + 1 = omega (arith, long) in
     added
     ∙ (ap (λ xs. xs ++ changes_in (length js + 1) o.items) so_far
-    ∙ (append_assoc before (changes configs (events_of js)) (changes_in (length js + 1) o.items)
-    ∙ (ap (λ k. before ++ (changes configs (events_of js) ++ changes_in k o.items)) number
+    ∙ (append_assoc before (history_changes configs (events_of js)) (changes_in (length js + 1) o.items)
+    ∙ (ap (λ k. before ++ (history_changes configs (events_of js) ++ changes_in k o.items)) number
     ∙ (ap (λ xs. before ++ xs) (sym (changes_more configs (events_of js) entry.event))
-    ∙ (ap (λ (es : List ShardEvent). before ++ changes configs es) (sym (map-append (λ (x : Entry). x.event) js (entry ∷ [])))
-    ∙ (ap (λ (xs : List Entry). before ++ changes configs (events_of xs)) (sym grown)
-    ∙ ap (λ cs. before ++ changes cs (events_of js2)) (sym same)))))))
+    ∙ (ap (λ (es : List ShardEvent). before ++ history_changes configs es) (sym (map-append (λ (x : Entry). x.event) js (entry ∷ [])))
+    ∙ (ap (λ (xs : List Entry). before ++ history_changes configs (events_of xs)) (sym grown)
+    ∙ ap (λ cs. before ++ history_changes cs (events_of js2)) (sym same)))))))
 
 -- a watch at the start
 

@@ -31,9 +31,9 @@ outcomes_after configs past (event ∷ events) =
     outcome_of (last_tick past) event (runs past configs) ∷ outcomes_after configs (past ++ event ∷ []) events
 
 -- what each event of a history gives
-abbrev pub outcomes : List SessionConfig → List ShardEvent → List Outcome
-outcomes configs events = outcomes_after configs [] events
+abbrev pub history_outcomes : List SessionConfig → List ShardEvent → List Outcome
+history_outcomes configs events = outcomes_after configs [] events
 
 -- the changes of a history of a shard with these sessions, in order, each with the number of its event, from 1
-abbrev pub changes : List SessionConfig → List ShardEvent → List Change
-changes configs events = changes_from 1 (outcomes configs events)
+abbrev pub history_changes : List SessionConfig → List ShardEvent → List Change
+history_changes configs events = changes_from 1 (history_outcomes configs events)

@@ -30,17 +30,17 @@ if_moved before after text = text
 
 -- the lines of the event of this number, which has these changes and finds the group so: a line for each change, of members
 -- and of others, and then the group's where the event as a whole has moved it
-abbrev pub event_lines : ℕ → List Change → Group → List ℕ
-event_lines number changes g =
+abbrev pub watched_lines : ℕ → List Change → Group → List ℕ
+watched_lines number changes g =
     flat_map (change_line number) changes
     ++ if_moved (is_group_up g) (is_group_up (group_after changes g)) (group_line number (group_after changes g))
 
 -- the lines of all events from this number on, by what each gave
-unfoldable pub lines_from : ℕ → List Outcome → Group → List ℕ
-lines_from number [] g = []
-lines_from number (outcome ∷ outcomes) g =
-    event_lines number (changes_in number outcome.items) g
-    ++ lines_from (number + 1) outcomes (group_after (changes_in number outcome.items) g)
+unfoldable pub watched_lines_from : ℕ → List Outcome → Group → List ℕ
+watched_lines_from number [] g = []
+watched_lines_from number (outcome ∷ outcomes) g =
+    watched_lines number (changes_in number outcome.items) g
+    ++ watched_lines_from (number + 1) outcomes (group_after (changes_in number outcome.items) g)
 
 -- `watched CHANGES COUNT up|down`
 abbrev pub watched_line : ℕ → Group → List ℕ
@@ -49,4 +49,4 @@ watched_line changes g = line (codes "watched" ∷ decimal changes ∷ decimal (
 -- the watched text of a run whose events gave this, one after another, with a group that is so at the start
 abbrev pub watched : List Outcome → Group → List ℕ
 watched outcomes g =
-    lines_from 1 outcomes g ++ watched_line (length (changes_from 1 outcomes)) (group_after (changes_from 1 outcomes) g)
+    watched_lines_from 1 outcomes g ++ watched_line (length (changes_from 1 outcomes)) (group_after (changes_from 1 outcomes) g)

@@ -26,9 +26,9 @@ pub record IsWatch (shard : Shard) (outs : Outputs) (limit : ℕ) : Type 0 where
   pub limits : shard.limit ≡ limit
 
 -- what a refusal tells of the watch: it is full, with this number of entries, which is its limit; or memory was wanting below it
-abbrev pub Tells : WatchFault → Watching → Type 0
-Tells (Full count) watch = (count ≡ length watch.entries) × (length watch.entries ≡ watch.limit)
-Tells Memory watch = length watch.entries < watch.limit
+abbrev pub TellsOfWatch : WatchFault → Watching → Type 0
+TellsOfWatch (Full count) watch = (count ≡ length watch.entries) × (length watch.entries ≡ watch.limit)
+TellsOfWatch Memory watch = length watch.entries < watch.limit
 
 -- the changes that one entry more tells: those of its outputs, of the sessions as the entries before have left them
 abbrev pub told_by : Watching → Entry → List Change

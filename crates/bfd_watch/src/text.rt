@@ -3,7 +3,7 @@ ghost use Rattle.std.specs.Prelude.{◌≡◌, ◌++◌, IfOk, OnErr, OnOk, stri
 ghost use Rattle.std.specs.List.{flat_map};
 ghost use Rattle.bfd_fields.specs.Spelling.{state_name};
 ghost use Rattle.bfd_watch.specs.Groups.{group_after, is_group_up};
-ghost use Rattle.bfd_watch.specs.Watched.{change_line, event_lines, group_line, if_moved, up_word, watched_line};
+ghost use Rattle.bfd_watch.specs.Watched.{change_line, watched_lines, group_line, if_moved, up_word, watched_line};
 
 use crate::change::Change;
 use crate::group::LinkGroup;
@@ -118,7 +118,7 @@ impl LinkGroup {
         changes: &[Change],
         text: &mut Vec<u8>,
     ) -> Result<(), AllocError>
-        ensures told { OnOk result (text.new.items ≡ text.old.items ++ event_lines number changes.now self.old) }
+        ensures told { OnOk result (text.new.items ≡ text.old.items ++ watched_lines number changes.now self.old) }
         ensures after { OnOk result (self.new ≡ group_after changes.now self.old) }
         ensures untold { OnErr result (text.new.items ≡ text.old.items) }
         ensures same { OnErr result (self.new ≡ self.old) }

@@ -6,8 +6,8 @@ ghost use Rattle.bfd_session.specs.Rows.{AreFit};
 ghost use Rattle.bfd_shard.specs.History.{events_of, later, moved, outcome_of, runs};
 ghost use Rattle.bfd_shard.specs.Shard.{CanHappen, room_for};
 ghost use Rattle.bfd_watch.specs.declared.change.Change.{Change};
-ghost use Rattle.bfd_watch.specs.Changes.{change_in, changes, changes_in};
-ghost use Rattle.bfd_watch.specs.Watching.{Tells, told_by, watching};
+ghost use Rattle.bfd_watch.specs.Changes.{change_in, history_changes, changes_in};
+ghost use Rattle.bfd_watch.specs.Watching.{TellsOfWatch, told_by, watching};
 
 use crate::change::{Change, WatchFault};
 use bfd_num::Steps;
@@ -171,9 +171,9 @@ impl<W: Timers> Watch<W> {
         ensures below { OnOk result (length self.old.entries < self.old.limit) }
         ensures told { OnOk result (out.new.items ≡ out.old.items ++ told_by self.old entry) }
         ensures whole { OnOk result ((before : List Change)
-            → out.old.items ≡ before ++ changes self.old.configs (events_of self.old.entries)
-            → out.new.items ≡ before ++ changes self.new.configs (events_of self.new.entries)) }
-        ensures fault { IfErr result (λ fault. Tells fault self.old) }
+            → out.old.items ≡ before ++ history_changes self.old.configs (events_of self.old.entries)
+            → out.new.items ≡ before ++ history_changes self.new.configs (events_of self.new.entries)) }
+        ensures fault { IfErr result (λ fault. TellsOfWatch fault self.old) }
         ensures same { OnErr result (self.new ≡ self.old) }
         ensures untold { OnErr result (out.new.items ≡ out.old.items) }
     {

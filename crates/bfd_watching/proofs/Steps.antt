@@ -7,20 +7,20 @@ use Rattle.bfd_script.proofs.Sizes.{some_after}
 use Rattle.bfd_watch.specs.declared.change.Change.{Change}
 use Rattle.bfd_watch.specs.Changes.{changes_in, changes_from}
 use Rattle.bfd_watch.specs.Groups.{Group, group_after, is_group_up}
-use Rattle.bfd_watch.specs.Watched.{change_line, event_lines, group_line, if_moved, lines_from, watched_line, watched}
+use Rattle.bfd_watch.specs.Watched.{change_line, watched_lines, group_line, if_moved, watched_lines_from, watched_line, watched}
 use Rattle.bfd_watch.proofs.Lines.{group_twice, none_heard}
 
 -- its lines
 pub lines_step : (text more : List ℕ) (n : ℕ) (o : Outcome) (all os : List Outcome) (cs : List Change) (g after : Group) (goal : List ℕ)
     → all ≡ o ∷ os → cs ≡ changes_in n o.items → after ≡ group_after cs g
-    → more ≡ text ++ event_lines n cs g → text ++ lines_from n all g ≡ goal → more ++ lines_from (n + 1) os after ≡ goal
-unfolding lines_from
+    → more ≡ text ++ watched_lines n cs g → text ++ watched_lines_from n all g ≡ goal → more ++ watched_lines_from (n + 1) os after ≡ goal
+unfolding watched_lines_from
 lines_step text more n o all os cs g after goal split are moved told so_far =
     let here : List Change = changes_in n o.items in
-    ap (λ h. more ++ lines_from (n + 1) os h) (moved ∙ ap (λ ds. group_after ds g) are)
-    ∙ (ap (λ ts. ts ++ lines_from (n + 1) os (group_after here g)) (told ∙ ap (λ ds. text ++ event_lines n ds g) are)
-    ∙ (append_assoc text (event_lines n here g) (lines_from (n + 1) os (group_after here g))
-    ∙ (ap (λ xs. text ++ lines_from n xs g) (sym split) ∙ so_far)))
+    ap (λ h. more ++ watched_lines_from (n + 1) os h) (moved ∙ ap (λ ds. group_after ds g) are)
+    ∙ (ap (λ ts. ts ++ watched_lines_from (n + 1) os (group_after here g)) (told ∙ ap (λ ds. text ++ watched_lines n ds g) are)
+    ∙ (append_assoc text (watched_lines n here g) (watched_lines_from (n + 1) os (group_after here g))
+    ∙ (ap (λ xs. text ++ watched_lines_from n xs g) (sym split) ∙ so_far)))
 
 -- the group
 pub group_step : (n : ℕ) (o : Outcome) (all os : List Outcome) (cs : List Change) (g after goal : Group)
@@ -59,14 +59,14 @@ lines_some n [] = omega arith
 lines_some n (c ∷ cs) =
     omega (arith, line_some n c, lines_some n cs, length-append (change_line n c) (flat_map (change_line n) cs))
 
-pub few_step : (text more : List ℕ) (n told : ℕ) (cs : List Change) (g : Group) → more ≡ text ++ event_lines n cs g → told ≤ length text
+pub few_step : (text more : List ℕ) (n told : ℕ) (cs : List Change) (g : Group) → more ≡ text ++ watched_lines n cs g → told ≤ length text
     → told + length cs ≤ length more
 few_step text more n told cs g is few =
     let moved : List ℕ = if_moved (is_group_up g) (is_group_up (group_after cs g)) (group_line n (group_after cs g)) in
     omega (
       arith,
       ap length is,
-      length-append text (event_lines n cs g),
+      length-append text (watched_lines n cs g),
       length-append (flat_map (change_line n) cs) moved,
       lines_some n cs,
       few,
@@ -74,17 +74,17 @@ few_step text more n told cs g is few =
 
 -- the end: nothing is left
 pub end_told : (text more : List ℕ) (n told : ℕ) (all goal : List Outcome) (g before : Group) → all ≡ []
-    → text ++ lines_from n all g ≡ lines_from 1 goal before
+    → text ++ watched_lines_from n all g ≡ watched_lines_from 1 goal before
     → group_after (changes_from n all) g ≡ group_after (changes_from 1 goal) before
     → told + length (changes_from n all) ≡ length (changes_from 1 goal)
     → more ≡ text ++ watched_line told g → more ≡ watched goal before
-unfolding lines_from changes_from
+unfolding watched_lines_from changes_from
 end_told text more n told all goal g before none whole after counted added =
-    let text_is : text ≡ lines_from 1 goal before = sym (append-nil text) ∙ (ap (λ xs. text ++ lines_from n xs g) (sym none) ∙ whole) in
+    let text_is : text ≡ watched_lines_from 1 goal before = sym (append-nil text) ∙ (ap (λ xs. text ++ watched_lines_from n xs g) (sym none) ∙ whole) in
     let told_is : told ≡ length (changes_from 1 goal) = omega (arith, ap (λ (xs : List Outcome). length (changes_from n xs)) none, counted) in
     let group_is : g ≡ group_after (changes_from 1 goal) before =
     sym (none_heard g) ∙ (ap (λ xs. group_after (changes_from n xs) g) (sym none) ∙ after) in
     added
     ∙ (ap (λ ts. ts ++ watched_line told g) text_is
-    ∙ (ap (λ k. lines_from 1 goal before ++ watched_line k g) told_is
-    ∙ ap (λ h. lines_from 1 goal before ++ watched_line (length (changes_from 1 goal)) h) group_is))
+    ∙ (ap (λ k. watched_lines_from 1 goal before ++ watched_line k g) told_is
+    ∙ ap (λ h. watched_lines_from 1 goal before ++ watched_line (length (changes_from 1 goal)) h) group_is))

@@ -10,7 +10,7 @@ use Rattle.std.proofs.lemmas.Bool.{cases_eq, cases_lt}
 use Rattle.bfd_num.specs.Due.{has_come}
 use Rattle.bfd_lanes.specs.Places.{never, due_of, places, come}
 use Rattle.bfd_lanes.proofs.Scanned.{come_of}
-use Rattle.bfd_wheel.specs.Taken.{bit, times, waits, Took}
+use Rattle.bfd_wheel.specs.Taken.{bit, times, counts_due, Took}
 use Rattle.bfd_wheel.proofs.TakenIds.{bit_same, bit_other}
 use Rattle.bfd_wheel.proofs.Walk.{counted_not}
 
@@ -40,7 +40,7 @@ before : (t k : ℕ) (ds : List ℕ) (x : ℕ) → t < never → x < k → times
 before t k [] x below h = refl
 before t k (d ∷ ds) x below h = omega (arith, times_step t k d x (places (has_come t) (k + 1) (map due_of ds)) below, no_bit (nat_le d t) x k (omega arith), before t (k + 1) ds x below (omega arith))
 
-from_place : (t k : ℕ) (ds : List ℕ) (y : ℕ) → t < never → times (k + y) (places (has_come t) k (map due_of ds)) ≡ waits t ds y
+from_place : (t k : ℕ) (ds : List ℕ) (y : ℕ) → t < never → times (k + y) (places (has_come t) k (map due_of ds)) ≡ counts_due t ds y
 from_place t k [] y below = sym (counted_not never t below)
 from_place t k (d ∷ ds) zero below = omega (arith, times_step t k d (k + zero) (places (has_come t) (k + 1) (map due_of ds)) below, one_bit (nat_le d t) (k + zero) k (omega arith), before t (k + 1) ds (k + zero) below (omega arith))
 from_place t k (d ∷ ds) (suc y) below =
@@ -50,7 +50,7 @@ from_place t k (d ∷ ds) (suc y) below =
     ∙ (let skip : 0 + times (k + suc y) (places (has_come t) (k + 1) (map due_of ds)) ≡ times (k + suc y) (places (has_come t) (k + 1) (map due_of ds)) = omega arith in skip)
     ∙ shift ∙ from_place t (k + 1) ds y below
 
-pub times_come : (t : ℕ) (dues : List ℕ) (x : ℕ) → t < never → times x (come t (map due_of dues)) ≡ waits t dues x
+pub times_come : (t : ℕ) (dues : List ℕ) (x : ℕ) → t < never → times x (come t (map due_of dues)) ≡ counts_due t dues x
 times_come t dues x below = ap (λ (z : ℕ). times z (come t (map due_of dues))) (let plain : x ≡ 0 + x = omega arith in plain) ∙ from_place t 0 dues x below
 
 -- ---- ascending lists
@@ -127,13 +127,13 @@ times-permutation : (xs ys : List ℕ) → IsPermutation xs ys → (y : ℕ) →
 times-permutation xs ys p y = times_sum y ys ∙ sum_by-IsPermutation (bit y) xs ys p ∙ sym (times_sum y xs)
 
 -- an ascending list that has each id as often as it waited is the list of those that have come
-pub come_is : (t : ℕ) (dues taken sorted : List ℕ) → t < never → IsPermutation taken sorted → IsNonDecreasing sorted → ((x : ℕ) → times x taken ≡ waits t dues x) → sorted ≡ come t (map due_of dues)
+pub come_is : (t : ℕ) (dues taken sorted : List ℕ) → t < never → IsPermutation taken sorted → IsNonDecreasing sorted → ((x : ℕ) → times x taken ≡ counts_due t dues x) → sorted ≡ come t (map due_of dues)
 come_is t dues taken sorted below p order each =
     unique sorted (come t (map due_of dues)) (ascends_sorted sorted order) (ascends_from t 0 dues below)
     (λ z. times-permutation taken sorted p z ∙ each z ∙ sym (times_come t dues z below))
 
 -- what was appended is put in order behind what was there
-pub ordered : (t from : ℕ) (dues dues2 items items1 items2 : List ℕ) → t < never → Took t dues dues2 items items1 → ((x : ℕ) → waits t dues2 x ≡ 0) → from ≡ length items → take from items2 ≡ take from items1 → IsPermutation (drop from items1) (drop from items2) → IsNonDecreasing (drop from items2) → items2 ≡ items ++ come t (map due_of dues)
+pub ordered : (t from : ℕ) (dues dues2 items items1 items2 : List ℕ) → t < never → Took t dues dues2 items items1 → ((x : ℕ) → counts_due t dues2 x ≡ 0) → from ≡ length items → take from items2 ≡ take from items1 → IsPermutation (drop from items1) (drop from items2) → IsNonDecreasing (drop from items2) → items2 ≡ items ++ come t (map due_of dues)
 ordered t from dues dues2 items items1 items2 below took none at front rest order =
     let whole : items1 ≡ items ++ took.taken = took.appended in
     let head_is : take from items2 ≡ items = front ∙ ap (λ (k : ℕ). take k items1) at ∙ ap (take (length items)) whole ∙ take-append_seam items took.taken in

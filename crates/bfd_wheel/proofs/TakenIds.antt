@@ -5,7 +5,7 @@ use Rattle.std.proofs.lemmas.Bool.Decides.{nat_tests}
 use Rattle.std.proofs.lemmas.Bool.{cases_eq, cases_lt, le-leb, lt-leb}
 use Rattle.bfd_lanes.specs.Places.{never, due_of, without}
 use Rattle.bfd_lanes.proofs.Scanned.{come_of}
-use Rattle.bfd_wheel.specs.Taken.{bit, times, waits, waiting, Took}
+use Rattle.bfd_wheel.specs.Taken.{bit, times, counts_due, waiting, Took}
 use Rattle.bfd_wheel.proofs.Walk.{counted, counted_now, counted_not}
 
 pub bit_same : (x : ℕ) → bit x x ≡ 1
@@ -20,17 +20,17 @@ times-append x (y ∷ xs) ys = omega (arith, times-append x xs ys)
 
 -- ---- what waits
 
-pub waits_now : (t : ℕ) (dues : List ℕ) (x : ℕ) → x < length dues → slice_index dues x ≤ t → waits t dues x ≡ 1
+pub waits_now : (t : ℕ) (dues : List ℕ) (x : ℕ) → x < length dues → slice_index dues x ≤ t → counts_due t dues x ≡ 1
 waits_now t dues x inside h = ap (λ (b : Bool). cond b 1 0) (le-leb (get_or dues x never) t (let e = get_or_default dues x never 0 inside in omega arith))
 
-pub waits_not : (t : ℕ) (dues : List ℕ) (x : ℕ) → t < never → (x < length dues → t < slice_index dues x) → waits t dues x ≡ 0
+pub waits_not : (t : ℕ) (dues : List ℕ) (x : ℕ) → t < never → (x < length dues → t < slice_index dues x) → counts_due t dues x ≡ 0
 waits_not t dues x below h = ap (λ (b : Bool). cond b 1 0) (lt-leb (get_or dues x never) t (elim (cases_lt x (length dues)) [
   | inl inside ↦ (let e = get_or_default dues x never 0 inside in let l = h inside in omega arith)
   | inr past ↦ (let e = get_or_past dues x never past in omega arith)
 ]))
 
 -- who waits is an id whose due tick is at most t
-pub waits_then : (t : ℕ) (dues : List ℕ) (x : ℕ) → t < never → 1 ≤ waits t dues x → (x < length dues) × (slice_index dues x ≤ t)
+pub waits_then : (t : ℕ) (dues : List ℕ) (x : ℕ) → t < never → 1 ≤ counts_due t dues x → (x < length dues) × (slice_index dues x ≤ t)
 waits_then t dues x below h = elim (cases_lt x (length dues)) [
   | inl inside ↦ (
     inside,
@@ -42,27 +42,27 @@ waits_then t dues x below h = elim (cases_lt x (length dues)) [
   | inr past ↦ absurd (let none = waits_not t dues x below (λ inside. absurd (omega arith)) in omega arith)
 ]
 
-pub waits_none : (t : ℕ) (dues : List ℕ) → t < never → ((j : ℕ) → j < length dues → slice_index dues j ≢ never → t < slice_index dues j) → (x : ℕ) → waits t dues x ≡ 0
+pub waits_none : (t : ℕ) (dues : List ℕ) → t < never → ((j : ℕ) → j < length dues → slice_index dues j ≢ never → t < slice_index dues j) → (x : ℕ) → counts_due t dues x ≡ 0
 waits_none t dues below above x = waits_not t dues x below (λ inside. elim (cases_eq (slice_index dues x) never) [ inl e ↦ omega arith | inr ne ↦ above x inside ne ])
 
 -- where all due ticks that are left are above t, none waits
-pub none_waits : (t n : ℕ) (dues : List ℕ) → t < 2 ^ 60 → length dues ≡ n → ((j : ℕ) → j < n → slice_index dues j ≢ never → t < slice_index dues j) → (x : ℕ) → waits t dues x ≡ 0
+pub none_waits : (t n : ℕ) (dues : List ℕ) → t < 2 ^ 60 → length dues ≡ n → ((j : ℕ) → j < n → slice_index dues j ≢ never → t < slice_index dues j) → (x : ℕ) → counts_due t dues x ≡ 0
 none_waits t n dues early count above = waits_none t dues (omega arith) (λ j near there. above j (omega arith) there)
 
 -- where none waits, all due ticks that are left are above t
-pub above_all : (t n : ℕ) (dues : List ℕ) → length dues ≡ n → ((x : ℕ) → waits t dues x ≡ 0) → (j : ℕ) → j < n → slice_index dues j ≢ never → t < slice_index dues j
+pub above_all : (t n : ℕ) (dues : List ℕ) → length dues ≡ n → ((x : ℕ) → counts_due t dues x ≡ 0) → (j : ℕ) → j < n → slice_index dues j ≢ never → t < slice_index dues j
 above_all t n dues count none j near there = elim (cases_lt t (slice_index dues j)) [
   | inl more ↦ more
   | inr le ↦ absurd (let one = waits_now t dues j (omega arith) le in let zero_there = none j in omega arith)
 ]
 
-pub waits_gone : (t : ℕ) (dues : List ℕ) (i : ℕ) → t < never → waits t (slice_set dues i never) i ≡ 0
+pub waits_gone : (t : ℕ) (dues : List ℕ) (i : ℕ) → t < never → counts_due t (slice_set dues i never) i ≡ 0
 waits_gone t dues i below = ap (λ (b : Bool). cond b 1 0) (lt-leb (get_or (set dues i never) i never) t (elim (cases_lt i (length dues)) [
   | inl inside ↦ (let e = get_or-set_same dues i never never inside in omega arith)
   | inr past ↦ (let e = get_or_past (set dues i never) i never (let l = length-set dues i never in omega arith) in omega arith)
 ]))
 
-pub waits_same : (t : ℕ) (dues : List ℕ) (i x : ℕ) → x ≢ i → waits t (slice_set dues i never) x ≡ waits t dues x
+pub waits_same : (t : ℕ) (dues : List ℕ) (i x : ℕ) → x ≢ i → counts_due t (slice_set dues i never) x ≡ counts_due t dues x
 waits_same t dues i x ne = ap (λ (d : ℕ). cond (nat_le d t) 1 0) (get_or-set_other dues i x never never ne)
 
 pub waiting-set : (t : ℕ) (dues : List ℕ) (i : ℕ) → i < length dues → slice_index dues i ≤ t → t < never → 1 + waiting t (set dues i never) ≡ waiting t dues
@@ -97,8 +97,8 @@ took_one t dues items i inside h below = record {
   appended = refl;
   each = λ x. elim (cases_eq x i) [
     | inl e ↦ (let one : bit x i ≡ 1 = ap (λ (y : ℕ). bit y i) e ∙ bit_same i in
-        let gone : waits t (slice_set dues i never) x ≡ 0 = ap (waits t (slice_set dues i never)) e ∙ waits_gone t dues i below in
-        let was : waits t dues x ≡ 1 = ap (waits t dues) e ∙ waits_now t dues i inside h in
+        let gone : counts_due t (slice_set dues i never) x ≡ 0 = ap (counts_due t (slice_set dues i never)) e ∙ waits_gone t dues i below in
+        let was : counts_due t dues x ≡ 1 = ap (counts_due t dues) e ∙ waits_now t dues i inside h in
         omega arith)
     | inr ne ↦ (let none : bit x i ≡ 0 = bit_other x i ne in let same = waits_same t dues i x ne in omega arith)
   ];
@@ -135,7 +135,7 @@ kept_one t d below above = sym (ap (λ (b : Bool). cond b None (due_of d)) (come
 gone_one : (t d : ℕ) → t < never → d ≤ t → None ≡ without t (due_of d)
 gone_one t d below le = sym (ap (λ (b : Bool). cond b None (due_of d)) (come_of t d below ∙ le-leb d t le))
 
-left_one : (t : ℕ) (dues dues2 : List ℕ) (k : ℕ) → t < never → k < length dues2 → (slice_index dues2 k ≡ slice_index dues k) ⊎ ((slice_index dues2 k ≡ never) × (slice_index dues k ≤ t)) → waits t dues2 k ≡ 0 → due_of (slice_index dues2 k) ≡ without t (due_of (slice_index dues k))
+left_one : (t : ℕ) (dues dues2 : List ℕ) (k : ℕ) → t < never → k < length dues2 → (slice_index dues2 k ≡ slice_index dues k) ⊎ ((slice_index dues2 k ≡ never) × (slice_index dues k ≤ t)) → counts_due t dues2 k ≡ 0 → due_of (slice_index dues2 k) ≡ without t (due_of (slice_index dues k))
 left_one t dues dues2 k below inside same_or_gone none = elim same_or_gone [
   | inl e ↦ elim (cases_lt t (slice_index dues2 k)) [
     | inl above ↦ kept_one t (slice_index dues2 k) below above ∙ ap (λ (d : ℕ). without t (due_of d)) e
@@ -145,7 +145,7 @@ left_one t dues dues2 k below inside same_or_gone none = elim same_or_gone [
 ]
 
 -- where each due tick is as before or gone, and none waits, those at most t are gone
-pub left_is : (t : ℕ) (dues dues2 : List ℕ) → t < never → length dues2 ≡ length dues → ((j : ℕ) → (slice_index dues2 j ≡ slice_index dues j) ⊎ ((slice_index dues2 j ≡ never) × (slice_index dues j ≤ t))) → ((x : ℕ) → waits t dues2 x ≡ 0) → map due_of dues2 ≡ map (without t) (map due_of dues)
+pub left_is : (t : ℕ) (dues dues2 : List ℕ) → t < never → length dues2 ≡ length dues → ((j : ℕ) → (slice_index dues2 j ≡ slice_index dues j) ⊎ ((slice_index dues2 j ≡ never) × (slice_index dues j ≤ t))) → ((x : ℕ) → counts_due t dues2 x ≡ 0) → map due_of dues2 ≡ map (without t) (map due_of dues)
 left_is t dues dues2 below len same_or_gone none =
     same_lists (map due_of dues2) (map (without t) (map due_of dues)) (length-map dues2 due_of ∙ len ∙ sym (length-map dues due_of) ∙ sym (length-map (map due_of dues) (without t)))
     (λ k d h.
@@ -157,24 +157,24 @@ left_is t dues dues2 below len same_or_gone none =
 
 -- ---- ids that are taken off one by one
 
-pub ids_first : (t i id : ℕ) (ids dues : List ℕ) → t < never → i < length ids → get_or ids i 0 ≡ id → ((x : ℕ) → times x (drop i ids) ≡ waits t dues x) → (id < length dues) × (slice_index dues id ≤ t)
+pub ids_first : (t i id : ℕ) (ids dues : List ℕ) → t < never → i < length ids → get_or ids i 0 ≡ id → ((x : ℕ) → times x (drop i ids) ≡ counts_due t dues x) → (id < length dues) × (slice_index dues id ≤ t)
 ids_first t i id ids dues below near at each =
     let here : times id (drop i ids) ≡ bit id (get_or ids i 0) + times id (drop (suc i) ids) = ap (times id) (drop-cons ids i 0 near) in
     let one : bit id (get_or ids i 0) ≡ 1 = ap (bit id) at ∙ bit_same id in
     let w = each id in
     waits_then t dues id below (omega arith)
 
-pub ids_rest : (t i id : ℕ) (ids dues dues2 : List ℕ) → t < never → i < length ids → get_or ids i 0 ≡ id → ((x : ℕ) → times x (drop i ids) ≡ waits t dues x) → dues2 ≡ slice_set dues id never → (x : ℕ) → times x (drop (i + 1) ids) ≡ waits t dues2 x
+pub ids_rest : (t i id : ℕ) (ids dues dues2 : List ℕ) → t < never → i < length ids → get_or ids i 0 ≡ id → ((x : ℕ) → times x (drop i ids) ≡ counts_due t dues x) → dues2 ≡ slice_set dues id never → (x : ℕ) → times x (drop (i + 1) ids) ≡ counts_due t dues2 x
 ids_rest t i id ids dues dues2 below near at each gone x =
     let first = ids_first t i id ids dues below near at each in
     let here : times x (drop i ids) ≡ bit x (get_or ids i 0) + times x (drop (suc i) ids) = ap (times x) (drop-cons ids i 0 near) in
     let next : times x (drop (i + 1) ids) ≡ times x (drop (suc i) ids) = ap (λ (k : ℕ). times x (drop k ids)) (add-one i) in
     let w = each x in
-    let now_is : waits t dues2 x ≡ waits t (slice_set dues id never) x = ap (λ (ds : List ℕ). waits t ds x) gone in
+    let now_is : counts_due t dues2 x ≡ counts_due t (slice_set dues id never) x = ap (λ (ds : List ℕ). counts_due t ds x) gone in
     elim (cases_eq x id) [
       | inl e ↦ (let one : bit x (get_or ids i 0) ≡ 1 = ap (bit x) (at ∙ sym e) ∙ bit_same x in
-          let was : waits t dues x ≡ 1 = ap (waits t dues) e ∙ waits_now t dues id first.0 first.1 in
-          let is : waits t (slice_set dues id never) x ≡ 0 = ap (waits t (slice_set dues id never)) e ∙ waits_gone t dues id below in
+          let was : counts_due t dues x ≡ 1 = ap (counts_due t dues) e ∙ waits_now t dues id first.0 first.1 in
+          let is : counts_due t (slice_set dues id never) x ≡ 0 = ap (counts_due t (slice_set dues id never)) e ∙ waits_gone t dues id below in
           omega arith)
       | inr ne ↦ (let none : bit x (get_or ids i 0) ≡ 0 = ap (bit x) at ∙ bit_other x id ne in
           let is = waits_same t dues id x ne in

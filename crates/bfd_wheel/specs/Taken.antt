@@ -12,8 +12,8 @@ times x [] = 0
 times x (y ∷ ys) = bit x y + times x ys
 
 -- 1 where the due tick of the id x is at most t, and else 0
-abbrev pub waits : ℕ → List ℕ → ℕ → ℕ
-waits t dues x = if nat_le (slice_index_or dues x never) t then 1 else 0
+abbrev pub counts_due : ℕ → List ℕ → ℕ → ℕ
+counts_due t dues x = if nat_le (slice_index_or dues x never) t then 1 else 0
 
 -- how many due ticks are at most t
 abbrev pub waiting : ℕ → List ℕ → ℕ
@@ -24,6 +24,6 @@ waiting t (d ∷ ds) = (if nat_le d t then 1 else 0) + waiting t ds
 pub record Took (t : ℕ) (dues dues2 items items2 : List ℕ) : Type 0 where
   pub taken : List ℕ
   pub appended : items2 ≡ items ++ taken
-  pub each : (x : ℕ) → times x taken + waits t dues2 x ≡ waits t dues x
+  pub each : (x : ℕ) → times x taken + counts_due t dues2 x ≡ counts_due t dues x
   pub total : length taken + waiting t dues2 ≡ waiting t dues
   pub same_or_gone : (j : ℕ) → (slice_index dues2 j ≡ slice_index dues j) ⊎ ((slice_index dues2 j ≡ never) × (slice_index dues j ≤ t))

@@ -3,7 +3,7 @@ ghost use Rattle.std.specs.Prelude.{◌≡◌, ◌≢◌, ◌⊎◌, ℕ, ◌+�
 ghost use Rattle.bfd_lanes.specs.Held.{room_of};
 ghost use Rattle.bfd_lanes.specs.Places.{never, due_of, come, without};
 ghost use Rattle.bfd_wheel.specs.Rings.{Unlinks};
-ghost use Rattle.bfd_wheel.specs.Taken.{Took, times, waits, waiting};
+ghost use Rattle.bfd_wheel.specs.Taken.{Took, times, counts_due, waiting};
 ghost use Rattle.bfd_wheel.specs.Wheel.{next_in, prev_in, place, IsWheel, IsLinked};
 
 use crate::change::detach;
@@ -133,9 +133,9 @@ fn jump(nodes: &mut [Node], dues: &mut [u64], now: u64, t: u64, out: &mut Ids) -
 fn detach_all(nodes: &mut [Node], dues: &mut [u64], now: u64, t: u64, ids: &[u32])
     requires wheel { IsWheel (length dues.old) now dues.old nodes.old }
     requires t { t < never }
-    requires ids { (x : ℕ) → times x ids.now ≡ waits t dues.old x }
+    requires ids { (x : ℕ) → times x ids.now ≡ counts_due t dues.old x }
     ensures wheel { IsWheel (length dues.old) now dues.new nodes.new }
-    ensures left { (x : ℕ) → waits t dues.new x ≡ 0 }
+    ensures left { (x : ℕ) → counts_due t dues.new x ≡ 0 }
     ensures same_or_gone { (j : ℕ) → (slice_index dues.new j ≡ slice_index dues.old j)
         ⊎ ((slice_index dues.new j ≡ never) × (slice_index dues.old j ≤ t)) }
 {

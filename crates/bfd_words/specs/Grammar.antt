@@ -55,12 +55,12 @@ load_of (sessions ∷ ticks ∷ seed ∷ options) = load_by sessions ticks seed 
 load_of words = None
 
 -- `EVENTS SEED`
-abbrev pub pair_of : List (List ℕ) → Option Job
-pair_of (events ∷ seed ∷ []) = do
+abbrev pub pair_job : List (List ℕ) → Option Job
+pair_job (events ∷ seed ∷ []) = do
   events ← number_in 1 100000 events
   seed ← number_in 0 4294967295 seed
   Some (Pair events seed)
-pair_of words = None
+pair_job words = None
 
 -- a discriminator
 abbrev pub member_of : List ℕ → Option ℕ
@@ -97,6 +97,6 @@ job_of (word ∷ words) =
     if bytes_eq word (codes "replay") then replay_of words
     else if bytes_eq word (codes "serve") then serve_of words
     else if bytes_eq word (codes "load") then load_of words
-    else if bytes_eq word (codes "pair") then pair_of words
+    else if bytes_eq word (codes "pair") then pair_job words
     else if bytes_eq word (codes "watch") then watch_of words
     else None

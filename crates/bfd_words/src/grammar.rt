@@ -1,6 +1,6 @@
 //! The words of each job.
 ghost use Rattle.std.specs.Prelude.{◌≡◌, ◌<◌, ◌≤◌, All, IfSome, None, length, map, string_bytes};
-ghost use Rattle.bfd_words.specs.Grammar.{are_distinct, hands_of, job_of, leading, load_by, load_of, pair_of, replay_of, serve_of, watch_by, watch_of};
+ghost use Rattle.bfd_words.specs.Grammar.{are_distinct, hands_of, job_of, leading, load_by, load_of, pair_job, replay_of, serve_of, watch_by, watch_of};
 ghost use Rattle.bfd_words.specs.Ranges.{AreHands, IsJob};
 
 use crate::job::{Hands, Job, Members};
@@ -93,7 +93,7 @@ fn load(words: &[String]) -> Option<Job>
 
 /// The words after `pair`.
 fn pair(words: &[String]) -> Option<Job>
-    ensures value { result ≡ pair_of (map (λ word. string_bytes word) words.now) }
+    ensures value { result ≡ pair_job (map (λ word. string_bytes word) words.now) }
     ensures range { IfSome result IsJob }
 {
     let [events, seed] = words else {

@@ -11,7 +11,7 @@ use Rattle.bfd_engine.specs.Engines.{Shards, Knows, IsOf, AllThere}
 use Rattle.bfd_engine.specs.Calls.{seen_at, taken_at}
 use Rattle.bfd_gather.specs.declared.queue.Numbered.{Numbered}
 use Rattle.bfd_gather.specs.Pieces.{Piece}
-use Rattle.bfd_workers.specs.Working.{HasDone, HasDoneAt, HasFinished, HasLeft, HasStopped, HasTold, HasUsed, IsElsewhere, IsIdle, IsReady, IsRefused, IsStopAt}
+use Rattle.bfd_workers.specs.Working.{HasDoneEvents, HasDoneAt, HasFinished, HasLeft, HasStopped, HasTold, HasUsed, IsElsewhere, IsIdle, IsWorkerReady, IsTurnRefused, IsStopAt}
 use Rattle.bfd_workers.proofs.Soles.{done_none, done_more, stopped_at}
 
 -- the events of the queue up to here were done on the shard, and these are left
@@ -76,7 +76,7 @@ used_amid engine shard queue left rest e k l m part split q taken = record {
 }
 
 pub stopped_amid : (fault : EngineFault) (engine : Shards) (shard : ℕ) (queue left rest : List Numbered) (e : Numbered) (k l m : Knows) (part : List Piece) → left ≡ e ∷ rest
-    → InQueue engine shard queue left k l part → IsElsewhere l m shard → IsRefused fault engine shard l m → IsStopAt fault engine shard (length queue) m
+    → InQueue engine shard queue left k l part → IsElsewhere l m shard → IsTurnRefused fault engine shard l m → IsStopAt fault engine shard (length queue) m
 stopped_amid fault engine shard queue left rest e k l m part split q moved refused =
     stopped_at fault engine shard (length queue) l m q.done part refused moved.number q.did (less_done q.done left rest queue e split q.all)
 
@@ -89,7 +89,7 @@ pub record OverShards (engine : Shards) (queues : List (List Numbered)) (k l : K
   pub used : (r : ℕ) → r < length parts → HasUsed l r (slice_index_or queues r [])
   pub idle : (r : ℕ) → length parts ≤ r → r < length engine.locks → IsIdle l r
 
-pub over_none : (engine : Shards) (queues : List (List Numbered)) (k : Knows) (parts : List (List Piece)) → IsReady engine queues k → parts ≡ [] → OverShards engine queues k k parts
+pub over_none : (engine : Shards) (queues : List (List Numbered)) (k : Knows) (parts : List (List Piece)) → IsWorkerReady engine queues k → parts ≡ [] → OverShards engine queues k k parts
 over_none engine queues k parts ready empty = record {
   of = ready.of;
   there = ready.there;
@@ -102,8 +102,8 @@ over_none engine queues k parts ready empty = record {
 done_as : (engine : Shards) (r : ℕ) (queue : List Numbered) (l m : Knows) (part : List Piece) → m.0 ≡ l.0 → seen_at m r ≡ seen_at l r → taken_at m r ≡ taken_at l r
     → HasDoneAt engine r queue l part → HasDoneAt engine r queue m part
 done_as engine r queue l m part number seen taken d =
-    subst (λ n. HasDone engine r n queue (seen_at m r) (taken_at m r) part) (sym number)
-    (subst (λ s. HasDone engine r l.0 queue s (taken_at m r) part) (sym seen) (subst (λ t. HasDone engine r l.0 queue (seen_at l r) t part) (sym taken) d))
+    subst (λ n. HasDoneEvents engine r n queue (seen_at m r) (taken_at m r) part) (sym number)
+    (subst (λ s. HasDoneEvents engine r l.0 queue s (taken_at m r) part) (sym seen) (subst (λ t. HasDoneEvents engine r l.0 queue (seen_at l r) t part) (sym taken) d))
 
 idle_as : (r : ℕ) (l m : Knows) → seen_at m r ≡ seen_at l r → taken_at m r ≡ taken_at l r → IsIdle l r → IsIdle m r
 idle_as r l m seen taken i = record { seen = seen ∙ i.seen; taken = taken ∙ i.taken }

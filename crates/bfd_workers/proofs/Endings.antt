@@ -18,14 +18,14 @@ use Rattle.bfd_engine.specs.declared.fault.EngineFault.{EngineFault}
 use Rattle.bfd_engine.specs.declared.fault.EngineFault.TheVariants.{Memory, Full, Spent}
 use Rattle.bfd_engine.specs.Turned.{by}
 use Rattle.bfd_engine.specs.Engines.{Shards, Knows, configs_at}
-use Rattle.bfd_engine.specs.Calls.{seen_at, word_at, made_at, kept_at, mine}
+use Rattle.bfd_engine.specs.Calls.{seen_at, met_word, made_at, kept_at, mine}
 use Rattle.bfd_engine.specs.Passes.{EachJoined, IsClosed, AreClosed}
 use Rattle.bfd_gather.specs.declared.queue.Numbered.{Numbered}
 use Rattle.bfd_gather.specs.Pieces.{Piece}
-use Rattle.bfd_gather.specs.Happenings.{told}
-use Rattle.bfd_workers.specs.Working.{AreMet, entries, events_in, IsReady, HasFinished, HasStopped, HasUsed, IsSole, IsStopAt}
-use Rattle.bfd_workers.specs.Jobs.{AllJoined, AreJobs, AreOwn, HasEnded, HasWorked, IsFresh, IsJoining, IsNewJob, Work, number_of, own_queue}
-use Rattle.bfd_workers.specs.Ends.{AreStates, AreTold, IsDoneJob, IsFine, IsState, IsTold}
+use Rattle.bfd_gather.specs.Happenings.{shard_tells}
+use Rattle.bfd_workers.specs.Working.{AreMet, entries_by, events_in, IsWorkerReady, HasFinished, HasStopped, HasUsed, IsSole, IsStopAt}
+use Rattle.bfd_workers.specs.Jobs.{AllJobsJoined, AreJobs, AreOwn, HasEnded, HasWorkedOn, IsFreshAt, IsJoining, IsNewJob, Work, number_of, own_queue}
+use Rattle.bfd_workers.specs.Ends.{AreStates, AreTold, IsDoneJob, IsFine, IsState, ToldItsShards}
 use Rattle.bfd_workers.proofs.Soles.{all_calls, front_sole, sole_of}
 use Rattle.bfd_workers.proofs.Joining.{own_away}
 
@@ -37,7 +37,7 @@ short true queue = omega arith
 short false queue = omega arith
 
 -- a job that was done
-pub done_job : (engine : Shards) (queues : List (List Numbered)) (workers i : ℕ) (w v : Work) → length queues ≡ length engine.locks → IsNewJob engine queues workers i w → HasWorked engine w v
+pub done_job : (engine : Shards) (queues : List (List Numbered)) (workers i : ℕ) (w v : Work) → length queues ≡ length engine.locks → IsNewJob engine queues workers i w → HasWorkedOn engine w v
     → IsDoneJob engine queues workers i v
 done_job engine queues workers i w v long new worked = record {
   of = worked.left.of;
@@ -50,12 +50,12 @@ done_job engine queues workers i w v long new worked = record {
 }
 
 pub done_jobs : (engine : Shards) (queues : List (List Numbered)) (workers : ℕ) (l : Knows) (works after : List Work) → length queues ≡ length engine.locks → AreJobs engine queues workers workers l works
-    → length after ≡ length works → ((i : ℕ) (d : Work) → i < length works → HasWorked engine (get_or works i d) (get_or after i d))
+    → length after ≡ length works → ((i : ℕ) (d : Work) → i < length works → HasWorkedOn engine (get_or works i d) (get_or after i d))
     → (i : ℕ) (v : Work) → slice_get after i ≡ Some v → IsDoneJob engine queues workers i v
 done_jobs engine queues workers l works after long jobs same worked i v e =
     let inside : i < length works = (let a = slice_get_within after i v e in omega (arith, a, same)) in
     done_job engine queues workers i (get_or works i v) v long (jobs.each i (get_or works i v) (slice_get-get_or works i v inside))
-    (subst (HasWorked engine (get_or works i v)) (get_or_from_slice_get after i v v e) (worked i v inside))
+    (subst (HasWorkedOn engine (get_or works i v)) (get_or_from_slice_get after i v v e) (worked i v inside))
 
 pub joining : (engine : Shards) (queues : List (List Numbered)) (workers i : ℕ) (v : Work) → ((s : ℕ) → length (slice_index_or queues s []) ≤ 200000) → IsDoneJob engine queues workers i v → IsJoining engine 200000 v
 joining engine queues workers i v few d = record {
@@ -83,19 +83,19 @@ pub record AtEnd (engine : Shards) (queues : List (List Numbered)) (workers : �
   pub few : workers ≤ 64
   pub long : length works ≡ workers
   pub first : k.0 ≡ 0
-  pub fresh : (s : ℕ) → s < length engine.locks → IsFresh k s (map number_of works)
-  pub joined : AllJoined engine 200000 k l works
+  pub fresh : (s : ℕ) → s < length engine.locks → IsFreshAt k s (map number_of works)
+  pub joined : AllJobsJoined engine 200000 k l works
   pub each : (i : ℕ) (v : Work) → slice_get works i ≡ Some v → IsDoneJob engine queues workers i v
 
 pub at_end : (engine : Shards) (queues : List (List Numbered)) (workers : ℕ) (k l : Knows) (works after : List Work) → 0 < workers → workers ≤ 64 → length queues ≡ length engine.locks
     → AreJobs engine queues workers workers k works → length after ≡ length works
-    → ((i : ℕ) (d : Work) → i < length works → HasWorked engine (get_or works i d) (get_or after i d)) → AllJoined engine 200000 k l after → AtEnd engine queues workers k l after
+    → ((i : ℕ) (d : Work) → i < length works → HasWorkedOn engine (get_or works i d) (get_or after i d)) → AllJobsJoined engine 200000 k l after → AtEnd engine queues workers k l after
 at_end engine queues workers k l works after some few long jobs same worked joined = record {
   some = some;
   few = few;
   long = same ∙ jobs.long;
   first = jobs.number;
-  fresh = λ s h. subst (IsFresh k s) (sym (same_numbers works after (sym same) (λ i d inside. (worked i d inside).left.number))) (jobs.fresh s h);
+  fresh = λ s h. subst (IsFreshAt k s) (sym (same_numbers works after (sym same) (λ i d inside. (worked i d inside).left.number))) (jobs.fresh s h);
   joined = joined;
   each = done_jobs engine queues workers k works after long jobs same worked;
 }
@@ -200,7 +200,7 @@ closed_at engine l (x ∷ shards) s closed h =
     (get_or (x ∷ shards) s x, closed.each s (get_or (x ∷ shards) s x) (slice_get-get_or (x ∷ shards) s x (let a = closed.long in omega (arith, a, h))))
 
 told_at : (engine : Shards) (queues : List (List Numbered)) (workers : ℕ) (k l : Knows) (works : List Work) (shards : List Shard) (i : ℕ) (v : Work) → AllClosed engine queues workers k l works shards
-    → slice_get works i ≡ Some v → (told_is : Result (List (List Piece)) EngineFault) → v.told ≡ told_is → IsTold engine queues workers i told_is
+    → slice_get works i ≡ Some v → (told_is : Result (List (List Piece)) EngineFault) → v.told ≡ told_is → ToldItsShards engine queues workers i told_is
 told_at engine queues workers k l works shards i v c e (Err fault) is = tt
 told_at engine queues workers k l works shards i v c e (Ok parts) is =
     let d = c.atend.each i v e in
@@ -209,7 +209,7 @@ told_at engine queues workers k l works shards i v c e (Ok parts) is =
       λ s h same.
           (let x = closed_at engine l shards s c.closed h in
           let sole_here = sole_seen engine queues workers k l works s i v x.0 c.atend h x.1 e (sym same) in
-          (f.done s h).told_is sole_here ∙ ap (λ q. told 0 q (map started (configs_at engine s))) (own_at workers i s queues d.mine d.own (let a = c.queues_long in omega (arith, h, a)) same)),
+          (f.done s h).told_is sole_here ∙ ap (λ q. shard_tells 0 q (map started (configs_at engine s))) (own_at workers i s queues d.mine d.own (let a = c.queues_long in omega (arith, h, a)) same)),
     )
 
 -- no worker stopped but for want of memory
@@ -230,7 +230,7 @@ never_full engine queues workers k l works shards i s v c e h full less = dite (
 
 -- nor the last word
 never_spent : (engine : Shards) (queues : List (List Numbered)) (workers : ℕ) (k l : Knows) (works : List Work) (shards : List Shard) (i s : ℕ) (v : Work) → AllClosed engine queues workers k l works shards
-    → slice_get works i ≡ Some v → s < length engine.locks → word_at v.pass s ≡ last_word → ⊥
+    → slice_get works i ≡ Some v → s < length engine.locks → met_word v.pass s ≡ last_word → ⊥
 never_spent engine queues workers k l works shards i s v c e h last =
     let x = closed_at engine l shards s c.closed h in
     let a = x.1.word in
@@ -265,7 +265,7 @@ work_at (suc i) end (w ∷ ws) h = let r = work_at i end ws (omega (arith, h)) i
 -- each worker's end, as the list of them has it
 pub record IsEnd (engine : Shards) (queues : List (List Numbered)) (workers i : ℕ) (end : Result (List (List Piece)) EngineFault) : Type 0 where
   pub fine : IsFine end
-  pub told : IsTold engine queues workers i end
+  pub told : ToldItsShards engine queues workers i end
 
 pub ends : (engine : Shards) (queues : List (List Numbered)) (workers : ℕ) (k l : Knows) (works : List Work) (shards : List Shard) (tolds : List (Result (List (List Piece)) EngineFault)) → AllClosed engine queues workers k l works shards
     → tolds ≡ map (λ w. w.told) works → (i : ℕ) (end : Result (List (List Piece)) EngineFault) → slice_get tolds i ≡ Some end → IsEnd engine queues workers i end
@@ -301,8 +301,8 @@ state_at engine queues workers k l works shards tolds s shard c all_ok e =
       configs = closed.configs;
       journal = journal_seen engine queues workers k l works s (s % workers) v shard c.atend h closed some.1 refl
           ∙ ((f.done s h).seen_is (sole_seen engine queues workers k l works s (s % workers) v shard c.atend h closed some.1 refl)
-          ∙ (ap (λ q. entries v.pass.0 (events_in q)) (own_at workers (s % workers) s queues d.mine d.own (let a = c.queues_long in omega (arith, h, a)) refl)
-          ∙ ap (λ n. entries n (events_in (slice_index_or queues s []))) d.number));
+          ∙ (ap (λ q. entries_by v.pass.0 (events_in q)) (own_at workers (s % workers) s queues d.mine d.own (let a = c.queues_long in omega (arith, h, a)) refl)
+          ∙ ap (λ n. entries_by n (events_in (slice_index_or queues s []))) d.number));
     }
 
 -- the closed shards' states
@@ -324,7 +324,7 @@ ready_own engine queues workers i s own are h met =
 
 pub all_ready : (engine : Shards) (queues : List (List Numbered)) (workers at : ℕ) (l : Knows) (works : List Work) → 0 < length engine.locks → length engine.locks ≤ 64 → length queues ≡ length engine.locks
     → ((s : ℕ) → s < length engine.locks → AreMet engine s (slice_index_or queues s [])) → AreJobs engine queues workers at l works → (i : ℕ) (d : Work) → i < length works
-    → IsReady engine (get_or works i d).queues (get_or works i d).pass
+    → IsWorkerReady engine (get_or works i d).queues (get_or works i d).pass
 all_ready engine queues workers at l works some few long met jobs i d h =
     let w = jobs.each i (get_or works i d) (slice_get-get_or works i d h) in
     record {
@@ -343,7 +343,7 @@ pub told_all : (engine : Shards) (queues : List (List Numbered)) (workers : ℕ)
 told_all engine queues workers k l works shards all c all_ok =
     let many : length all ≡ workers = (let a = ap length all_ok in let b = length-map works (λ (w : Work). w.told) in
     let d = length-map all (λ (x : List (List Piece)). (let r : Result (List (List Piece)) EngineFault = Ok x in r)) in let e = c.atend.long in omega (arith, a, b, d, e)) in
-    let worker : (i : ℕ) → i < workers → IsTold engine queues workers i (Ok (get_or all i [])) = λ i h.
+    let worker : (i : ℕ) → i < workers → ToldItsShards engine queues workers i (Ok (get_or all i [])) = λ i h.
     (let v = work_there i works (let e = c.atend.long in omega (arith, h, e)) in
     told_at engine queues workers k l works shards i v.0 c v.1 (Ok (get_or all i [])) (all_told i v.0 works all all_ok v.1)) in
     record {
@@ -355,7 +355,7 @@ told_all engine queues workers k l works shards all c all_ok =
 -- what is known once the engine is closed
 pub all_closed : (engine : Shards) (queues : List (List Numbered)) (workers : ℕ) (k l : Knows) (works after : List Work) (shards : List Shard) → 0 < workers → workers ≤ 64 → length queues ≡ length engine.locks
     → AreJobs engine queues workers workers k works → length after ≡ length works
-    → ((i : ℕ) (d : Work) → i < length works → HasWorked engine (get_or works i d) (get_or after i d)) → AllJoined engine 200000 k l after → AreClosed engine l shards
+    → ((i : ℕ) (d : Work) → i < length works → HasWorkedOn engine (get_or works i d) (get_or after i d)) → AllJobsJoined engine 200000 k l after → AreClosed engine l shards
     → ((s : ℕ) → length (slice_index_or queues s []) ≤ engine.limit) → engine.limit ≤ 200000 → AllClosed engine queues workers k l after shards
 all_closed engine queues workers k l works after shards some few long jobs same worked joined closed short small =
     record { atend = at_end engine queues workers k l works after some few long jobs same worked joined; closed = closed; queues_long = long; short_queues = short; small = small }

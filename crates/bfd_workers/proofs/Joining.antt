@@ -9,12 +9,12 @@ use native.Mathlib.Decide.{ℕ_discrete}
 use Rattle.bfd_turn.specs.Lists.{Begins}
 use Rattle.bfd_turn.proofs.Beginnings.{begins_through}
 use Rattle.bfd_engine.specs.Engines.{Shards, Knows, IsOf, AllThere}
-use Rattle.bfd_engine.specs.Calls.{seen_at, word_at, taken_at, kept_at, mine}
+use Rattle.bfd_engine.specs.Calls.{seen_at, met_word, taken_at, kept_at, mine}
 use Rattle.bfd_engine.specs.Opening.{IsNewPass}
 use Rattle.bfd_engine.specs.Passes.{Parted, Joined}
 use Rattle.bfd_engine.proofs.Places.{last_here, front_here}
 use Rattle.bfd_gather.specs.declared.queue.Numbered.{Numbered}
-use Rattle.bfd_workers.specs.Jobs.{Work, AllJoined, AreJobs, AreJoined, AreOwn, IsJoining, IsNewJob, number_of, own_queue}
+use Rattle.bfd_workers.specs.Jobs.{Work, AllJobsJoined, AreJobs, JobsAreJoined, AreOwn, IsJoining, IsNewJob, number_of, own_queue}
 
 module _ {A : Type 0} where
   -- what is true of each, with one more
@@ -74,7 +74,7 @@ jobs_more engine queues workers at l m works works2 w j is of there zero_is used
 
 -- passes that are taken in
 
-pub joined_none : (engine : Shards) (most : ℕ) (k : Knows) → IsOf engine k.1 → AllThere k.1 → k.0 ≡ 0 → AllJoined engine most k k []
+pub joined_none : (engine : Shards) (most : ℕ) (k : Knows) → IsOf engine k.1 → AllThere k.1 → k.0 ≡ 0 → AllJobsJoined engine most k k []
 joined_none engine most k of there zero_is = record {
   of = of;
   there = there;
@@ -92,7 +92,7 @@ joined_none engine most k of there zero_is = record {
 times_more : (most n : ℕ) → most * (n + 1) ≡ most * n + most
 times_more most n = grind arith
 
-one_joined : (most : ℕ) (k l m : Knows) (works : List Work) (w : Work) (s : ℕ) → AreJoined most k l works s → Joined l w.pass m s → taken_at w.pass s ≤ most → AreJoined most k m (works ++ w ∷ []) s
+one_joined : (most : ℕ) (k l m : Knows) (works : List Work) (w : Work) (s : ℕ) → JobsAreJoined most k l works s → Joined l w.pass m s → taken_at w.pass s ≤ most → JobsAreJoined most k m (works ++ w ∷ []) s
 one_joined most k l m works w s j t few = record {
   own = t.own ∙ j.own;
   kept = t.kept ∙ (ap (λ xs. xs ++ (w.pass.0, mine w.pass s) ∷ []) j.kept
@@ -101,14 +101,14 @@ one_joined most k l m works w s j t few = record {
   made = t.made ∙ j.made;
   begins = each_more (λ i x. Begins (seen_at x.pass s) (seen_at m s)) works (works ++ w ∷ []) w refl
       (λ i x e. begins_through (seen_at x.pass s) (seen_at l s) (seen_at m s) (j.begins i x e) t.first) t.other;
-  words = each_more (λ i x. word_at x.pass s ≤ word_at m s) works (works ++ w ∷ []) w refl
+  words = each_more (λ i x. met_word x.pass s ≤ met_word m s) works (works ++ w ∷ []) w refl
       (λ i x e. (let a = j.words i x e in let b = t.word in omega (arith, a, b))) t.word_other;
   few = (let a = j.few in let b = t.taken in let n = length-append works (w ∷ []) in let p = times_more most (length works) in let q = ap (λ x. most * x) n in
       omega (arith, a, b, few, p, q));
 }
 
-pub joined_more : (engine : Shards) (most : ℕ) (k l m : Knows) (works : List Work) (w : Work) → AllJoined engine most k l works → IsJoining engine most w
-    → IsOf engine m.1 → AllThere m.1 → m.0 ≡ 0 → ((s : ℕ) → s < length engine.locks → Joined l w.pass m s) → AllJoined engine most k m (works ++ w ∷ [])
+pub joined_more : (engine : Shards) (most : ℕ) (k l m : Knows) (works : List Work) (w : Work) → AllJobsJoined engine most k l works → IsJoining engine most w
+    → IsOf engine m.1 → AllThere m.1 → m.0 ≡ 0 → ((s : ℕ) → s < length engine.locks → Joined l w.pass m s) → AllJobsJoined engine most k m (works ++ w ∷ [])
 joined_more engine most k l m works w j is of there zero_is joined = record {
   of = of;
   there = there;

@@ -17,9 +17,9 @@ use Rattle.bfd_engine.specs.Engines.{Shards, Knows, configs_at}
 use Rattle.bfd_engine.specs.Calls.{seen_at, taken_at}
 use Rattle.bfd_gather.specs.declared.queue.Numbered.{Numbered}
 use Rattle.bfd_gather.specs.Pieces.{Piece, event_pieces}
-use Rattle.bfd_gather.specs.Happenings.{told}
+use Rattle.bfd_gather.specs.Happenings.{shard_tells}
 use Rattle.bfd_gather.proofs.Histories.{told_runs}
-use Rattle.bfd_workers.specs.Working.{entries, events_in, IsSole, HasDone, HasTold, IsRefused, IsStopAt}
+use Rattle.bfd_workers.specs.Working.{entries_by, events_in, IsSole, HasDoneEvents, HasTold, IsTurnRefused, IsStopAt}
 
 pub front_sole : (w : ℕ) (xs ys : List Entry) → IsSole w (xs ++ ys) → IsSole w xs
 front_sole w [] ys h = tt
@@ -56,22 +56,22 @@ between_none : (w : ℕ) (seen between more : List Entry) → calls by w between
 between_none w seen between more others sole =
     ap (λ b. seen ++ b) (nobody w between (back_sole w seen between (front_sole w (seen ++ between) more sole)) others) ∙ append-nil seen
 
-pub events_entries : (w : ℕ) (es : List ShardEvent) → events_of (entries w es) ≡ es
+pub events_entries : (w : ℕ) (es : List ShardEvent) → events_of (entries_by w es) ≡ es
 events_entries w [] = refl
 events_entries w (e ∷ es) = ap (λ xs. e ∷ xs) (events_entries w es)
 
-given_done : (w : ℕ) (cs : List SessionConfig) (before : List Entry) (es : List ShardEvent) (event : ShardEvent) → before ≡ entries w es
+given_done : (w : ℕ) (cs : List SessionConfig) (before : List Entry) (es : List ShardEvent) (event : ShardEvent) → before ≡ entries_by w es
     → given_after cs before event ≡ outcome_of (last_tick es) event (runs es cs)
 given_done w cs before es event is =
     ap (λ b. given_after cs b event) is ∙ ap (λ xs. outcome_of (last_tick xs) event (runs xs cs)) (events_entries w es)
 
-pub done_none : (engine : Shards) (shard w taken : ℕ) (seen : List Entry) (part : List Piece) → seen ≡ [] → taken ≡ 0 → part ≡ [] → HasDone engine shard w [] seen taken part
+pub done_none : (engine : Shards) (shard w taken : ℕ) (seen : List Entry) (part : List Piece) → seen ≡ [] → taken ≡ 0 → part ≡ [] → HasDoneEvents engine shard w [] seen taken part
 done_none engine shard w taken seen part none zero_is empty = record { seen_is = λ s. none; told_is = λ s. empty; few = omega (arith, zero_is) }
 
 -- one event more
 pub done_more : (engine : Shards) (shard : ℕ) (k l : Knows) (done : List Numbered) (e : Numbered) (part part2 : List Piece) → HasTold engine shard e k l part part2
-    → l.0 ≡ k.0 → taken_at l shard ≤ taken_at k shard + 1 → HasDone engine shard k.0 done (seen_at k shard) (taken_at k shard) part
-    → HasDone engine shard l.0 (done ++ e ∷ []) (seen_at l shard) (taken_at l shard) part2
+    → l.0 ≡ k.0 → taken_at l shard ≤ taken_at k shard + 1 → HasDoneEvents engine shard k.0 done (seen_at k shard) (taken_at k shard) part
+    → HasDoneEvents engine shard l.0 (done ++ e ∷ []) (seen_at l shard) (taken_at l shard) part2
 done_more engine shard k l done e part part2 t number taken d =
     let sole_before : IsSole l.0 (seen_at l shard) → IsSole k.0 ((seen_at k shard ++ t.between) ++ entry_of k.0 e.event ∷ []) =
     λ s. subst (λ n. IsSole n ((seen_at k shard ++ t.between) ++ entry_of k.0 e.event ∷ [])) number (subst (IsSole l.0) t.here s) in
@@ -79,24 +79,24 @@ done_more engine shard k l done e part part2 t number taken d =
     λ s. between_none k.0 (seen_at k shard) t.between (entry_of k.0 e.event ∷ []) t.others (sole_before s) in
     let sole_first : IsSole l.0 (seen_at l shard) → IsSole k.0 (seen_at k shard) =
     λ s. front_sole k.0 (seen_at k shard) t.between (front_sole k.0 (seen_at k shard ++ t.between) (entry_of k.0 e.event ∷ []) (sole_before s)) in
-    let before_is : IsSole l.0 (seen_at l shard) → seen_at k shard ++ t.between ≡ entries k.0 (events_in done) = λ s. same s ∙ d.seen_is (sole_first s) in
+    let before_is : IsSole l.0 (seen_at l shard) → seen_at k shard ++ t.between ≡ entries_by k.0 (events_in done) = λ s. same s ∙ d.seen_is (sole_first s) in
     record {
       seen_is = λ s. t.here
           ∙ (ap (λ xs. xs ++ entry_of k.0 e.event ∷ []) (before_is s)
           ∙ (sym (map-append (entry_of k.0) (events_in done) (e.event ∷ []))
-          ∙ (ap (entries k.0) (sym (map-append (λ (x : Numbered). x.event) done (e ∷ [])))
-          ∙ ap (λ n. entries n (events_in (done ++ e ∷ []))) (sym number))));
+          ∙ (ap (entries_by k.0) (sym (map-append (λ (x : Numbered). x.event) done (e ∷ [])))
+          ∙ ap (λ n. entries_by n (events_in (done ++ e ∷ []))) (sym number))));
       told_is = λ s. t.pieces
           ∙ (ap (λ ps. ps ++ event_pieces e.number e.event (given_after (configs_at engine shard) (seen_at k shard ++ t.between) e.event)) (d.told_is (sole_first s))
-          ∙ (ap (λ o. told 0 done (map started (configs_at engine shard)) ++ event_pieces e.number e.event o)
+          ∙ (ap (λ o. shard_tells 0 done (map started (configs_at engine shard)) ++ event_pieces e.number e.event o)
           (given_done k.0 (configs_at engine shard) (seen_at k shard ++ t.between) (events_in done) e.event (before_is s))
           ∙ sym (told_runs done e (configs_at engine shard))));
       few = omega (arith, d.few, taken, length-append done (e ∷ []));
     }
 
 -- a turn that was refused in the midst of the queue
-pub stopped_at : (fault : EngineFault) (engine : Shards) (shard most : ℕ) (k l : Knows) (done : List Numbered) (part : List Piece) → IsRefused fault engine shard k l → l.0 ≡ k.0
-    → HasDone engine shard k.0 done (seen_at k shard) (taken_at k shard) part → length done < most → IsStopAt fault engine shard most l
+pub stopped_at : (fault : EngineFault) (engine : Shards) (shard most : ℕ) (k l : Knows) (done : List Numbered) (part : List Piece) → IsTurnRefused fault engine shard k l → l.0 ≡ k.0
+    → HasDoneEvents engine shard k.0 done (seen_at k shard) (taken_at k shard) part → length done < most → IsStopAt fault engine shard most l
 stopped_at Memory engine shard most k l done part r number d less = tt
 stopped_at (Spent at word) engine shard most k l done part r number d less = r
 stopped_at (Full at n) engine shard most k l done part r number d less = (
@@ -104,7 +104,7 @@ stopped_at (Full at n) engine shard most k l done part r number d less = (
   λ s.
       (let sole : IsSole k.0 (seen_at k shard ++ r.1.0) = subst (λ m. IsSole m (seen_at k shard ++ r.1.0)) number (subst (IsSole l.0) r.1.2 s) in
       let none : r.1.0 ≡ [] = nobody k.0 r.1.0 (back_sole k.0 (seen_at k shard) r.1.0 sole) r.1.1 in
-      let is : seen_at l shard ≡ entries k.0 (events_in done) =
+      let is : seen_at l shard ≡ entries_by k.0 (events_in done) =
       r.1.2 ∙ (ap (λ b. seen_at k shard ++ b) none ∙ (append-nil (seen_at k shard) ∙ d.seen_is (front_sole k.0 (seen_at k shard) r.1.0 sole))) in
       omega (arith, ap length is, length-map (events_in done) (entry_of k.0), length-map done (λ (x : Numbered). x.event), less)),
 )

@@ -24,14 +24,14 @@ use Rattle.bfd_engine.specs.Engines.{Shards, configs_at}
 use Rattle.bfd_engine.proofs.Reaching.{dealt_event}
 use Rattle.bfd_gather.specs.declared.queue.Numbered.{Numbered}
 use Rattle.bfd_gather.specs.Pieces.{Piece}
-use Rattle.bfd_gather.specs.Happenings.{Happening, Apart, Among, AreParts, in_shard, numbered, queue, told, told_apart}
+use Rattle.bfd_gather.specs.Happenings.{Happening, Apart, Among, AreParts, in_shard, numbered, queue, shard_tells, told_apart}
 use Rattle.bfd_gather.specs.Happenings as gather
 use Rattle.bfd_shard.proofs.Sharing.{share_map}
 use Rattle.bfd_gather.proofs.Histories.{queue_events, runs_share}
 use Rattle.bfd_replay.specs.World.{totals}
 use Rattle.bfd_replay.specs.Stage.{IsTable}
 use Rattle.bfd_workers.specs.Planned.{AreQueues, IsMet, events_of_table, happening, happenings}
-use Rattle.bfd_workers.specs.Working.{AreMet, entries, events_in}
+use Rattle.bfd_workers.specs.Working.{AreMet, entries_by, events_in}
 use Rattle.bfd_workers.specs.Ends.{AreStates, AreTold}
 use Rattle.bfd_workers.specs.Replayed.{HaveReplayed}
 use Rattle.bfd_workers.specs.Counts.{one_up, sum_to, ups}
@@ -94,10 +94,10 @@ are_parts engine shards workers hs configs queues all parts apart some locks is 
   each = λ s h. each s h
       ∙ (ap (λ n. slice_index_or (slice_index_or all (s % n) []) s []) told_are.long
       ∙ (told_are.each s (omega (arith, h, locks))
-      ∙ (ap (λ q. told 0 q (map started (configs_at engine s))) (are.each s h)
-      ∙ (ap (λ n. told 0 (queue shards s 1 hs) (map started (share n s engine.configs))) (sym locks)
-      ∙ (ap (λ cs. told 0 (queue shards s 1 hs) (map started (share shards s cs))) is
-      ∙ ap (told 0 (queue shards s 1 hs)) (sym (share_map started shards s configs)))))));
+      ∙ (ap (λ q. shard_tells 0 q (map started (configs_at engine s))) (are.each s h)
+      ∙ (ap (λ n. shard_tells 0 (queue shards s 1 hs) (map started (share n s engine.configs))) (sym locks)
+      ∙ (ap (λ cs. shard_tells 0 (queue shards s 1 hs) (map started (share shards s cs))) is
+      ∙ ap (shard_tells 0 (queue shards s 1 hs)) (sym (share_map started shards s configs)))))));
   others = last ∙ apart_is;
   ascends = subst Ascends (sym (started_configs configs)) ascends;
 }
@@ -111,9 +111,9 @@ have_replayed engine script shards workers queues states locks is are all = reco
       let inside : s < shards = (let a = slice_get_within states s state e in let b = all.long in omega (arith, a, b, locks)) in record {
         configs = one.configs ∙ (ap (λ n. share n s engine.configs) (sym locks) ∙ ap (share shards s) is);
         journal = one.journal
-            ∙ (ap (λ q. entries (s % workers + 1) (events_in q)) (are.each s inside)
-            ∙ (ap (entries (s % workers + 1)) (queue_events shards s 1 (happenings script.configs script.pool script.events))
-            ∙ ap (λ n. entries n (history_of shards s (events_of_table script))) (add_comm (s % workers) 1)));
+            ∙ (ap (λ q. entries_by (s % workers + 1) (events_in q)) (are.each s inside)
+            ∙ (ap (entries_by (s % workers + 1)) (queue_events shards s 1 (happenings script.configs script.pool script.events))
+            ∙ ap (λ n. entries_by n (history_of shards s (events_of_table script))) (add_comm (s % workers) 1)));
       });
 }
 
@@ -136,7 +136,7 @@ ups_are script (suc n) workers up states d some have kept is =
     ∙ (ups_shared n (runs (events_of_table script) script.configs) ∙ ap ups (sym (left_is script)))))
 
 -- each event of a script gives one outcome
-outcomes_long : (last : ℕ) (hs : List Happening) (ss : List Running) → length (gather.outcomes last hs ss) ≡ length hs
+outcomes_long : (last : ℕ) (hs : List Happening) (ss : List Running) → length (gather.happening_outcomes last hs ss) ≡ length hs
 outcomes_long last [] ss = refl
 outcomes_long last (Apart o ∷ hs) ss = ap suc (outcomes_long last hs ss)
 outcomes_long last (Among e ∷ hs) ss = ap suc (outcomes_long (later last e) hs (moved last e ss))

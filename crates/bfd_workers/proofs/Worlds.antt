@@ -17,10 +17,10 @@ use Rattle.bfd_shard.specs.History.{later, moved, own_moved, own_outcome, outcom
 use Rattle.bfd_line.specs.declared.entries.Line.{Line}
 use Rattle.bfd_script.specs.Doing.{Doing, Rests, Reflects, Happens, Passes, doing}
 use Rattle.bfd_script.specs.Reading.{Lists}
-use Rattle.bfd_gather.specs.Happenings.{Happening, Apart, Among, among}
+use Rattle.bfd_gather.specs.Happenings.{Happening, Apart, Among, session_event}
 use Rattle.bfd_gather.specs.Happenings as gather
 use Rattle.bfd_gather.proofs.Histories.{left_by, left_runs}
-use Rattle.bfd_replay.specs.World.{World, Turn, own, own_of, ticks, done, happens, outcomes, after, reflected, opened, world}
+use Rattle.bfd_replay.specs.World.{World, Turn, own, own_of, ticks, carried_out, happens, outcomes, world_after, reflected, opened, world}
 use Rattle.bfd_replay.specs.World as worlds
 use Rattle.bfd_workers.specs.Planned.{events_of_table, happening, happening_by, happenings, reflecting}
 use Rattle.bfd_replay.proofs.SameConfigs.{happens_keeps}
@@ -48,7 +48,7 @@ ticks_is : (t : ℕ) (w : World) → ticks t w ≡ turn_of (Among (Tick t)) w
 unfolding ticks moved outcome_of
 ticks_is t w = refl
 
-done_is : (what : Doing) (w : World) → done what w ≡ turn_of (happening_by w.pool what) w
+done_is : (what : Doing) (w : World) → carried_out what w ≡ turn_of (happening_by w.pool what) w
 done_is (Rests answer) w = refl
 done_is (Reflects place arrival) w = reflected_is (slice_get w.pool place) (reflect w.pool arrival) w
 done_is (Happens place moment event) w = own_is place moment event w
@@ -62,11 +62,11 @@ pool_stays (Apart outcome) w = refl
 pool_stays (Among event) w = refl
 
 outcomes_step : (h : Happening) (rest : List Happening) (w : World)
-    → gather.outcomes w.last (h ∷ rest) w.sessions ≡ (turn_of h w).outcome ∷ gather.outcomes (turn_of h w).world.last rest (turn_of h w).world.sessions
+    → gather.happening_outcomes w.last (h ∷ rest) w.sessions ≡ (turn_of h w).outcome ∷ gather.happening_outcomes (turn_of h w).world.last rest (turn_of h w).world.sessions
 outcomes_step (Apart outcome) rest w = refl
 outcomes_step (Among event) rest w = refl
 
-left_step : (h : Happening) (es : List ShardEvent) (w : World) → left_by w.last (cons_option (among h) es) w.sessions ≡ left_by (turn_of h w).world.last es (turn_of h w).world.sessions
+left_step : (h : Happening) (es : List ShardEvent) (w : World) → left_by w.last (cons_option (session_event h) es) w.sessions ≡ left_by (turn_of h w).world.last es (turn_of h w).world.sessions
 left_step (Apart outcome) es w = refl
 left_step (Among event) es w = refl
 
@@ -84,26 +84,26 @@ stays_on cs pool line w s = record {
 turn_is : (cs : List SessionConfig) (pool : List Reflector) (line : Line) (w : World) → Stays cs pool w → happens line w ≡ turn_of (happening cs pool line) w
 turn_is cs pool line w s = happens_is line w ∙ (ap (λ xs. turn_of (happening xs w.pool line) w) s.configs ∙ ap (λ p. turn_of (happening cs p line) w) s.same_pool)
 
-pub outcomes_are : (cs : List SessionConfig) (pool : List Reflector) (lines : List Line) (w : World) → Stays cs pool w → outcomes lines w ≡ gather.outcomes w.last (happenings cs pool lines) w.sessions
+pub outcomes_are : (cs : List SessionConfig) (pool : List Reflector) (lines : List Line) (w : World) → Stays cs pool w → outcomes lines w ≡ gather.happening_outcomes w.last (happenings cs pool lines) w.sessions
 outcomes_are cs pool [] w s = refl
 outcomes_are cs pool (line ∷ lines) w s =
     ap (λ os. (happens line w).outcome ∷ os) (outcomes_are cs pool lines (happens line w).world (stays_on cs pool line w s))
-    ∙ (ap (λ (t : Turn). t.outcome ∷ gather.outcomes t.world.last (happenings cs pool lines) t.world.sessions) (turn_is cs pool line w s)
+    ∙ (ap (λ (t : Turn). t.outcome ∷ gather.happening_outcomes t.world.last (happenings cs pool lines) t.world.sessions) (turn_is cs pool line w s)
     ∙ sym (outcomes_step (happening cs pool line) (happenings cs pool lines) w))
 
-after_are : (cs : List SessionConfig) (pool : List Reflector) (lines : List Line) (w : World) → Stays cs pool w → (after lines w).sessions ≡ left_by w.last (filter_map among (happenings cs pool lines)) w.sessions
+after_are : (cs : List SessionConfig) (pool : List Reflector) (lines : List Line) (w : World) → Stays cs pool w → (world_after lines w).sessions ≡ left_by w.last (filter_map session_event (happenings cs pool lines)) w.sessions
 after_are cs pool [] w s = refl
 after_are cs pool (line ∷ lines) w s =
     after_are cs pool lines (happens line w).world (stays_on cs pool line w s)
-    ∙ (ap (λ (t : Turn). left_by t.world.last (filter_map among (happenings cs pool lines)) t.world.sessions) (turn_is cs pool line w s)
-    ∙ sym (left_step (happening cs pool line) (filter_map among (happenings cs pool lines)) w))
+    ∙ (ap (λ (t : Turn). left_by t.world.last (filter_map session_event (happenings cs pool lines)) t.world.sessions) (turn_is cs pool line w s)
+    ∙ sym (left_step (happening cs pool line) (filter_map session_event (happenings cs pool lines)) w))
 
 -- what a script's events give
-pub world_is : (script : Lists) → gather.outcomes 0 (happenings script.configs script.pool script.events) (map started script.configs) ≡ world script
+pub world_is : (script : Lists) → gather.happening_outcomes 0 (happenings script.configs script.pool script.events) (map started script.configs) ≡ world script
 world_is script = sym (outcomes_are script.configs script.pool script.events (opened script.configs script.pool) (record { configs = started_configs script.configs; same_pool = refl }))
 
 -- the sessions that it leaves
-pub left_is : (script : Lists) → (worlds.left_by script).sessions ≡ runs (events_of_table script) script.configs
+pub left_is : (script : Lists) → (worlds.world_left script).sessions ≡ runs (events_of_table script) script.configs
 left_is script =
     after_are script.configs script.pool script.events (opened script.configs script.pool) (record { configs = started_configs script.configs; same_pool = refl })
     ∙ left_runs (events_of_table script) script.configs

@@ -8,8 +8,8 @@ use Rattle.bfd_engine.specs.declared.fault.EngineFault.TheVariants.{Memory, Full
 use Rattle.bfd_engine.specs.Engines.{Shards, configs_at}
 use Rattle.bfd_gather.specs.declared.queue.Numbered.{Numbered}
 use Rattle.bfd_gather.specs.Pieces.{Piece}
-use Rattle.bfd_gather.specs.Happenings.{told}
-use Rattle.bfd_workers.specs.Working.{entries, events_in, HasUsed}
+use Rattle.bfd_gather.specs.Happenings.{shard_tells}
+use Rattle.bfd_workers.specs.Working.{entries_by, events_in, HasUsed}
 use Rattle.bfd_workers.specs.Jobs.{AreOwn, HasEnded, Work, own_queue}
 use Rattle.bfd_engine.specs.Engines.{IsOf, AllThere}
 
@@ -31,22 +31,22 @@ IsFine (Err (Full at n)) = ⊥
 IsFine (Err (Spent at word)) = ⊥
 
 -- what the worker at this place of so many told of each shard that it takes, if it ended with parts: what its queue's events give
-abbrev pub IsTold : Shards → List (List Numbered) → ℕ → ℕ → Result (List (List Piece)) EngineFault → Type 0
-IsTold engine queues workers at (Err fault) = Unit {0}
-IsTold engine queues workers at (Ok parts) = (length parts ≡ length engine.locks) × ((shard : ℕ) → shard < length engine.locks → shard % workers ≡ at
-    → slice_index_or parts shard [] ≡ told 0 (slice_index_or queues shard []) (map started (configs_at engine shard)))
+abbrev pub ToldItsShards : Shards → List (List Numbered) → ℕ → ℕ → Result (List (List Piece)) EngineFault → Type 0
+ToldItsShards engine queues workers at (Err fault) = Unit {0}
+ToldItsShards engine queues workers at (Ok parts) = (length parts ≡ length engine.locks) × ((shard : ℕ) → shard < length engine.locks → shard % workers ≡ at
+    → slice_index_or parts shard [] ≡ shard_tells 0 (slice_index_or queues shard []) (map started (configs_at engine shard)))
 
 -- the workers' parts: shard by shard what its queue's events give, told by its worker
 pub record AreTold (engine : Shards) (queues : List (List Numbered)) (workers : ℕ) (all : List (List (List Piece))) : Type 0 where
   pub long : length all ≡ workers
   pub wide : (at : ℕ) → at < workers → length (slice_index_or all at []) ≡ length engine.locks
   pub each : (shard : ℕ) → shard < length engine.locks
-      → slice_index_or (slice_index_or all (shard % workers) []) shard [] ≡ told 0 (slice_index_or queues shard []) (map started (configs_at engine shard))
+      → slice_index_or (slice_index_or all (shard % workers) []) shard [] ≡ shard_tells 0 (slice_index_or queues shard []) (map started (configs_at engine shard))
 
 -- a closed shard: made of its configurations, and its journal has the queue's events alone, all brought by its worker
 pub record IsState (engine : Shards) (queues : List (List Numbered)) (workers number : ℕ) (shard : Shard) : Type 0 where
   pub configs : configs_of shard.sessions ≡ configs_at engine number
-  pub journal : shard.journal ≡ entries (number % workers + 1) (events_in (slice_index_or queues number []))
+  pub journal : shard.journal ≡ entries_by (number % workers + 1) (events_in (slice_index_or queues number []))
 
 pub record AreStates (engine : Shards) (queues : List (List Numbered)) (workers : ℕ) (shards : List Shard) : Type 0 where
   pub long : length shards ≡ length engine.locks

@@ -3,7 +3,7 @@ use Rattle.std.specs.Prelude.{ℕ, ◌≡◌, ◌≢◌, ◌<◌, ◌≤◌, ◌
 use Rattle.bfd_turn.specs.Lists.{Begins}
 use Rattle.bfd_engine.specs.declared.fault.EngineFault.{EngineFault}
 use Rattle.bfd_engine.specs.Engines.{Shards, Knows, IsOf, AllThere}
-use Rattle.bfd_engine.specs.Calls.{seen_at, word_at, taken_at, made_at, kept_at, mine}
+use Rattle.bfd_engine.specs.Calls.{seen_at, met_word, taken_at, made_at, kept_at, mine}
 use Rattle.bfd_gather.specs.declared.queue.Numbered.{Numbered}
 use Rattle.bfd_gather.specs.Pieces.{Piece}
 use Rattle.bfd_workers.specs.Working.{HasFinished, HasLeft, HasStopped, IsIdle}
@@ -25,7 +25,7 @@ HasEnded engine queues l (Ok parts) = HasFinished engine queues l parts
 HasEnded engine queues l (Err fault) = HasStopped engine queues l fault
 
 -- a job before and after it was worked on
-pub record HasWorked (engine : Shards) (before after : Work) : Type 0 where
+pub record HasWorkedOn (engine : Shards) (before after : Work) : Type 0 where
   pub left : HasLeft engine before.queues before.pass after.pass
   pub ended : HasEnded engine before.queues after.pass after.told
 
@@ -40,7 +40,7 @@ pub record AreOwn (workers at : ℕ) (queues own : List (List Numbered)) : Type 
   pub each : (shard : ℕ) → shard < length queues → slice_index_or own shard [] ≡ own_queue workers at shard (slice_index_or queues shard [])
 
 -- caller 0's pass on a shard of a new engine, which has made passes with these numbers
-pub record IsFresh (l : Knows) (shard : ℕ) (numbers : List ℕ) : Type 0 where
+pub record IsFreshAt (l : Knows) (shard : ℕ) (numbers : List ℕ) : Type 0 where
   pub seen : seen_at l shard ≡ []
   pub taken : taken_at l shard ≡ 0
   pub kept : kept_at l shard ≡ []
@@ -64,7 +64,7 @@ pub record AreJobs (engine : Shards) (queues : List (List Numbered)) (workers at
   pub number : l.0 ≡ 0
   pub used : l.2 ≡ at
   pub long : length works ≡ at
-  pub fresh : (shard : ℕ) → shard < length engine.locks → IsFresh l shard (map number_of works)
+  pub fresh : (shard : ℕ) → shard < length engine.locks → IsFreshAt l shard (map number_of works)
   pub each : (i : ℕ) (w : Work) → slice_get works i ≡ Some w → IsNewJob engine queues workers i w
 
 -- a job that was done, as it is joined: its pass made at most so many turns of each shard
@@ -75,16 +75,16 @@ pub record IsJoining (engine : Shards) (most : ℕ) (w : Work) : Type 0 where
   pub few : (shard : ℕ) → shard < length engine.locks → taken_at w.pass shard ≤ most
 
 -- on a shard caller 0 knew k, and knows l once it has taken in the passes of these jobs
-pub record AreJoined (most : ℕ) (k l : Knows) (works : List Work) (shard : ℕ) : Type 0 where
+pub record JobsAreJoined (most : ℕ) (k l : Knows) (works : List Work) (shard : ℕ) : Type 0 where
   pub own : mine l shard ≡ mine k shard
   pub kept : kept_at l shard ≡ kept_at k shard ++ map (λ w. (w.pass.0, mine w.pass shard)) works
   pub made : made_at l shard ≡ made_at k shard
   pub begins : (i : ℕ) (w : Work) → slice_get works i ≡ Some w → Begins (seen_at w.pass shard) (seen_at l shard)
-  pub words : (i : ℕ) (w : Work) → slice_get works i ≡ Some w → word_at w.pass shard ≤ word_at l shard
+  pub words : (i : ℕ) (w : Work) → slice_get works i ≡ Some w → met_word w.pass shard ≤ met_word l shard
   pub few : taken_at l shard ≤ taken_at k shard + most * length works
 
-pub record AllJoined (engine : Shards) (most : ℕ) (k l : Knows) (works : List Work) : Type 0 where
+pub record AllJobsJoined (engine : Shards) (most : ℕ) (k l : Knows) (works : List Work) : Type 0 where
   pub of : IsOf engine l.1
   pub there : AllThere l.1
   pub number : l.0 ≡ 0
-  pub each : (shard : ℕ) → shard < length engine.locks → AreJoined most k l works shard
+  pub each : (shard : ℕ) → shard < length engine.locks → JobsAreJoined most k l works shard

@@ -18,7 +18,7 @@ use Rattle.bfd_script.specs.Doing.{Doing, Rests, Reflects, Happens, Passes, doin
 use Rattle.bfd_script.specs.Reading.{Lists}
 use Rattle.bfd_gather.specs.declared.queue.Numbered.{Numbered}
 use Rattle.bfd_gather.specs.Pieces.{Piece}
-use Rattle.bfd_gather.specs.Happenings.{Happening, Apart, Among, among, in_shard, numbered, queue, told_apart}
+use Rattle.bfd_gather.specs.Happenings.{Happening, Apart, Among, session_event, in_shard, numbered, queue, told_apart}
 use Rattle.bfd_workers.specs.declared.routing.Route.{Route}
 use Rattle.bfd_workers.specs.declared.routing.Route.TheVariants as routes
 
@@ -27,14 +27,14 @@ abbrev pub resting : Answer → Outcome
 resting answer = record { items = []; answer = answer }
 
 -- the answer that is sent in the name of this reflector
-abbrev pub sending : ℕ → Datagram → Outcome
-sending discr datagram = record { items = Sent discr datagram ∷ []; answer = Handled }
+abbrev pub sent_outcome : ℕ → Datagram → Outcome
+sent_outcome discr datagram = record { items = Sent discr datagram ∷ []; answer = Handled }
 
 -- what a reflector's packet gives (RFC 7880 section 7.2)
 abbrev pub reflecting : Option Reflector → Result Datagram Test → Outcome
 reflecting reflector (Err test) = resting (Dropped test)
 reflecting None (Ok datagram) = resting Handled
-reflecting (Some reflector) (Ok datagram) = sending reflector.discr datagram
+reflecting (Some reflector) (Ok datagram) = sent_outcome reflector.discr datagram
 
 -- an event of no session, with what it gives, or an event of the table's sessions
 abbrev pub happening_by : List Reflector → Doing → Happening
@@ -52,7 +52,7 @@ happenings configs pool lines = map (happening configs pool) lines
 
 -- the events of the table's sessions in a script
 abbrev pub events_of_table : Lists → List ShardEvent
-events_of_table script = filter_map among (happenings script.configs script.pool script.events)
+events_of_table script = filter_map session_event (happenings script.configs script.pool script.events)
 
 -- an event of the sessions is one that they may be given
 abbrev pub IsMet : List SessionConfig → Happening → Type 0
@@ -62,7 +62,7 @@ IsMet configs (Among event) = CanHappen configs event
 -- what a line was found to be
 abbrev pub route_is : Route → Happening
 route_is (routes.Rests answer) = Apart (resting answer)
-route_is (routes.Answers discr datagram) = Apart (sending discr datagram)
+route_is (routes.Answers discr datagram) = Apart (sent_outcome discr datagram)
 route_is (routes.Happens event) = Among event
 
 -- the queues of so many shards, of all these events
@@ -77,5 +77,5 @@ pub record IsPlanned (number : ℕ) (h : Happening) (before after : List (List N
   pub told : apart2 ≡ apart ++ told_apart number (h ∷ [])
 
 -- a script of these sessions, reflectors and events
-abbrev pub script_of : List SessionConfig → List Reflector → List Line → Lists
-script_of configs pool events = record { configs = configs; pool = pool; events = events }
+abbrev pub script_with : List SessionConfig → List Reflector → List Line → Lists
+script_with configs pool events = record { configs = configs; pool = pool; events = events }

@@ -5,13 +5,13 @@ use Rattle.bfd_shard.specs.Dealing.{history_of, share}
 use Rattle.bfd_shard.specs.Shard.{Shard}
 use Rattle.bfd_script.specs.Reading.{Lists}
 use Rattle.bfd_workers.specs.Planned.{events_of_table}
-use Rattle.bfd_workers.specs.Working.{entries}
+use Rattle.bfd_workers.specs.Working.{entries_by}
 
 -- the state of this shard: it was made of the sessions that are dealt to it, and its journal is, in the order of the script, the own
 -- events of its sessions and every tick, all brought by the worker that takes the shard
 pub record HasReplayed (script : Lists) (shards workers number : ℕ) (state : Shard) : Type 0 where
   pub configs : configs_of state.sessions ≡ share shards number script.configs
-  pub journal : state.journal ≡ entries (1 + number % workers) (history_of shards number (events_of_table script))
+  pub journal : state.journal ≡ entries_by (1 + number % workers) (history_of shards number (events_of_table script))
 
 pub record HaveReplayed (script : Lists) (shards workers : ℕ) (states : List Shard) : Type 0 where
   pub long : length states ≡ shards

@@ -12,14 +12,14 @@ use Rattle.bfd_engine.specs.declared.fault.EngineFault.{EngineFault}
 use Rattle.bfd_engine.specs.declared.fault.EngineFault.TheVariants.{Memory, Full, Spent}
 use Rattle.bfd_engine.specs.Turned.{by, entry_of, given_after}
 use Rattle.bfd_engine.specs.Engines.{Shards, Knows, IsOf, AllThere, configs_at}
-use Rattle.bfd_engine.specs.Calls.{seen_at, word_at, taken_at}
+use Rattle.bfd_engine.specs.Calls.{seen_at, met_word, taken_at}
 use Rattle.bfd_gather.specs.declared.queue.Numbered.{Numbered}
 use Rattle.bfd_gather.specs.Pieces.{Piece, event_pieces}
-use Rattle.bfd_gather.specs.Happenings.{told}
+use Rattle.bfd_gather.specs.Happenings.{shard_tells}
 
 -- the entries of these events, where this caller brought them all
-abbrev pub entries : ℕ → List ShardEvent → List Entry
-entries caller events = map (entry_of caller) events
+abbrev pub entries_by : ℕ → List ShardEvent → List Entry
+entries_by caller events = map (entry_of caller) events
 
 -- the events of a queue
 abbrev pub events_in : List Numbered → List ShardEvent
@@ -35,9 +35,9 @@ IsSole caller seen = AllByRecursion (λ entry. by entry ≡ caller) seen
 
 -- a caller did the first events of a shard's queue, which it didn't know before: if it is the shard's only caller, then what it
 -- has seen is their entries, and what it told is what they give
-pub record HasDone (engine : Shards) (shard caller : ℕ) (done : List Numbered) (seen : List Entry) (taken : ℕ) (part : List Piece) : Type 0 where
-  pub seen_is : IsSole caller seen → seen ≡ entries caller (events_in done)
-  pub told_is : IsSole caller seen → part ≡ told 0 done (map started (configs_at engine shard))
+pub record HasDoneEvents (engine : Shards) (shard caller : ℕ) (done : List Numbered) (seen : List Entry) (taken : ℕ) (part : List Piece) : Type 0 where
+  pub seen_is : IsSole caller seen → seen ≡ entries_by caller (events_in done)
+  pub told_is : IsSole caller seen → part ≡ shard_tells 0 done (map started (configs_at engine shard))
   pub few : taken ≤ length done
 
 -- why it stopped at an event of the queue: for want of memory; with a full journal, which can't be if it is the only caller; or
@@ -49,7 +49,7 @@ IsStop (Spent at last) limit caller most seen word = word ≡ last_word
 
 -- it stopped so at this shard, whose queue is so long
 abbrev pub IsStopAt : EngineFault → Shards → ℕ → ℕ → Knows → Type 0
-IsStopAt fault engine shard most l = IsStop fault engine.limit l.0 most (seen_at l shard) (word_at l shard)
+IsStopAt fault engine shard most l = IsStop fault engine.limit l.0 most (seen_at l shard) (met_word l shard)
 
 -- a turn of a shard, that it took with an event and told
 pub record HasTold (engine : Shards) (shard : ℕ) (e : Numbered) (k l : Knows) (part part2 : List Piece) : Type 0 where
@@ -59,11 +59,11 @@ pub record HasTold (engine : Shards) (shard : ℕ) (e : Numbered) (k l : Knows) 
   pub pieces : part2 ≡ part ++ event_pieces e.number e.event (given_after (configs_at engine shard) (seen_at k shard ++ between) e.event)
 
 -- a turn of a shard that was refused
-abbrev pub IsRefused : EngineFault → Shards → ℕ → Knows → Knows → Type 0
-IsRefused Memory engine shard k l = Unit {0}
-IsRefused (Full at n) engine shard k l =
+abbrev pub IsTurnRefused : EngineFault → Shards → ℕ → Knows → Knows → Type 0
+IsTurnRefused Memory engine shard k l = Unit {0}
+IsTurnRefused (Full at n) engine shard k l =
     (length (seen_at l shard) ≡ engine.limit) × ((between : List Entry) × (calls by k.0 between ≡ []) × (seen_at l shard ≡ seen_at k shard ++ between))
-IsRefused (Spent at word) engine shard k l = word_at l shard ≡ last_word
+IsTurnRefused (Spent at word) engine shard k l = met_word l shard ≡ last_word
 
 -- what it knows of no other shard has changed
 pub record IsElsewhere (k l : Knows) (shard : ℕ) : Type 0 where
@@ -82,11 +82,11 @@ pub record HasUsed (l : Knows) (shard : ℕ) (queue : List Numbered) : Type 0 wh
   pub none : queue ≡ [] → IsIdle l shard
 
 abbrev pub HasDoneAt : Shards → ℕ → List Numbered → Knows → List Piece → Type 0
-HasDoneAt engine shard queue l part = HasDone engine shard l.0 queue (seen_at l shard) (taken_at l shard) part
+HasDoneAt engine shard queue l part = HasDoneEvents engine shard l.0 queue (seen_at l shard) (taken_at l shard) part
 
 -- what is asked of a worker's pass: it is of this engine, has seen nothing, and the worker's queues, one for each shard, hold
 -- events that the shards' sessions may be given
-pub record IsReady (engine : Shards) (queues : List (List Numbered)) (k : Knows) : Type 0 where
+pub record IsWorkerReady (engine : Shards) (queues : List (List Numbered)) (k : Knows) : Type 0 where
   pub of : IsOf engine k.1
   pub there : AllThere k.1
   pub some : 0 < length engine.locks

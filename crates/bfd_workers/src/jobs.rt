@@ -2,8 +2,8 @@
 ghost use Rattle.std.specs.Prelude.{ℕ, ◌≡◌, ◌≤◌, ◌<◌, ◌+◌, ◌*◌, ◌%◌, [], Ok, IfOk, OnOk, false, if◌then◌else◌, length, map, slice_index_or};
 ghost use Rattle.std.specs.List.{All};
 ghost use Rattle.bfd_engine.specs.Engines.{configs_at};
-ghost use Rattle.bfd_workers.specs.Jobs.{Work, HasWorked, HasEnded, AreOwn, seen_as};
-ghost use Rattle.bfd_workers.specs.Working.{IsReady, HasLeft};
+ghost use Rattle.bfd_workers.specs.Jobs.{Work, HasWorkedOn, HasEnded, AreOwn, seen_as};
+ghost use Rattle.bfd_workers.specs.Working.{IsWorkerReady, HasLeft};
 
 use crate::working::all_shards;
 use bfd_edge::Gate;
@@ -47,7 +47,7 @@ fn run<W: Timers, R: Wait, G: Gate, L: Ledger>(
     gate: &G,
     blank: Blank,
 ) -> Result<Vec<Part>, EngineFault>
-    requires ready { IsReady engine.now (map (λ q. q.items) queues.items) pass.old }
+    requires ready { IsWorkerReady engine.now (map (λ q. q.items) queues.items) pass.old }
     requires room { (shard : ℕ) → 5 * length (configs_at engine.now shard) + 5 ≤ room }
     requires name { blank.name ≡ L.name }
     requires parts { blank.parts ≡ L.parts }
@@ -72,9 +72,9 @@ fn work<W: Timers, R: Wait, G: Gate>(
     room: usize,
     gate: &G,
 )
-    requires ready { IsReady engine.now job.old.queues job.old.pass }
+    requires ready { IsWorkerReady engine.now job.old.queues job.old.pass }
     requires room { (shard : ℕ) → 5 * length (configs_at engine.now shard) + 5 ≤ room }
-    ensures { HasWorked engine.now job.old job.new }
+    ensures { HasWorkedOn engine.now job.old job.new }
 {
     let queues = mem::replace(&mut job.queues, Vec::new(alloc));
     job.told = run::<W, R, G, Brand>(
@@ -98,10 +98,10 @@ fn work_each<W: Timers + Send, R: Threads + Wait + Sync, G: Gate + Sync>(
     room: usize,
     gate: &G,
 )
-    requires ready { All (λ (j : Work). IsReady engine.now j.queues j.pass) jobs.old }
+    requires ready { All (λ (j : Work). IsWorkerReady engine.now j.queues j.pass) jobs.old }
     requires room { (shard : ℕ) → 5 * length (configs_at engine.now shard) + 5 ≤ room }
     ensures worked { (i : ℕ) (d : Work) → i < length jobs.old
-        → HasWorked engine.now (slice_index_or jobs.old i d) (slice_index_or jobs.new i d) }
+        → HasWorkedOn engine.now (slice_index_or jobs.old i d) (slice_index_or jobs.new i d) }
     ensures long { length jobs.new ≡ length jobs.old }
 {
     thread::for_each_mut(
@@ -109,9 +109,9 @@ fn work_each<W: Timers + Send, R: Threads + Wait + Sync, G: Gate + Sync>(
         jobs,
         64,
         &|_, job: &mut Job|
-            requires ready { IsReady engine.now job.now.queues job.now.pass }
+            requires ready { IsWorkerReady engine.now job.now.queues job.now.pass }
             requires room { (shard : ℕ) → 5 * length (configs_at engine.now shard) + 5 ≤ room }
-            ensures { HasWorked engine.entry.now job.entry.now job.exit.now }
+            ensures { HasWorkedOn engine.entry.now job.entry.now job.exit.now }
         { work(rt, alloc, engine, job, room, gate) },
     );
 }
@@ -125,10 +125,10 @@ pub(crate) fn work_all<W: Timers + Send, R: Threads + Wait + Sync, G: Gate + Syn
     room: usize,
     gate: &G,
 )
-    requires ready { All (λ (j : Work). IsReady engine.now j.queues j.pass) jobs.old.items }
+    requires ready { All (λ (j : Work). IsWorkerReady engine.now j.queues j.pass) jobs.old.items }
     requires room { (shard : ℕ) → 5 * length (configs_at engine.now shard) + 5 ≤ room }
     ensures worked { (i : ℕ) (d : Work) → i < length jobs.old.items
-        → HasWorked engine.now (slice_index_or jobs.old.items i d) (slice_index_or jobs.new.items i d) }
+        → HasWorkedOn engine.now (slice_index_or jobs.old.items i d) (slice_index_or jobs.new.items i d) }
     ensures long { length jobs.new.items ≡ length jobs.old.items }
 {
     work_each(rt, alloc, engine, jobs, room, gate);

@@ -8,7 +8,7 @@
 //!
 //! Modules: `routing` says what a line is, `plan` deals the lines out, `working` is one worker's turns, `jobs` all workers,
 //! `passes` their passes, `running` the engine from opening to closing, `finish` puts the parts in order, `counting` counts,
-//! `taking` takes lists apart.
+//! `shrinking` takes the queues' memory back as they are done.
 //!
 //! It stands on `bfd_engine` for the turns, on `bfd_gather` for the report and on `bfd_script`. It promises that the text is that
 //! of `bfd_replay`'s `specs/World.antt`, which knows of no shard, no worker and no lock, for every number of shards and workers; that the counts

@@ -2,7 +2,7 @@
 ghost use Rattle.std.specs.Prelude.{ℕ, ◌≡◌, ◌≤◌, ◌<◌, ◌+◌, ◌*◌, [], IfOk, length, map, slice_get, Some};
 ghost use Rattle.bfd_engine.specs.Engines.{IsOf, AllThere};
 ghost use Rattle.bfd_engine.specs.Opening.{IsNewPass};
-ghost use Rattle.bfd_workers.specs.Jobs.{AllJoined, AreJobs, IsJoining, Work, seen_as};
+ghost use Rattle.bfd_workers.specs.Jobs.{AllJobsJoined, AreJobs, IsJoining, Work, seen_as};
 
 use crate::jobs::{Job, own_queues};
 use bfd_engine::{Engine, EngineFault, EnginePass};
@@ -52,7 +52,7 @@ pub(crate) fn join_all<W: Timers>(
     requires there { AllThere first.old.1 }
     requires first { first.old.0 ≡ 0 }
     requires others { (i : ℕ) (w : Work) → slice_get jobs.items i ≡ Some w → IsJoining engine.now 200000 w }
-    ensures joined { IfOk result (λ _. AllJoined engine.now 200000 first.old first.new jobs.items) }
+    ensures joined { IfOk result (λ _. AllJobsJoined engine.now 200000 first.old first.new jobs.items) }
     ensures told { IfOk result (λ tolds. map (seen_as (λ parts. parts.items)) tolds.items
         ≡ map (λ w. w.told) jobs.items) }
 {

@@ -5,7 +5,7 @@ ghost use Rattle.bfd_replay.specs.World.{replayed, totals};
 ghost use Rattle.bfd_script.specs.Sound.{IsScript};
 ghost use Rattle.bfd_session.specs.Step.{started};
 ghost use Rattle.bfd_replay.specs.Stage.{IsTable};
-ghost use Rattle.bfd_workers.specs.Planned.{happenings, script_of};
+ghost use Rattle.bfd_workers.specs.Planned.{happenings, script_with};
 ghost use Rattle.bfd_workers.specs.Replayed.{HaveReplayed};
 
 use crate::counting::{up_all, up_at_last};
@@ -73,7 +73,7 @@ fn worked<W: Timers + Send, R: Threads + Wait + Sync, G: Gate + Sync>(
     requires workers { (0 < workers) × (workers ≤ 64) }
     ensures parts { IfOk result (λ r. AreParts shards 1 0 (happenings configs.items pool.items events.items)
         (map started configs.items) r.0.items) }
-    ensures states { IfOk result (λ r. HaveReplayed (script_of configs.items pool.items events.items)
+    ensures states { IfOk result (λ r. HaveReplayed (script_with configs.items pool.items events.items)
         shards workers r.1.items) }
 {
     let room = 5 * configs.len() + 5;
@@ -102,15 +102,15 @@ fn replay_parts<W: Timers + Send, R: Threads + Wait + Sync, G: Gate + Sync>(
     requires shards { (0 < shards) × (shards ≤ 64) }
     requires workers { (0 < workers) × (workers ≤ 64) }
     ensures text { IfOk result (λ outcome. outcome.text.items
-        ≡ replayed (script_of configs.items pool.items events.items)) }
+        ≡ replayed (script_with configs.items pool.items events.items)) }
     ensures events { IfOk result (λ outcome. outcome.events
-        ≡ (totals (script_of configs.items pool.items events.items)).events) }
+        ≡ (totals (script_with configs.items pool.items events.items)).events) }
     ensures txs { IfOk result (λ outcome. outcome.txs
-        ≡ (totals (script_of configs.items pool.items events.items)).txs) }
+        ≡ (totals (script_with configs.items pool.items events.items)).txs) }
     ensures drops { IfOk result (λ outcome. outcome.drops
-        ≡ (totals (script_of configs.items pool.items events.items)).drops) }
-    ensures up { IfOk result (λ outcome. outcome.up ≡ (totals (script_of configs.items pool.items events.items)).ups) }
-    ensures states { IfOk result (λ outcome. HaveReplayed (script_of configs.items pool.items events.items)
+        ≡ (totals (script_with configs.items pool.items events.items)).drops) }
+    ensures up { IfOk result (λ outcome. outcome.up ≡ (totals (script_with configs.items pool.items events.items)).ups) }
+    ensures states { IfOk result (λ outcome. HaveReplayed (script_with configs.items pool.items events.items)
         shards workers outcome.states.items) }
 {
     let count = events.len();
@@ -143,14 +143,14 @@ fn report_parts<W: Timers + Send, R: Threads + Wait + Sync, G: Gate + Sync>(
     requires shards { (0 < shards) × (shards ≤ 64) }
     requires workers { (0 < workers) × (workers ≤ 64) }
     ensures text { IfOk result (λ outcome. outcome.text.items
-        ≡ replayed (script_of configs.items pool.items events.items)) }
+        ≡ replayed (script_with configs.items pool.items events.items)) }
     ensures events { IfOk result (λ outcome. outcome.events
-        ≡ (totals (script_of configs.items pool.items events.items)).events) }
+        ≡ (totals (script_with configs.items pool.items events.items)).events) }
     ensures txs { IfOk result (λ outcome. outcome.txs
-        ≡ (totals (script_of configs.items pool.items events.items)).txs) }
+        ≡ (totals (script_with configs.items pool.items events.items)).txs) }
     ensures drops { IfOk result (λ outcome. outcome.drops
-        ≡ (totals (script_of configs.items pool.items events.items)).drops) }
-    ensures up { IfOk result (λ outcome. outcome.up ≡ (totals (script_of configs.items pool.items events.items)).ups) }
+        ≡ (totals (script_with configs.items pool.items events.items)).drops) }
+    ensures up { IfOk result (λ outcome. outcome.up ≡ (totals (script_with configs.items pool.items events.items)).ups) }
 {
     let count = events.len();
     let (parts, states) = worked::<W, R, G>(

@@ -8,7 +8,7 @@ ghost use Rattle.bfd_engine.specs.Engines.{IsOf, AllThere, configs_at};
 ghost use Rattle.bfd_engine.specs.Calls.{seen_at, taken_at};
 ghost use Rattle.bfd_engine.specs.Turned.{room_in};
 ghost use Rattle.bfd_gather.specs.Pieces.{event_pieces};
-ghost use Rattle.bfd_workers.specs.Working.{AreMet, HasDoneAt, HasFinished, HasLeft, HasStopped, HasTold, HasUsed, IsElsewhere, IsIdle, IsReady, IsRefused, IsStopAt, is_tick};
+ghost use Rattle.bfd_workers.specs.Working.{AreMet, HasDoneAt, HasFinished, HasLeft, HasStopped, HasTold, HasUsed, IsElsewhere, IsIdle, IsWorkerReady, IsTurnRefused, IsStopAt, is_tick};
 
 use crate::shrinking::next_of;
 use bfd_edge::Gate;
@@ -75,7 +75,7 @@ fn one_event<W: Timers, R: Wait, G: Gate, L: Ledger>(
     ensures elsewhere { IsElsewhere pass.old pass.new shard }
     ensures taken { taken_at pass.new shard ≤ taken_at pass.old shard + 1 }
     ensures told { OnOk result (HasTold engine.now shard event pass.old pass.new part.old part.new) }
-    ensures refused { IfErr result (λ fault. IsRefused fault engine.now shard pass.old pass.new) }
+    ensures refused { IfErr result (λ fault. IsTurnRefused fault engine.now shard pass.old pass.new) }
     ensures room { outs.new.room ≡ outs.old.room }
 {
     let Numbered { number, event } = event;
@@ -142,7 +142,7 @@ pub(crate) fn all_shards<W: Timers, R: Wait, G: Gate, L: Ledger>(
     steps: &mut Steps<L>,
     gate: &G,
 ) -> Result<Vec<Part>, EngineFault>
-    requires ready { IsReady engine.now (map (λ q. q.items) queues.items) pass.old }
+    requires ready { IsWorkerReady engine.now (map (λ q. q.items) queues.items) pass.old }
     requires room { (shard : ℕ) → 5 * length (configs_at engine.now shard) + 5 ≤ outs.old.room }
     ensures left { HasLeft engine.now (map (λ q. q.items) queues.items) pass.old pass.new }
     ensures done { IfOk result (λ parts. HasFinished engine.now (map (λ q. q.items) queues.items)

@@ -11,7 +11,7 @@ use Rattle.bfd_words.specs.declared.job.Job.{Job}
 use Rattle.bfd_words.specs.declared.job.Job.TheVariants.{Replay, Serve, Load, Pair, Watch}
 use Rattle.bfdd.specs.Answers.{IsAnswer}
 use Rattle.bfdd.specs.declared.status.Status.TheVariants.{BadLine, NoMember}
-use Rattle.bfdd.specs.Text.{Wanted, answer_to, bare, complaint_line, ends, load_line, over, told, unserved, watched, watched_unless}
+use Rattle.bfdd.specs.Text.{Wanted, answer_to, bare, complaint_line, ends, load_line, over, done_with, unserved, watch_wanted, watched_unless}
 use Rattle.bfdd.specs.Words.{reads, watches}
 
 of_known : (P : Wanted → Type 0) (v w : Wanted) → P v → Some v ≡ Some w → P w
@@ -22,7 +22,7 @@ over_is : (P : Wanted → Type 0) (f : Lists → Wanted) → ((script : Lists) �
 over_is P f each complained (Ok script) = each script
 over_is P f each complained (Err bad) = complained bad
 
-unless_is : (P : Wanted → Type 0) → ((text : List ℕ) → P (told text)) → ((discr : ℕ) → P (bare (NoMember discr)))
+unless_is : (P : Wanted → Type 0) → ((text : List ℕ) → P (done_with text)) → ((discr : ℕ) → P (bare (NoMember discr)))
     → (stranger : Option ℕ) (text : List ℕ) → P (watched_unless stranger text)
 unless_is P done strange None text = done text
 unless_is P done strange (Some discr) text = strange discr
@@ -33,21 +33,21 @@ unserved_is P complained (Ok script) w is = cc
 unserved_is P complained (Err bad) w is = of_known P (ends (BadLine bad.line bad.fault) (complaint_line bad)) w (complained bad) is
 
 -- a fact about all that a job may have to write is one about what it has to
-pub each_answer : (job : Job) (P : Wanted → Type 0) → ((text : List ℕ) → P (told text))
+pub each_answer : (job : Job) (P : Wanted → Type 0) → ((text : List ℕ) → P (done_with text))
     → (reads job ≡ true → (bad : FaultyLine) → P (ends (BadLine bad.line bad.fault) (complaint_line bad)))
     → (watches job ≡ true → (discr : ℕ) → P (bare (NoMember discr)))
     → (bytes : List ℕ) (w : Wanted) → answer_to job bytes ≡ Some w → P w
 each_answer (Replay hands) P done complained strange bytes w is =
-    of_known P (over (λ script. told (replayed script)) (script_of false bytes)) w
-    (over_is P (λ script. told (replayed script)) (λ script. done (replayed script)) (complained refl) (script_of false bytes)) is
+    of_known P (over (λ script. done_with (replayed script)) (script_of false bytes)) w
+    (over_is P (λ script. done_with (replayed script)) (λ script. done (replayed script)) (complained refl) (script_of false bytes)) is
 each_answer (Watch need members shards) P done complained strange bytes w is =
-    of_known P (over (watched need members) (script_of false bytes)) w
-    (over_is P (watched need members) (λ script. unless_is P done (strange refl) (first_unknown members script.configs) (watched_of need members script))
+    of_known P (over (watch_wanted need members) (script_of false bytes)) w
+    (over_is P (watch_wanted need members) (λ script. unless_is P done (strange refl) (first_unknown members script.configs) (watched_of need members script))
     (complained refl) (script_of false bytes)) is
 each_answer (Load sessions ticks seed hands) P done complained strange bytes w is =
-    let line = load_line sessions (totals (script sessions ticks seed)) in of_known P (told line) w (done line) is
+    let line = load_line sessions (totals (script sessions ticks seed)) in of_known P (done_with line) w (done line) is
 each_answer (Pair events seed) P done complained strange bytes w is =
-    let line = pair_line seed (schedule seed events) in of_known P (told line) w (done line) is
+    let line = pair_line seed (schedule seed events) in of_known P (done_with line) w (done line) is
 each_answer (Serve hands turns ticks journal) P done complained strange bytes w is = unserved_is P (complained refl) (script_of true bytes) w is
 
 -- it is a text that goes with its status

@@ -13,7 +13,7 @@ use Rattle.bfd_words.specs.declared.job.Job.TheVariants.{Serve}
 use Rattle.bfdd.specs.declared.status.Status.{Status}
 use Rattle.bfdd.specs.declared.status.Status.TheVariants.{Memory}
 use Rattle.bfdd.specs.Answers.{HasText}
-use Rattle.bfdd.specs.Serving.{Comes, Edges, HasNoScript, HasServed, IsFaulty, IsFinished, IsOverlong, IsServed, status_of}
+use Rattle.bfdd.specs.Serving.{Comes, Edges, HasNoScript, ServedItsScript, IsFaulty, IsServedToFinish, IsOverlong, IsServed, status_of}
 use Rattle.bfdd.specs.Telling.{Tells}
 use Rattle.bfdd.specs.Text.{Wanted, most_bytes}
 use Rattle.bfdd.specs.Words.{OfServing, serves}
@@ -57,7 +57,7 @@ finished_by job script old new w result (inl is) ports (inr portless) =
 
 of_script : (job : Job) (bytes : List ℕ) (right : Option (List ℕ)) (old new : Edges) (w : Wanted) (result : Status)
     → (result ≡ w.status) ⊎ (result ≡ Memory) → (Rose old.ports.faults new.ports.faults → ⊥)
-    → HasServed job (Some bytes) right old new w ⊎ HasNoScript (Some bytes) right old new w → IsFinished job old new result bytes
+    → ServedItsScript job (Some bytes) right old new w ⊎ HasNoScript (Some bytes) right old new w → IsServedToFinish job old new result bytes
 of_script job bytes right old new w result is ports (inl served) = λ few script spelled.
     finished_by job script old new w result is ports
     (subst (λ (s : Lists). Comes job s old new w)
@@ -68,7 +68,7 @@ of_script job bytes right old new w result is ports (inr none) = λ few script s
 -- with an outside that doesn't fail a script is served to its finish
 pub finished : (job : Job) (left right : Option (List ℕ)) (old new : Edges) (w : Wanted) (result : Status)
     → (result ≡ w.status) ⊎ (result ≡ Memory) → (Rose old.ports.faults new.ports.faults → ⊥) → Tells job left right old new w → serves job ≡ true
-    → IfSome left (IsFinished job old new result)
+    → IfSome left (IsServedToFinish job old new result)
 finished job None right old new w result is ports tells serving = tt
 finished (Serve hands turns ticks journal) (Some bytes) right old new w result is ports tells serving =
     of_script (Serve hands turns ticks journal) bytes right old new w result is ports tells

@@ -10,7 +10,7 @@ use Rattle.bfd_serve.specs.declared.serving.Limits.{Limits}
 use Rattle.bfd_serving.specs.declared.finish.Finish.{Finish}
 use Rattle.bfd_serving.specs.declared.finish.Finish.TheVariants as finish
 use Rattle.bfd_serving.specs.declared.finish.Refused.TheVariants as refused
-use Rattle.bfd_serving.specs.Linking.{IsOpenTo, IsRefused}
+use Rattle.bfd_serving.specs.Linking.{IsOpenTo, IsLinkRefused}
 use Rattle.bfd_serving.specs.Wholes.{HasRun}
 use Rattle.bfd_shard.specs.Shard.{Shard}
 use Rattle.bfd_words.specs.declared.job.Job.{Job}
@@ -65,7 +65,7 @@ pub record IsServed (job : Job) (script : Lists) (old new : Edges) (w : Wanted) 
 -- a port couldn't be opened, and nothing is to be told
 pub record IsPortless (old new : Edges) (w : Wanted) : Type 0 where
   pub nothing : w ≡ bare PortFault
-  pub refused : IsRefused refused.PortFault old.ports new.ports old.ticker new.ticker
+  pub refused : IsLinkRefused refused.PortFault old.ports new.ports old.ticker new.ticker
 
 -- what comes of a script
 abbrev pub Comes : Job → Lists → Edges → Edges → Wanted → Type 0
@@ -101,7 +101,7 @@ IsUnread left right before now Failed = Rose before now
 IsUnread left right before now Memory = now ≡ before
 
 -- what `serve` comes to, where it read its script
-pub record HasServed (job : Job) (left right : Option (List ℕ)) (old new : Edges) (w : Wanted) : Type 0 where
+pub record ServedItsScript (job : Job) (left right : Option (List ℕ)) (old new : Edges) (w : Wanted) : Type 0 where
   pub script : Lists
   pub live : IsLive left right script
   pub comes : Comes job script old new w
@@ -112,7 +112,7 @@ pub record HasNoScript (left right : Option (List ℕ)) (old new : Edges) (w : W
   pub same : new ≡ old
 
 -- of these bytes, where they spell a script: it was served to a finish, which is the status, or there was no memory
-abbrev pub IsFinished : Job → Edges → Edges → Status → List ℕ → Type 0
-IsFinished job old new result bytes =
+abbrev pub IsServedToFinish : Job → Edges → Edges → Status → List ℕ → Type 0
+IsServedToFinish job old new result bytes =
     length bytes ≤ most_bytes → (script : Lists) → script_of true bytes ≡ Ok script
     → (result ≡ status.Memory) ⊎ ((w : Wanted) × IsServed job script old new w × (result ≡ w.status))

@@ -5,7 +5,7 @@ use Rattle.bfd_words.specs.declared.job.Job.{Job}
 use Rattle.bfd_words.specs.declared.job.Job.TheVariants.{Serve}
 use Rattle.bfdd.specs.declared.status.Status.{Status}
 use Rattle.bfdd.specs.Outside.{TookFront}
-use Rattle.bfdd.specs.Serving.{Edges, HasNoScript, HasServed, IsOverlong}
+use Rattle.bfdd.specs.Serving.{Edges, HasNoScript, ServedItsScript, IsOverlong}
 use Rattle.bfdd.specs.Status.{IsDecided, IsWrittenBy}
 use Rattle.bfdd.specs.Text.{Wanted, answer_to, most_bytes}
 use Rattle.bfdd.specs.Words.{reads}
@@ -25,7 +25,7 @@ TellsBytes job left right w = IsSpelled job left right w ⊎ ((reads job ≡ tru
 -- what a job has to tell
 abbrev pub Tells : Job → Option (List ℕ) → Option (List ℕ) → Edges → Edges → Wanted → Type 0
 Tells (Serve hands turns ticks journal) left right old new w =
-    HasServed (Serve hands turns ticks journal) left right old new w ⊎ HasNoScript left right old new w
+    ServedItsScript (Serve hands turns ticks journal) left right old new w ⊎ HasNoScript left right old new w
 Tells job left right old new w = TellsBytes job left right w
 
 -- a status, and what a sink took, where something was told

@@ -29,8 +29,8 @@ abbrev pub ends : Status → List ℕ → Wanted
 ends status text = record { status = status; text = text }
 
 -- a text, and no fault
-abbrev pub told : List ℕ → Wanted
-told text = ends Done text
+abbrev pub done_with : List ℕ → Wanted
+done_with text = ends Done text
 
 -- nothing is written
 abbrev pub bare : Status → Wanted
@@ -48,10 +48,10 @@ over f (Err bad) = ends (BadLine bad.line bad.fault) (complaint_line bad)
 -- a watch, by the first member that names no session
 abbrev pub watched_unless : Option ℕ → List ℕ → Wanted
 watched_unless (Some discr) text = bare (NoMember discr)
-watched_unless None text = told text
+watched_unless None text = done_with text
 
-abbrev pub watched : ℕ → List ℕ → Lists → Wanted
-watched need members script = watched_unless (first_unknown members script.configs) (watched_of need members script)
+abbrev pub watch_wanted : ℕ → List ℕ → Lists → Wanted
+watch_wanted need members script = watched_unless (first_unknown members script.configs) (watched_of need members script)
 
 -- `load SESSIONS EVENTS TXS DROPS UP`
 abbrev pub load_line : ℕ → Totals → List ℕ
@@ -65,10 +65,10 @@ unserved (Err bad) = Some (ends (BadLine bad.line bad.fault) (complaint_line bad
 
 -- what is wanted of a job, where the source has these bytes and they decide it; a job that doesn't read them has no use for them
 abbrev pub answer_to : Job → List ℕ → Option Wanted
-answer_to (Replay hands) bytes = Some (over (λ script. told (replayed script)) (script_of false bytes))
-answer_to (Watch need members shards) bytes = Some (over (watched need members) (script_of false bytes))
-answer_to (Load sessions ticks seed hands) bytes = Some (told (load_line sessions (totals (script sessions ticks seed))))
-answer_to (Pair events seed) bytes = Some (told (pair_line seed (schedule seed events)))
+answer_to (Replay hands) bytes = Some (over (λ script. done_with (replayed script)) (script_of false bytes))
+answer_to (Watch need members shards) bytes = Some (over (watch_wanted need members) (script_of false bytes))
+answer_to (Load sessions ticks seed hands) bytes = Some (done_with (load_line sessions (totals (script sessions ticks seed))))
+answer_to (Pair events seed) bytes = Some (done_with (pair_line seed (schedule seed events)))
 answer_to (Serve hands turns ticks journal) bytes = unserved (script_of true bytes)
 
 -- the same, but that a text may be too large

@@ -1,6 +1,6 @@
 // What a run has to write.
 ghost use Rattle.std.specs.Prelude.{◌≡◌};
-ghost use Rattle.bfdd.specs.Text.{bare, told};
+ghost use Rattle.bfdd.specs.Text.{bare, done_with};
 
 use crate::status::Status;
 use std::alloc::Global;
@@ -23,8 +23,8 @@ impl Model for Answer {
 
 impl Answer {
     /// A text, and no fault.
-    pub(crate) fn told(text: Vec<u8>) -> Answer
-        ensures { result ≡ told text.items }
+    pub(crate) fn done_with(text: Vec<u8>) -> Answer
+        ensures { result ≡ done_with text.items }
     {
         Answer {
             status: Status::Done,

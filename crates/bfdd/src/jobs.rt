@@ -9,7 +9,7 @@ ghost use Rattle.bfd_script.specs.Reading.{script_of};
 ghost use Rattle.bfd_script.specs.Sound.{IsScript};
 ghost use Rattle.bfd_words.specs.Ranges.{AreHands, IsFrom, IsJob};
 ghost use Rattle.bfdd.specs.Answers.{IsAnswer};
-ghost use Rattle.bfdd.specs.Text.{answer_to, complaint_line, ends, load_line, over, told, watched};
+ghost use Rattle.bfdd.specs.Text.{answer_to, complaint_line, ends, load_line, over, done_with, watch_wanted};
 ghost use Rattle.bfdd.specs.Words.{serves};
 
 use crate::answer::Answer;
@@ -73,10 +73,10 @@ fn replay_answer<R: Threads + Wait + Sync, G: Gate + Sync>(
     gate: &G,
 ) -> Result<Answer, AllocError>
     requires { AreHands hands }
-    ensures { IfOk result (λ answer. answer ≡ over (λ script. told (replayed script)) (script_of false bytes.items)) }
+    ensures { IfOk result (λ answer. answer ≡ over (λ script. done_with (replayed script)) (script_of false bytes.items)) }
 {
     match script_in(alloc, bytes) {
-        Ok(script) => Ok(Answer::told(replay_by(rt, alloc, script, hands, gate)?.text)),
+        Ok(script) => Ok(Answer::done_with(replay_by(rt, alloc, script, hands, gate)?.text)),
         Err(ScriptFault::Bad(bad)) => complain(alloc, bad),
         Err(ScriptFault::Memory) => Err(AllocError),
     }
@@ -90,11 +90,11 @@ fn watch_script(
     script: Script,
 ) -> Result<Answer, AllocError>
     requires { IsScript script }
-    ensures { IfOk result (λ answer. answer ≡ watched need members.now script) }
+    ensures { IfOk result (λ answer. answer ≡ watch_wanted need members.now script) }
 {
     match first_unknown(script.configs.as_slice(), members) {
         Some(discr) => Ok(Answer::bare(alloc, Status::NoMember(discr))),
-        None => Ok(Answer::told(watched(alloc, script, need as usize, members)?)),
+        None => Ok(Answer::done_with(watched(alloc, script, need as usize, members)?)),
     }
 }
 
@@ -105,7 +105,7 @@ fn watch_answer(
     members: &[u32],
     bytes: Vec<u8>,
 ) -> Result<Answer, AllocError>
-    ensures { IfOk result (λ answer. answer ≡ over (watched need members.now) (script_of false bytes.items)) }
+    ensures { IfOk result (λ answer. answer ≡ over (watch_wanted need members.now) (script_of false bytes.items)) }
 {
     match script_in(alloc, bytes) {
         Ok(script) => watch_script(alloc, need, members, script),
@@ -147,21 +147,21 @@ fn load_answer<R: Threads + Wait + Sync, G: Gate + Sync>(
     requires hands { AreHands hands }
     requires sessions { IsFrom 1 5000 sessions }
     requires ticks { IsFrom 1 6000 ticks }
-    ensures { IfOk result (λ answer. answer ≡ told (load_line sessions (totals (load.script sessions ticks seed)))) }
+    ensures { IfOk result (λ answer. answer ≡ done_with (load_line sessions (totals (load.script sessions ticks seed)))) }
 {
     let script = generate(alloc, sessions, ticks, seed)?;
     let replayed = replay_by(rt, alloc, script, hands, gate)?;
     let line = load_text(alloc, sessions, &replayed)?;
-    Ok(Answer::told(line.into_bytes()))
+    Ok(Answer::done_with(line.into_bytes()))
 }
 
 /// `pair` of these numbers.
 fn pair_answer(alloc: Global, events: u32, seed: u32) -> Result<Answer, AllocError>
     requires { IsFrom 1 100000 events }
-    ensures { IfOk result (λ answer. answer ≡ told (pair_line seed (schedule seed events))) }
+    ensures { IfOk result (λ answer. answer ≡ done_with (pair_line seed (schedule seed events))) }
 {
     let line = pair_line(alloc, u64::from(events), seed)?;
-    Ok(Answer::told(line.into_bytes()))
+    Ok(Answer::done_with(line.into_bytes()))
 }
 
 /// What the job has to write, where the source had these bytes. The one refusal is want of memory.

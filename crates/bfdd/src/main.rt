@@ -5,7 +5,7 @@
 //! `run`, over any source, any sink, any ports and any ticker.
 //!
 //! Layers, lowest first: `status`, `answer` (a status and a text), `input` and `output` (a whole text from a source and to a
-//! sink), `replaying`, `jobs` and `serving` (what each word has to write), `top` ([`run`] itself).
+//! sink), `replaying`, `jobs` and `serving` (what each word has to write), `running` ([`run`] itself).
 //!
 //! It stands on `bfd_words` for the words, on `bfd_edge` and `bfd_net` for the outside, on `bfd_script` for packet files, and on
 //! `bfd_workers`, `bfd_serving`, `bfd_watching`, `bfd_load` and `bfd_schedule` for what each word does.

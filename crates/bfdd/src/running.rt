@@ -7,7 +7,7 @@ ghost use Rattle.bfd_words.specs.Grammar.{job_of};
 ghost use Rattle.bfd_words.specs.Ranges.{IsJob};
 ghost use Rattle.bfdd.specs.Answers.{IsAnswer};
 ghost use Rattle.bfdd.specs.Outside.{ConsumesAtMost, TookFront};
-ghost use Rattle.bfdd.specs.Serving.{IsFinished, edges_of};
+ghost use Rattle.bfdd.specs.Serving.{IsServedToFinish, edges_of};
 ghost use Rattle.bfdd.specs.Status.{IsDecided, IsEndOf, OnBadLine, UnlessWriting, WhereUnopened, WhereUnwritten};
 ghost use Rattle.bfdd.specs.Telling.{IsBrokenOff, IsTold, Tells, TellsBytes};
 ghost use Rattle.bfdd.specs.Text.{most_bytes, complaint_line, wanted, wanted_of};
@@ -214,7 +214,7 @@ where
     ensures finished { OfServing (job_of (map (λ word. string_bytes word) words.now))
         (λ job. ¬ Rose (S.faults source.old) (S.faults source.new) → ¬ Rose (K.faults sink.old) (K.faults sink.new)
         → ¬ Rose (P.told ports.old).faults (P.told ports.new).faults
-        → IfSome (S.left source.old) (IsFinished job
+        → IfSome (S.left source.old) (IsServedToFinish job
         (edges_of (P.told ports.old) (T.told ticker.old)) (edges_of (P.told ports.new) (T.told ticker.new)) result)) }
 {
     let Some(job) = job_of(words) else {

@@ -6,13 +6,13 @@ use Rattle.std.proofs.Crossing.{sync}
 use Rattle.std.proofs.lemmas.List.Elements.{All-get_or}
 use Rattle.bfd_engine.proofs.Crossing.{engine_sync}
 use Rattle.bfd_engine_use.specs.declared.threads.Job.{Job}
-use Rattle.bfd_engine_use.specs.Ready.{IsReady}
-use Rattle.bfd_engine_use.specs.Calling.{HasEnded}
+use Rattle.bfd_engine_use.specs.Ready.{IsJobReady}
+use Rattle.bfd_engine_use.specs.Calling.{HasEndedCalls}
 use Rattle.bfd_engine_use.proofs.Worked.{numbers_each}
 use Rattle.bfd_engine_use.proofs.threads.at_once.Goals as goal
 
 pub for_each_mut-requires-clause-accepts : goal.for_each_mut-requires-clause-accepts
-for_each_mut-requires-clause-accepts g c κs within = λ i p inside is. subst (λ (j : Job). IsReady c.args.engine.now j) (sym is) (All-get_or (λ (j : Job). IsReady c.args.engine.now j) c.args.jobs.now i p.now inside c.requires)
+for_each_mut-requires-clause-accepts g c κs within = λ i p inside is. subst (λ (j : Job). IsJobReady c.args.engine.now j) (sym is) (All-get_or (λ (j : Job). IsJobReady c.args.engine.now j) c.args.jobs.now i p.now inside c.requires)
 
 pub for_each_mut-requires-sync-F : goal.for_each_mut-requires-sync-F
 for_each_mut-requires-sync-F g c κs within =
@@ -32,8 +32,8 @@ for_each_mut-requires-sync-F g c κs within =
 
 pub returns-clause-each : goal.returns-clause-each
 returns-clause-each g c = λ i d h. let k = (c.for_each_mut.ensures i d h).1 in
-    subst (λ j. HasEnded c.args.engine.now j (slice_index_or c.for_each_mut.new.s i d)) k.argument_is
-    (subst (λ j. HasEnded c.args.engine.now k.argument.now j) k.left k.call)
+    subst (λ j. HasEndedCalls c.args.engine.now j (slice_index_or c.for_each_mut.new.s i d)) k.argument_is
+    (subst (λ j. HasEndedCalls c.args.engine.now k.argument.now j) k.left k.call)
 
 pub returns-clause-numbers : goal.returns-clause-numbers
 returns-clause-numbers g c = numbers_each c.args.engine.now c.args.jobs.now c.for_each_mut.new.s (search rules) (returns-clause-each g c)

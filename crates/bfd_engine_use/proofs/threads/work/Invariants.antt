@@ -1,10 +1,10 @@
 -- So many calls are behind the job.
 use Rattle.std.proofs.Common.{◌≡◌, ◌+◌, length}
-use Rattle.bfd_engine_use.specs.Calling.{HasWorked}
+use Rattle.bfd_engine_use.specs.Calling.{HasCalled}
 use Rattle.bfd_engine_use.proofs.threads.work.Given as goal
 
 abbrev pub invariant-loop-count : goal.invariant-loop-count
 invariant-loop-count g l = record {
-  worked : HasWorked l.engine l.initial.job l.job;
+  worked : HasCalled l.engine l.initial.job l.job;
   left : l.count + length l.job.calls.items ≡ length l.initial.job.calls.items;
 }

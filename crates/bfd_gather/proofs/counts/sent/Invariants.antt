@@ -1,11 +1,11 @@
 -- The outputs so far are counted.
 use Rattle.std.proofs.Common.{◌≡◌, ◌≤◌, take}
 use Rattle.std.specs.Prelude.{sum_by}
-use Rattle.bfd_script.specs.Report.{sent_by}
+use Rattle.bfd_script.specs.Report.{packets_sent_by}
 use Rattle.bfd_gather.proofs.counts.sent.Given as goal
 
 abbrev pub invariant-loop-out : goal.invariant-loop-out
 invariant-loop-out l = record {
-  counted : l.count ≡ sum_by sent_by (take l.out-index l.outs);
+  counted : l.count ≡ sum_by packets_sent_by (take l.out-index l.outs);
   few : l.count ≤ l.out-index;
 }

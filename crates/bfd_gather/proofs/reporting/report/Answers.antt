@@ -1,6 +1,6 @@
 -- The parts' text is that of the whole replay.
 use Rattle.std.proofs.Common.{◌∙◌, ◌++◌, ap}
-use Rattle.bfd_gather.specs.Spread.{text_of}
+use Rattle.bfd_gather.specs.Spread.{dealt_text}
 use Rattle.bfd_gather.proofs.Telling.{deal_all}
 use Rattle.bfd_gather.proofs.Whole.{all_drops, all_txs, parts_spread, whole_report}
 use Rattle.bfd_gather.proofs.reporting.report.Goals as goal
@@ -9,7 +9,7 @@ pub returns-clause-text : goal.returns-clause-text
 returns-clause-text c = λ shards last hs ss count parts.
     let spread = parts_spread shards 1 last hs ss c.args.parts.items parts in
     whole_report shards last hs ss c.gather_all.new.text.items c.extend_from_slice.new.self.items c.as_bytes.result.now c.args.events c.in_ok-txs.txs c.in_ok-txs.drops count
-    (c.in_ok-txs.ensures.told (deal_all shards 1 last hs ss) spread ∙ ap (λ t. t ++ text_of (deal_all shards 1 last hs ss)) c.new-text.ensures.items)
+    (c.in_ok-txs.ensures.told (deal_all shards 1 last hs ss) spread ∙ ap (λ t. t ++ dealt_text (deal_all shards 1 last hs ss)) c.new-text.ensures.items)
     (c.in_ok-txs.ensures.txs (deal_all shards 1 last hs ss) spread)
     (c.in_ok-txs.ensures.drops (deal_all shards 1 last hs ss) spread)
     (c.as_bytes.ensures.value ∙ c.in_ok-done.ensures)

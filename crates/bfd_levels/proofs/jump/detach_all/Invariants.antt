@@ -1,6 +1,6 @@
 use Rattle.std.proofs.Common.{◌≡◌, ◌⊎◌, ◌≤◌, ◌+◌, ℕ, length, drop, slice_index}
 use Rattle.bfd_lanes.specs.Places.{never}
-use Rattle.bfd_wheel.specs.Taken.{times, waits}
+use Rattle.bfd_wheel.specs.Taken.{times, counts_due}
 use Rattle.bfd_levels.specs.Lists.{at_tick, loads}
 use Rattle.bfd_levels.proofs.Paid.{IsPaid}
 use Rattle.bfd_levels.proofs.jump.detach_all.Given as goal
@@ -10,7 +10,7 @@ abbrev pub invariant-loop-id : goal.invariant-loop-id
 invariant-loop-id g l = record {
   paid : IsPaid (length l.initial.dues) l.steps (l.initial.steps + loads (length l.initial.dues) (at_tick (length l.initial.dues) l.now l.initial.dues) l.initial.dues)
       (at_tick (length l.initial.dues) l.now l.dues) l.dues l.nodes;
-  ids : (x : ℕ) → times x (drop l.id-index l.ids) ≡ waits l.t l.dues x;
+  ids : (x : ℕ) → times x (drop l.id-index l.ids) ≡ counts_due l.t l.dues x;
   same_or_gone : (j : ℕ) → (slice_index l.dues j ≡ slice_index l.initial.dues j) ⊎ ((slice_index l.dues j ≡ never) × (slice_index l.initial.dues j ≤ l.t));
   counts : l.initial.steps + l.id-index ≤ l.steps;
 }

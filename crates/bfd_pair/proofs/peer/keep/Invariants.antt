@@ -1,11 +1,11 @@
 -- What is kept so far and what is still to be kept make up the whole, and there is room for it.
 use Rattle.std.proofs.Common.{◌≡◌, ◌≤◌, ◌+◌, ◌++◌, length, drop}
 use Rattle.std.specs.Prelude.{vec_len, vec_capacity}
-use Rattle.bfd_pair.specs.Run.{packets_in}
+use Rattle.bfd_pair.specs.Run.{packets_among}
 use Rattle.bfd_pair.proofs.peer.keep.Given as goal
 
 abbrev pub invariant-loop-item : goal.invariant-loop-item
 invariant-loop-item l = record {
-  whole : l.sent.items ++ packets_in (drop l.item-index l.items) ≡ l.initial.sent.items ++ packets_in l.initial.items;
-  room : vec_len l.sent + length (packets_in (drop l.item-index l.items)) ≤ vec_capacity l.sent;
+  whole : l.sent.items ++ packets_among (drop l.item-index l.items) ≡ l.initial.sent.items ++ packets_among l.initial.items;
+  room : vec_len l.sent + length (packets_among (drop l.item-index l.items)) ≤ vec_capacity l.sent;
 }

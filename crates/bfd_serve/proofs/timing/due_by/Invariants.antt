@@ -1,6 +1,6 @@
 use Rattle.std.proofs.Common.{◌≡◌, ◌+◌, drop}
-use Rattle.bfd_serve.specs.Orders.{due}
+use Rattle.bfd_serve.specs.Orders.{orders_due}
 use Rattle.bfd_serve.proofs.timing.due_by.Given as goal
 
 abbrev pub invariant-loop-at : goal.invariant-loop-at
-invariant-loop-at l = due l.tick l.orders ≡ l.at + due l.tick (drop l.at l.orders)
+invariant-loop-at l = orders_due l.tick l.orders ≡ l.at + orders_due l.tick (drop l.at l.orders)

@@ -4,16 +4,16 @@ use Rattle.std.specs.Prelude.{sum_by}
 use Rattle.std.specs.List.{AllByRecursion}
 use Rattle.bfd_session.specs.Kinds.{configs_of}
 use Rattle.bfd_session.specs.Rows.{AreFit}
-use Rattle.bfd_served.specs.Served.{history_of, shard_sent, shards_text}
+use Rattle.bfd_served.specs.Served.{shard_history, shard_sent, shards_text}
 use Rattle.bfd_served.proofs.serving.served.Given as goal
 
 abbrev pub invariant-loop-configs : goal.invariant-loop-configs
 invariant-loop-configs g l = record {
   fit : AllByRecursion AreFit (map (λ part. part.items) l.configs-iterator.rest.items);
   made : map (λ part. part.items) l.configs-iterator.rest.items ≡ map (λ state. configs_of state.sessions) (drop l.shard l.states);
-  text : l.text.items ++ shards_text l.shard (map history_of (drop l.shard l.states)) ≡ shards_text 0 (map history_of l.states);
-  entries : l.entries + sum_by (λ history. length history.journal) (map history_of (drop l.shard l.states))
-      ≡ sum_by (λ history. length history.journal) (map history_of l.states);
-  txs : l.txs + sum_by shard_sent (map history_of (drop l.shard l.states)) ≡ sum_by shard_sent (map history_of l.states);
+  text : l.text.items ++ shards_text l.shard (map shard_history (drop l.shard l.states)) ≡ shards_text 0 (map shard_history l.states);
+  entries : l.entries + sum_by (λ history. length history.journal) (map shard_history (drop l.shard l.states))
+      ≡ sum_by (λ history. length history.journal) (map shard_history l.states);
+  txs : l.txs + sum_by shard_sent (map shard_history (drop l.shard l.states)) ≡ sum_by shard_sent (map shard_history l.states);
   few : l.txs + l.entries ≤ length l.text.items;
 }

@@ -2,14 +2,14 @@
 use Rattle.std.proofs.Common.{◌≡◌, ◌≤◌, length, vec_capacity}
 use Rattle.std.specs.List.{All}
 use Rattle.bfd_edge.specs.Links.{IsNewLink}
-use Rattle.bfd_serving.specs.Linking.{IsNew, IsOpenTo}
+use Rattle.bfd_serving.specs.Linking.{IsUncalled, IsOpenTo}
 use Rattle.bfd_serving.proofs.linking.open_all.Given as goal
 
 abbrev pub invariant-loop-at : goal.invariant-loop-at
 invariant-loop-at g l = record {
   opened : IsOpenTo l.at (g.P.Ports.told l.fn.ports) (g.P.Ports.told l.ports);
   own : IsNewLink (g.P.Link.Link.told l.own);
-  new : All (IsNew g.P.Link.Link.told) l.links.items;
+  new : All (IsUncalled g.P.Link.Link.told) l.links.items;
   long : length l.links.items ≡ l.at;
   room : l.workers ≤ vec_capacity l.links;
 }

@@ -5,9 +5,9 @@ use Rattle.bfd_session.specs.Kinds.{configs_of}
 use Rattle.bfd_session.specs.Rows.{AreFit}
 use Rattle.bfd_script.specs.Reading.{Lists}
 use Rattle.bfd_shard.specs.Shard.{Shard}
-use Rattle.bfd_served.specs.Served.{history_of, served}
-use Rattle.bfd_serving.specs.Finishes.{IsUnspent, IsPlain, finish_from}
-use Rattle.bfd_serving.specs.Runs.{script_of, history_at, told_by, HaveRun, AreClosedShards}
+use Rattle.bfd_served.specs.Served.{shard_history, served}
+use Rattle.bfd_serving.specs.Finishes.{IsUnspent, HadMemory, finish_from}
+use Rattle.bfd_serving.specs.Runs.{script_with, history_at, told_on_link, HaveRun, AreClosedShards}
 use Rattle.bfd_serving.proofs.Dealing.{parts_are, parts_fit}
 use Rattle.bfd_serving.proofs.Wholes.{all_shut, still_open, whole_run}
 use Rattle.bfd_serving.proofs.serving.serve_script.Goals as goal
@@ -51,17 +51,17 @@ served-requires-clause-made g c =
 pub returns-clause-run : goal.returns-clause-run
 returns-clause-run g c =
     let told = g.P.Link.Link.told in let clock = g.T.Ticker.told in let e = c.in-Ok-opened.engine in
-    let given : Lists = script_of c.script.inside.configs.items c.script.inside.pool.items c.deref-2.result.now in
+    let given : Lists = script_with c.script.inside.configs.items c.script.inside.pool.items c.deref-2.result.now in
     let ok = c.in-Ok-ran.is ∙ ap Ok c.in-Ok-ran.field-0-is in
     whole_run told c.in_ok-own.own c.run_all-links.new.own c.in_ok-own.links.items c.run_all-links.result.0.items given c.args.script c.deref-3.result.now c.args.shards c.args.workers c.args.journal c.args.limits
     (g.P.Ports.told c.shut_all.new.ports) (clock c.args.ticker.now) (clock c.run_all-links.new.ticker) e
     c.in-Ok-ran.field-0.states.items c.in-Ok-served.text.items c.in-Ok-ran.field-0.ends.items c.in-Ok-ran.field-0.lost c.in-Ok-finish_of.finish
-    c.in-Ok-opened.ensures.engine (ap (script_of c.script.inside.configs.items c.script.inside.pool.items) c.deref-2.ensures.value ∙ c.script.view_is) (c.deref-3.ensures.value ∙ sym c.deref-2.ensures.value)
+    c.in-Ok-opened.ensures.engine (ap (script_with c.script.inside.configs.items c.script.inside.pool.items) c.deref-2.ensures.value ∙ c.script.view_is) (c.deref-3.ensures.value ∙ sym c.deref-2.ensures.value)
     (subst (λ r. IfOk r (λ closed. AreClosedShards e closed.states.items)) ok c.run_all-links.ensures.closed)
-    (c.in-Ok-served.ensures ∙ ap (λ xs. served (map history_of xs) c.in-Ok-ran.field-0.lost) c.deref-5.ensures.value)
+    (c.in-Ok-served.ensures ∙ ap (λ xs. served (map shard_history xs) c.in-Ok-ran.field-0.lost) c.deref-5.ensures.value)
     c.in_ok-own.ensures.own c.in_ok-own.ensures.links c.in_ok-own.ensures.long c.run_all-links.ensures.back c.shut_all.ensures.shut
-    (subst (λ r. IfOk r (λ closed. HaveRun e (history_at closed.states.items) c.deref-3.result.now (length c.in_ok-own.links.items) c.args.limits (told_by told c.in_ok-own.own c.in_ok-own.links.items) (told_by told c.run_all-links.new.own c.run_all-links.result.0.items) (clock c.args.ticker.now) (clock c.run_all-links.new.ticker) closed.ends.items closed.lost)) ok c.run_all-links.ensures.run)
-    c.requires.turns c.requires.journal (subst (All IsPlain) c.deref-4.ensures.value c.in-Ok-finish_of.ensures.plain)
+    (subst (λ r. IfOk r (λ closed. HaveRun e (history_at closed.states.items) c.deref-3.result.now (length c.in_ok-own.links.items) c.args.limits (told_on_link told c.in_ok-own.own c.in_ok-own.links.items) (told_on_link told c.run_all-links.new.own c.run_all-links.result.0.items) (clock c.args.ticker.now) (clock c.run_all-links.new.ticker) closed.ends.items closed.lost)) ok c.run_all-links.ensures.run)
+    c.requires.turns c.requires.journal (subst (All HadMemory) c.deref-4.ensures.value c.in-Ok-finish_of.ensures.plain)
     (c.in-Ok-finish_of.ensures.value ∙ ap (finish_from 0) c.deref-4.ensures.value)
 
 pub returns-clause-opened : goal.returns-clause-opened

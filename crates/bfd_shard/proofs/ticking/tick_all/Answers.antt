@@ -3,7 +3,7 @@ use Rattle.std.proofs.Common.{◌≡◌, ℕ, ◌<◌, ◌≤◌, ◌++◌, refl
 use Rattle.std.proofs.lemmas.List.{length-map}
 use Rattle.std.specs.List.{flat_map, AllByRecursion}
 use Rattle.bfd_num.specs.Due.{has_come}
-use Rattle.bfd_lanes.specs.Held.{Held}
+use Rattle.bfd_lanes.specs.Held.{HeldIds}
 use Rattle.bfd_lanes.specs.Places.{places, come, without}
 use Rattle.bfd_session.specs.Alone.{ticked, tick_items}
 use Rattle.bfd_session.specs.Due.{due}
@@ -13,9 +13,9 @@ use Rattle.bfd_shard.proofs.Ticks.{nobody, Tour, tour, visits_more, visits_done,
 use Rattle.bfd_shard.proofs.ticking.tick_all.Goals as goal
 use Rattle.bfd_shard.proofs.ticking.tick_all.Given.{Over}
 
-ids_are : (t : ℕ) (ss : List Running) (ds : List (Option ℕ)) (room : ℕ) (out out2 : Held) → out ≡ record { items = []; spare = room } → out2.items ≡ out.items ++ come t ds
+ids_are : (t : ℕ) (ss : List Running) (ds : List (Option ℕ)) (room : ℕ) (out out2 : HeldIds) → out ≡ record { items = []; spare = room } → out2.items ≡ out.items ++ come t ds
     → ds ≡ map due ss → out2.items ≡ places (has_come t) 0 (map due ss)
-ids_are t ss ds room out out2 empty added timed = added ∙ (ap (λ (r : Held). r.items ++ come t ds) empty ∙ ap (come t) timed)
+ids_are t ss ds room out out2 empty added timed = added ∙ (ap (λ (r : HeldIds). r.items ++ come t ds) empty ∙ ap (come t) timed)
 
 -- each of them is a place of the list
 placed : (t j : ℕ) (ss : List Running) (ids : List ℕ) → ids ≡ places (has_come t) 0 (map due ss) → j < length ids → get_or ids j 0 < length ss

@@ -2,14 +2,14 @@
 use Rattle.std.proofs.Common.{◌≡◌, ◌≤◌, ◌+◌, ◌++◌, length}
 use Rattle.bfd_watch.specs.Changes.{changes_from}
 use Rattle.bfd_watch.specs.Groups.{group_after}
-use Rattle.bfd_watch.specs.Watched.{lines_from}
+use Rattle.bfd_watch.specs.Watched.{watched_lines_from}
 use Rattle.bfd_replay.specs.World.{outcomes}
 use Rattle.bfd_watching.proofs.telling.tell.Given as goal
 
 abbrev pub invariant-loop-line : goal.invariant-loop-line
 invariant-loop-line l = record {
-  whole : l.text.items ++ lines_from l.number (outcomes l.line-iterator.rest.items l.progress.world) l.group
-      ≡ lines_from 1 (outcomes l.fn.events.items l.initial.progress.world) l.initial.group;
+  whole : l.text.items ++ watched_lines_from l.number (outcomes l.line-iterator.rest.items l.progress.world) l.group
+      ≡ watched_lines_from 1 (outcomes l.fn.events.items l.initial.progress.world) l.initial.group;
   after : group_after (changes_from l.number (outcomes l.line-iterator.rest.items l.progress.world)) l.group
       ≡ group_after (changes_from 1 (outcomes l.fn.events.items l.initial.progress.world)) l.initial.group;
   counted : l.told + length (changes_from l.number (outcomes l.line-iterator.rest.items l.progress.world))

@@ -1,6 +1,6 @@
 use Rattle.std.proofs.Common.{◌≡◌, ◌⊎◌, ◌≤◌, ℕ, length, drop, slice_index}
 use Rattle.bfd_lanes.specs.Places.{never}
-use Rattle.bfd_wheel.specs.Taken.{times, waits}
+use Rattle.bfd_wheel.specs.Taken.{times, counts_due}
 use Rattle.bfd_wheel.specs.Wheel.{IsWheel}
 use Rattle.bfd_wheel.proofs.take.detach_all.Given as goal
 
@@ -8,6 +8,6 @@ use Rattle.bfd_wheel.proofs.take.detach_all.Given as goal
 abbrev pub invariant-loop-id : goal.invariant-loop-id
 invariant-loop-id l = record {
   wheel : IsWheel (length l.initial.dues) l.now l.dues l.nodes;
-  ids : (x : ℕ) → times x (drop l.id-index l.ids) ≡ waits l.t l.dues x;
+  ids : (x : ℕ) → times x (drop l.id-index l.ids) ≡ counts_due l.t l.dues x;
   same_or_gone : (j : ℕ) → (slice_index l.dues j ≡ slice_index l.initial.dues j) ⊎ ((slice_index l.dues j ≡ never) × (slice_index l.initial.dues j ≤ l.t));
 }

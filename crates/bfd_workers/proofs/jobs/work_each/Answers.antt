@@ -5,22 +5,22 @@ use denote.Plain.{UInt}
 use Rattle.std.proofs.Common.{slice_index_or, w64, sym, subst}
 use Rattle.std.proofs.Crossing.{sync}
 use Rattle.std.proofs.lemmas.List.Elements.{All-get_or}
-use Rattle.bfd_workers.specs.Jobs.{HasWorked, Work}
-use Rattle.bfd_workers.specs.Working.{IsReady}
+use Rattle.bfd_workers.specs.Jobs.{HasWorkedOn, Work}
+use Rattle.bfd_workers.specs.Working.{IsWorkerReady}
 use Rattle.bfd_engine.proofs.Crossing.{engine_sync}
 use Rattle.bfd_workers.proofs.jobs.work_each.Goals as goal
 
 pub for_each_mut-requires-clause-accepts : goal.for_each_mut-requires-clause-accepts
 for_each_mut-requires-clause-accepts g c κs within = λ i p inside is. (
-  subst (λ (j : Work). IsReady c.args.engine.now j.queues j.pass) (sym is)
-      (All-get_or (λ (j : Work). IsReady c.args.engine.now j.queues j.pass) c.args.jobs.now i p.now inside c.requires.ready),
+  subst (λ (j : Work). IsWorkerReady c.args.engine.now j.queues j.pass) (sym is)
+      (All-get_or (λ (j : Work). IsWorkerReady c.args.engine.now j.queues j.pass) c.args.jobs.now i p.now inside c.requires.ready),
   c.requires.room,
 )
 
 pub returns-clause-worked : goal.returns-clause-worked
 returns-clause-worked g c = λ i d h. let k = (c.for_each_mut.ensures i d h).1 in
-    subst (λ j. HasWorked c.args.engine.now j (slice_index_or c.for_each_mut.new.s i d)) k.argument_is
-    (subst (λ j. HasWorked c.args.engine.now k.argument.now j) k.left k.call)
+    subst (λ j. HasWorkedOn c.args.engine.now j (slice_index_or c.for_each_mut.new.s i d)) k.argument_is
+    (subst (λ j. HasWorkedOn c.args.engine.now k.argument.now j) k.left k.call)
 
 pub for_each_mut-requires-sync-F : goal.for_each_mut-requires-sync-F
 for_each_mut-requires-sync-F g c κs within =

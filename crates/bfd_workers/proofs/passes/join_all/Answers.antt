@@ -4,7 +4,7 @@ use Rattle.std.proofs.lemmas.List.{nil_from_length}
 use Rattle.bfd_engine.specs.Engines.{Knows, IsOf, AllThere}
 use Rattle.bfd_engine.specs.Passes.{Joined}
 use Rattle.bfd_workers.proofs.Ordering.{told_more}
-use Rattle.bfd_workers.specs.Jobs.{AllJoined, Work, seen_as}
+use Rattle.bfd_workers.specs.Jobs.{AllJobsJoined, Work, seen_as}
 use Rattle.bfd_workers.proofs.Joining.{joined_none, joined_more, next_here}
 use Rattle.bfd_workers.proofs.passes.join_all.Goals as goal
 
@@ -54,7 +54,7 @@ returns-clause-joined g c = let i = c.loop-job.invariant in
     let none : c.loop-job.job-iterator.rest.items ≡ [] =
     nil_from_length c.loop-job.job-iterator.rest.items (sym c.loop-job.job-iterator.rest.ok.0 ∙ c.in-None.ensures.steps.0) in
     let whole : c.loop-job.yielded ≡ c.args.jobs.items = sym (append-nil c.loop-job.yielded) ∙ (ap (λ l. c.loop-job.yielded ++ l) (sym none) ∙ i.all) in
-    subst (AllJoined c.args.engine.now 200000 c.args.first.now c.loop-job.first) whole i.joined
+    subst (AllJobsJoined c.args.engine.now 200000 c.args.first.now c.loop-job.first) whole i.joined
 
 pub returns-clause-told : goal.returns-clause-told
 returns-clause-told g c = let i = c.loop-job.invariant in

@@ -2,8 +2,8 @@
 use Rattle.std.proofs.Common.{rules, ◌≡◌, ◌∙◌, length, map, sym, ap}
 use Rattle.std.specs.Prelude.{sum_by}
 use Rattle.bfd_session.specs.Step.{started}
-use Rattle.bfd_script.specs.Report.{report, sent, dropped}
-use Rattle.bfd_workers.specs.Planned.{happenings, script_of}
+use Rattle.bfd_script.specs.Report.{report, packets_sent, dropped}
+use Rattle.bfd_workers.specs.Planned.{happenings, script_with}
 use Rattle.bfd_workers.proofs.Whole.{events_are, happenings_long, none, ups_are}
 use Rattle.bfd_workers.proofs.Worlds.{world_is}
 use Rattle.bfd_workers.proofs.replaying.report_parts.Goals as goal
@@ -13,24 +13,24 @@ returns-clause-text g c =
     let long : c.len-count.result ≡ length c.args.events.items = search rules in
     c.in_ok-gathered.ensures.text c.args.shards 0 (happenings c.args.configs.items c.args.pool.items c.args.events.items) (map started c.args.configs.items)
     (happenings_long c.args.configs.items c.args.pool.items c.args.events.items ∙ sym long) c.in_ok-parts.ensures.parts
-    ∙ ap report (world_is (script_of c.args.configs.items c.args.pool.items c.args.events.items))
+    ∙ ap report (world_is (script_with c.args.configs.items c.args.pool.items c.args.events.items))
 
 pub returns-clause-events : goal.returns-clause-events
 returns-clause-events g c =
     let long : c.len-count.result ≡ length c.args.events.items = search rules in
-    long ∙ events_are (script_of c.args.configs.items c.args.pool.items c.args.events.items)
+    long ∙ events_are (script_with c.args.configs.items c.args.pool.items c.args.events.items)
 
 pub returns-clause-txs : goal.returns-clause-txs
 returns-clause-txs g c =
     c.in_ok-gathered.ensures.txs c.args.shards 0 (happenings c.args.configs.items c.args.pool.items c.args.events.items) (map started c.args.configs.items) c.in_ok-parts.ensures.parts
-    ∙ ap (sum_by sent) (world_is (script_of c.args.configs.items c.args.pool.items c.args.events.items))
+    ∙ ap (sum_by packets_sent) (world_is (script_with c.args.configs.items c.args.pool.items c.args.events.items))
 
 pub returns-clause-drops : goal.returns-clause-drops
 returns-clause-drops g c =
     c.in_ok-gathered.ensures.drops c.args.shards 0 (happenings c.args.configs.items c.args.pool.items c.args.events.items) (map started c.args.configs.items) c.in_ok-parts.ensures.parts
-    ∙ ap (sum_by dropped) (world_is (script_of c.args.configs.items c.args.pool.items c.args.events.items))
+    ∙ ap (sum_by dropped) (world_is (script_with c.args.configs.items c.args.pool.items c.args.events.items))
 
 pub returns-clause-up : goal.returns-clause-up
 returns-clause-up g c =
-    ups_are (script_of c.args.configs.items c.args.pool.items c.args.events.items) c.args.shards c.args.workers c.up_at_last-up.result c.in_ok-parts.states.items none c.requires.shards.0
+    ups_are (script_with c.args.configs.items c.args.pool.items c.args.events.items) c.args.shards c.args.workers c.up_at_last-up.result c.in_ok-parts.states.items none c.requires.shards.0
     c.in_ok-parts.ensures.states c.up_at_last-up.ensures.kept (c.up_at_last-up.ensures.value none)

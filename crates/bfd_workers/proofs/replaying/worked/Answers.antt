@@ -3,7 +3,7 @@ use Rattle.std.proofs.Common.{rules, ◌%◌, ◌∙◌, [], length, map, sym, a
 use Rattle.std.specs.Prelude.{slice_index_or}
 use Rattle.std.specs.List.{AllByRecursion}
 use Rattle.std.proofs.lemmas.List.{length-map}
-use Rattle.bfd_workers.specs.Planned.{IsMet, happenings, script_of}
+use Rattle.bfd_workers.specs.Planned.{IsMet, happenings, script_with}
 use Rattle.bfd_workers.proofs.Whole.{room_enough, met_queues, short_queues, happenings_long, are_parts, have_replayed}
 use Rattle.bfd_workers.proofs.replaying.worked.Goals as goal
 
@@ -49,5 +49,5 @@ returns-clause-parts g c =
 
 pub returns-clause-states : goal.returns-clause-states
 returns-clause-states g c =
-    have_replayed c.in_ok-engine.engine (script_of c.args.configs.items c.args.pool.items c.args.events.items) c.args.shards c.args.workers (map (λ q. q.items) c.in_ok-queues.queues.items)
+    have_replayed c.in_ok-engine.engine (script_with c.args.configs.items c.args.pool.items c.args.events.items) c.args.shards c.args.workers (map (λ q. q.items) c.in_ok-queues.queues.items)
     c.in_ok-states.states.items (sym c.in_ok-engine.ensures.shards) c.in_ok-engine.ensures.configs c.in_ok-queues.ensures.queues c.in_ok-states.ensures.states

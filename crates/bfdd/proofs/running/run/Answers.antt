@@ -8,7 +8,7 @@ use Rattle.bfd_words.specs.Grammar.{job_of}
 use Rattle.bfdd.specs.declared.status.Status.TheVariants.{Memory}
 use Rattle.bfdd.specs.Outside.{TookFront}
 use Rattle.bfdd.specs.Status.{IsDecided, IsEndOf}
-use Rattle.bfdd.specs.Serving.{IsFinished, edges_of}
+use Rattle.bfdd.specs.Serving.{IsServedToFinish, edges_of}
 use Rattle.bfdd.specs.Telling.{IsTold}
 use Rattle.bfdd.specs.Text.{Wanted, wanted_of}
 use Rattle.bfdd.specs.Words.{OfServing, is_reading, serves}
@@ -85,7 +85,7 @@ returns-in-Ok-clause-finished g c =
     let new = edges_of (g.P.Ports.told c.answer.new.ports) (g.T.Ticker.told c.answer.new.ticker) in
     let P : Job → Type 0 = λ job. (Rose (g.S.Source.faults c.args.source.now) (g.S.Source.faults c.answer.new.source) → ⊥)
     → (Rose (g.K.Sink.faults c.args.sink.now) (g.K.Sink.faults c.write_answer.new.sink) → ⊥)
-    → (Rose old.ports.faults new.ports.faults → ⊥) → IfSome left (IsFinished job old new c.write_answer.result) in
+    → (Rose old.ports.faults new.ports.faults → ⊥) → IfSome left (IsServedToFinish job old new c.write_answer.result) in
     let done : serves c.in-Some.job ≡ true → P c.in-Some.job = λ serving. λ source_calm sink_calm ports_calm.
     finished c.in-Some.job left right old new c.in-Ok.answer c.write_answer.result
     (settled c.write_answer.result c.in-Ok.answer.status (decided _ _ _ _ _ _ c.in-Ok.ensures.sound c.write_answer.ensures)

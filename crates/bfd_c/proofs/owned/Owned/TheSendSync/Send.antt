@@ -16,18 +16,18 @@ use Rattle.std.proofs.Crossing as heap
 use Rattle.std.proofs.Crossing.{crosses, Vec-send}
 use Rattle.std_alloc.proofs.SendSync.{quiet, lies}
 use Rattle.std_heap.proofs.Global.TheSendSync as handle
-use Rattle.bfd_packet.specs.contracts.arrival.Port as Port
+use Rattle.bfd_packet.specs.contracts.arrival.Port
 use Rattle.bfd_rules.proofs.outputs.Outs.TheSendSync as outs
 use Rattle.bfd_sbfd.proofs.reflecting.Reflector.TheSendSync as reflector
-use Rattle.bfd_demux.specs.contracts.demux.Demux as Demux
+use Rattle.bfd_demux.specs.contracts.demux.Demux
 use Rattle.bfd_demux.specs.contracts.demux.Demux.TheInside as table
-use Rattle.bfd_demux.specs.contracts.name.Name as Name
-use Rattle.bfd_demux.specs.contracts.row.RowKind as RowKind
+use Rattle.bfd_demux.specs.contracts.name.Name
+use Rattle.bfd_demux.specs.contracts.row.RowKind
 use Rattle.bfd_demux.proofs.name.Name.TheSendSync as name
 use Rattle.bfd_demux.proofs.row.RowKind.TheSendSync as kind
 use Rattle.bfd_session.proofs.session.Session.TheSendSync as session
 use Rattle.bfd_session.proofs.event.Answer.TheSendSync as answer
-use Rattle.bfd_replay.specs.contracts.replaying.Progress as Progress
+use Rattle.bfd_replay.specs.contracts.replaying.Progress
 use Rattle.bfd_replay.specs.contracts.replaying.Progress.TheInside as world
 use Rattle.bfd_c.specs.Owning.{kept_owns}
 use Rattle.bfd_c.specs.contracts.engine.Engine as Held

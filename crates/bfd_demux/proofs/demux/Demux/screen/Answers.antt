@@ -3,7 +3,7 @@ use Rattle.std.specs.Option.{option_map}
 use Rattle.bfd_packet.specs.declared.arrival.Port.TheVariants.{Echo as EchoPort}
 use Rattle.bfd_packet.specs.Layout.{word_at}
 use Rattle.bfd_packet.specs.HeaderTests.{read_of}
-use Rattle.bfd_demux.specs.Selection.{the_one, has_discr}
+use Rattle.bfd_demux.specs.Selection.{the_one, row_has_discr}
 use Rattle.bfd_demux.specs.Parts.{echo_target, first_echo_failing}
 use Rattle.bfd_demux.proofs.Selecting.{ok_then, ok_always, echo_failing, echo_named, header_passed, read_past, unread}
 use Rattle.bfd_demux.proofs.demux.Demux.screen.Goals as goal
@@ -17,7 +17,7 @@ returns-in-Echo-clause-target g c =
     rw c.in-Echo.is (ok_then c.select_echo.result
     (λ target h.
     h
-    ∙ ap (λ payload. option_map (echo_target c.args.self.now payload) (the_one (has_discr EchoPort (word_at 4 payload)) c.args.self.now)) c.as_slice.ensures.value
+    ∙ ap (λ payload. option_map (echo_target c.args.self.now payload) (the_one (row_has_discr EchoPort (word_at 4 payload)) c.args.self.now)) c.as_slice.ensures.value
     ∙ echo_named c.args.self.now c.args.arrival.now)
     c.select_echo.ensures.target)
 

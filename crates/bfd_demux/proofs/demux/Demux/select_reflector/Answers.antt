@@ -1,7 +1,7 @@
 use Rattle.std.proofs.Common.{arith, ap, ◌∙◌, if◌then◌else◌, Some, None, Bool}
 use Rattle.bfd_packet.specs.declared.arrival.Port.TheVariants.{Sbfd as SbfdPort}
 use Rattle.bfd_packet.specs.declared.discard.Test.TheVariants.{YourUnknown}
-use Rattle.bfd_demux.specs.Selection.{has_discr, knows, the_one}
+use Rattle.bfd_demux.specs.Selection.{row_has_discr, knows, the_one}
 use Rattle.bfd_demux.proofs.Selecting.{reflects_none, reflects, to_reflector}
 use Rattle.bfd_demux.proofs.demux.Demux.select_reflector.Goals as goal
 
@@ -15,7 +15,7 @@ returns-then-your-eq0 g c = record {
 pub returns-in-Some : goal.returns-in-Some
 returns-in-Some g c = record {
   tests = ap (λ (b : Bool). if b then None else Some YourUnknown) c.in-Some.ensures.known ∙ reflects c.args.your (knows c.args.self.now SbfdPort c.args.your) c.if-your-eq0.false;
-  target = (c.if-your-eq0.false, to_reflector c.args.self.now (the_one (has_discr SbfdPort c.args.your) c.args.self.now) c.in-Some.index c.in-Some.ensures.found);
+  target = (c.if-your-eq0.false, to_reflector c.args.self.now (the_one (row_has_discr SbfdPort c.args.your) c.args.self.now) c.in-Some.index c.in-Some.ensures.found);
   cost = c.in-Some.ensures.cost;
 }
 

@@ -6,7 +6,7 @@ use Rattle.bfd_sbfd.specs.Reflect.{reflect}
 use Rattle.bfd_session.specs.Arrivals.{coming_to}
 use Rattle.bfd_engine.specs.Calls.{IsDone, coming_act}
 use Rattle.bfd_engine.specs.Inside.{Arrives}
-use Rattle.bfd_engine.specs.Judging.{judged_by}
+use Rattle.bfd_engine.specs.Judging.{arrival_judged}
 use Rattle.bfd_engine.proofs.Acts.{reflects}
 use Rattle.bfd_engine.proofs.Verdicts.{judged_target}
 use Rattle.bfd_engine.proofs.engine.Engine.deliver.Goals as goal
@@ -19,21 +19,21 @@ returns-in-Reflector-clause-call g c =
 
 pub returns-in-Session-clause-judged : goal.returns-in-Session-clause-judged
 returns-in-Session-clause-judged g c =
-    subst (λ (t : Target). IfOk c.own.result (λ answer. judged_by c.args.self.now c.args.moment c.args.arrival (coming_to (Some t) c.args.arrival) c.own.new.pass answer))
+    subst (λ (t : Target). IfOk c.own.result (λ answer. arrival_judged c.args.self.now c.args.moment c.args.arrival (coming_to (Some t) c.args.arrival) c.own.new.pass answer))
     (sym c.in-Session.is)
     (judged_target (Session c.in-Session.k) c.args.self.now c.args.moment c.args.arrival c.args.pass.now c.own.new.pass c.args.outs.now.items c.own.new.outs.items c.own.result
     c.requires.some c.requires.passes (subst (Arrives c.args.self.now.configs c.args.self.now.pool c.args.arrival) c.in-Session.is c.requires.arrives) c.own.ensures.call)
 
 pub returns-in-Echo-clause-judged : goal.returns-in-Echo-clause-judged
 returns-in-Echo-clause-judged g c =
-    subst (λ (t : Target). IfOk c.own-in-Echo.result (λ answer. judged_by c.args.self.now c.args.moment c.args.arrival (coming_to (Some t) c.args.arrival) c.own-in-Echo.new.pass answer))
+    subst (λ (t : Target). IfOk c.own-in-Echo.result (λ answer. arrival_judged c.args.self.now c.args.moment c.args.arrival (coming_to (Some t) c.args.arrival) c.own-in-Echo.new.pass answer))
     (sym c.in-Echo.is)
     (judged_target (Echo c.in-Echo.k c.in-Echo.sequence) c.args.self.now c.args.moment c.args.arrival c.args.pass.now c.own-in-Echo.new.pass c.args.outs.now.items c.own-in-Echo.new.outs.items c.own-in-Echo.result
     c.requires.some c.requires.passes (subst (Arrives c.args.self.now.configs c.args.self.now.pool c.args.arrival) c.in-Echo.is c.requires.arrives) c.own-in-Echo.ensures.call)
 
 pub returns-in-Reflector-clause-judged : goal.returns-in-Reflector-clause-judged
 returns-in-Reflector-clause-judged g c =
-    subst (λ (t : Target). judged_by c.args.self.now c.args.moment c.args.arrival (coming_to (Some t) c.args.arrival) c.args.pass.now c.reflected.result)
+    subst (λ (t : Target). arrival_judged c.args.self.now c.args.moment c.args.arrival (coming_to (Some t) c.args.arrival) c.args.pass.now c.reflected.result)
     (sym c.in-Reflector.is)
     (judged_target (Reflector c.in-Reflector.place) c.args.self.now c.args.moment c.args.arrival c.args.pass.now c.args.pass.now c.args.outs.now.items c.reflected.new.outs.items (Ok c.reflected.result)
     c.requires.some c.requires.passes (subst (Arrives c.args.self.now.configs c.args.self.now.pool c.args.arrival) c.in-Reflector.is c.requires.arrives)

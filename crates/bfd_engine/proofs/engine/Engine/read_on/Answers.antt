@@ -3,7 +3,7 @@ use Rattle.std.proofs.Common.{◌≡◌, ◌∙◌, List, Option, IfOk, get_or, 
 use Rattle.std.proofs.lemmas.Option.{get_or_from_slice_get}
 use Rattle.bfd_shard.specs.declared.entry.Entry.{Entry}
 use Rattle.bfd_engine.specs.declared.locked.Base.{Base}
-use Rattle.bfd_engine.specs.Calls.{seen_of, word_of}
+use Rattle.bfd_engine.specs.Calls.{seen_of, met_word_of}
 use Rattle.bfd_engine.specs.Reads.{AreGiven}
 use Rattle.bfd_engine.specs.Turned.{configs_in}
 use Rattle.bfd_engine.specs.Engines.{Shards, Knows, IsOf, AllThere}
@@ -36,7 +36,7 @@ pub returns-clause-fault : goal.returns-clause-fault
 returns-clause-fault g c =
     let is = put_back c.args.pass.now c.lift-own.new.self c.put.new.self c.args.shard c.read_with-back.result.0 c.lift-own.ensures.rest c.put.ensures in
     unread_at c.read_with-back.result.1 c.args.shard c.put.new.self c.read_with-back.result.0.1
-    (ap word_of (at_place c.args.pass.now c.put.new.self c.args.shard c.lift-own.result c.read_with-back.result.0 c.lift-own.ensures.pass is))
+    (ap met_word_of (at_place c.args.pass.now c.put.new.self c.args.shard c.lift-own.result c.read_with-back.result.0 c.lift-own.ensures.pass is))
     c.read_with-back.ensures.fault
 
 pub returns-clause-of : goal.returns-clause-of

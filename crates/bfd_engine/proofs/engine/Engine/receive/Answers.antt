@@ -11,7 +11,7 @@ use Rattle.bfd_session.specs.Arrivals.{Coming, Discarded, coming_to, coming_by, 
 use Rattle.bfd_session.specs.Rows.{Ascends, table_of}
 use Rattle.bfd_engine.specs.Engines.{Shards}
 use Rattle.bfd_engine.specs.Calls.{IsDone, coming_act}
-use Rattle.bfd_engine.specs.Judging.{judged_by}
+use Rattle.bfd_engine.specs.Judging.{arrival_judged}
 use Rattle.bfd_engine.proofs.Reaching.{arrives}
 use Rattle.bfd_engine.proofs.engine.Engine.receive.Goals as goal
 
@@ -46,7 +46,7 @@ returns-in-Ok-clause-call g c =
 pub returns-in-Ok-clause-judged : goal.returns-in-Ok-clause-judged
 returns-in-Ok-clause-judged g c =
     let rows : c.self.inside.demux ≡ table_of c.args.self.now.configs c.args.self.now.pool = c.self.invariant.table ∙ ap (λ (e : Shards). table_of e.configs e.pool) c.self.view_is in
-    subst (λ (x : Coming). IfOk c.deliver.result (λ answer. judged_by c.args.self.now c.args.moment c.args.arrival x c.deliver.new.pass answer))
+    subst (λ (x : Coming). IfOk c.deliver.result (λ answer. arrival_judged c.args.self.now c.args.moment c.args.arrival x c.deliver.new.pass answer))
     (passed c.self.inside.demux c.args.self.now c.args.arrival c.in-Ok.target rows c.in-Ok.ensures.tests c.in-Ok.ensures.target) c.deliver.ensures.judged
 
 pub returns-in-Err-clause-call : goal.returns-in-Err-clause-call
@@ -58,5 +58,5 @@ returns-in-Err-clause-call g c =
 pub returns-in-Err-clause-judged : goal.returns-in-Err-clause-judged
 returns-in-Err-clause-judged g c =
     let rows : c.self.inside.demux ≡ table_of c.args.self.now.configs c.args.self.now.pool = c.self.invariant.table ∙ ap (λ (e : Shards). table_of e.configs e.pool) c.self.view_is in
-    subst (λ (x : Coming). judged_by c.args.self.now c.args.moment c.args.arrival x c.args.pass.now (Dropped c.in-Err.test))
+    subst (λ (x : Coming). arrival_judged c.args.self.now c.args.moment c.args.arrival x c.args.pass.now (Dropped c.in-Err.test))
     (failed c.self.inside.demux c.args.self.now c.args.arrival c.in-Err.test rows c.in-Err.ensures.tests) refl

@@ -10,13 +10,13 @@ use Rattle.bfd_rules.specs.declared.outputs.Out.TheVariants.{Sent}
 use Rattle.bfd_sbfd.specs.declared.reflecting.Reflector.{Reflector}
 use Rattle.bfd_session.specs.declared.event.Answer.TheVariants.{Handled, Dropped}
 use Rattle.bfd_engine.specs.Engines.{Shards}
-use Rattle.bfd_engine.specs.Inside.{IsNamed, IsTold}
+use Rattle.bfd_engine.specs.Inside.{IsNamedBy, IsReflected}
 use Rattle.bfd_engine.proofs.engine.Engine.reflected.Goals as goal
 
-sent : (r : Result Datagram Test) (arrival : Arrival) (pool : List Reflector) (place : ℕ) (read : Reflector) (datagram : Datagram) (outs outs2 : List Out) → IsNamed pool place (fields_of arrival.payload).your
-    → read ≡ get_or pool place read → Ok datagram ≡ r → outs2 ≡ outs ++ Sent read.discr datagram ∷ [] → IsTold r arrival outs outs2 Handled
+sent : (r : Result Datagram Test) (arrival : Arrival) (pool : List Reflector) (place : ℕ) (read : Reflector) (datagram : Datagram) (outs outs2 : List Out) → IsNamedBy pool place (fields_of arrival.payload).your
+    → read ≡ get_or pool place read → Ok datagram ≡ r → outs2 ≡ outs ++ Sent read.discr datagram ∷ [] → IsReflected r arrival outs outs2 Handled
 sent r arrival pool place read datagram outs outs2 named here is pushed =
-    subst (λ (x : Result Datagram Test). IsTold x arrival outs outs2 Handled) is
+    subst (λ (x : Result Datagram Test). IsReflected x arrival outs outs2 Handled) is
     (refl, pushed ∙ ap (λ (n : ℕ). outs ++ Sent n datagram ∷ []) (ap (λ (x : Reflector). x.discr) (here ∙ get_or_from_slice_get pool place named.reflector read named.there) ∙ named.its))
 
 pub returns-in-Ok-clause-told : goal.returns-in-Ok-clause-told
@@ -26,4 +26,4 @@ returns-in-Ok-clause-told g c =
 
 pub returns-in-Err-clause-told : goal.returns-in-Err-clause-told
 returns-in-Err-clause-told g c =
-    subst (λ (x : Result Datagram Test). IsTold x c.args.arrival.now c.args.outs.now.items c.args.outs.now.items (Dropped c.in-Err.test)) (sym c.in-Err.is ∙ c.reflect.ensures) (refl, refl)
+    subst (λ (x : Result Datagram Test). IsReflected x c.args.arrival.now c.args.outs.now.items c.args.outs.now.items (Dropped c.in-Err.test)) (sym c.in-Err.is ∙ c.reflect.ensures) (refl, refl)

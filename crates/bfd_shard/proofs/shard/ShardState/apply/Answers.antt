@@ -2,7 +2,7 @@
 use Rattle.std.proofs.Common.{◌≡◌, ◌≤◌, ◌≢◌, ℕ, List, ◌++◌, ◌∷◌, [], length, map, sym, ◌∙◌, ap, subst, arith, rules, Option}
 use Rattle.std.specs.List.{AllByRecursion}
 use Rattle.bfd_num.specs.Numbers.{greatest_tick}
-use Rattle.bfd_lanes.specs.Held.{Held, room_of}
+use Rattle.bfd_lanes.specs.Held.{HeldIds, room_of}
 use Rattle.bfd_session.specs.Due.{due}
 use Rattle.bfd_session.specs.Kinds.{Running, configs_of}
 use Rattle.bfd_session.specs.Step.{IsSound}
@@ -16,7 +16,7 @@ use Rattle.bfd_shard.proofs.Runs.{shard_more, moved_long, moved_configs}
 use Rattle.bfd_shard.proofs.shard.ShardState.apply.Goals as goal
 
 -- what the event and the entry leave
-grown : (law : IsLaw) (last last2 limit room room2 : ℕ) (entry : Entry) (ss ss2 : List Running) (j j2 : List Entry) (ds ds2 : List (Option ℕ)) (ids ids2 : Held)
+grown : (law : IsLaw) (last last2 limit room room2 : ℕ) (entry : Entry) (ss ss2 : List Running) (j j2 : List Entry) (ds ds2 : List (Option ℕ)) (ids ids2 : HeldIds)
     → IsTimed (shard_of ss last j limit room) ds ids → last2 ≡ later last entry.event → last2 ≤ greatest_tick → length j ≢ limit → CanHappen (configs_of ss) entry.event
     → ss2 ≡ moved last entry.event ss → AllByRecursion IsSound ss2 → ds2 ≡ map due ss2 → j2 ≡ j ++ entry ∷ [] → room_of ids2 ≡ room_of ids
     → IsOver (later last entry.event) entry.event ss2 → IsTimed (shard_of ss2 last2 j2 limit room2) ds2 ids2
