@@ -28,7 +28,7 @@ pub(crate) fn packets(out: &Out) -> u64
 }
 
 /// How many packets the outputs tell of.
-pub(crate) fn sent(outs: &[Out]) -> u64
+pub fn sent(outs: &[Out]) -> u64
     ensures value { result ≡ sum_by packets_sent_by outs.now }
     ensures few { result ≤ length outs.now }
 {
@@ -40,7 +40,7 @@ pub(crate) fn sent(outs: &[Out]) -> u64
 }
 
 /// How many packets the answer says were dropped.
-pub(crate) fn dropped(answer: &Answer) -> u64
+pub fn dropped(answer: &Answer) -> u64
     ensures { result ≡ dropped_by answer.now }
 {
     match answer {

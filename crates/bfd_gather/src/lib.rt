@@ -19,7 +19,8 @@ mod part;
 mod queue;
 mod reporting;
 
+pub use counts::{dropped, sent};
 pub use law::{dealing_laws, telling_laws};
 pub use part::Part;
 pub use queue::{Numbered, queue_event};
-pub use reporting::{Gathered, report};
+pub use reporting::{Gathered, done_text, report};

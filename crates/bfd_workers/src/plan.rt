@@ -18,9 +18,9 @@ use bfd_sbfd::Reflector;
 use bfd_session::{Answer, SessionConfig, table_of};
 use std::alloc::{AllocError, Global};
 
-/// The table of the sessions and the pool, which have no fault.
+/// The table of the sessions and the pool, which have no fault. The one refusal is want of memory.
 #[tactic(auto, using(bfd_replay::proofs::Stages::no_fault))]
-pub(crate) fn table(
+pub fn table(
     alloc: Global,
     configs: &Vec<SessionConfig>,
     pool: &Vec<Reflector>,

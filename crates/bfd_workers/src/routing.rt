@@ -27,7 +27,7 @@ use std::sync::ledger::{Blank, Ledger};
 
 /// What a line is to the sessions.
 #[derive(Drop)]
-pub(crate) enum Route {
+pub enum Route {
     /// An event of no session, which has this answer.
     Rests(Answer),
     /// A packet for a reflector, which sends this answer.
@@ -144,8 +144,9 @@ fn asked(configs: &[Config], moment: Moment, discr: u32, event: Event) -> Route
     }
 }
 
-/// What a line is.
-pub(crate) fn route_of(demux: &Demux, configs: &[Config], pool: &[Reflector], line: Line) -> Route
+/// What a line of a script is to the sessions of these configurations and the reflectors of the pool, which make this table: an
+/// event of no session, or one of theirs, which they may be given.
+pub fn route_of(demux: &Demux, configs: &[Config], pool: &[Reflector], line: Line) -> Route
     requires table { demux.now ≡ table_of configs.now pool.now }
     requires ascends { Ascends configs.now }
     requires few { length configs.now ≤ 65536 }

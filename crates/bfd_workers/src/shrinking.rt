@@ -15,7 +15,7 @@ fn give_back<T: Drop>(left: &mut Vec<T>)
 
 /// Takes the first element of a list that is kept in reverse. The list gives memory back on its way: what is made of its
 /// elements needs it.
-pub(crate) fn next_of<T: Drop>(left: &mut Vec<T>) -> Option<T>
+pub fn next_of<T: Drop>(left: &mut Vec<T>) -> Option<T>
     ensures first { IfSome result (λ element. reverse left.old.items ≡ element ∷ reverse left.new.items) }
     ensures fewer { IfSome result (λ element. length left.new.items < length left.old.items) }
     ensures none { result ≡ None → reverse left.old.items ≡ [] }

@@ -1,0 +1,27 @@
+//! A whole text to a sink.
+ghost use Rattle.std.specs.Prelude.{◌≡◌, ◌≤◌, OnOk, IsErrOf};
+ghost use Rattle.std.specs.Io.KnownBytes.{Appends};
+ghost use Rattle.bfd_edge.specs.Faults.{Rose};
+ghost use Rattle.bfd_alone.specs.Written.{TookFront};
+
+use bfd_edge::{Fault, Sink};
+
+/// Writes the whole text.
+pub fn write_all<K: Sink>(sink: &mut K, text: &[u8]) -> Result<(), Fault>
+    ensures whole { OnOk result (Appends (K.taken sink.old) (K.taken sink.new) text.now) }
+    ensures failed { IsErrOf result Fault.Failed → Rose (K.faults sink.old) (K.faults sink.new) }
+    ensures front { TookFront (K.taken sink.old) (K.taken sink.new) text.now }
+    ensures later { K.faults sink.old ≤ K.faults sink.new }
+    ensures calm { OnOk result (K.faults sink.new ≡ K.faults sink.old) }
+    ensures calm_memory { IsErrOf result Fault.Memory → K.faults sink.new ≡ K.faults sink.old }
+{
+    let mut rest = text;
+    'pieces: while !rest.is_empty() {
+        match sink.write(rest) {
+            Ok(0) => return Err(Fault::Failed),
+            Ok(count) => (_, rest) = rest.split_at(count),
+            Err(fault) => return Err(fault),
+        }
+    }
+    Ok(())
+}
