@@ -7,11 +7,11 @@ use Rattle.bfd_fields.specs.declared.fault.BadLine.{BadLine as FaultyLine}
 use Rattle.bfdd.specs.declared.status.Status.{Status}
 use Rattle.bfdd.specs.declared.status.Status.TheVariants.{Done, Usage, BadLine, ReadFault, WriteFault, PortFault, LinkFault, TooLarge, JournalFull, Turns, ClockFault, Memory, NoMember}
 use Rattle.bfdd.specs.Answers.{HasText, IsAnswer, broken_off}
-use Rattle.bfdd.specs.Outside.{TookFront}
+use Rattle.bfd_alone.specs.Written.{TookFront}
 use Rattle.bfdd.specs.Status.{IsDecided, IsWrittenBy, OnBadLine, UnlessWriting, WhereUnwritten}
 use Rattle.bfdd.specs.Text.{Wanted, complaint_line}
 use Rattle.bfdd.specs.Writing.{Writes}
-use Rattle.bfdd.proofs.Taking.{took_nothing}
+use Rattle.bfd_alone.proofs.Written.{took_nothing}
 
 -- by the statuses that have a text
 

@@ -1,4 +1,5 @@
 pub mod Answers
+pub mod Held
 pub mod Outside
 pub mod Serving
 pub mod Status

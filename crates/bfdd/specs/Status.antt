@@ -6,7 +6,7 @@ use Rattle.bfd_fields.specs.declared.fault.BadLine.{BadLine as FaultyLine}
 use Rattle.bfd_words.specs.declared.job.Job.{Job}
 use Rattle.bfdd.specs.declared.status.Status.{Status}
 use Rattle.bfdd.specs.declared.status.Status.TheVariants.{Done, Usage, BadLine, ReadFault, WriteFault, PortFault, LinkFault, TooLarge, JournalFull, Turns, ClockFault, Memory, NoMember}
-use Rattle.bfdd.specs.Outside.{TookFront}
+use Rattle.bfd_alone.specs.Written.{TookFront}
 use Rattle.bfdd.specs.Words.{is_reading, is_serving, is_watching}
 
 -- the code that the program ends with

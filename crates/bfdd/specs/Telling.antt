@@ -4,7 +4,7 @@ use Rattle.std.specs.Io.KnownBytes.{Consumes, IsAtEnd}
 use Rattle.bfd_words.specs.declared.job.Job.{Job}
 use Rattle.bfd_words.specs.declared.job.Job.TheVariants.{Serve}
 use Rattle.bfdd.specs.declared.status.Status.{Status}
-use Rattle.bfdd.specs.Outside.{TookFront}
+use Rattle.bfd_alone.specs.Written.{TookFront}
 use Rattle.bfdd.specs.Serving.{Edges, HasNoScript, ServedItsScript, IsOverlong}
 use Rattle.bfdd.specs.Status.{IsDecided, IsWrittenBy}
 use Rattle.bfdd.specs.Text.{Wanted, answer_to, most_bytes}

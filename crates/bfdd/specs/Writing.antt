@@ -5,7 +5,7 @@ use Rattle.bfd_edge.specs.Faults.{Rose}
 use Rattle.bfdd.specs.declared.status.Status.{Status}
 use Rattle.bfdd.specs.declared.status.Status.TheVariants.{Memory}
 use Rattle.bfdd.specs.Answers.{broken_off}
-use Rattle.bfdd.specs.Outside.{TookFront}
+use Rattle.bfd_alone.specs.Written.{TookFront}
 use Rattle.bfdd.specs.Text.{Wanted}
 
 -- there was nothing to write

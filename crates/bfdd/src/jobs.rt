@@ -40,10 +40,7 @@ pub(crate) fn complain(alloc: Global, bad: BadLine) -> Result<Answer, AllocError
 {
     let text = complaint(alloc, bad)?.into_bytes();
     let BadLine { line, fault } = bad;
-    Ok(Answer {
-        status: Status::BadLine { line, fault },
-        text,
-    })
+    Ok(Answer::whole(Status::BadLine { line, fault }, text))
 }
 
 /// Lets bytes go. A large list that is dropped whole would have the allocator grow the lists that come within its heap, by copying
@@ -64,6 +61,24 @@ fn script_in(alloc: Global, bytes: Vec<u8>) -> Result<Script, ScriptFault>
     script
 }
 
+/// `replay` of a script. On one shard by one worker there is nothing to deal out, and its report can be made while it is written.
+fn replay_script<R: Threads + Wait + Sync, G: Gate + Sync>(
+    rt: &R,
+    alloc: Global,
+    hands: Hands,
+    script: Script,
+    gate: &G,
+) -> Result<Answer, AllocError>
+    requires script { IsScript script }
+    requires hands { AreHands hands }
+    ensures { IfOk result (λ answer. answer ≡ done_with (replayed script)) }
+{
+    if hands.shards == 1 && hands.workers == 1 {
+        return Ok(Answer::report(script, hands.timers));
+    }
+    Ok(Answer::done_with(replay_by(rt, alloc, script, hands, gate)?.text))
+}
+
 /// `replay` of these bytes.
 fn replay_answer<R: Threads + Wait + Sync, G: Gate + Sync>(
     rt: &R,
@@ -76,7 +91,7 @@ fn replay_answer<R: Threads + Wait + Sync, G: Gate + Sync>(
     ensures { IfOk result (λ answer. answer ≡ over (λ script. done_with (replayed script)) (script_of false bytes.items)) }
 {
     match script_in(alloc, bytes) {
-        Ok(script) => Ok(Answer::done_with(replay_by(rt, alloc, script, hands, gate)?.text)),
+        Ok(script) => replay_script(rt, alloc, hands, script, gate),
         Err(ScriptFault::Bad(bad)) => complain(alloc, bad),
         Err(ScriptFault::Memory) => Err(AllocError),
     }

@@ -4,11 +4,12 @@
 //! program's name to [`run`], and ends with the status's code. It prints nothing itself. All that the program promises stands on
 //! `run`, over any source, any sink, any ports and any ticker.
 //!
-//! Layers, lowest first: `status`, `answer` (a status and a text), `input` and `output` (a whole text from a source and to a
-//! sink), `replaying`, `jobs` and `serving` (what each word has to write), `running` ([`run`] itself).
+//! Layers, lowest first: `status`, `answer` (a status and a text, or the script that a text is still to be made of), `input` and
+//! `output` (a whole text from a source and to a sink), `replaying`, `jobs` and `serving` (what each word has to write), `running`
+//! ([`run`] itself).
 //!
 //! It stands on `bfd_words` for the words, on `bfd_edge` and `bfd_net` for the outside, on `bfd_script` for packet files, and on
-//! `bfd_workers`, `bfd_serving`, `bfd_watching`, `bfd_load` and `bfd_schedule` for what each word does.
+//! `bfd_workers`, `bfd_alone`, `bfd_serving`, `bfd_watching`, `bfd_load` and `bfd_schedule` for what each word does.
 #![tactic(auto)]
 
 ghost use Rattle.std.specs.Prelude.{◌≡◌, ◌⊎◌, IfErr};

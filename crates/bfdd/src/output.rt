@@ -1,34 +1,20 @@
-// A whole text to a sink.
-ghost use Rattle.std.specs.Prelude.{◌≡◌, ◌≤◌, OnOk, IsErrOf};
+// What a run writes.
+ghost use Rattle.std.specs.Prelude.{◌≡◌, OnOk, IsErrOf};
 ghost use Rattle.std.specs.Io.KnownBytes.{Appends};
+ghost use Rattle.bfd_alone.specs.Written.{TookFront};
 ghost use Rattle.bfd_edge.specs.Faults.{Rose};
 ghost use Rattle.bfdd.specs.Answers.{broken_off};
-ghost use Rattle.bfdd.specs.Outside.{TookFront};
+ghost use Rattle.bfdd.specs.Held.{HasScript, held_text};
 ghost use Rattle.bfdd.specs.Writing.{Writes};
 
-use crate::answer::Answer;
+use crate::answer::{Answer, Text};
 use crate::status::Status;
+use bfd_alone::{report_to, write_all};
 use bfd_edge::{Fault, Sink};
-
-/// Writes the whole text.
-pub(crate) fn write_all<K: Sink>(sink: &mut K, text: &[u8]) -> Result<(), Fault>
-    ensures whole { OnOk result (Appends (K.taken sink.old) (K.taken sink.new) text.now) }
-    ensures failed { IsErrOf result Fault.Failed → Rose (K.faults sink.old) (K.faults sink.new) }
-    ensures front { TookFront (K.taken sink.old) (K.taken sink.new) text.now }
-    ensures later { K.faults sink.old ≤ K.faults sink.new }
-    ensures calm { OnOk result (K.faults sink.new ≡ K.faults sink.old) }
-    ensures calm_memory { IsErrOf result Fault.Memory → K.faults sink.new ≡ K.faults sink.old }
-{
-    let mut rest = text;
-    'pieces: while !rest.is_empty() {
-        match sink.write(rest) {
-            Ok(0) => return Err(Fault::Failed),
-            Ok(count) => (_, rest) = rest.split_at(count),
-            Err(fault) => return Err(fault),
-        }
-    }
-    Ok(())
-}
+use bfd_levels::Levels;
+use bfd_wheel::HashedWheel;
+use bfd_words::Form;
+use std::alloc::Global;
 
 /// The status where the sink failed: a faulty line that wasn't told whole is still one.
 fn broken_off(status: Status) -> Status
@@ -40,16 +26,33 @@ fn broken_off(status: Status) -> Status
     }
 }
 
+/// Writes the whole text; a report that is still to be made is made as it is written.
+fn write_text<K: Sink>(alloc: Global, text: Text, sink: &mut K) -> Result<(), Fault>
+    requires { HasScript text }
+    ensures whole { OnOk result (Appends (K.taken sink.old) (K.taken sink.new) (held_text text)) }
+    ensures failed { IsErrOf result Fault.Failed → Rose (K.faults sink.old) (K.faults sink.new) }
+    ensures front { TookFront (K.taken sink.old) (K.taken sink.new) (held_text text) }
+    ensures calm { OnOk result (K.faults sink.new ≡ K.faults sink.old) }
+    ensures calm_memory { IsErrOf result Fault.Memory → K.faults sink.new ≡ K.faults sink.old }
+{
+    match text {
+        Text::Whole(bytes) => write_all(sink, bytes.as_slice()),
+        Text::Report(script, Form::Hashed) => report_to::<HashedWheel, K>(alloc, script, sink),
+        Text::Report(script, Form::Levels) => report_to::<Levels, K>(alloc, script, sink),
+    }
+}
+
 /// Writes what a run has to write, and answers how it ends.
-pub(crate) fn write_answer<K: Sink>(answer: Answer, sink: &mut K) -> Status
+pub(crate) fn write_answer<K: Sink>(alloc: Global, answer: Answer, sink: &mut K) -> Status
     ensures { Writes answer result (K.taken sink.old) (K.taken sink.new) (K.faults sink.old) (K.faults sink.new) }
 {
-    if answer.text.is_empty() {
-        return answer.status;
+    let Answer { status, text } = answer;
+    if text.is_empty() {
+        return status;
     }
-    match write_all(sink, answer.text.as_slice()) {
-        Ok(()) => answer.status,
-        Err(Fault::Failed) => broken_off(answer.status),
+    match write_text(alloc, text, sink) {
+        Ok(()) => status,
+        Err(Fault::Failed) => broken_off(status),
         Err(Fault::Memory) => Status::Memory,
     }
 }

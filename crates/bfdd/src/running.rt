@@ -1,12 +1,13 @@
 // The top call.
 ghost use Rattle.std.specs.Prelude.{◌≡◌, ◌≢◌, ◌+◌, ◌⊎◌, ℕ, IfOk, IfSome, IsErrOf, None, Some, true, false, map, string_bytes};
 ghost use Rattle.std.specs.Io.KnownBytes.{Appends, IsAtEnd};
+ghost use Rattle.bfd_alone.specs.Written.{TookFront};
 ghost use Rattle.bfd_edge.specs.Faults.{Rose};
 ghost use Rattle.bfd_serving.specs.Linking.{AreShut};
 ghost use Rattle.bfd_words.specs.Grammar.{job_of};
 ghost use Rattle.bfd_words.specs.Ranges.{IsJob};
 ghost use Rattle.bfdd.specs.Answers.{IsAnswer};
-ghost use Rattle.bfdd.specs.Outside.{ConsumesAtMost, TookFront};
+ghost use Rattle.bfdd.specs.Outside.{ConsumesAtMost};
 ghost use Rattle.bfdd.specs.Serving.{IsServedToFinish, edges_of};
 ghost use Rattle.bfdd.specs.Status.{IsDecided, IsEndOf, OnBadLine, UnlessWriting, WhereUnopened, WhereUnwritten};
 ghost use Rattle.bfdd.specs.Telling.{IsBrokenOff, IsTold, Tells, TellsBytes};
@@ -112,7 +113,8 @@ where
 }
 
 /// Runs the program: `words` are those after its name, what it reads comes from `source`, and what it writes goes to
-/// `sink`. Where the words ask for workers, each turn of one stands between two calls of `gate`.
+/// `sink`. Where the words ask for workers, each turn of one stands between two calls of `gate`; but a replay on one shard by one worker
+/// needs no turns.
 ///
 /// `replay` reads a packet file to its end and writes the report of its events. `watch` reads one too, and writes what happens to
 /// a link group. `serve` reads one without packets and ticks, takes packets from links that it opens from `ports` and ticks from
@@ -221,7 +223,7 @@ where
         return Status::Usage;
     };
     match answer(rt, alloc, &job, source, ports, ticker, gate) {
-        Ok(answer) => write_answer(answer, sink),
+        Ok(answer) => write_answer(alloc, answer, sink),
         Err(Fault::Failed) => Status::ReadFault,
         Err(Fault::Memory) => Status::Memory,
     }

@@ -103,10 +103,7 @@ where
     match run {
         Ok(run) => {
             let status = status_of(run.finish);
-            Ok(Answer {
-                status,
-                text: run.text,
-            })
+            Ok(Answer::whole(status, run.text))
         }
         Err(Refused::PortFault) => Ok(Answer::bare(alloc, Status::PortFault)),
         Err(Refused::Memory) => Err(AllocError),

@@ -6,7 +6,7 @@ use Rattle.bfd_edge.specs.Faults.{Rose}
 use Rattle.bfd_words.specs.declared.job.Job.{Job}
 use Rattle.bfd_words.specs.Grammar.{job_of}
 use Rattle.bfdd.specs.declared.status.Status.TheVariants.{Memory}
-use Rattle.bfdd.specs.Outside.{TookFront}
+use Rattle.bfd_alone.specs.Written.{TookFront}
 use Rattle.bfdd.specs.Status.{IsDecided, IsEndOf}
 use Rattle.bfdd.specs.Serving.{IsServedToFinish, edges_of}
 use Rattle.bfdd.specs.Telling.{IsTold}
@@ -14,7 +14,7 @@ use Rattle.bfdd.specs.Text.{Wanted, wanted_of}
 use Rattle.bfdd.specs.Words.{OfServing, is_reading, serves}
 use Rattle.bfdd.proofs.Ending.{ended, ends_so, unopened}
 use Rattle.bfdd.proofs.Served.{finished, of_serving}
-use Rattle.bfdd.proofs.Taking.{took_nothing}
+use Rattle.bfd_alone.proofs.Written.{took_nothing}
 use Rattle.bfdd.proofs.Wanting.{done_wanted, of_all, of_answer, of_job, settled}
 use Rattle.bfdd.proofs.Writing.{bad_text, calm, decided, front, no_read_fault, no_usage, unwritten, write_fault, written, written_whole}
 use Rattle.bfdd.proofs.running.run.Goals as goal
