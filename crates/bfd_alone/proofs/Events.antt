@@ -1,34 +1,14 @@
 -- One event more is told.
-use Rattle.std.proofs.Common.{◌≡◌, ◌+◌, ◌++◌, ◌≤◌, ℕ, List, [], ◌∷◌, length, Option, refl, sym, ap, subst, ◌∙◌, append_assoc, append-nil, arith}
+use Rattle.std.proofs.Common.{◌≡◌, ◌+◌, ◌++◌, ℕ, List, [], ◌∷◌, length, Option, refl, sym, ap, subst, ◌∙◌, append_assoc, append-nil, arith}
 use Rattle.std.specs.Prelude.{sum_by}
 use Rattle.std.specs.Io.KnownBytes.{Appends}
-use Rattle.std.proofs.lemmas.List.Sums.{sum_by-cons}
 use Rattle.bfd_session.specs.Alone.{Outcome}
-use Rattle.bfd_session.specs.declared.event.Answer.{Answer}
-use Rattle.bfd_session.specs.declared.event.Answer.TheVariants.{Handled, Ticked, Dropped, Refused, Shown}
-use Rattle.bfd_script.specs.Report.{done_line, dropped, dropped_by, event_lines, lines_from, packets_sent, report}
+use Rattle.bfd_script.specs.Report.{done_line, dropped, event_lines, lines_from, packets_sent, report}
 use Rattle.bfd_alone.specs.Telling.{ToldUpTo, Telling}
 use Rattle.bfd_alone.specs.Written.{TookFront, TookUpTo}
-use Rattle.bfd_alone.proofs.Written.{front_of_longer, none_taken, took_front, took_of_longer, took_on, took_rest}
+use Rattle.bfd_alone.proofs.Written.{front_of_longer, took_front, took_of_longer, took_on, took_rest}
 
--- an answer drops one packet at most
-pub one_drop : (answer : Answer) → dropped_by answer ≤ 1
-one_drop Handled = omega arith
-one_drop Ticked = omega arith
-one_drop (Dropped test) = omega arith
-one_drop (Refused refusal) = omega arith
-one_drop (Shown shown) = omega arith
-
--- at the start nothing was told
-pub none_told : (known : Option (List ℕ)) (told : Telling) (outcomes : List Outcome) → ToldUpTo known known told told outcomes outcomes
-none_told known told outcomes = record {
-  lines = none_taken known (told.text ++ lines_from (told.events + 1) outcomes);
-  events = refl;
-  txs = refl;
-  drops = refl;
-}
-
--- and then more
+-- more was told
 pub told_on : (first next last : Option (List ℕ)) (start told after : Telling) (all some rest : List Outcome)
     → ToldUpTo first next start told all some → ToldUpTo next last told after some rest → ToldUpTo first last start after all rest
 told_on first next last start told after all some rest so_far now = record {
@@ -45,22 +25,6 @@ lines_split : (text told : List ℕ) (n : ℕ) (o : Outcome) (all os : List Outc
 lines_split text told n o all os split added =
     ap (λ xs. text ++ lines_from n xs) split
     ∙ (sym (append_assoc text (event_lines n o) (lines_from (n + 1) os)) ∙ ap (λ t. t ++ lines_from (n + 1) os) (sym added))
-
-pub event_told : (old new : Option (List ℕ)) (before told after : Telling) (o : Outcome) (all os : List Outcome) → all ≡ o ∷ os
-    → told.text ≡ before.text ++ event_lines (before.events + 1) o → told.events ≡ before.events + 1 → told.txs ≡ before.txs + packets_sent o → told.drops ≡ before.drops + dropped o
-    → TookUpTo old new told.text after.text → after.events ≡ told.events → after.txs ≡ told.txs → after.drops ≡ told.drops
-    → ToldUpTo old new before after all os
-event_told old new before told after o all os split text events txs drops took same_events same_txs same_drops =
-    let n : ℕ = before.events + 1 in
-    let next : after.events ≡ n = same_events ∙ events in
-    record {
-      lines = subst (λ t. TookUpTo old new t (after.text ++ lines_from (after.events + 1) os)) (sym (lines_split before.text told.text n o all os split text))
-          (subst (λ k. TookUpTo old new (told.text ++ lines_from (n + 1) os) (after.text ++ lines_from (k + 1) os)) (sym next)
-          (took_of_longer old new told.text after.text (lines_from (n + 1) os) took));
-      events = (let a = ap (λ (xs : List Outcome). length xs) split in omega (arith, a, next));
-      txs = (let a = ap (sum_by packets_sent) split in omega (arith, a, txs, same_txs, sum_by-cons packets_sent o os));
-      drops = (let a = ap (sum_by dropped) split in omega (arith, a, drops, same_drops, sum_by-cons dropped o os));
-    }
 
 pub event_front : (old new : Option (List ℕ)) (before told : Telling) (o : Outcome) (all os : List Outcome) → all ≡ o ∷ os
     → told.text ≡ before.text ++ event_lines (before.events + 1) o → TookFront old new told.text → TookFront old new (before.text ++ lines_from (before.events + 1) all)
