@@ -2,8 +2,9 @@
 //!
 //! Each line of the script is first found to be an event of no session, with its answer, or an event of the shard's sessions.
 //! Then one shard with every session takes the events one by one, in the caller's thread; what each gave is appended to a text
-//! as the lines of a report, and where that has 64 KiB the sink takes it and it begins anew. So neither the report nor a mark of
-//! each event is ever held whole. [`report_to`] is all of it, and [`write_all`] writes any text.
+//! as the lines of a report, and where that has 64 KiB the sink takes it and it begins anew. So no more of the report is held than
+//! that and the lines of one event, and no mark of its pieces; what else is held is the sessions, the events that are left and the
+//! shard's journal of the others. [`report_to`] is all of it, and [`write_all`] writes any text.
 //!
 //! Modules: `routes` says what the lines are, `happening` is one event of the shard, `telling` the text and the counts so far,
 //! `reporting` the whole, `output` a text to a sink.

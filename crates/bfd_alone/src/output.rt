@@ -6,7 +6,8 @@ ghost use Rattle.bfd_alone.specs.Written.{TookFront};
 
 use bfd_edge::{Fault, Sink};
 
-/// Writes the whole text.
+/// Writes the whole text. It is refused as Failed where the sink failed or took nothing of what is left, and as Memory where the sink
+/// had none; the sink took a front of the text then.
 pub fn write_all<K: Sink>(sink: &mut K, text: &[u8]) -> Result<(), Fault>
     ensures whole { OnOk result (Appends (K.taken sink.old) (K.taken sink.new) text.now) }
     ensures failed { IsErrOf result Fault.Failed → Rose (K.faults sink.old) (K.faults sink.new) }

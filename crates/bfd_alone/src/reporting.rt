@@ -39,7 +39,8 @@ fn tell_event<W: Timers, K: Sink>(
     requires room { 5 * length shard.old.sessions + 5 ≤ outs.old.room }
     requires small { outs.old.room ≤ 327685 }
     requires few { told.old.events < 200000 }
-    ensures told { OnOk result ((rest : List Happening) → ToldUpTo (K.taken sink.old) (K.taken sink.new) told.old told.new
+    ensures told { OnOk result ((rest : List Happening)
+        → ToldUpTo (K.taken sink.old) (K.taken sink.new) told.old told.new
         (happening_outcomes shard.old.last (route_is route ∷ rest) shard.old.sessions)
         (happening_outcomes shard.new.last rest shard.new.sessions)) }
     ensures events { OnOk result (told.new.events ≡ told.old.events + 1) }
@@ -48,7 +49,8 @@ fn tell_event<W: Timers, K: Sink>(
     ensures limit { OnOk result (shard.new.limit ≡ shard.old.limit) }
     ensures room { outs.new.room ≡ outs.old.room }
     ensures front { (rest : List Happening) → TookFront (K.taken sink.old) (K.taken sink.new) (told.old.text
-        ++ lines_from (told.old.events + 1) (happening_outcomes shard.old.last (route_is route ∷ rest) shard.old.sessions)) }
+        ++ lines_from (told.old.events + 1)
+        (happening_outcomes shard.old.last (route_is route ∷ rest) shard.old.sessions)) }
     ensures cause { HasCause (K.faults sink.old) (K.faults sink.new) result }
     ensures calm { OnOk result (K.faults sink.new ≡ K.faults sink.old) }
 {
@@ -61,7 +63,7 @@ fn tell_event<W: Timers, K: Sink>(
     told.give_on(sink)
 }
 
-/// The events one by one, as far as their text is long.
+/// Tells the events one by one; `told` keeps the lines that aren't written yet.
 fn tell_events<W: Timers, K: Sink>(
     shard: &mut ShardState<W>,
     routes: Vec<Route>,
@@ -77,7 +79,8 @@ fn tell_events<W: Timers, K: Sink>(
     ensures told { OnOk result (ToldUpTo (K.taken sink.old) (K.taken sink.new) told.old told.new
         (happening_outcomes shard.old.last (map route_is routes.items) shard.old.sessions) []) }
     ensures front { TookFront (K.taken sink.old) (K.taken sink.new) (told.old.text
-        ++ lines_from (told.old.events + 1) (happening_outcomes shard.old.last (map route_is routes.items) shard.old.sessions)) }
+        ++ lines_from (told.old.events + 1)
+        (happening_outcomes shard.old.last (map route_is routes.items) shard.old.sessions)) }
     ensures cause { HasCause (K.faults sink.old) (K.faults sink.new) result }
     ensures calm { OnOk result (K.faults sink.new ≡ K.faults sink.old) }
 {
@@ -124,8 +127,8 @@ fn tell_all<W: Timers, K: Sink>(
     }
 }
 
-/// Replays the script on one shard, and writes its report to the sink as it comes. A sink that fails took a front of the
-/// report. The other refusal is want of memory.
+/// Replays the script on one shard, and writes its report to the sink as it comes. It is refused as Failed where the sink failed, and
+/// as Memory where memory was wanting, here or there; the sink took a front of the report then.
 #[tactic(auto, using(bfd_workers::proofs::Whole::is_table))]
 pub fn report_to<W: Timers, K: Sink>(
     alloc: Global,

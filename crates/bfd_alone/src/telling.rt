@@ -15,7 +15,7 @@ use std::alloc::{AllocError, Global};
 use std::marker::Model;
 
 /// How long the text gets before it is written.
-const PIECE: usize = 65536;
+const PIECE: usize = 65_536;
 
 /// The lines that are not written yet, and how many events were told, with how many packets that were sent and were dropped in
 /// them. An event puts out at most five outputs for each of 65,536 sessions and five more, so that the counts fit.

@@ -177,7 +177,8 @@ fn pair_by_fields(
 
 /// A point-to-point session.
 fn pair(role: Role, f: &Fields) -> Option<SessionConfig>
-    ensures value { result ≡ fields.pair_by role f.now (addr_of f.now.local) (addr_of f.now.remote) (keys_from_c f.now) }
+    ensures value { result
+        ≡ fields.pair_by role f.now (addr_of f.now.local) (addr_of f.now.remote) (keys_from_c f.now) }
     ensures sound { IfSome result IsInRanges }
 {
     let (Some(local), Some(remote), Some(keys)) = (

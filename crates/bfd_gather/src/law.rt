@@ -33,7 +33,8 @@ pub fn dealing_laws()
         → shard < shards → (k % shards ≡ shard → ⊥)
         → share shards shard (moved last (Own k moment event) sessions) ≡ share shards shard sessions }
     ensures queue { (shards shard number : ℕ) (events : List Happening)
-        → map (λ e. e.event) (queue shards shard number events) ≡ history_of shards shard (filter_map session_event events) }
+        → map (λ e. e.event) (queue shards shard number events)
+        ≡ history_of shards shard (filter_map session_event events) }
     ensures queue_more { (shards shard number : ℕ) (events : List Happening) (event : Happening)
         → queue shards shard number (events ++ event ∷ [])
         ≡ queue shards shard number events

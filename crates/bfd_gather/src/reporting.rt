@@ -34,7 +34,8 @@ pub fn report(alloc: Global, parts: Vec<Part>, events: u64) -> Result<Gathered, 
         → IfOk result (λ report. report.text.items ≡ script.report (happening_outcomes last happenings sessions)) }
     ensures txs { (shards last : ℕ) (happenings : List Happening) (sessions : List Running)
         → AreParts shards 1 last happenings sessions parts.items
-        → IfOk result (λ report. report.txs ≡ sum_by script.packets_sent (happening_outcomes last happenings sessions)) }
+        → IfOk result (λ report. report.txs
+        ≡ sum_by script.packets_sent (happening_outcomes last happenings sessions)) }
     ensures drops { (shards last : ℕ) (happenings : List Happening) (sessions : List Running)
         → AreParts shards 1 last happenings sessions parts.items
         → IfOk result (λ report. report.drops ≡ sum_by script.dropped (happening_outcomes last happenings sessions)) }

@@ -76,7 +76,8 @@ fn order(peer: &mut Peer, last: u64, moment: Moment, cmd: Cmd, outs: &mut Outs) 
     requires more { vec_len peer.old.sent + 5 ≤ vec_capacity peer.old.sent }
     ensures peer { IsPeer peer.new }
     ensures seen { seen peer.new ≡ (run.own_move moment last (Event.Command cmd) (seen peer.old)).end }
-    ensures outs { outs.new.items ≡ outs.old.items ++ (run.own_move moment last (Event.Command cmd) (seen peer.old)).items }
+    ensures outs { outs.new.items
+        ≡ outs.old.items ++ (run.own_move moment last (Event.Command cmd) (seen peer.old)).items }
     ensures answer { result ≡ (run.own_move moment last (Event.Command cmd) (seen peer.old)).answer }
     ensures spare { outs.old.spare ≤ outs.new.spare + 5 }
     ensures room { outs.new.room ≡ outs.old.room }

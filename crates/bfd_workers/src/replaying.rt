@@ -109,7 +109,8 @@ fn replay_parts<W: Timers + Send, R: Threads + Wait + Sync, G: Gate + Sync>(
         ≡ (totals (script_with configs.items pool.items events.items)).txs) }
     ensures drops { IfOk result (λ outcome. outcome.drops
         ≡ (totals (script_with configs.items pool.items events.items)).drops) }
-    ensures up { IfOk result (λ outcome. outcome.up ≡ (totals (script_with configs.items pool.items events.items)).ups) }
+    ensures up { IfOk result (λ outcome. outcome.up
+        ≡ (totals (script_with configs.items pool.items events.items)).ups) }
     ensures states { IfOk result (λ outcome. HaveReplayed (script_with configs.items pool.items events.items)
         shards workers outcome.states.items) }
 {
@@ -150,7 +151,8 @@ fn report_parts<W: Timers + Send, R: Threads + Wait + Sync, G: Gate + Sync>(
         ≡ (totals (script_with configs.items pool.items events.items)).txs) }
     ensures drops { IfOk result (λ outcome. outcome.drops
         ≡ (totals (script_with configs.items pool.items events.items)).drops) }
-    ensures up { IfOk result (λ outcome. outcome.up ≡ (totals (script_with configs.items pool.items events.items)).ups) }
+    ensures up { IfOk result (λ outcome. outcome.up
+        ≡ (totals (script_with configs.items pool.items events.items)).ups) }
 {
     let count = events.len();
     let (parts, states) = worked::<W, R, G>(

@@ -88,7 +88,8 @@ fn replay_answer<R: Threads + Wait + Sync, G: Gate + Sync>(
     gate: &G,
 ) -> Result<Answer, AllocError>
     requires { AreHands hands }
-    ensures { IfOk result (λ answer. answer ≡ over (λ script. done_with (replayed script)) (script_of false bytes.items)) }
+    ensures { IfOk result (λ answer. answer
+        ≡ over (λ script. done_with (replayed script)) (script_of false bytes.items)) }
 {
     match script_in(alloc, bytes) {
         Ok(script) => replay_script(rt, alloc, hands, script, gate),
@@ -162,7 +163,8 @@ fn load_answer<R: Threads + Wait + Sync, G: Gate + Sync>(
     requires hands { AreHands hands }
     requires sessions { IsFrom 1 5000 sessions }
     requires ticks { IsFrom 1 6000 ticks }
-    ensures { IfOk result (λ answer. answer ≡ done_with (load_line sessions (totals (load.script sessions ticks seed)))) }
+    ensures { IfOk result (λ answer. answer
+        ≡ done_with (load_line sessions (totals (load.script sessions ticks seed)))) }
 {
     let script = generate(alloc, sessions, ticks, seed)?;
     let replayed = replay_by(rt, alloc, script, hands, gate)?;
