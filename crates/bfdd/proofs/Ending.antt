@@ -5,14 +5,14 @@ use Rattle.bfd_serving.specs.declared.finish.Finish.TheVariants as finish
 use Rattle.bfd_script.specs.Reading.{Lists}
 use Rattle.bfd_words.specs.declared.job.Job.{Job}
 use Rattle.bfd_words.specs.declared.job.Job.TheVariants.{Replay, Serve, Load, Pair, Watch}
-use Rattle.bfdd.specs.declared.status.Status.{Status}
-use Rattle.bfdd.specs.declared.status.Status.TheVariants.{Done, Usage, BadLine, ReadFault, WriteFault, TooLarge, Memory, NoMember}
-use Rattle.bfdd.specs.Serving.{Comes, Edges, IsFaulty, IsOverlong, status_of}
+use Rattle.bfd_jobs.specs.declared.status.Status.{Status}
+use Rattle.bfd_jobs.specs.declared.status.Status.TheVariants.{Done, Usage, BadLine, ReadFault, WriteFault, TooLarge, Memory, NoMember}
+use Rattle.bfd_jobs.specs.Serving.{Comes, Edges, IsFaulty, IsOverlong, status_of}
 use Rattle.bfdd.specs.Status.{IsDecided, IsEndOf, WhereUnopened}
-use Rattle.bfdd.specs.Telling.{Tells, TellsBytes}
-use Rattle.bfdd.specs.Text.{Wanted}
-use Rattle.bfdd.specs.Words.{reads, serves}
-use Rattle.bfdd.proofs.Answering.{each_answer}
+use Rattle.bfd_jobs.specs.Telling.{Tells, TellsBytes}
+use Rattle.bfd_jobs.specs.Text.{Wanted}
+use Rattle.bfd_jobs.specs.Words.{reads, serves}
+use Rattle.bfd_jobs.proofs.Answering.{each_answer}
 
 -- what the bytes alone decide
 bytes_so : (job : Job) (left right : Option (List ℕ)) (w : Wanted) → TellsBytes job left right w → IsEndOf (Some job) w.status
@@ -54,12 +54,6 @@ ended given ReadFault want is reads fact = absurd (reads refl)
 ended given WriteFault want is reads fact = tt
 ended given Memory want is reads fact = tt
 ended given result want is reads fact = subst (λ (status : Status). IsEndOf given status) (sym is) fact
-
--- a job that doesn't serve tells what its bytes decide
-pub closed_tells : (job : Job) (left right : Option (List ℕ)) (old new : Edges) (w : Wanted) → serves job ≡ false → TellsBytes job left right w
-    → Tells job left right old new w
-closed_tells (Serve hands turns ticks journal) left right old new w closed tells = cc
-closed_tells job left right old new w closed tells = tells
 
 -- the status of a run that was served comes after ports were opened
 finish_opened : (end : Finish) (P : Type 0) → WhereUnopened (status_of end) P

@@ -1,39 +1,23 @@
--- What `serve` has to tell, and the status that comes of it.
-use Rattle.std.proofs.Common.{◌≡◌, ◌⊎◌, ◌≤◌, ℕ, Bool, true, false, if◌then◌else◌, nat_lt, List, length, Option, Some, None, Result, Ok, Err, inl, inr, refl, sym, ap, ◌∙◌, subst, arith}
+-- The status that comes of what `serve` has to tell.
+use Rattle.std.proofs.Common.{◌≡◌, ◌⊎◌, ◌≤◌, ℕ, true, List, length, Option, Some, None, Ok, inl, inr, refl, sym, subst, arith}
 use Rattle.std.proofs.Math.Nat.{le-max_right}
-use Rattle.std.proofs.lemmas.Bool.{le-ltb}
-use Rattle.std.proofs.lemmas.List.{append-nil}
-use Rattle.std.specs.Prelude.{◌+◌, ◌-◌, ◌^◌, ◌++◌, min, IfSome}
-use Rattle.std.specs.Io.KnownBytes.{Consumes, IsAtEnd}
+use Rattle.std.specs.Prelude.{◌+◌, ◌-◌, ◌^◌, min, IfSome}
 use Rattle.bfd_edge.specs.Faults.{Rose, risen}
-use Rattle.bfd_fields.specs.declared.fault.BadLine.{BadLine as FaultyLine}
+use Rattle.bfd_jobs.proofs.Served.{read_whole}
+use Rattle.bfd_jobs.specs.declared.status.Status.{Status}
+use Rattle.bfd_jobs.specs.declared.status.Status.TheVariants.{Memory}
+use Rattle.bfd_jobs.specs.Serving.{Comes, Edges, HasNoScript, ServedItsScript, IsFaulty, IsServedToFinish, IsOverlong, IsServed}
+use Rattle.bfd_jobs.specs.Telling.{Tells}
+use Rattle.bfd_jobs.specs.Text.{Wanted, most_bytes}
+use Rattle.bfd_jobs.specs.Words.{OfServing, serves}
 use Rattle.bfd_script.specs.Reading.{Lists, script_of}
-use Rattle.bfd_serving.specs.declared.finish.Finish.{Finish}
-use Rattle.bfd_serving.specs.declared.finish.Finish.TheVariants as finish
 use Rattle.bfd_words.specs.declared.job.Job.{Job}
 use Rattle.bfd_words.specs.declared.job.Job.TheVariants.{Serve}
-use Rattle.bfdd.specs.declared.status.Status.{Status}
-use Rattle.bfdd.specs.declared.status.Status.TheVariants.{Memory, TooLarge}
-use Rattle.bfdd.specs.Answers.{HasText}
-use Rattle.bfdd.specs.Serving.{Comes, Edges, HasNoScript, ServedItsScript, IsFaulty, IsLive, IsServedToFinish, IsOverlong, IsServed, status_of}
-use Rattle.bfdd.specs.Telling.{Tells}
-use Rattle.bfdd.specs.Text.{Wanted, bare, most_bytes, unserved, wanted_of}
-use Rattle.bfdd.specs.Words.{OfServing, serves}
-
--- the served text goes with every finish
-pub goes_with : (end : Finish) (text : List ℕ) → HasText (status_of end) text
-goes_with finish.Done text = tt
-goes_with end text = tt
 
 -- a fact about a job, where it serves
 pub of_serving : (job : Job) (P : Job → Type 0) → (serves job ≡ true → P job) → OfServing (Some job) P
 of_serving (Serve hands turns ticks journal) P fact = fact refl
 of_serving job P fact = tt
-
--- the bytes that a source told are those that were read to its end
-read_whole : (bytes : List ℕ) (right : Option (List ℕ)) (more : List ℕ) → Consumes (Some bytes) right more → IsAtEnd right → bytes ≡ more
-read_whole bytes None more read end = absurd read
-read_whole bytes (Some rest) more read end = read ∙ (ap (λ (x : List ℕ). more ++ x) end ∙ append-nil more)
 
 same_script : (bytes more : List ℕ) (one other : Lists) → bytes ≡ more → script_of true bytes ≡ Ok one → script_of true more ≡ Ok other → other ≡ one
 same_script bytes more one other same first second = cc
@@ -43,23 +27,6 @@ no_script : (bytes : List ℕ) (right : Option (List ℕ)) (w : Wanted) (script 
 no_script bytes right w script (inl faulty) few spelled =
     let same = read_whole bytes right faulty.bytes faulty.read faulty.end in let other = faulty.spelled in cc
 no_script bytes right w script (inr long) few spelled = absurd (omega (arith, few, long.long))
-
--- the bytes of a script that is served decide no answer
-unwanted_by : (long : Bool) (read : Result Lists FaultyLine) (script : Lists) (answer : Wanted) → long ≡ false → read ≡ Ok script
-    → IfSome (if long then Some (bare TooLarge) else unserved read) (λ w. answer ≡ w)
-unwanted_by false (Ok other) script answer short is = tt
-unwanted_by false (Err bad) script answer short is = cc
-unwanted_by true read script answer short is = cc
-
-pub unwanted : (job : Job) (left right : Option (List ℕ)) (script : Lists) (answer : Wanted) → serves job ≡ true → IsLive left right script
-    → IfSome (wanted_of job left) (λ w. answer ≡ w)
-unwanted (Serve hands turns ticks journal) None right script answer serving live = tt
-unwanted (Serve hands turns ticks journal) (Some bytes) right script answer serving live =
-    let same = read_whole bytes right live.bytes live.read live.end in
-    unwanted_by (nat_lt most_bytes (length bytes)) (script_of true bytes) script answer
-    (le-ltb most_bytes (length bytes) (subst (λ (l : List ℕ). length l ≤ most_bytes) (sym same) live.few))
-    (subst (λ (l : List ℕ). script_of true l ≡ Ok script) (sym same) live.spelled)
-unwanted job left right script answer serving live = cc
 
 port_rose : (before now : ℕ) → now ≡ risen before 1 → Rose before now
 port_rose before now is =

@@ -1,14 +1,11 @@
 -- What is true of what is wanted.
-use Rattle.std.proofs.Common.{◌≡◌, ◌≢◌, List, [], ◌∷◌, ◌++◌, ℕ, Option, Some, None, ◌⊎◌, inl, inr, refl, sym, subst}
+use Rattle.std.proofs.Common.{◌≡◌, ◌⊎◌, ℕ, List, Option, Some, None, inl, inr, refl, sym, subst}
 use Rattle.std.specs.Prelude.{IfSome}
-use Rattle.bfd_replay.specs.World.{replayed, world}
-use Rattle.bfd_script.specs.Reading.{Lists}
-use Rattle.bfd_script.specs.Report.{lines_from}
 use Rattle.bfd_words.specs.declared.job.Job.{Job}
-use Rattle.bfdd.specs.declared.status.Status.{Status}
-use Rattle.bfdd.specs.declared.status.Status.TheVariants.{Done, ReadFault, WriteFault, Memory}
+use Rattle.bfd_jobs.specs.declared.status.Status.{Status}
+use Rattle.bfd_jobs.specs.declared.status.Status.TheVariants.{Done, ReadFault, WriteFault, Memory}
 use Rattle.bfdd.specs.Status.{IsDecided}
-use Rattle.bfdd.specs.Text.{Wanted, wanted, wanted_of}
+use Rattle.bfd_jobs.specs.Text.{Wanted, wanted, wanted_of}
 
 -- what is true of whatever may be wanted
 pub of_all : (known : Option Wanted) (P : Wanted → Type 0) → ((w : Wanted) → P w) → IfSome known P
@@ -36,11 +33,3 @@ settled result want is reads writes = inl is
 -- what ended with Done was to end so
 pub done_wanted : (result want : Status) → IsDecided result want → result ≡ Done → want ≡ Done
 done_wanted result want is same = sym (subst (λ (status : Status). IsDecided status want) same is)
-
--- the report of a replay has a last line
-with_last : (front : List ℕ) (byte : ℕ) (more : List ℕ) → (front ++ (byte ∷ more)) ≢ []
-with_last [] byte more is = cc
-with_last (first ∷ front) byte more is = cc
-
-pub replayed_some : (script : Lists) → replayed script ≢ []
-replayed_some script = with_last (lines_from 1 (world script)) 100 _

@@ -4,13 +4,13 @@ use Rattle.std.specs.Io.KnownBytes.{Appends}
 use Rattle.std.proofs.KnownBytes.{Appends-nil}
 use Rattle.bfd_edge.specs.Faults.{Rose}
 use Rattle.bfd_fields.specs.declared.fault.BadLine.{BadLine as FaultyLine}
-use Rattle.bfdd.specs.declared.status.Status.{Status}
-use Rattle.bfdd.specs.declared.status.Status.TheVariants.{Done, Usage, BadLine, ReadFault, WriteFault, PortFault, LinkFault, TooLarge, JournalFull, Turns, ClockFault, Memory, NoMember}
-use Rattle.bfdd.specs.Answers.{HasText, IsAnswer, broken_off}
+use Rattle.bfd_jobs.specs.declared.status.Status.{Status}
+use Rattle.bfd_jobs.specs.declared.status.Status.TheVariants.{Done, Usage, BadLine, ReadFault, WriteFault, PortFault, LinkFault, TooLarge, JournalFull, Turns, ClockFault, Memory, NoMember}
+use Rattle.bfd_jobs.specs.Answers.{HasText, IsAnswer}
 use Rattle.bfd_alone.specs.Written.{TookFront}
 use Rattle.bfdd.specs.Status.{IsDecided, IsWrittenBy, OnBadLine, UnlessWriting, WhereUnwritten}
-use Rattle.bfdd.specs.Text.{Wanted, complaint_line}
-use Rattle.bfdd.specs.Writing.{Writes}
+use Rattle.bfd_jobs.specs.Text.{Wanted, complaint_line}
+use Rattle.bfdd.specs.Writing.{Writes, broken_off}
 use Rattle.bfd_alone.proofs.Written.{took_nothing}
 
 -- by the statuses that have a text

@@ -4,26 +4,10 @@ use Rattle.std.specs.Io.KnownBytes.{Appends}
 use Rattle.bfd_edge.specs.Faults.{Rose}
 use Rattle.bfd_fields.specs.declared.fault.BadLine.{BadLine as FaultyLine}
 use Rattle.bfd_words.specs.declared.job.Job.{Job}
-use Rattle.bfdd.specs.declared.status.Status.{Status}
-use Rattle.bfdd.specs.declared.status.Status.TheVariants.{Done, Usage, BadLine, ReadFault, WriteFault, PortFault, LinkFault, TooLarge, JournalFull, Turns, ClockFault, Memory, NoMember}
+use Rattle.bfd_jobs.specs.declared.status.Status.{Status}
+use Rattle.bfd_jobs.specs.declared.status.Status.TheVariants.{Done, Usage, BadLine, ReadFault, WriteFault, PortFault, LinkFault, TooLarge, JournalFull, Turns, ClockFault, Memory, NoMember}
 use Rattle.bfd_alone.specs.Written.{TookFront}
-use Rattle.bfdd.specs.Words.{is_reading, is_serving, is_watching}
-
--- the code that the program ends with
-abbrev pub code_of : Status → ℕ
-code_of Done = 0
-code_of Usage = 1
-code_of (BadLine line fault) = 2
-code_of ReadFault = 3
-code_of WriteFault = 4
-code_of PortFault = 5
-code_of (LinkFault number) = 6
-code_of TooLarge = 7
-code_of (JournalFull shard) = 8
-code_of (Turns number) = 9
-code_of ClockFault = 10
-code_of Memory = 11
-code_of (NoMember discr) = 12
+use Rattle.bfd_jobs.specs.Words.{is_reading, is_serving, is_watching}
 
 -- a fact about the faulty line, where the status names one
 abbrev pub OnBadLine : Status → (FaultyLine → Type 0) → Type 0

@@ -1,32 +1,12 @@
--- What a run has to tell, whether or not its source tells what it had.
-use Rattle.std.specs.Prelude.{◌≡◌, ◌⊎◌, ◌≤◌, ℕ, true, List, length, Option, Some}
-use Rattle.std.specs.Io.KnownBytes.{Consumes, IsAtEnd}
-use Rattle.bfd_words.specs.declared.job.Job.{Job}
-use Rattle.bfd_words.specs.declared.job.Job.TheVariants.{Serve}
-use Rattle.bfdd.specs.declared.status.Status.{Status}
+-- What a run has told, whether or not its source tells what it had.
+use Rattle.std.specs.Prelude.{◌≡◌, ◌⊎◌, ℕ, List, Option, Some}
 use Rattle.bfd_alone.specs.Written.{TookFront}
-use Rattle.bfdd.specs.Serving.{Edges, HasNoScript, ServedItsScript, IsOverlong}
+use Rattle.bfd_jobs.specs.declared.status.Status.{Status}
+use Rattle.bfd_jobs.specs.Serving.{Edges}
+use Rattle.bfd_jobs.specs.Telling.{Tells}
+use Rattle.bfd_jobs.specs.Text.{Wanted}
+use Rattle.bfd_words.specs.declared.job.Job.{Job}
 use Rattle.bfdd.specs.Status.{IsDecided, IsWrittenBy}
-use Rattle.bfdd.specs.Text.{Wanted, answer_to, most_bytes}
-use Rattle.bfdd.specs.Words.{reads}
-
--- there are bytes of which this is wanted; a job that reads has read them from the source, to its end
-pub record IsSpelled (job : Job) (left right : Option (List ℕ)) (w : Wanted) : Type 0 where
-  pub bytes : List ℕ
-  pub read : reads job ≡ true → Consumes left right bytes
-  pub end : reads job ≡ true → IsAtEnd right
-  pub few : length bytes ≤ most_bytes
-  pub spelled : answer_to job bytes ≡ Some w
-
--- what a job has to tell that its bytes alone decide
-abbrev pub TellsBytes : Job → Option (List ℕ) → Option (List ℕ) → Wanted → Type 0
-TellsBytes job left right w = IsSpelled job left right w ⊎ ((reads job ≡ true) × IsOverlong left right w)
-
--- what a job has to tell
-abbrev pub Tells : Job → Option (List ℕ) → Option (List ℕ) → Edges → Edges → Wanted → Type 0
-Tells (Serve hands turns ticks journal) left right old new w =
-    ServedItsScript (Serve hands turns ticks journal) left right old new w ⊎ HasNoScript left right old new w
-Tells job left right old new w = TellsBytes job left right w
 
 -- a status, and what a sink took, where something was told
 pub record IsTold (job : Job) (left right : Option (List ℕ)) (old new : Edges) (taken took : Option (List ℕ)) (before now : ℕ) (status : Status) : Type 0 where

@@ -2,11 +2,15 @@
 use Rattle.std.specs.Prelude.{◌≡◌, ◌≢◌, ◌⊎◌, ℕ, List, [], Option}
 use Rattle.std.specs.Io.KnownBytes.{Appends}
 use Rattle.bfd_edge.specs.Faults.{Rose}
-use Rattle.bfdd.specs.declared.status.Status.{Status}
-use Rattle.bfdd.specs.declared.status.Status.TheVariants.{Memory}
-use Rattle.bfdd.specs.Answers.{broken_off}
+use Rattle.bfd_jobs.specs.declared.status.Status.{Status}
+use Rattle.bfd_jobs.specs.declared.status.Status.TheVariants.{Done, WriteFault, Memory}
 use Rattle.bfd_alone.specs.Written.{TookFront}
-use Rattle.bfdd.specs.Text.{Wanted}
+use Rattle.bfd_jobs.specs.Text.{Wanted}
+
+-- the status where the sink failed: a faulty line that wasn't told whole is still one
+abbrev pub broken_off : Status → Status
+broken_off Done = WriteFault
+broken_off status = status
 
 -- there was nothing to write
 pub record WritesNothing (w : Wanted) (result : Status) (old new : Option (List ℕ)) (before now : ℕ) : Type 0 where

@@ -4,30 +4,21 @@
 //! program's name to [`run`], and ends with the status's code. It prints nothing itself. All that the program promises stands on
 //! `run`, over any source, any sink, any ports and any ticker.
 //!
-//! Layers, lowest first: `status`, `answer` (a status and a text, or the script that a text is still to be made of), `input` and
-//! `output` (a whole text from a source and to a sink), `replaying`, `jobs` and `serving` (what each word has to write), `running`
-//! ([`run`] itself).
+//! Layers, lowest first: `output` (a whole text to a sink, and what comes of that), `running` ([`run`] itself).
 //!
-//! It stands on `bfd_words` for the words, on `bfd_edge` and `bfd_net` for the outside, on `bfd_script` for packet files, and on
-//! `bfd_workers`, `bfd_alone`, `bfd_serving`, `bfd_watching`, `bfd_load` and `bfd_schedule` for what each word does.
+//! It stands on `bfd_words` for the words, on `bfd_jobs` for what each word has to write, on `bfd_alone` for a report that is made while
+//! it is written, and on `bfd_edge` and `bfd_net` for the outside.
 #![tactic(auto)]
 
 ghost use Rattle.std.specs.Prelude.{◌≡◌, ◌⊎◌, IfErr};
 
-mod answer;
-mod asking;
-mod input;
-mod jobs;
 mod output;
-mod replaying;
 mod running;
-mod serving;
-mod status;
 
 use bfd_edge::{OpenGate, StdSink, StdSource};
+pub use bfd_jobs::Status;
 use bfd_net::{ClockTicker, UdpPorts};
 pub use running::run;
-pub use status::Status;
 use std::env;
 use std::io::ErrorKind;
 use std::process::ExitCode;

@@ -3,14 +3,12 @@ ghost use Rattle.std.specs.Prelude.{◌≡◌, OnOk, IsErrOf};
 ghost use Rattle.std.specs.Io.KnownBytes.{Appends};
 ghost use Rattle.bfd_alone.specs.Written.{TookFront};
 ghost use Rattle.bfd_edge.specs.Faults.{Rose};
-ghost use Rattle.bfdd.specs.Answers.{broken_off};
-ghost use Rattle.bfdd.specs.Held.{HasScript, held_text};
-ghost use Rattle.bfdd.specs.Writing.{Writes};
+ghost use Rattle.bfd_jobs.specs.Held.{HasScript, held_text};
+ghost use Rattle.bfdd.specs.Writing.{Writes, broken_off};
 
-use crate::answer::{Answer, Text};
-use crate::status::Status;
 use bfd_alone::{report_to, write_all};
 use bfd_edge::{Fault, Sink};
+use bfd_jobs::{Answer, Status, Text};
 use bfd_levels::Levels;
 use bfd_wheel::HashedWheel;
 use bfd_words::Form;

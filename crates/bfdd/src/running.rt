@@ -1,116 +1,24 @@
 // The top call.
-ghost use Rattle.std.specs.Prelude.{◌≡◌, ◌≢◌, ◌+◌, ◌⊎◌, ℕ, IfOk, IfSome, IsErrOf, None, Some, true, false, map, string_bytes};
+ghost use Rattle.std.specs.Prelude.{◌≡◌, ◌≢◌, ◌+◌, ◌⊎◌, ℕ, IfSome, None, Some, true, false, map, string_bytes};
 ghost use Rattle.std.specs.Io.KnownBytes.{Appends, IsAtEnd};
 ghost use Rattle.bfd_alone.specs.Written.{TookFront};
 ghost use Rattle.bfd_edge.specs.Faults.{Rose};
+ghost use Rattle.bfd_jobs.specs.Outside.{ConsumesAtMost};
+ghost use Rattle.bfd_jobs.specs.Serving.{IsServedToFinish, edges_of};
+ghost use Rattle.bfd_jobs.specs.Text.{most_bytes, complaint_line, wanted};
+ghost use Rattle.bfd_jobs.specs.Words.{OfServing, is_reading, is_serving};
 ghost use Rattle.bfd_serving.specs.Linking.{AreShut};
 ghost use Rattle.bfd_words.specs.Grammar.{job_of};
-ghost use Rattle.bfd_words.specs.Ranges.{IsJob};
-ghost use Rattle.bfdd.specs.Answers.{IsAnswer};
-ghost use Rattle.bfdd.specs.Outside.{ConsumesAtMost};
-ghost use Rattle.bfdd.specs.Serving.{IsServedToFinish, edges_of};
 ghost use Rattle.bfdd.specs.Status.{IsDecided, IsEndOf, OnBadLine, UnlessWriting, WhereUnopened, WhereUnwritten};
-ghost use Rattle.bfdd.specs.Telling.{IsBrokenOff, IsTold, Tells, TellsBytes};
-ghost use Rattle.bfdd.specs.Text.{most_bytes, complaint_line, wanted, wanted_of};
-ghost use Rattle.bfdd.specs.Words.{OfServing, is_reading, is_serving, reads, serves};
+ghost use Rattle.bfdd.specs.Telling.{IsBrokenOff, IsTold};
 
-use crate::answer::Answer;
-use crate::input::{InputFault, bytes_for};
-use crate::jobs::answer_to;
 use crate::output::write_answer;
-use crate::serving::{Numbers, serve_answer};
-use crate::status::Status;
 use bfd_edge::{Fault, Gate, Ports, Sink, Source, Ticker};
-use bfd_words::{Job, job_of};
+use bfd_jobs::{Status, answer_to_job};
+use bfd_words::job_of;
 use std::alloc::Global;
 use std::sync::Wait;
 use std::thread::Threads;
-
-/// What a job other than `serve` has to write, after it has read what it reads.
-fn decided_answer<R: Threads + Wait + Sync, G: Gate + Sync, S: Source>(
-    rt: &R,
-    alloc: Global,
-    job: &Job,
-    source: &mut S,
-    gate: &G,
-) -> Result<Answer, Fault>
-    requires ranges { IsJob job.now }
-    requires closed { serves job.now ≡ false }
-    ensures answer { IfOk result (λ answer. IfSome (wanted_of job.now (S.left source.old)) (λ w. answer ≡ w)) }
-    ensures tells { IfOk result (TellsBytes job.now (S.left source.old) (S.left source.new)) }
-    ensures sound { IfOk result IsAnswer }
-    ensures end { IfOk result (λ answer. answer.status ≡ Status.Done → reads job.now ≡ true
-        → IsAtEnd (S.left source.new)) }
-    ensures untouched { reads job.now ≡ false → source.new ≡ source.old }
-    ensures failed { IsErrOf result Fault.Failed
-        → (reads job.now ≡ true) × Rose (S.faults source.old) (S.faults source.new) }
-    ensures at_most { ConsumesAtMost (most_bytes + 1) (S.left source.old) (S.left source.new) }
-    ensures calm { IfOk result (λ answer. S.faults source.new ≡ S.faults source.old) }
-    ensures calm_memory { IsErrOf result Fault.Memory → S.faults source.new ≡ S.faults source.old }
-{
-    let bytes = match bytes_for(alloc, job, source) {
-        Ok(bytes) => bytes,
-        Err(InputFault::TooLarge) => return Ok(Answer::bare(alloc, Status::TooLarge)),
-        Err(InputFault::Failed) => return Err(Fault::Failed),
-        Err(InputFault::Memory) => return Err(Fault::Memory),
-    };
-    match answer_to(rt, alloc, job, bytes, gate) {
-        Ok(answer) => Ok(answer),
-        Err(_) => Err(Fault::Memory),
-    }
-}
-
-/// What the job has to write. Ports and ticker are `serve`'s alone.
-#[tactic(auto, using(crate::proofs::Ending::closed_tells))]
-fn answer<R: Threads + Wait + Sync, G: Gate + Sync, S: Source, P: Ports, T: Ticker + Send>(
-    rt: &R,
-    alloc: Global,
-    job: &Job,
-    source: &mut S,
-    ports: &mut P,
-    ticker: &mut T,
-    gate: &G,
-) -> Result<Answer, Fault>
-where
-    P::Link: Send,
-    requires ranges { IsJob job.now }
-    requires new { (number : ℕ) → (P.told ports.old).opened number ≡ false }
-    requires clock { (T.told ticker.old).over ≡ false }
-    ensures answer { IfOk result (λ answer. IfSome (wanted_of job.now (S.left source.old)) (λ w. answer ≡ w)) }
-    ensures tells { IfOk result (Tells job.now (S.left source.old) (S.left source.new)
-        (edges_of (P.told ports.old) (T.told ticker.old)) (edges_of (P.told ports.new) (T.told ticker.new))) }
-    ensures sound { IfOk result IsAnswer }
-    ensures end { IfOk result (λ answer. answer.status ≡ Status.Done → reads job.now ≡ true
-        → IsAtEnd (S.left source.new)) }
-    ensures untouched { reads job.now ≡ false → source.new ≡ source.old }
-    ensures idle { serves job.now ≡ false → (ports.new ≡ ports.old) × (ticker.new ≡ ticker.old) }
-    ensures failed { IsErrOf result Fault.Failed
-        → (reads job.now ≡ true) × Rose (S.faults source.old) (S.faults source.new) }
-    ensures unopened { IsErrOf result Fault.Failed
-        → edges_of (P.told ports.new) (T.told ticker.new) ≡ edges_of (P.told ports.old) (T.told ticker.old) }
-    ensures shut { AreShut (P.told ports.new) }
-    ensures at_most { ConsumesAtMost (most_bytes + 1) (S.left source.old) (S.left source.new) }
-    ensures calm { IfOk result (λ answer. S.faults source.new ≡ S.faults source.old) }
-    ensures calm_memory { IsErrOf result Fault.Memory → S.faults source.new ≡ S.faults source.old }
-{
-    match job {
-        Job::Serve {
-            hands,
-            turns,
-            ticks,
-            journal,
-        } => {
-            let numbers = Numbers {
-                hands: *hands,
-                turns: *turns,
-                ticks: *ticks,
-                journal: *journal,
-            };
-            serve_answer(rt, alloc, numbers, source, ports, ticker, gate)
-        }
-        _ => decided_answer(rt, alloc, job, source, gate),
-    }
-}
 
 /// Runs the program: `words` are those after its name, what it reads comes from `source`, and what it writes goes to
 /// `sink`. Where the words ask for workers, each turn of one stands between two calls of `gate`; but a replay on one shard by one worker
@@ -222,7 +130,7 @@ where
     let Some(job) = job_of(words) else {
         return Status::Usage;
     };
-    match answer(rt, alloc, &job, source, ports, ticker, gate) {
+    match answer_to_job(rt, alloc, &job, source, ports, ticker, gate) {
         Ok(answer) => write_answer(alloc, answer, sink),
         Err(Fault::Failed) => Status::ReadFault,
         Err(Fault::Memory) => Status::Memory,

@@ -5,13 +5,13 @@ use Rattle.std.specs.Io.KnownBytes.{Appends}
 use Rattle.bfd_edge.specs.Faults.{Rose}
 use Rattle.bfd_words.specs.declared.job.Job.{Job}
 use Rattle.bfd_words.specs.Grammar.{job_of}
-use Rattle.bfdd.specs.declared.status.Status.TheVariants.{Memory}
+use Rattle.bfd_jobs.specs.declared.status.Status.TheVariants.{Memory}
 use Rattle.bfd_alone.specs.Written.{TookFront}
 use Rattle.bfdd.specs.Status.{IsDecided, IsEndOf}
-use Rattle.bfdd.specs.Serving.{IsServedToFinish, edges_of}
+use Rattle.bfd_jobs.specs.Serving.{IsServedToFinish, edges_of}
 use Rattle.bfdd.specs.Telling.{IsTold}
-use Rattle.bfdd.specs.Text.{Wanted, wanted_of}
-use Rattle.bfdd.specs.Words.{OfServing, is_reading, serves}
+use Rattle.bfd_jobs.specs.Text.{Wanted, wanted_of}
+use Rattle.bfd_jobs.specs.Words.{OfServing, is_reading, serves}
 use Rattle.bfdd.proofs.Ending.{ended, ends_so, unopened}
 use Rattle.bfdd.proofs.Served.{finished, of_serving}
 use Rattle.bfd_alone.proofs.Written.{took_nothing}
@@ -57,17 +57,17 @@ returns-in-Ok-clause-complete g c = λ source_calm sink_calm.
 pub returns-in-Ok-clause-fits : goal.returns-in-Ok-clause-fits
 returns-in-Ok-clause-fits g c =
     let old = edges_of (g.P.Ports.told c.args.ports.now) (g.T.Ticker.told c.args.ticker.now) in
-    let new = edges_of (g.P.Ports.told c.answer.new.ports) (g.T.Ticker.told c.answer.new.ticker) in
+    let new = edges_of (g.P.Ports.told c.answer_to_job.new.ports) (g.T.Ticker.told c.answer_to_job.new.ticker) in
     subst (λ (given : Option Job). IsEndOf given c.write_answer.result) c.in-Some.ensures.value
     (ended (Some c.in-Some.job) c.write_answer.result c.in-Ok.answer.status (decided _ _ _ _ _ _ c.in-Ok.ensures.sound c.write_answer.ensures)
     (no_read_fault _ _ _ _ _ _ c.in-Ok.ensures.sound c.write_answer.ensures)
-    (ends_so c.in-Some.job (g.S.Source.left c.args.source.now) (g.S.Source.left c.answer.new.source) old new c.in-Ok.answer c.in-Ok.ensures.tells))
+    (ends_so c.in-Some.job (g.S.Source.left c.args.source.now) (g.S.Source.left c.answer_to_job.new.source) old new c.in-Ok.answer c.in-Ok.ensures.tells))
 
 pub returns-in-Ok-clause-told : goal.returns-in-Ok-clause-told
 returns-in-Ok-clause-told g c = λ memory source.
-    let left = g.S.Source.left c.args.source.now in let right = g.S.Source.left c.answer.new.source in
+    let left = g.S.Source.left c.args.source.now in let right = g.S.Source.left c.answer_to_job.new.source in
     let old = edges_of (g.P.Ports.told c.args.ports.now) (g.T.Ticker.told c.args.ticker.now) in
-    let new = edges_of (g.P.Ports.told c.answer.new.ports) (g.T.Ticker.told c.answer.new.ticker) in
+    let new = edges_of (g.P.Ports.told c.answer_to_job.new.ports) (g.T.Ticker.told c.answer_to_job.new.ticker) in
     let P : Job → Type 0 = λ job. IsTold job left right old new (g.K.Sink.taken c.args.sink.now) (g.K.Sink.taken c.write_answer.new.sink)
     (g.K.Sink.faults c.args.sink.now) (g.K.Sink.faults c.write_answer.new.sink) c.write_answer.result in
     let told : P c.in-Some.job = record {
@@ -80,10 +80,10 @@ returns-in-Ok-clause-told g c = λ memory source.
 
 pub returns-in-Ok-clause-finished : goal.returns-in-Ok-clause-finished
 returns-in-Ok-clause-finished g c =
-    let left = g.S.Source.left c.args.source.now in let right = g.S.Source.left c.answer.new.source in
+    let left = g.S.Source.left c.args.source.now in let right = g.S.Source.left c.answer_to_job.new.source in
     let old = edges_of (g.P.Ports.told c.args.ports.now) (g.T.Ticker.told c.args.ticker.now) in
-    let new = edges_of (g.P.Ports.told c.answer.new.ports) (g.T.Ticker.told c.answer.new.ticker) in
-    let P : Job → Type 0 = λ job. (Rose (g.S.Source.faults c.args.source.now) (g.S.Source.faults c.answer.new.source) → ⊥)
+    let new = edges_of (g.P.Ports.told c.answer_to_job.new.ports) (g.T.Ticker.told c.answer_to_job.new.ticker) in
+    let P : Job → Type 0 = λ job. (Rose (g.S.Source.faults c.args.source.now) (g.S.Source.faults c.answer_to_job.new.source) → ⊥)
     → (Rose (g.K.Sink.faults c.args.sink.now) (g.K.Sink.faults c.write_answer.new.sink) → ⊥)
     → (Rose old.ports.faults new.ports.faults → ⊥) → IfSome left (IsServedToFinish job old new c.write_answer.result) in
     let done : serves c.in-Some.job ≡ true → P c.in-Some.job = λ serving. λ source_calm sink_calm ports_calm.
@@ -126,9 +126,9 @@ returns-in-Ok-clause-broken_off g c = λ memory.
 pub returns-in-Ok-clause-unopened : goal.returns-in-Ok-clause-unopened
 returns-in-Ok-clause-unopened g c =
     let old = edges_of (g.P.Ports.told c.args.ports.now) (g.T.Ticker.told c.args.ticker.now) in
-    let new = edges_of (g.P.Ports.told c.answer.new.ports) (g.T.Ticker.told c.answer.new.ticker) in
-    let idle : serves c.in-Some.job ≡ false → new ≡ old = λ closed. let same = c.answer.ensures.idle closed in cc in
-    unopened c.in-Some.job (g.S.Source.left c.args.source.now) (g.S.Source.left c.answer.new.source) old new c.in-Ok.answer c.write_answer.result
+    let new = edges_of (g.P.Ports.told c.answer_to_job.new.ports) (g.T.Ticker.told c.answer_to_job.new.ticker) in
+    let idle : serves c.in-Some.job ≡ false → new ≡ old = λ closed. let same = c.answer_to_job.ensures.idle closed in cc in
+    unopened c.in-Some.job (g.S.Source.left c.args.source.now) (g.S.Source.left c.answer_to_job.new.source) old new c.in-Ok.answer c.write_answer.result
     (decided _ _ _ _ _ _ c.in-Ok.ensures.sound c.write_answer.ensures) (no_read_fault _ _ _ _ _ _ c.in-Ok.ensures.sound c.write_answer.ensures) idle c.in-Ok.ensures.tells
 
 -- the source failed

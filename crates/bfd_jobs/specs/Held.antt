@@ -2,8 +2,8 @@
 use Rattle.std.specs.Prelude.{ℕ, List, ⊤}
 use Rattle.bfd_replay.specs.World.{replayed}
 use Rattle.bfd_script.specs.Sound.{IsScript}
-use Rattle.bfdd.specs.declared.answer.Text.{Text}
-use Rattle.bfdd.specs.declared.answer.Text.TheVariants.{Whole, Report}
+use Rattle.bfd_jobs.specs.declared.answer.Text.{Text}
+use Rattle.bfd_jobs.specs.declared.answer.Text.TheVariants.{Whole, Report}
 
 -- the text, also where it is still to be made
 abbrev pub held_text : Text → List ℕ

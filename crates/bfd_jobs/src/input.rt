@@ -2,9 +2,9 @@
 ghost use Rattle.std.specs.Prelude.{◌≡◌, ◌+◌, ◌<◌, ◌≤◌, [], IfOk, IfSome, IsErrOf, true, false, length};
 ghost use Rattle.std.specs.Io.KnownBytes.{Consumes, IsAtEnd};
 ghost use Rattle.bfd_edge.specs.Faults.{Rose};
-ghost use Rattle.bfdd.specs.Outside.{ConsumesAtMost};
-ghost use Rattle.bfdd.specs.Text.{most_bytes};
-ghost use Rattle.bfdd.specs.Words.{reads};
+ghost use Rattle.bfd_jobs.specs.Outside.{ConsumesAtMost};
+ghost use Rattle.bfd_jobs.specs.Text.{most_bytes};
+ghost use Rattle.bfd_jobs.specs.Words.{reads};
 
 use crate::asking::reads;
 use bfd_edge::{Fault, Source};

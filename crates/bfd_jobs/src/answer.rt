@@ -2,8 +2,8 @@
 ghost use Rattle.std.specs.Prelude.{◌≡◌, ◌≢◌, [], true, false};
 ghost use Rattle.bfd_replay.specs.World.{replayed};
 ghost use Rattle.bfd_script.specs.Sound.{IsScript};
-ghost use Rattle.bfdd.specs.Held.{held_text};
-ghost use Rattle.bfdd.specs.Text.{bare, done_with, ends};
+ghost use Rattle.bfd_jobs.specs.Held.{held_text};
+ghost use Rattle.bfd_jobs.specs.Text.{bare, done_with, ends};
 
 use crate::status::Status;
 use bfd_script::Script;
@@ -13,7 +13,7 @@ use std::marker::Model;
 
 /// A text that a run has to write.
 #[derive(Drop)]
-pub(crate) enum Text {
+pub enum Text {
     /// These bytes.
     Whole(Vec<u8>),
 
@@ -23,8 +23,8 @@ pub(crate) enum Text {
 
 impl Text {
     /// Whether there is nothing to write. A report has a last line in any case.
-    #[tactic(auto, using(crate::proofs::Wanting::replayed_some))]
-    pub(crate) fn is_empty(&self) -> bool
+    #[tactic(auto, using(crate::proofs::Held::replayed_some))]
+    pub fn is_empty(&self) -> bool
         ensures empty { result ≡ true → held_text self.now ≡ [] }
         ensures some { result ≡ false → held_text self.now ≢ [] }
     {
@@ -38,17 +38,17 @@ impl Text {
 /// How the run is to end, and the text that it is to write. Contracts see the bytes of that text, also where they are still to be
 /// made.
 #[derive(Drop)]
-pub(crate) struct Answer {
-    pub(crate) status: Status,
-    pub(crate) text: Text,
+pub struct Answer {
+    pub status: Status,
+    pub text: Text,
 }
 
 impl Model for Answer {
-    ghost use Rattle.bfdd.specs.Text.{Wanted, ends};
+    ghost use Rattle.bfd_jobs.specs.Text.{Wanted, ends};
 
     ghost Value = { Wanted };
 
-    ghost use Rattle.bfdd.specs.Held.{HasScript, held_text};
+    ghost use Rattle.bfd_jobs.specs.Held.{HasScript, held_text};
 
     ghost view = { λ a. ends a.status (held_text a.text) };
 

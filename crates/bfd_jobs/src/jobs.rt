@@ -8,9 +8,9 @@ ghost use Rattle.bfd_fields.specs.Gives.{GivesScript};
 ghost use Rattle.bfd_script.specs.Reading.{script_of};
 ghost use Rattle.bfd_script.specs.Sound.{IsScript};
 ghost use Rattle.bfd_words.specs.Ranges.{AreHands, IsFrom, IsJob};
-ghost use Rattle.bfdd.specs.Answers.{IsAnswer};
-ghost use Rattle.bfdd.specs.Text.{answer_to, complaint_line, ends, load_line, over, done_with, watch_wanted};
-ghost use Rattle.bfdd.specs.Words.{serves};
+ghost use Rattle.bfd_jobs.specs.Answers.{IsAnswer};
+ghost use Rattle.bfd_jobs.specs.Text.{answer_to, complaint_line, ends, load_line, over, done_with, watch_wanted};
+ghost use Rattle.bfd_jobs.specs.Words.{serves};
 
 use crate::answer::Answer;
 use crate::replaying::replay_by;

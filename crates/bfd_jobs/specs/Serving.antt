@@ -15,14 +15,14 @@ use Rattle.bfd_serving.specs.Wholes.{HasRun}
 use Rattle.bfd_shard.specs.Shard.{Shard}
 use Rattle.bfd_words.specs.declared.job.Job.{Job}
 use Rattle.bfd_words.specs.declared.job.Job.TheVariants.{Serve}
-use Rattle.bfdd.specs.declared.serving.Numbers.{Numbers}
-use Rattle.bfdd.specs.declared.serving.Unread.{Unread}
-use Rattle.bfdd.specs.declared.serving.Unread.TheVariants.{Told, Failed, Memory}
-use Rattle.bfdd.specs.declared.status.Status.{Status}
-use Rattle.bfdd.specs.declared.status.Status.TheVariants as status
-use Rattle.bfdd.specs.declared.status.Status.TheVariants.{Done, BadLine, PortFault, LinkFault, TooLarge, JournalFull, Turns, ClockFault}
-use Rattle.bfdd.specs.Answers.{IsAnswer}
-use Rattle.bfdd.specs.Text.{Wanted, bare, complaint_line, ends, most_bytes}
+use Rattle.bfd_jobs.specs.declared.serving.Numbers.{Numbers}
+use Rattle.bfd_jobs.specs.declared.serving.Unread.{Unread}
+use Rattle.bfd_jobs.specs.declared.serving.Unread.TheVariants.{Told, Failed, Memory}
+use Rattle.bfd_jobs.specs.declared.status.Status.{Status}
+use Rattle.bfd_jobs.specs.declared.status.Status.TheVariants as status
+use Rattle.bfd_jobs.specs.declared.status.Status.TheVariants.{Done, BadLine, PortFault, LinkFault, TooLarge, JournalFull, Turns, ClockFault}
+use Rattle.bfd_jobs.specs.Answers.{IsAnswer}
+use Rattle.bfd_jobs.specs.Text.{Wanted, bare, complaint_line, ends, most_bytes}
 
 -- the status of a run that ended so
 abbrev pub status_of : Finish → Status

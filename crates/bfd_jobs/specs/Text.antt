@@ -12,9 +12,9 @@ use Rattle.bfd_schedule.specs.Line.{pair_line}
 use Rattle.bfd_watching.specs.Members.{first_unknown, watched_of}
 use Rattle.bfd_words.specs.declared.job.Job.{Job}
 use Rattle.bfd_words.specs.declared.job.Job.TheVariants.{Replay, Serve, Load, Pair, Watch}
-use Rattle.bfdd.specs.declared.status.Status.{Status}
-use Rattle.bfdd.specs.declared.status.Status.TheVariants.{Done, BadLine, TooLarge, NoMember}
-use Rattle.bfdd.specs.Words.{reads}
+use Rattle.bfd_jobs.specs.declared.status.Status.{Status}
+use Rattle.bfd_jobs.specs.declared.status.Status.TheVariants.{Done, BadLine, TooLarge, NoMember}
+use Rattle.bfd_jobs.specs.Words.{reads}
 
 -- the most bytes that a text may have
 abbrev pub most_bytes : ℕ

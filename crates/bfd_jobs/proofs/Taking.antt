@@ -2,7 +2,7 @@
 use Rattle.std.proofs.Common.{ℕ, ◌+◌, ◌≤◌, List, [], ◌++◌, length, Option, arith, length-append}
 use Rattle.std.specs.Io.KnownBytes.{Consumes}
 use Rattle.std.proofs.KnownBytes.{Consumes-nil, Consumes-trans}
-use Rattle.bfdd.specs.Outside.{ConsumesAtMost}
+use Rattle.bfd_jobs.specs.Outside.{ConsumesAtMost}
 
 -- nothing was read
 pub read_nothing : (most : ℕ) (known : Option (List ℕ)) → ConsumesAtMost most known known

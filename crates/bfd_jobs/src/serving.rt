@@ -5,11 +5,11 @@ ghost use Rattle.bfd_edge.specs.Faults.{Rose};
 ghost use Rattle.bfd_script.specs.Sound.{IsScript};
 ghost use Rattle.bfd_serving.specs.Linking.{AreShut};
 ghost use Rattle.bfd_words.specs.Ranges.{IsJob};
-ghost use Rattle.bfdd.specs.Answers.{IsAnswer};
-ghost use Rattle.bfdd.specs.Outside.{ConsumesAtMost};
-ghost use Rattle.bfdd.specs.Serving.{Comes, IsLive, IsUnread, edges_of, job_by, status_of};
-ghost use Rattle.bfdd.specs.Telling.{Tells};
-ghost use Rattle.bfdd.specs.Text.{most_bytes, wanted_of};
+ghost use Rattle.bfd_jobs.specs.Answers.{IsAnswer};
+ghost use Rattle.bfd_jobs.specs.Outside.{ConsumesAtMost};
+ghost use Rattle.bfd_jobs.specs.Serving.{Comes, IsLive, IsUnread, edges_of, job_by, status_of};
+ghost use Rattle.bfd_jobs.specs.Telling.{Tells};
+ghost use Rattle.bfd_jobs.specs.Text.{most_bytes, wanted_of};
 
 use crate::answer::Answer;
 use crate::input::{InputFault, read_all};

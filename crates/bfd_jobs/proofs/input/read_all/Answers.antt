@@ -1,8 +1,8 @@
 use Rattle.std.proofs.Common.{◌+◌, arith, take}
 use Rattle.std.proofs.lemmas.List.{length-take}
-use Rattle.bfdd.specs.Text.{most_bytes}
-use Rattle.bfdd.proofs.Taking.{read_more}
-use Rattle.bfdd.proofs.input.read_all.Goals as goal
+use Rattle.bfd_jobs.specs.Text.{most_bytes}
+use Rattle.bfd_jobs.proofs.Taking.{read_more}
+use Rattle.bfd_jobs.proofs.input.read_all.Goals as goal
 
 -- the bytes so far, and those of the last piece
 pub returns-then-is_err-clause-at_most : goal.returns-then-is_err-clause-at_most

@@ -1,7 +1,7 @@
 use Rattle.std.proofs.Common.{◌≡◌, ◌-◌, ◌≤◌, vec_len}
 use Rattle.std.specs.Io.KnownBytes.{Consumes}
-use Rattle.bfdd.specs.Text.{most_bytes}
-use Rattle.bfdd.proofs.input.read_all.Given as goal
+use Rattle.bfd_jobs.specs.Text.{most_bytes}
+use Rattle.bfd_jobs.proofs.input.read_all.Given as goal
 
 -- the bytes so far were read, they are not too many, and no read failed
 abbrev pub invariant-pieces : goal.invariant-pieces

@@ -1,8 +1,8 @@
 -- What a run has to write, before it writes it.
 use Rattle.std.specs.Prelude.{◌≡◌, List, ℕ, [], ⊤}
-use Rattle.bfdd.specs.declared.status.Status.{Status}
-use Rattle.bfdd.specs.declared.status.Status.TheVariants.{Done, Usage, BadLine, ReadFault, WriteFault, PortFault, LinkFault, TooLarge, JournalFull, Turns, ClockFault, Memory, NoMember}
-use Rattle.bfdd.specs.Text.{Wanted, complaint_line}
+use Rattle.bfd_jobs.specs.declared.status.Status.{Status}
+use Rattle.bfd_jobs.specs.declared.status.Status.TheVariants.{Done, Usage, BadLine, ReadFault, WriteFault, PortFault, LinkFault, TooLarge, JournalFull, Turns, ClockFault, Memory, NoMember}
+use Rattle.bfd_jobs.specs.Text.{Wanted, complaint_line}
 
 -- the text that goes with a status: a faulty line has its complaint, and what is refused before anything ran has none; some no job has
 abbrev pub HasText : Status → List ℕ → Type 0
@@ -22,8 +22,3 @@ HasText Memory text = ⊥
 
 abbrev pub IsAnswer : Wanted → Type 0
 IsAnswer w = HasText w.status w.text
-
--- the status where the sink failed: a faulty line that wasn't told whole is still one
-abbrev pub broken_off : Status → Status
-broken_off Done = WriteFault
-broken_off status = status

@@ -1,6 +1,6 @@
 // What a job is, and what it does with the source.
 ghost use Rattle.std.specs.Prelude.{◌≡◌};
-ghost use Rattle.bfdd.specs.Words.{reads};
+ghost use Rattle.bfd_jobs.specs.Words.{reads};
 
 use bfd_words::Job;
 

@@ -2,9 +2,9 @@
 use Rattle.std.proofs.Common.{◌≡◌, ℕ, List, true, Result, Ok, Err, inl, inr, refl, rules, sym, subst}
 use Rattle.bfd_fields.specs.declared.fault.BadLine.{BadLine as FaultyLine}
 use Rattle.bfd_script.specs.Reading.{Lists, script_of}
-use Rattle.bfdd.specs.Answers.{IsAnswer}
-use Rattle.bfdd.specs.Text.{Wanted}
-use Rattle.bfdd.proofs.serving.live_script.Goals as goal
+use Rattle.bfd_jobs.specs.Answers.{IsAnswer}
+use Rattle.bfd_jobs.specs.Text.{Wanted}
+use Rattle.bfd_jobs.proofs.serving.live_script.Goals as goal
 
 spelled_of : (bytes more : List ℕ) (read : Result Lists FaultyLine) → bytes ≡ more → script_of true bytes ≡ read → script_of true more ≡ read
 spelled_of bytes more read same is = subst (λ (l : List ℕ). script_of true l ≡ read) same is

@@ -9,10 +9,10 @@ use Rattle.bfd_schedule.specs.Line.{pair_line}
 use Rattle.bfd_watching.specs.Members.{first_unknown, watched_of}
 use Rattle.bfd_words.specs.declared.job.Job.{Job}
 use Rattle.bfd_words.specs.declared.job.Job.TheVariants.{Replay, Serve, Load, Pair, Watch}
-use Rattle.bfdd.specs.Answers.{IsAnswer}
-use Rattle.bfdd.specs.declared.status.Status.TheVariants.{BadLine, NoMember}
-use Rattle.bfdd.specs.Text.{Wanted, answer_to, bare, complaint_line, ends, load_line, over, done_with, unserved, watch_wanted, watched_unless}
-use Rattle.bfdd.specs.Words.{reads, watches}
+use Rattle.bfd_jobs.specs.Answers.{IsAnswer}
+use Rattle.bfd_jobs.specs.declared.status.Status.TheVariants.{BadLine, NoMember}
+use Rattle.bfd_jobs.specs.Text.{Wanted, answer_to, bare, complaint_line, ends, load_line, over, done_with, unserved, watch_wanted, watched_unless}
+use Rattle.bfd_jobs.specs.Words.{reads, watches}
 
 of_known : (P : Wanted → Type 0) (v w : Wanted) → P v → Some v ≡ Some w → P w
 of_known P v w fact is = let same : v ≡ w = cc in subst P same fact

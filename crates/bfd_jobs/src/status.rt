@@ -1,6 +1,6 @@
 // How a run ended.
 ghost use Rattle.std.specs.Prelude.{◌≡◌};
-ghost use Rattle.bfdd.specs.Status.{code_of};
+ghost use Rattle.bfd_jobs.specs.Status.{code_of};
 
 use bfd_fields::LineFault;
 

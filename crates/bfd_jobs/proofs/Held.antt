@@ -1,0 +1,13 @@
+-- A report that is still to be made isn't empty.
+use Rattle.std.proofs.Common.{◌≢◌, List, [], ◌∷◌, ◌++◌, ℕ}
+use Rattle.bfd_replay.specs.World.{replayed, world}
+use Rattle.bfd_script.specs.Reading.{Lists}
+use Rattle.bfd_script.specs.Report.{lines_from}
+
+-- the report of a replay has a last line
+with_last : (front : List ℕ) (byte : ℕ) (more : List ℕ) → (front ++ (byte ∷ more)) ≢ []
+with_last [] byte more is = cc
+with_last (first ∷ front) byte more is = cc
+
+pub replayed_some : (script : Lists) → replayed script ≢ []
+replayed_some script = with_last (lines_from 1 (world script)) 100 _
