@@ -56,7 +56,8 @@ fn decided_answer<R: Threads + Wait + Sync, G: Gate + Sync, S: Source>(
     }
 }
 
-/// What the job has to write. Ports and ticker are `serve`'s alone.
+/// What the job has to write, and how a run of it is to end, after it has read what it reads. Ports and ticker are `serve`'s alone, and
+/// every link that is opened is shut. The refusals: the source failed, or there was no memory.
 #[tactic(auto, using(crate::proofs::Telling::closed_tells))]
 pub fn answer_to_job<
     R: Threads + Wait + Sync,
