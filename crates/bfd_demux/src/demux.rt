@@ -57,7 +57,8 @@ impl Model for Demux {
 
     ghost view = { λ demux. demux.rows.value.items };
 
-    ghost invariant = { λ demux. IsIndex demux.rows.value.items demux.names.items demux.addresses.items demux.sessions };
+    ghost invariant = { λ demux. IsIndex demux.rows.value.items demux.names.items demux.addresses.items
+        demux.sessions };
 }
 
 impl Demux {

@@ -27,7 +27,13 @@ impl Model for MemSource {
 
     ghost Value = { Given };
 
-    ghost view = { λ s. record { left = drop s.at s.bytes.items; chunk = s.chunk; calls = s.calls; fails = s.fails.items; faults = s.faults } };
+    ghost view = { λ s. record {
+      left = drop s.at s.bytes.items;
+      chunk = s.chunk;
+      calls = s.calls;
+      fails = s.fails.items;
+      faults = s.faults;
+    } };
 
     ghost invariant = { λ s. (s.at ≤ vec_len s.bytes) × (s.chunk ≢ 0) };
 }
@@ -111,7 +117,13 @@ impl Model for MemSink {
 
     ghost Value = { Taken };
 
-    ghost view = { λ s. record { bytes = s.bytes.items; chunk = s.chunk; calls = s.calls; fails = s.fails.items; faults = s.faults } };
+    ghost view = { λ s. record {
+      bytes = s.bytes.items;
+      chunk = s.chunk;
+      calls = s.calls;
+      fails = s.fails.items;
+      faults = s.faults;
+    } };
 
     ghost invariant = { λ s. s.chunk ≢ 0 };
 }

@@ -42,7 +42,14 @@ impl Model for MemLink {
 
     ghost Value = { HeldLink };
 
-    ghost view = { λ l. record { received = packets_in (take l.at l.heard.items); left = drop l.at l.heard.items; sent = l.sent.items; sends = l.sends; fails = l.fails.items; counts = l.counts } };
+    ghost view = { λ l. record {
+      received = packets_in (take l.at l.heard.items);
+      left = drop l.at l.heard.items;
+      sent = l.sent.items;
+      sends = l.sends;
+      fails = l.fails.items;
+      counts = l.counts;
+    } };
 
     ghost invariant = { λ l. l.at ≤ vec_len l.heard };
 }

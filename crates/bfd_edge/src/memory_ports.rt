@@ -31,7 +31,13 @@ impl Model for MemPorts {
 
     ghost Value = { HeldPorts };
 
-    ghost view = { λ p. record { links = p.links.items; places = p.places; calls = p.calls; fails = p.fails.items; faults = p.faults } };
+    ghost view = { λ p. record {
+      links = p.links.items;
+      places = p.places;
+      calls = p.calls;
+      fails = p.fails.items;
+      faults = p.faults;
+    } };
 
     ghost invariant = { λ p. AllNew p.links.items };
 }

@@ -25,7 +25,15 @@ impl Model for MemTicker {
 
     ghost Value = { HeldTicker };
 
-    ghost view = { λ t. record { given = take t.at t.ticks.items; left = drop t.at t.ticks.items; calls = t.calls; fails = t.fails.items; faults = t.faults; gave = t.gave; over = t.over } };
+    ghost view = { λ t. record {
+      given = take t.at t.ticks.items;
+      left = drop t.at t.ticks.items;
+      calls = t.calls;
+      fails = t.fails.items;
+      faults = t.faults;
+      gave = t.gave;
+      over = t.over;
+    } };
 
     ghost invariant = { λ t. t.at ≤ vec_len t.ticks };
 }

@@ -44,9 +44,19 @@ impl<W: Timers> Model for Engine<W> {
 
     ghost Value = { Shards };
 
-    ghost view = { λ e. record { locks = e.locks.items; configs = e.configs.value.items; pool = e.pool.items; limit = e.limit } };
+    ghost view = { λ e. record {
+      locks = e.locks.items;
+      configs = e.configs.value.items;
+      pool = e.pool.items;
+      limit = e.limit;
+    } };
 
-    ghost invariant = { λ e. IsEngine (record { locks = e.locks.items; configs = e.configs.value.items; pool = e.pool.items; limit = e.limit }) e.demux e.discrs.items e.sizes.items };
+    ghost invariant = { λ e. IsEngine (record {
+      locks = e.locks.items;
+      configs = e.configs.value.items;
+      pool = e.pool.items;
+      limit = e.limit;
+    }) e.demux e.discrs.items e.sizes.items };
 }
 
 /// The fault of a shard's turn.

@@ -32,7 +32,10 @@ impl Model for Progress {
 
     ghost Value = { Stage };
 
-    ghost view = { λ r. record { world = record { sessions = r.sessions.items; pool = r.pool.items; last = r.last }; items = r.outs.items } };
+    ghost view = { λ r. record {
+      world = record { sessions = r.sessions.items; pool = r.pool.items; last = r.last };
+      items = r.outs.items;
+    } };
 
     ghost invariant = { λ r. IsStage r.sessions.items r.pool.items r.demux r.last r.outs };
 }

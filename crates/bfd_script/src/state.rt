@@ -41,7 +41,13 @@ impl Model for Reading {
 
     ghost Value = { State };
 
-    ghost view = { λ r. record { version = r.version; place = r.place; configs = r.table; pool = r.pool; events = r.events.items } };
+    ghost view = { λ r. record {
+      version = r.version;
+      place = r.place;
+      configs = r.table;
+      pool = r.pool;
+      events = r.events.items;
+    } };
 
     ghost invariant = { λ r. IsReading r.table r.pool r.events.items };
 }

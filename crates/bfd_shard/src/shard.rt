@@ -46,9 +46,11 @@ impl<W: Timers> Model for ShardState<W> {
 
     ghost Value = { Shard };
 
-    ghost view = { λ s. shard_of s.sessions.items s.last s.journal.items s.limit (vec_capacity s.journal - vec_len s.journal) };
+    ghost view = { λ s. shard_of s.sessions.items s.last s.journal.items s.limit
+        (vec_capacity s.journal - vec_len s.journal) };
 
-    ghost invariant = { λ s. IsTimed (shard_of s.sessions.items s.last s.journal.items s.limit (vec_capacity s.journal - vec_len s.journal)) (W.dues s.timers) s.ids };
+    ghost invariant = { λ s. IsTimed (shard_of s.sessions.items s.last s.journal.items s.limit
+        (vec_capacity s.journal - vec_len s.journal)) (W.dues s.timers) s.ids };
 }
 
 /// An event of the sessions: answers the last tick after it, and the event's answer.

@@ -26,7 +26,8 @@ impl<N, B> Model for Pass<N, B> {
 
     ghost view = { λ p. (p.badge.table_id, known_of p.badge.views) };
 
-    ghost invariant = { λ p. (v : View N B) × (p.badge.views ≡ v ∷ []) × (v.role ≡ Idle) × (p.number ≡ v.number) };
+    ghost invariant = { λ p. (v : View N B) × (p.badge.views ≡ v ∷ []) × (v.role ≡ Idle)
+        × (p.number ≡ v.number) };
 }
 
 impl<N, B> Pass<N, B> {

@@ -25,7 +25,8 @@ impl<V: Recorded> Model for Turn<V> {
 
     ghost view = { λ t. (t.seat.table_id, known t.seat.me.0, t.value) };
 
-    ghost invariant = { λ t. (t.seat.me.1 ≡ (0, None) ∷ []) × (t.seat.me.0.role ≡ Holding) × (t.number ≡ t.seat.me.0.number) };
+    ghost invariant = { λ t. (t.seat.me.1 ≡ (0, None) ∷ []) × (t.seat.me.0.role ≡ Holding)
+        × (t.number ≡ t.seat.me.0.number) };
 }
 
 impl<V: Recorded> Turn<V> {

@@ -33,7 +33,11 @@ impl Model for Job {
 
     ghost Value = { Work };
 
-    ghost view = { λ j. record { pass = j.pass; queues = map (λ q. q.items) j.queues.items; told = seen_as (λ parts. parts.items) j.told } };
+    ghost view = { λ j. record {
+      pass = j.pass;
+      queues = map (λ q. q.items) j.queues.items;
+      told = seen_as (λ parts. parts.items) j.told;
+    } };
 }
 
 /// Does a worker's queues, with room for the outputs of any event.
