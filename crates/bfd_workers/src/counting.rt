@@ -1,5 +1,5 @@
 //! How many sessions are Up.
-ghost use Rattle.std.specs.Prelude.{ℕ, ◌≡◌, ◌≤◌, ◌<◌, ◌*◌, length, slice_index_or, sum_by};
+ghost use Rattle.std.specs.Prelude.{ℕ, ◌≡◌, ◌≤◌, ◌<◌, ◌*◌, IfOk, length, slice_index_or, sum_by};
 ghost use Rattle.bfd_rules.specs.Quantities as quantities;
 ghost use Rattle.bfd_shard.specs.Shard.{Shard, IsShard};
 ghost use Rattle.bfd_workers.specs.Counts.{one_up, sum_to};
@@ -8,6 +8,9 @@ use bfd_packet::State;
 use bfd_session::Session;
 use bfd_shard::ShardState;
 use bfd_wheel::Timers;
+use std::alloc::AllocError;
+use std::thread;
+use std::thread::Threads;
 
 /// Counts a session that is Up.
 fn counted(session: &Session) -> u32
@@ -56,12 +59,48 @@ pub(crate) fn up_all<W: Timers>(states: &Vec<ShardState<W>>) -> u32
     count
 }
 
-/// The same, of shards that are let go.
-pub(crate) fn up_at_last<W: Timers>(states: Vec<ShardState<W>>) -> u32
-    requires few { length states.items ≤ 64 }
-    ensures value { (d : Shard) → result
-        ≡ sum_to (λ k. sum_by one_up (slice_index_or states.items k d).sessions) (length states.items) }
-    ensures kept { (k : ℕ) (d : Shard) → k < length states.items → IsShard (slice_index_or states.items k d) }
+/// How many sessions of a shard are Up, which is let go.
+fn up_of_last<W: Timers>(state: ShardState<W>) -> u32
+    ensures value { result ≡ sum_by one_up state.sessions }
+    ensures kept { IsShard state }
+    ensures few { result ≤ 65536 }
 {
-    up_all(&states)
+    up_of(&state)
+}
+
+/// The counts, added up.
+fn total(counts: &Vec<u32>) -> u32
+    requires few { length counts.now.items ≤ 64 }
+    requires each { (k : ℕ) → k < length counts.now.items → slice_index_or counts.now.items k 0 ≤ 65536 }
+    ensures { result ≡ sum_to (λ k. slice_index_or counts.now.items k 0) (length counts.now.items) }
+{
+    let mut count = 0u32;
+    for k in 0..counts.len() {
+        count += counts[k];
+    }
+    count
+}
+
+/// The same as `up_all`, of shards that are let go: each is counted and let go in a thread of its own where one can be had. The
+/// one refusal is want of memory.
+pub(crate) fn up_at_last<W: Timers + Send, R: Threads + Sync>(
+    rt: &R,
+    states: Vec<ShardState<W>>,
+) -> Result<u32, AllocError>
+    requires few { length states.items ≤ 64 }
+    ensures value { IfOk result (λ up. (d : Shard) → up
+        ≡ sum_to (λ k. sum_by one_up (slice_index_or states.items k d).sessions) (length states.items)) }
+    ensures kept { IfOk result (λ _. (k : ℕ) (d : Shard) → k < length states.items
+        → IsShard (slice_index_or states.items k d)) }
+{
+    let counts = thread::map_vec(
+        rt,
+        states,
+        &|state: ShardState<W>| -> u32
+            ensures value { result ≡ sum_by one_up state.sessions }
+            ensures kept { IsShard state }
+            ensures few { result ≤ 65536 }
+        { up_of_last(state) },
+    )?;
+    Ok(total(&counts))
 }

@@ -158,7 +158,7 @@ fn report_parts<W: Timers + Send, R: Threads + Wait + Sync, G: Gate + Sync>(
     let (parts, states) = worked::<W, R, G>(
         rt, alloc, configs, pool, events, shards, workers, gate,
     )?;
-    let up = up_at_last(states);
+    let up = up_at_last(rt, states)?;
     let gathered = report(alloc, parts, count as u64)?;
     Ok(Report {
         text: gathered.text,

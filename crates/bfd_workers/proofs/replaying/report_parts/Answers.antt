@@ -32,5 +32,5 @@ returns-clause-drops g c =
 
 pub returns-clause-up : goal.returns-clause-up
 returns-clause-up g c =
-    ups_are (script_with c.args.configs.items c.args.pool.items c.args.events.items) c.args.shards c.args.workers c.up_at_last-up.result c.in_ok-parts.states.items none c.requires.shards.0
-    c.in_ok-parts.ensures.states c.up_at_last-up.ensures.kept (c.up_at_last-up.ensures.value none)
+    ups_are (script_with c.args.configs.items c.args.pool.items c.args.events.items) c.args.shards c.args.workers c.in_ok-up.up c.in_ok-parts.states.items none c.requires.shards.0
+    c.in_ok-parts.ensures.states c.in_ok-up.ensures.kept (c.in_ok-up.ensures.value none)

@@ -1,0 +1,11 @@
+-- The counts so far are added up.
+use Rattle.std.proofs.Common.{◌≡◌, ◌≤◌, ◌*◌}
+use Rattle.std.specs.Prelude.{slice_index_or}
+use Rattle.bfd_workers.specs.Counts.{sum_to}
+use Rattle.bfd_workers.proofs.counting.total.Given as goal
+
+abbrev pub invariant-loop-k : goal.invariant-loop-k
+invariant-loop-k l = record {
+  count : l.count ≡ sum_to (λ k. slice_index_or l.counts.items k 0) l.k;
+  few : l.count ≤ 65536 * l.k;
+}
