@@ -5,6 +5,7 @@ pub mod Tables
 pub mod Mirrors
 pub mod Reaching
 pub mod Opening
+pub mod Making
 pub mod Turning
 pub mod Acts
 pub mod Seeking

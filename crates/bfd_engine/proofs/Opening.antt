@@ -18,7 +18,7 @@ use Rattle.bfd_demux.specs.declared.row.Row.{Row}
 use Rattle.bfd_engine.specs.declared.locked.Base.{Base}
 use Rattle.bfd_engine.specs.Engines.{IsCallers, Shards, Held, AllOf, IsOf, AllThere, IsEngine, configs_at}
 use Rattle.bfd_engine.specs.Calls.{seen_of, met_word_of, taken_of, made_of, kept_of}
-use Rattle.bfd_engine.specs.Opening.{IsSorted, IsNewPass, opened_base, IsNewShard, MayOpen, ArePassed, IsOpenedShard, AreOpened}
+use Rattle.bfd_engine.specs.Opening.{IsSorted, IsNewPass, opened_base, IsNewShard, MayOpen, ArePassed, IsOpenedShard, AreOpened, AreShares}
 use Rattle.bfd_engine.proofs.Places.{K, last_here, front_here, same_held}
 use Rattle.bfd_shard.specs.Dealing.{share}
 use Rattle.bfd_shard.proofs.Sharing.{few_share, all_share}
@@ -68,11 +68,6 @@ pub new_shard : {E : Type 0} (r : Result (TableId × K) E) (ss : List Running) (
     → IfOk r (λ x. x.1 ≡ (x.0, opened_pass (let b : Base = record { configs = configs_of ss; limit = l } in b) 0)) → IfOk r (λ x. IsNewShard m cs x.0 x.1)
 new_shard (Ok x) ss cs l m same limit h = h ∙ ap (λ b. (x.0, opened_pass b 0)) (base_is ss cs l m same limit)
 new_shard (Err e) ss cs l m same limit h = tt
-
--- the parts are the shares
-pub record AreShares (n : ℕ) (configs : List SessionConfig) (parts : List (List SessionConfig)) : Type 0 where
-  pub long : length parts ≡ n
-  pub each : (r : ℕ) → r < n → slice_get parts r ≡ Some (share n r configs)
 
 pub are_shares : (n : ℕ) (configs : List SessionConfig) (parts : List (List SessionConfig)) → length parts ≡ n → ((r : ℕ) → r < n → get_or parts r [] ≡ share n r configs) → AreShares n configs parts
 are_shares n configs parts long each = record { long = long; each = λ r h. slice_get-get_or parts r [] (omega (arith, long, h)) ∙ ap Some (each r h) }

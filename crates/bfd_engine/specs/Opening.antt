@@ -1,5 +1,5 @@
 -- What an engine is opened with, and what its first caller knows.
-use Rattle.std.specs.Prelude.{ℕ, ◌≡◌, ◌≤◌, ◌<◌, List, [], ◌∷◌, length, map, slice_get, Option, Some}
+use Rattle.std.specs.Prelude.{ℕ, ◌≡◌, ◌≤◌, ◌<◌, List, [], ◌∷◌, length, map, slice_get, Option, Some, Result, IfOk}
 use Rattle.std.specs.List.{AllByRecursion}
 use Rattle.bfd_session.specs.declared.event.SessionConfig.{SessionConfig}
 use Rattle.bfd_session.specs.Kinds.{discr_of}
@@ -7,6 +7,7 @@ use Rattle.bfd_sbfd.specs.declared.reflecting.Reflector.{Reflector}
 use Rattle.bfd_demux.specs.declared.row.Row.{Row}
 use Rattle.bfd_demux.specs.Rows.{build_fault}
 use Rattle.bfd_session.specs.Rows.{AreFit}
+use Rattle.bfd_shard.specs.Dealing.{share}
 use Rattle.bfd_turn.specs.Passes.{TableId, opened_pass}
 use Rattle.bfd_engine.specs.declared.locked.Base.{Base}
 use Rattle.bfd_engine.specs.declared.fault.OpenFault.{OpenFault}
@@ -70,3 +71,25 @@ pub record AreOpened (limit : ℕ) (parts : List (List SessionConfig)) (locks : 
   pub passes_long : length passes ≡ length parts
   pub sizes_long : length sizes ≡ length parts
   pub each : (k : ℕ) (configs : List SessionConfig) → slice_get parts k ≡ Some configs → IsOpenedShard limit configs (slice_get locks k) (slice_get passes k) (slice_get sizes k)
+
+-- a shard that was made of these sessions: its lock, the pass of its caller 0, and how many they are
+abbrev pub IsMade : ℕ → List SessionConfig → TableId × (TableId × OfShard) × ℕ → Type 0
+IsMade limit configs made = IsNewShard limit configs made.0 made.1 × (made.2 ≡ length configs)
+
+-- one shard for each part, where it was made
+abbrev pub AreMade : {E : Type 0} → ℕ → List (List SessionConfig) → List (Result (TableId × (TableId × OfShard) × ℕ) E) → Type 0
+AreMade limit [] [] = Unit {0}
+AreMade limit [] (one ∷ made) = ⊥
+AreMade limit (configs ∷ parts) [] = ⊥
+AreMade limit (configs ∷ parts) (one ∷ made) = IfOk one (IsMade limit configs) × AreMade limit parts made
+
+-- the parts are the shares of so many shards
+pub record AreShares (n : ℕ) (configs : List SessionConfig) (parts : List (List SessionConfig)) : Type 0 where
+  pub long : length parts ≡ n
+  pub each : (r : ℕ) → r < n → slice_get parts r ≡ Some (share n r configs)
+
+-- one shard for each share
+pub record HaveOpened (limit : ℕ) (configs : List SessionConfig) (locks : List TableId) (passes : List Held) (sizes : List ℕ) : Type 0 where
+  pub parts : List (List SessionConfig)
+  pub shares : AreShares (length locks) configs parts
+  pub opened : AreOpened limit parts locks passes sizes

@@ -5,14 +5,18 @@ ghost use Rattle.bfd_shard.specs.Dealing.{share};
 use bfd_session::SessionConfig;
 use std::alloc::{AllocError, Global};
 
-/// As many empty lists.
-fn empty_parts(alloc: Global, count: usize) -> Result<Vec<Vec<SessionConfig>>, AllocError>
+/// As many empty lists, each with room for so many.
+fn empty_parts(
+    alloc: Global,
+    count: usize,
+    room: usize,
+) -> Result<Vec<Vec<SessionConfig>>, AllocError>
     ensures long { IfOk result (λ parts. length parts.items ≡ count) }
     ensures each { IfOk result (λ parts. (r : ℕ) → slice_index_or (map (λ q. q.items) parts.items) r [] ≡ []) }
 {
     let mut parts = Vec::with_capacity(alloc, count)?;
     for _ in 0..count {
-        parts.push(Vec::new(alloc))?;
+        parts.push(Vec::with_capacity(alloc, room)?)?;
     }
     Ok(parts)
 }
@@ -54,7 +58,8 @@ pub fn deal_sessions(
     ensures each { IfOk result (λ parts. (r : ℕ) → r < shards
         → slice_index_or (map (λ q. q.items) parts.items) r [] ≡ share shards r configs.items) }
 {
-    let mut parts = empty_parts(alloc, shards)?;
+    let room = configs.len().div_ceil(shards);
+    let mut parts = empty_parts(alloc, shards, room)?;
     let mut next = 0;
     for config in configs {
         append(&mut parts, next, config)?;

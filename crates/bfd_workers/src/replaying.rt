@@ -80,7 +80,7 @@ fn worked<W: Timers + Send, R: Threads + Wait + Sync, G: Gate + Sync>(
     let demux = table(alloc, &configs, &pool)?;
     let (queues, apart) = planned(alloc, &demux, &configs, &pool, events, shards)?;
     let most = longest(&queues);
-    let (engine, first) = opened(alloc, demux, configs, pool, shards, most)?;
+    let (engine, first) = opened(rt, alloc, demux, configs, pool, shards, most)?;
     let (states, all) = run_all(rt, alloc, engine, first, queues, workers, room, gate)?;
     let parts = in_order(alloc, all, shards, apart)?;
     Ok((parts, states))

@@ -23,8 +23,9 @@ use std::sync::Wait;
 use std::thread::Threads;
 
 /// An engine of the sessions and the pool, which make this table.
-#[tactic(auto, using(bfd_replay::proofs::Stages::no_fault, crate::proofs::Sorting::sorted))]
-pub(crate) fn opened<W: Timers>(
+#[tactic(auto, using(bfd_replay::proofs::Stages::no_fault))]
+pub(crate) fn opened<W: Timers + Send, R: Threads + Sync>(
+    rt: &R,
     alloc: Global,
     demux: Demux,
     configs: Vec<SessionConfig>,
@@ -40,7 +41,7 @@ pub(crate) fn opened<W: Timers>(
     ensures limit { IfOk result (λ r. r.0.limit ≡ limit) }
     ensures pass { IfOk result (λ r. IsNewPass r.0 r.1) }
 {
-    Engine::open_with(alloc, demux, configs, pool, shards, limit)
+    Engine::open_with(rt, alloc, demux, configs, pool, shards, limit)
 }
 
 /// The queues of an engine's shards, done by so many workers: the closed shards, and what each worker told of each shard. The

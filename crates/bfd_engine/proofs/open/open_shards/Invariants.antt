@@ -1,5 +1,5 @@
 use Rattle.std.proofs.Common.{◌≡◌, ◌++◌, map}
-use Rattle.bfd_engine.specs.Opening.{ArePassed, AreOpened}
+use Rattle.bfd_engine.specs.Opening.{ArePassed, AreMade}
 use Rattle.bfd_engine.proofs.open.open_shards.Given as goal
 
 abbrev pub invariant-loop-part : goal.invariant-loop-part
@@ -8,5 +8,5 @@ invariant-loop-part g l = record {
   finite : (goal.iterator-loop-part g).is_finite l.part-iterator;
   all : l.yielded ++ l.part-iterator.rest.items ≡ l.fn.parts.items;
   may : ArePassed (map (λ q. q.items) l.part-iterator.rest.items);
-  opened : AreOpened l.limit (map (λ q. q.items) l.yielded) l.locks.items l.passes.items l.sizes.items;
+  made : AreMade l.limit (map (λ q. q.items) l.yielded) l.made.items;
 }
