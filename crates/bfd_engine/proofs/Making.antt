@@ -1,7 +1,6 @@
 -- Shards that are made of parts, and taken apart.
 use Rattle.std.proofs.Common.{◌≡◌, ℕ, zero, suc, ◌<◌, List, [], ◌∷◌, ◌++◌, length, map, append-nil, append_assoc, get_or, Some, Result, Ok, IfOk, refl, ap, sym, ◌∙◌, subst, arith}
 use Rattle.std.proofs.lemmas.List.{map-append}
-use Rattle.std.proofs.lemmas.Option.{slice_get_within}
 use Rattle.bfd_session.specs.declared.event.SessionConfig.{SessionConfig}
 use Rattle.bfd_turn.specs.Passes.{TableId}
 use Rattle.bfd_engine.specs.Engines.{Held}
@@ -42,15 +41,6 @@ module _ {E : Type 0} (limit : ℕ) where
     pub whole : done ++ left ≡ parts
     pub made : AreMade limit left rest
     pub opened : AreOpened limit done locks passes sizes
-
-  pub apart_none : (parts : List (List SessionConfig)) (made rest : List (Result Made E)) (locks : List TableId) (passes : List Held) (sizes : List ℕ) → AreMade limit parts made → rest ≡ made → locks ≡ [] → passes ≡ [] → sizes ≡ [] → Apart parts rest locks passes sizes
-  apart_none parts made rest locks passes sizes m is a b e = record {
-    done = [];
-    left = parts;
-    whole = refl;
-    made = subst (AreMade limit parts) (sym is) m;
-    opened = record { locks_long = ap length a; passes_long = ap length b; sizes_long = ap length e; each = λ k configs h. absurd (let i = slice_get_within [] k configs h in omega (arith, i)) };
-  }
 
   module _ (parts : List (List SessionConfig)) (rest : List (Result Made E)) (locks locks2 : List TableId) (passes passes2 : List Held) (sizes sizes2 : List ℕ) (one : Made) where
     from : (done left : List (List SessionConfig)) → done ++ left ≡ parts → AreMade limit left (Ok one ∷ rest) → AreOpened limit done locks passes sizes

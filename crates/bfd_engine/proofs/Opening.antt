@@ -2,7 +2,6 @@
 use Rattle.std.proofs.Common.{◌≡◌, ℕ, suc, ◌<◌, ◌≤◌, List, [], ◌∷◌, ◌++◌, length, map, length-append, Some, None, slice_get, get_or, Result, Ok, Err, IfOk, refl, ap, sym, ◌∙◌, subst, arith}
 use Rattle.std.specs.List.{AllByRecursion}
 use Rattle.std.proofs.lemmas.List.Elements.{All-nil}
-use Rattle.std.proofs.lemmas.List.{map-append}
 use Rattle.std.proofs.lemmas.Option.{slice_get_within, same_Some, slice_get-get_or}
 use mathlib.Core.Logic.{dite}
 use native.Mathlib.Decide.{ℕ_discrete}
@@ -49,15 +48,6 @@ more_opened limit parts part locks locks2 passes passes2 sizes sizes2 lock pass 
         size_is = ap (λ xs. slice_get xs k) g ∙ (front_here sizes size k (let a = o.sizes_long in omega (arith, a, inside)) ∙ old.size_is);
       });
 }
-
--- the same where a part is a vector
-pub more_parts : {V : Type 0} (f : V → List SessionConfig) (limit : ℕ) (yielded : List V) (part : V) (locks locks2 : List TableId) (passes passes2 : List Held) (sizes sizes2 : List ℕ) (lock : TableId) (pass : K) (size : ℕ)
-    → AreOpened limit (map f yielded) locks passes sizes → pass ≡ (lock, opened_pass (opened_base limit (f part)) 0) → size ≡ length (f part)
-    → locks2 ≡ locks ++ lock ∷ [] → passes2 ≡ passes ++ Some pass ∷ [] → sizes2 ≡ sizes ++ size ∷ []
-    → AreOpened limit (map f (yielded ++ part ∷ [])) locks2 passes2 sizes2
-more_parts f limit yielded part locks locks2 passes passes2 sizes sizes2 lock pass size o new is e g h =
-    subst (λ ps. AreOpened limit ps locks2 passes2 sizes2) (sym (map-append f yielded (part ∷ [])))
-    (more_opened limit (map f yielded) (f part) locks locks2 passes passes2 sizes sizes2 lock pass size o new is e g h)
 
 base_is : (ss : List Running) (cs : List SessionConfig) (l m : ℕ) → ss ≡ map started cs → l ≡ m → (let b : Base = record { configs = configs_of ss; limit = l } in b) ≡ opened_base m cs
 base_is ss cs l m same limit =

@@ -293,8 +293,8 @@ impl<W: Timers> Engine<W> {
 }
 
 impl<W: Timers + Send> Engine<W> {
-    /// The same with a table that is there already: that of the sessions and the reflectors, which has no fault. Each shard is made
-    /// in a thread of its own where one can be had. The one refusal is want of memory.
+    /// The same with a table that is there already: that of the sessions and the reflectors, which has no fault. Each shard is
+    /// made in a thread of its own where one can be had. The one refusal is want of memory.
     pub fn open_with<R: Threads + Sync>(
         rt: &R,
         alloc: Global,
