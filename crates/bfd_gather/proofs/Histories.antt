@@ -113,6 +113,20 @@ among_more number [] e = refl
 among_more number (Apart x ∷ hs) e = ap (λ ps. whole_piece number x ∷ ps) (among_more (number + 1) hs e)
 among_more number (Among x ∷ hs) e = among_more (number + 1) hs e
 
+-- events behind others
+
+pub queue_append : (n r number : ℕ) (xs ys : List Happening) → queue n r number (xs ++ ys) ≡ queue n r number xs ++ queue n r (number + length xs) ys
+queue_append n r number [] ys = ap (λ k. queue n r k ys) (let z : number ≡ number + 0 = omega arith in z)
+queue_append n r number (x ∷ xs) ys =
+    queue_by (numbered number (in_shard n r x)) (queue n r (number + 1) (xs ++ ys)) (queue n r (number + 1) xs) (queue n r (number + suc (length xs)) ys)
+    (queue_append n r (number + 1) xs ys ∙ ap (λ k. queue n r (number + 1) xs ++ queue n r k ys) (same_number number (length xs)))
+
+pub apart_append : (number : ℕ) (xs ys : List Happening) → told_apart number (xs ++ ys) ≡ told_apart number xs ++ told_apart (number + length xs) ys
+apart_append number [] ys = ap (λ k. told_apart k ys) (let z : number ≡ number + 0 = omega arith in z)
+apart_append number (Apart o ∷ xs) ys =
+    ap (λ ps. whole_piece number o ∷ ps) (apart_append (number + 1) xs ys ∙ ap (λ k. told_apart (number + 1) xs ++ told_apart k ys) (same_number number (length xs)))
+apart_append number (Among e ∷ xs) ys = apart_append (number + 1) xs ys ∙ ap (λ k. told_apart (number + 1) xs ++ told_apart k ys) (same_number number (length xs))
+
 told_more : (last : ℕ) (xs : List Numbered) (x : Numbered) (ss : List Running)
     → shard_tells last (xs ++ x ∷ []) ss ≡ shard_tells last xs ss ++ event_pieces x.number x.event (outcome_of (last_from last (map (λ (e : Numbered). e.event) xs)) x.event (left_by last (map (λ (e : Numbered). e.event) xs) ss))
 unfolding last_from

@@ -1,5 +1,5 @@
 -- A part's marks and text, as pieces are told and taken.
-use Rattle.std.proofs.Common.{◌≡◌, ◌≤◌, ◌<◌, ◌+◌, ◌++◌, ℕ, suc, List, [], ◌∷◌, length, take, drop, map, get_or, subst, Result, Ok, Err, OnOk, OnErr, drop-cons, refl, sym, ap, ◌∙◌, append_assoc, append-nil, arith, length-append, length-drop}
+use Rattle.std.proofs.Common.{◌≡◌, ◌≤◌, ◌<◌, ◌+◌, ◌++◌, ℕ, suc, zero, List, [], ◌∷◌, length, take, drop, map, get_or, subst, Result, Ok, Err, OnOk, OnErr, drop-cons, refl, sym, ap, ◌∙◌, append_assoc, append-nil, arith, length-append, length-drop}
 use Rattle.std.specs.List.{AllByRecursion, flat_map, sum_by}
 use Rattle.std.proofs.lemmas.List.{take-append-le, drop-append-le, map-append}
 use Rattle.std.proofs.lemmas.List.Sums.{sum_by-append, sum_by-cons}
@@ -83,6 +83,54 @@ told_more ms ms2 t t2 next at ps s m e =
     ∙ (ap (λ ys. pieces_at (drop next ms ++ map mark_of ps) ys) (drop-append-le at t (texts ps) fits)
     ∙ (pieces_append (drop next ms) (map mark_of ps) (drop at t) (texts ps) left ∙ ap (λ qs. pieces_at (drop next ms) (drop at t) ++ qs) (pieces_back ps)))))
 
+-- marks that have all of this text, and so many packets that each has a byte of it
+pub record HasLeft (ms : List Mark) (t : List ℕ) : Type 0 where
+  pub whole : long_of ms ≡ length t
+  pub counts : AllByRecursion (λ m. m.txs + m.drops ≤ m.long) ms
+
+all_both : (ms ns : List Mark) → AllByRecursion (λ m. m.txs + m.drops ≤ m.long) ms → AllByRecursion (λ m. m.txs + m.drops ≤ m.long) ns
+    → AllByRecursion (λ m. m.txs + m.drops ≤ m.long) (ms ++ ns)
+all_both [] ns h k = k
+all_both (m ∷ ms) ns h k = (h.0, all_both ms ns h.1 k)
+
+all_behind : (n : ℕ) (ms : List Mark) → AllByRecursion (λ m. m.txs + m.drops ≤ m.long) ms → AllByRecursion (λ m. m.txs + m.drops ≤ m.long) (drop n ms)
+all_behind zero ms h = h
+all_behind (suc n) [] h = tt
+all_behind (suc n) (m ∷ ms) h = all_behind n ms h.1
+
+-- what is left of a part
+pub has_left : (ms : List Mark) (t : List ℕ) (next at : ℕ) → IsPart ms t next at → HasLeft (drop next ms) (drop at t)
+has_left ms t next at s = record {
+  whole = omega (arith, s.whole, length-drop at t);
+  counts = all_behind next ms s.counts;
+}
+
+-- a part where this was told behind it
+pub part_left : (ms ms2 ns : List Mark) (t t2 u : List ℕ) (next at : ℕ) → IsPart ms t next at → HasLeft ns u → ms2 ≡ ms ++ ns → t2 ≡ t ++ u → IsPart ms2 t2 next at
+part_left ms ms2 ns t t2 u next at s l m e =
+    subst (λ xs. IsPart xs t2 next at) (sym m) (subst (λ ys. IsPart (ms ++ ns) ys next at) (sym e) (record {
+      inside = omega (arith, s.inside, length-append ms ns);
+      whole = omega (
+        arith,
+        s.whole,
+        length-append t u,
+        l.whole,
+        ap long_of (drop-append-le next ms ns s.inside),
+        sum_by-append (λ (n : Mark). n.long) (drop next ms) ns,
+      );
+      counts = all_both ms ns s.counts l.counts;
+    }))
+
+pub told_left : (ms ms2 ns : List Mark) (t t2 u : List ℕ) (next at : ℕ) → IsPart ms t next at → ms2 ≡ ms ++ ns → t2 ≡ t ++ u
+    → pieces_at (drop next ms2) (drop at t2) ≡ pieces_at (drop next ms) (drop at t) ++ pieces_at ns u
+told_left ms ms2 ns t t2 u next at s m e =
+    let fits : at ≤ length t = omega (arith, s.whole) in
+    let left : long_of (drop next ms) ≡ length (drop at t) = omega (arith, s.whole, length-drop at t) in
+    ap (λ xs. pieces_at (drop next xs) (drop at t2)) m ∙ (ap (λ ys. pieces_at (drop next (ms ++ ns)) (drop at ys)) e
+    ∙ (ap (λ xs. pieces_at xs (drop at (t ++ u))) (drop-append-le next ms ns s.inside)
+    ∙ (ap (λ ys. pieces_at (drop next ms ++ ns) ys) (drop-append-le at t u fits)
+    ∙ pieces_append (drop next ms) ns (drop at t) u left)))
+
 -- the pieces of a tick and of an event have text
 pub items_have : (n : ℕ) (os : List Out) → AllByRecursion HasText (map (item_piece n) os)
 items_have n [] = tt
@@ -135,6 +183,20 @@ module _ {T E : Type 0} where
       → OnOk r (ms2 ≡ ms ++ map mark_of ps) → OnOk r (t2 ≡ t ++ texts ps) → OnOk r (pieces_at (drop next ms2) (drop at t2) ≡ before ++ ps)
   told_by (Ok x) ms ms2 t t2 next at ps before s v m e = told_more ms ms2 t t2 next at ps s m e ∙ ap (λ qs. qs ++ ps) v
   told_by (Err x) ms ms2 t t2 next at ps before s v m e = tt
+
+  -- what is left of another part was told, or nothing
+  pub left_by : (r : Result T E) (ms ms2 ns : List Mark) (t t2 u : List ℕ) (next at : ℕ) → IsPart ms t next at → HasLeft ns u
+      → OnOk r (ms2 ≡ ms ++ ns) → OnOk r (t2 ≡ t ++ u) → OnErr r (ms2 ≡ ms) → OnErr r (t2 ≡ t) → IsPart ms2 t2 next at
+  left_by (Ok x) ms ms2 ns t t2 u next at s l m e n f = part_left ms ms2 ns t t2 u next at s l m e
+  left_by (Err x) ms ms2 ns t t2 u next at s l m e n f =
+      subst (λ xs. IsPart xs t2 next at) (sym n) (subst (λ ys. IsPart ms ys next at) (sym f) s)
+
+  pub left_told : (r : Result T E) (ms ms2 ns : List Mark) (t t2 u : List ℕ) (next at : ℕ) (before more : List Piece) → IsPart ms t next at
+      → pieces_at (drop next ms) (drop at t) ≡ before → pieces_at ns u ≡ more
+      → OnOk r (ms2 ≡ ms ++ ns) → OnOk r (t2 ≡ t ++ u) → OnOk r (pieces_at (drop next ms2) (drop at t2) ≡ before ++ more)
+  left_told (Ok x) ms ms2 ns t t2 u next at before more s v w m e =
+      told_left ms ms2 ns t t2 u next at s m e ∙ (ap (λ qs. qs ++ pieces_at ns u) v ∙ ap (λ qs. before ++ qs) w)
+  left_told (Err x) ms ms2 ns t t2 u next at before more s v w m e = tt
 
   -- one piece's text is the text of it alone
   pub single : (r : Result T E) (t t2 : List ℕ) (p : Piece) → OnOk r (t2 ≡ t ++ p.text) → OnOk r (t2 ≡ t ++ texts (p ∷ []))

@@ -19,7 +19,7 @@ ghost use Rattle.bfd_gather.specs.Spread.{AreGathered};
 /// its events; the session at place k of the table stands at place k / shards of shard k % shards; an own event gives there
 /// what it gives of the table, and changes no session of another shard; the events of a shard's queue are its history; and
 /// one event more adds to the queue what the shard has of it.
-#[tactic(auto, using(bfd_shard::proofs::Sharing::there, crate::proofs::Sharing::own_gives, crate::proofs::Sharing::own_away, crate::proofs::Histories::runs_share, crate::proofs::Histories::queue_events, crate::proofs::Histories::queue_more))]
+#[tactic(auto, using(bfd_shard::proofs::Sharing::there, crate::proofs::Sharing::own_gives, crate::proofs::Sharing::own_away, crate::proofs::Histories::runs_share, crate::proofs::Histories::queue_events, crate::proofs::Histories::queue_more, crate::proofs::Histories::queue_append))]
 pub fn dealing_laws()
     ensures sessions { (shards shard : ℕ) (events : List ShardEvent) (configs : List SessionConfig) → shard < shards
         → runs (history_of shards shard events) (share shards shard configs)
@@ -39,13 +39,16 @@ pub fn dealing_laws()
         → queue shards shard number (events ++ event ∷ [])
         ≡ queue shards shard number events
         ++ cons_option (numbered (number + length events) (in_shard shards shard event)) [] }
+    ensures queue_append { (shards shard number : ℕ) (events others : List Happening)
+        → queue shards shard number (events ++ others)
+        ≡ queue shards shard number events ++ queue shards shard (number + length events) others }
 {}
 
 /// Laws of what shards tell, and no work. One event more of a shard's queue adds the pieces of what it gives, of the sessions
-/// that the events before it left; an event of no session adds its one piece to the part of those; and of a table whose
-/// sessions ascend by discriminator, the parts of any number of shards, taken in the order of a report, are the pieces of the
-/// whole table.
-#[tactic(auto, using(crate::proofs::Histories::told_runs, crate::proofs::Histories::apart_more, crate::proofs::Histories::among_more, crate::proofs::Whole::parts_gathered))]
+/// that the events before it left; an event of no session adds its one piece to the part of those; what is told of those among
+/// events behind others stands behind what is told of theirs; and of a table whose sessions ascend by discriminator, the parts of
+/// any number of shards, taken in the order of a report, are the pieces of the whole table.
+#[tactic(auto, using(crate::proofs::Histories::told_runs, crate::proofs::Histories::apart_more, crate::proofs::Histories::among_more, crate::proofs::Histories::apart_append, crate::proofs::Whole::parts_gathered))]
 pub fn telling_laws()
     ensures more { (events : List Numbered) (event : Numbered) (configs : List SessionConfig)
         → shard_tells 0 (events ++ event ∷ []) (map started configs)
@@ -56,6 +59,8 @@ pub fn telling_laws()
         ≡ told_apart number events ++ whole_piece (number + length events) outcome ∷ [] }
     ensures none_apart { (number : ℕ) (events : List Happening) (event : ShardEvent)
         → told_apart number (events ++ Among event ∷ []) ≡ told_apart number events }
+    ensures append_apart { (number : ℕ) (events others : List Happening)
+        → told_apart number (events ++ others) ≡ told_apart number events ++ told_apart (number + length events) others }
     ensures gathered { (shards number last : ℕ) (events : List Happening) (sessions : List Running)
         (parts : List (List Piece))
         → AreParts shards number last events sessions parts

@@ -192,6 +192,31 @@ fn counts_from(marks: &[Mark], first: usize) -> (u64, u64)
     (txs, drops)
 }
 
+/// Appends the marks from `next` on, and the text from `at` on; or neither.
+fn append_left(
+    marks: &mut Vec<Mark>,
+    text: &mut Vec<u8>,
+    more: &Vec<Mark>,
+    next: usize,
+    lines: &Vec<u8>,
+    at: usize,
+) -> Result<(), AllocError>
+    requires next { next ≤ length more.now.items }
+    requires at { at ≤ length lines.now.items }
+    ensures text { OnOk result (text.new.items ≡ text.old.items ++ drop at lines.now.items) }
+    ensures mark { OnOk result (marks.new.items ≡ marks.old.items ++ drop next more.now.items) }
+    ensures same_text { OnErr result (text.new.items ≡ text.old.items) }
+    ensures same_marks { OnErr result (marks.new.items ≡ marks.old.items) }
+{
+    let before = marks.len();
+    marks.extend_from_slice(&more[next..])?;
+    if let Err(error) = text.extend_from_slice(&lines[at..]) {
+        marks.truncate(before);
+        return Err(error);
+    }
+    Ok(())
+}
+
 impl Part {
     /// A part that tells nothing.
     pub fn new(alloc: Global) -> Part
@@ -228,6 +253,22 @@ impl Part {
         ensures same { OnErr result (self.new ≡ self.old) }
     {
         append_items(&mut self.marks, &mut self.text, number, outs)
+    }
+
+    /// Tells behind what it told so far all that is left of another part. The one refusal is want of memory, and then the part is
+    /// as before.
+    pub fn append(&mut self, other: &Part) -> Result<(), AllocError>
+        ensures told { OnOk result (self.new ≡ self.old ++ other.now) }
+        ensures same { OnErr result (self.new ≡ self.old) }
+    {
+        append_left(
+            &mut self.marks,
+            &mut self.text,
+            &other.marks,
+            other.next,
+            &other.text,
+            other.at,
+        )
     }
 
     /// How many bytes of text the pieces have that are left.
