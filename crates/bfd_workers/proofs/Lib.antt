@@ -1,5 +1,6 @@
 pub mod Standing
 pub mod Planning
+pub mod Parting
 pub mod Soles
 pub mod Courses
 pub mod Owning

@@ -8,7 +8,7 @@ use Rattle.bfd_line.specs.declared.entries.Line.{Line}
 use Rattle.bfd_gather.specs.declared.queue.Numbered.{Numbered}
 use Rattle.bfd_gather.specs.Pieces.{Piece}
 use Rattle.bfd_gather.specs.Happenings.{Happening, Apart, Among, in_shard, numbered, queue, told_apart}
-use Rattle.bfd_workers.specs.Planned.{AreQueues, IsPlanned, IsMet, happenings, happening}
+use Rattle.bfd_workers.specs.Planned.{IsPlanned, IsMet, IsRunPlanned, happenings, happening}
 
 one_then : (xs rest : List Numbered) (o : Option Numbered) → (xs ++ cons_option o []) ++ rest ≡ xs ++ cons_option o rest
 one_then xs rest None = ap (λ ys. ys ++ rest) (append-nil xs)
@@ -18,18 +18,18 @@ told_then : (number : ℕ) (h : Happening) (rest : List Happening) (xs : List Pi
 told_then number (Apart outcome) rest xs = append_assoc xs (told_apart number (Apart outcome ∷ [])) (told_apart (number + 1) rest)
 told_then number (Among event) rest xs = ap (λ ys. ys ++ told_apart (number + 1) rest) (append-nil xs)
 
--- what was planned of a script's lines, of which these are left
-pub record IsOnPlan (configs : List SessionConfig) (pool : List Reflector) (all left : List Line) (shards number : ℕ) (queues : List (List Numbered)) (apart : List Piece) : Type 0 where
+-- what was planned of lines of which the first has the number `start`, and of which these are left
+pub record IsOnPlan (configs : List SessionConfig) (pool : List Reflector) (all left : List Line) (shards start number : ℕ) (queues : List (List Numbered)) (apart : List Piece) : Type 0 where
   pub long : length queues ≡ shards
-  pub queued : (k : ℕ) → k < shards → slice_index_or queues k [] ++ queue shards k number (happenings configs pool left) ≡ queue shards k 1 (happenings configs pool all)
-  pub told : apart ++ told_apart number (happenings configs pool left) ≡ told_apart 1 (happenings configs pool all)
+  pub queued : (k : ℕ) → k < shards → slice_index_or queues k [] ++ queue shards k number (happenings configs pool left) ≡ queue shards k start (happenings configs pool all)
+  pub told : apart ++ told_apart number (happenings configs pool left) ≡ told_apart start (happenings configs pool all)
   pub met : AllByRecursion (IsMet configs) (happenings configs pool left) → AllByRecursion (IsMet configs) (happenings configs pool all)
-  pub few : number + length left ≡ 1 + length all
+  pub few : number + length left ≡ start + length all
 
-pub plan_more : (configs : List SessionConfig) (pool : List Reflector) (all left rest : List Line) (line : Line) (h : Happening) (shards number : ℕ) (before after : List (List Numbered)) (apart apart2 : List Piece)
+pub plan_more : (configs : List SessionConfig) (pool : List Reflector) (all left rest : List Line) (line : Line) (h : Happening) (shards start number : ℕ) (before after : List (List Numbered)) (apart apart2 : List Piece)
     → left ≡ line ∷ rest → h ≡ happening configs pool line → IsMet configs h → length after ≡ length before → IsPlanned number h before after apart apart2
-    → IsOnPlan configs pool all left shards number before apart → IsOnPlan configs pool all rest shards (number + 1) after apart2
-plan_more configs pool all left rest line h shards number before after apart apart2 split is met same one so_far =
+    → IsOnPlan configs pool all left shards start number before apart → IsOnPlan configs pool all rest shards start (number + 1) after apart2
+plan_more configs pool all left rest line h shards start number before after apart apart2 split is met same one so_far =
     let these : happenings configs pool left ≡ h ∷ happenings configs pool rest = ap (happenings configs pool) split ∙ ap (λ x. x ∷ happenings configs pool rest) (sym is) in
     record {
       long = same ∙ so_far.long;
@@ -45,29 +45,24 @@ plan_more configs pool all left rest line h shards number before after apart apa
       few = omega (arith, ap length split, so_far.few);
     }
 
-pub plan_start : (configs : List SessionConfig) (pool : List Reflector) (all left : List Line) (shards : ℕ) (queues : List (List Numbered)) (apart : List Piece)
-    → left ≡ all → length queues ≡ shards → ((k : ℕ) → slice_index_or queues k [] ≡ []) → apart ≡ [] → IsOnPlan configs pool all left shards 1 queues apart
-plan_start configs pool all left shards queues apart same long none empty = record {
+pub plan_start : (configs : List SessionConfig) (pool : List Reflector) (all left : List Line) (shards start number : ℕ) (queues : List (List Numbered)) (apart : List Piece)
+    → left ≡ all → number ≡ start → length queues ≡ shards → ((k : ℕ) → slice_index_or queues k [] ≡ []) → apart ≡ [] → IsOnPlan configs pool all left shards start number queues apart
+plan_start configs pool all left shards start number queues apart same is long none empty = record {
   long = long;
-  queued = λ k inside. ap (λ xs. xs ++ queue shards k 1 (happenings configs pool left)) (none k) ∙ ap (λ ls. queue shards k 1 (happenings configs pool ls)) same;
-  told = ap (λ xs. xs ++ told_apart 1 (happenings configs pool left)) empty ∙ ap (λ ls. told_apart 1 (happenings configs pool ls)) same;
+  queued = λ k inside. ap (λ xs. xs ++ queue shards k number (happenings configs pool left)) (none k)
+      ∙ (ap (λ ls. queue shards k number (happenings configs pool ls)) same ∙ ap (λ n. queue shards k n (happenings configs pool all)) is);
+  told = ap (λ xs. xs ++ told_apart number (happenings configs pool left)) empty
+      ∙ (ap (λ ls. told_apart number (happenings configs pool ls)) same ∙ ap (λ n. told_apart n (happenings configs pool all)) is);
   met = λ h. subst (λ ls. AllByRecursion (IsMet configs) (happenings configs pool ls)) same h;
-  few = omega (arith, ap length same);
+  few = omega (arith, ap length same, is);
 }
 
-pub record IsEndOfPlan (configs : List SessionConfig) (pool : List Reflector) (all : List Line) (shards : ℕ) (queues : List (List Numbered)) (apart : List Piece) : Type 0 where
-  pub queues_are : AreQueues shards (happenings configs pool all) queues
-  pub apart_is : apart ≡ told_apart 1 (happenings configs pool all)
-  pub met : AllByRecursion (IsMet configs) (happenings configs pool all)
-
-pub plan_end : (configs : List SessionConfig) (pool : List Reflector) (all left : List Line) (shards number : ℕ) (queues : List (List Numbered)) (apart : List Piece)
-    → left ≡ [] → IsOnPlan configs pool all left shards number queues apart → IsEndOfPlan configs pool all shards queues apart
-plan_end configs pool all left shards number queues apart none so_far = record {
-  queues_are = record {
-    long = so_far.long;
-    each = λ k inside. sym (append-nil (slice_index_or queues k [])) ∙ (ap (λ ls. slice_index_or queues k [] ++ queue shards k number (happenings configs pool ls)) (sym none) ∙ so_far.queued k inside);
-  };
-  apart_is = sym (append-nil apart) ∙ (ap (λ ls. apart ++ told_apart number (happenings configs pool ls)) (sym none) ∙ so_far.told);
+pub plan_end : (configs : List SessionConfig) (pool : List Reflector) (all left : List Line) (shards start number : ℕ) (queues : List (List Numbered)) (apart : List Piece)
+    → left ≡ [] → IsOnPlan configs pool all left shards start number queues apart → IsRunPlanned configs pool shards start all queues apart
+plan_end configs pool all left shards start number queues apart none so_far = record {
+  long = so_far.long;
+  queued = λ k inside. sym (append-nil (slice_index_or queues k [])) ∙ (ap (λ ls. slice_index_or queues k [] ++ queue shards k number (happenings configs pool ls)) (sym none) ∙ so_far.queued k inside);
+  told = sym (append-nil apart) ∙ (ap (λ ls. apart ++ told_apart number (happenings configs pool ls)) (sym none) ∙ so_far.told);
   met = so_far.met (subst (λ ls. AllByRecursion (IsMet configs) (happenings configs pool ls)) (sym none) tt);
 }
 

@@ -1,6 +1,7 @@
 -- What each line of a script is, where its sessions are dealt out to shards.
-use Rattle.std.specs.Prelude.{ℕ, ◌≡◌, ◌<◌, ◌++◌, List, [], ◌∷◌, length, map, slice_get, slice_index_or, Option, None, Some, Result, Ok, Err}
-use Rattle.std.specs.List.{cons_option, filter_map}
+use Rattle.std.specs.Prelude.{ℕ, ◌≡◌, ◌<◌, ◌≤◌, ◌+◌, ◌++◌, List, [], ◌∷◌, length, map, slice_get, slice_index_or, Option, None, Some, Result, Ok, Err}
+use Rattle.std.specs.Global.{Vec}
+use Rattle.std.specs.List.{All, AllByRecursion, cons_option, filter_map, flat_map}
 use Rattle.bfd_packet.specs.declared.arrival.Datagram.{Datagram}
 use Rattle.bfd_packet.specs.declared.discard.Test.{Test}
 use Rattle.bfd_rules.specs.declared.outputs.Out.TheVariants.{Sent}
@@ -19,6 +20,7 @@ use Rattle.bfd_script.specs.Reading.{Lists}
 use Rattle.bfd_gather.specs.declared.queue.Numbered.{Numbered}
 use Rattle.bfd_gather.specs.Pieces.{Piece}
 use Rattle.bfd_gather.specs.Happenings.{Happening, Apart, Among, session_event, in_shard, numbered, queue, told_apart}
+use Rattle.bfd_workers.specs.declared.runs.Run.{Run}
 use Rattle.bfd_workers.specs.declared.routing.Route.{Route}
 use Rattle.bfd_workers.specs.declared.routing.Route.TheVariants as routes
 
@@ -75,6 +77,40 @@ pub record IsPlanned (number : ℕ) (h : Happening) (before after : List (List N
   pub queued : (shard : ℕ) → shard < length before
       → slice_index_or after shard [] ≡ slice_index_or before shard [] ++ cons_option (numbered number (in_shard (length before) shard h)) []
   pub told : apart2 ≡ apart ++ told_apart number (h ∷ [])
+
+-- runs of lines one after another, where the first line has this number
+abbrev pub Follow : ℕ → List Run → Type 0
+Follow number [] = Unit {0}
+Follow number (r ∷ rest) = (r.first ≡ number) × Follow (number + length r.lines.items) rest
+
+abbrev pub run_lines : List Run → List Line
+run_lines runs = flat_map (λ r. r.lines.items) runs
+
+-- these lines in runs
+pub record AreRuns (lines : List Line) (runs : List Run) : Type 0 where
+  pub follow : Follow 1 runs
+  pub whole : run_lines runs ≡ lines
+  pub within : All (λ (r : Run). r.first + length r.lines.items ≤ 1 + length lines) runs
+
+-- what was planned of lines of which the first has this number
+pub record IsRunPlanned (configs : List SessionConfig) (pool : List Reflector) (shards first : ℕ) (lines : List Line) (queues : List (List Numbered)) (apart : List Piece) : Type 0 where
+  pub long : length queues ≡ shards
+  pub queued : (shard : ℕ) → shard < shards → slice_index_or queues shard [] ≡ queue shards shard first (happenings configs pool lines)
+  pub told : apart ≡ told_apart first (happenings configs pool lines)
+  pub met : AllByRecursion (IsMet configs) (happenings configs pool lines)
+
+abbrev pub IsPlanOf : List SessionConfig → List Reflector → ℕ → Run → Vec (Vec Numbered) × List Piece → Type 0
+IsPlanOf configs pool shards run plan = IsRunPlanned configs pool shards run.first run.lines.items (map (λ q. q.items) plan.0.items) plan.1
+
+-- each shard's pieces of its queue, one behind another
+abbrev pub columns_are : List (Vec (Vec Numbered)) → List (List Numbered)
+columns_are columns = map (λ c. flat_map (λ q. q.items) c.items) columns
+
+-- a queue more behind each, as far as there are queues
+abbrev pub behind : List (List Numbered) → List (List Numbered) → List (List Numbered)
+behind [] more = []
+behind (x ∷ xs) [] = x ∷ xs
+behind (x ∷ xs) (y ∷ ys) = (x ++ y) ∷ behind xs ys
 
 -- a script of these sessions, reflectors and events
 abbrev pub script_with : List SessionConfig → List Reflector → List Line → Lists

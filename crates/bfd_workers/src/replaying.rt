@@ -78,7 +78,7 @@ fn worked<W: Timers + Send, R: Threads + Wait + Sync, G: Gate + Sync>(
 {
     let room = 5 * configs.len() + 5;
     let demux = table(alloc, &configs, &pool)?;
-    let (queues, apart) = planned(alloc, &demux, &configs, &pool, events, shards)?;
+    let (queues, apart) = planned(rt, alloc, &demux, &configs, &pool, events, shards, workers)?;
     let most = longest(&queues);
     let (engine, first) = opened(rt, alloc, demux, configs, pool, shards, most)?;
     let (states, all) = run_all(rt, alloc, engine, first, queues, workers, room, gate)?;

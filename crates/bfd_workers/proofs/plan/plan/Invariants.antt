@@ -1,12 +1,13 @@
--- What was planned so far; the lines that are left stand in reverse.
-use Rattle.std.proofs.Common.{length, map, reverse}
-use Rattle.bfd_workers.proofs.Planning.{IsOnPlan}
+-- What was put together so far; the plans that are left stand in reverse.
+use Rattle.std.proofs.Common.{length, reverse}
+use Rattle.bfd_workers.specs.Planned.{columns_are}
+use Rattle.bfd_workers.proofs.Parting.{IsPut}
 use Rattle.bfd_workers.proofs.plan.plan.Given as goal
 
-abbrev pub invariant-lines : goal.invariant-lines
-invariant-lines l = record {
-  planned : IsOnPlan l.configs l.pool l.fn.events.items (reverse l.left.items) l.shards l.number (map (λ q. q.items) l.queues.items) l.apart;
+abbrev pub invariant-runs : goal.invariant-runs
+invariant-runs g l = record {
+  put : IsPut l.configs l.pool l.fn.events.items l.shards (columns_are l.columns.items) l.apart (reverse l.left.items);
 }
 
-abbrev pub decreases-lines : goal.decreases-lines
-decreases-lines l = length l.left.items
+abbrev pub decreases-runs : goal.decreases-runs
+decreases-runs g l = length l.left.items
