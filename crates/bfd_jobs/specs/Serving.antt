@@ -101,7 +101,7 @@ IsUnread left right before now Failed = Rose before now
 IsUnread left right before now Memory = now ≡ before
 
 -- what `serve` comes to, where it read its script
-pub record ServedItsScript (job : Job) (left right : Option (List ℕ)) (old new : Edges) (w : Wanted) : Type 0 where
+pub record HasServedScript (job : Job) (left right : Option (List ℕ)) (old new : Edges) (w : Wanted) : Type 0 where
   pub script : Lists
   pub live : IsLive left right script
   pub comes : Comes job script old new w

@@ -3,7 +3,7 @@ use Rattle.std.specs.Prelude.{◌≡◌, ◌⊎◌, ◌≤◌, ℕ, true, List, 
 use Rattle.std.specs.Io.KnownBytes.{Consumes, IsAtEnd}
 use Rattle.bfd_words.specs.declared.job.Job.{Job}
 use Rattle.bfd_words.specs.declared.job.Job.TheVariants.{Serve}
-use Rattle.bfd_jobs.specs.Serving.{Edges, HasNoScript, ServedItsScript, IsOverlong}
+use Rattle.bfd_jobs.specs.Serving.{Edges, HasNoScript, HasServedScript, IsOverlong}
 use Rattle.bfd_jobs.specs.Text.{Wanted, answer_to, most_bytes}
 use Rattle.bfd_jobs.specs.Words.{reads}
 
@@ -22,5 +22,5 @@ TellsBytes job left right w = IsSpelled job left right w ⊎ ((reads job ≡ tru
 -- what a job has to tell
 abbrev pub Tells : Job → Option (List ℕ) → Option (List ℕ) → Edges → Edges → Wanted → Type 0
 Tells (Serve hands turns ticks journal) left right old new w =
-    ServedItsScript (Serve hands turns ticks journal) left right old new w ⊎ HasNoScript left right old new w
+    HasServedScript (Serve hands turns ticks journal) left right old new w ⊎ HasNoScript left right old new w
 Tells job left right old new w = TellsBytes job left right w

@@ -25,7 +25,7 @@ use Rattle.bfd_gather.specs.Pieces.{Piece}
 use Rattle.bfd_gather.specs.Happenings.{shard_tells}
 use Rattle.bfd_workers.specs.Working.{AreMet, entries_by, events_in, IsWorkerReady, HasFinished, HasStopped, HasUsed, IsSole, IsStopAt}
 use Rattle.bfd_workers.specs.Jobs.{AllJobsJoined, AreJobs, AreOwn, HasEnded, HasWorkedOn, IsFreshAt, IsJoining, IsNewJob, Work, number_of, own_queue}
-use Rattle.bfd_workers.specs.Ends.{AreStates, AreTold, IsDoneJob, IsFine, IsState, ToldItsShards}
+use Rattle.bfd_workers.specs.Ends.{AreStates, AreTold, IsDoneJob, IsFine, IsState, HasToldShards}
 use Rattle.bfd_workers.proofs.Soles.{all_calls, front_sole, sole_of}
 use Rattle.bfd_workers.proofs.Joining.{own_away}
 
@@ -200,7 +200,7 @@ closed_at engine l (x ∷ shards) s closed h =
     (get_or (x ∷ shards) s x, closed.each s (get_or (x ∷ shards) s x) (slice_get-get_or (x ∷ shards) s x (let a = closed.long in omega (arith, a, h))))
 
 told_at : (engine : Shards) (queues : List (List Numbered)) (workers : ℕ) (k l : Knows) (works : List Work) (shards : List Shard) (i : ℕ) (v : Work) → AllClosed engine queues workers k l works shards
-    → slice_get works i ≡ Some v → (told_is : Result (List (List Piece)) EngineFault) → v.told ≡ told_is → ToldItsShards engine queues workers i told_is
+    → slice_get works i ≡ Some v → (told_is : Result (List (List Piece)) EngineFault) → v.told ≡ told_is → HasToldShards engine queues workers i told_is
 told_at engine queues workers k l works shards i v c e (Err fault) is = tt
 told_at engine queues workers k l works shards i v c e (Ok parts) is =
     let d = c.atend.each i v e in
@@ -265,7 +265,7 @@ work_at (suc i) end (w ∷ ws) h = let r = work_at i end ws (omega (arith, h)) i
 -- each worker's end, as the list of them has it
 pub record IsEnd (engine : Shards) (queues : List (List Numbered)) (workers i : ℕ) (end : Result (List (List Piece)) EngineFault) : Type 0 where
   pub fine : IsFine end
-  pub told : ToldItsShards engine queues workers i end
+  pub told : HasToldShards engine queues workers i end
 
 pub ends : (engine : Shards) (queues : List (List Numbered)) (workers : ℕ) (k l : Knows) (works : List Work) (shards : List Shard) (tolds : List (Result (List (List Piece)) EngineFault)) → AllClosed engine queues workers k l works shards
     → tolds ≡ map (λ w. w.told) works → (i : ℕ) (end : Result (List (List Piece)) EngineFault) → slice_get tolds i ≡ Some end → IsEnd engine queues workers i end
@@ -343,7 +343,7 @@ pub told_all : (engine : Shards) (queues : List (List Numbered)) (workers : ℕ)
 told_all engine queues workers k l works shards all c all_ok =
     let many : length all ≡ workers = (let a = ap length all_ok in let b = length-map works (λ (w : Work). w.told) in
     let d = length-map all (λ (x : List (List Piece)). (let r : Result (List (List Piece)) EngineFault = Ok x in r)) in let e = c.atend.long in omega (arith, a, b, d, e)) in
-    let worker : (i : ℕ) → i < workers → ToldItsShards engine queues workers i (Ok (get_or all i [])) = λ i h.
+    let worker : (i : ℕ) → i < workers → HasToldShards engine queues workers i (Ok (get_or all i [])) = λ i h.
     (let v = work_there i works (let e = c.atend.long in omega (arith, h, e)) in
     told_at engine queues workers k l works shards i v.0 c v.1 (Ok (get_or all i [])) (all_told i v.0 works all all_ok v.1)) in
     record {

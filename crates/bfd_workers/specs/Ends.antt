@@ -31,9 +31,9 @@ IsFine (Err (Full at n)) = ⊥
 IsFine (Err (Spent at word)) = ⊥
 
 -- what the worker at this place of so many told of each shard that it takes, if it ended with parts: what its queue's events give
-abbrev pub ToldItsShards : Shards → List (List Numbered) → ℕ → ℕ → Result (List (List Piece)) EngineFault → Type 0
-ToldItsShards engine queues workers at (Err fault) = Unit {0}
-ToldItsShards engine queues workers at (Ok parts) = (length parts ≡ length engine.locks) × ((shard : ℕ) → shard < length engine.locks → shard % workers ≡ at
+abbrev pub HasToldShards : Shards → List (List Numbered) → ℕ → ℕ → Result (List (List Piece)) EngineFault → Type 0
+HasToldShards engine queues workers at (Err fault) = Unit {0}
+HasToldShards engine queues workers at (Ok parts) = (length parts ≡ length engine.locks) × ((shard : ℕ) → shard < length engine.locks → shard % workers ≡ at
     → slice_index_or parts shard [] ≡ shard_tells 0 (slice_index_or queues shard []) (map started (configs_at engine shard)))
 
 -- the workers' parts: shard by shard what its queue's events give, told by its worker

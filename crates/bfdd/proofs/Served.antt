@@ -6,7 +6,7 @@ use Rattle.bfd_edge.specs.Faults.{Rose, risen}
 use Rattle.bfd_jobs.proofs.Served.{read_whole}
 use Rattle.bfd_jobs.specs.declared.status.Status.{Status}
 use Rattle.bfd_jobs.specs.declared.status.Status.TheVariants.{Memory}
-use Rattle.bfd_jobs.specs.Serving.{Comes, Edges, HasNoScript, ServedItsScript, IsFaulty, IsServedToFinish, IsOverlong, IsServed}
+use Rattle.bfd_jobs.specs.Serving.{Comes, Edges, HasNoScript, HasServedScript, IsFaulty, IsServedToFinish, IsOverlong, IsServed}
 use Rattle.bfd_jobs.specs.Telling.{Tells}
 use Rattle.bfd_jobs.specs.Text.{Wanted, most_bytes}
 use Rattle.bfd_jobs.specs.Words.{OfServing, serves}
@@ -43,7 +43,7 @@ finished_by job script old new w result (inl is) ports (inr portless) =
 
 of_script : (job : Job) (bytes : List ℕ) (right : Option (List ℕ)) (old new : Edges) (w : Wanted) (result : Status)
     → (result ≡ w.status) ⊎ (result ≡ Memory) → (Rose old.ports.faults new.ports.faults → ⊥)
-    → ServedItsScript job (Some bytes) right old new w ⊎ HasNoScript (Some bytes) right old new w → IsServedToFinish job old new result bytes
+    → HasServedScript job (Some bytes) right old new w ⊎ HasNoScript (Some bytes) right old new w → IsServedToFinish job old new result bytes
 of_script job bytes right old new w result is ports (inl served) = λ few script spelled.
     finished_by job script old new w result is ports
     (subst (λ (s : Lists). Comes job s old new w)
