@@ -6,8 +6,8 @@ use Rattle.bfd_sbfd.specs.declared.reflecting.Reflector.{Reflector}
 use Rattle.bfd_session.specs.declared.event.SessionConfig.{SessionConfig}
 use Rattle.bfd_line.specs.declared.entries.Line.{Line}
 use Rattle.bfd_gather.specs.Happenings.{Happening}
-use Rattle.bfd_workers.specs.declared.routing.Route.{Route}
-use Rattle.bfd_workers.specs.Planned.{IsMet, happening, happenings, route_is}
+use Rattle.bfd_plan.specs.declared.routing.Route.{Route}
+use Rattle.bfd_plan.specs.Planned.{IsMet, happening, happenings, route_is}
 
 -- what the lines are, of which those that are left are still to be found
 pub record IsFound (configs : List SessionConfig) (pool : List Reflector) (all left : List Line) (routes : List Route) : Type 0 where

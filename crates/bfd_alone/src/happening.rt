@@ -4,14 +4,14 @@ ghost use Rattle.bfd_session.specs.Kinds.{configs_of};
 ghost use Rattle.bfd_shard.specs.History.{later, moved, outcome_of};
 ghost use Rattle.bfd_shard.specs.Shard.{CanHappen};
 ghost use Rattle.bfd_gather.specs.Happenings.{Happening, happening_outcomes};
-ghost use Rattle.bfd_workers.specs.Planned.{IsMet, route_is};
+ghost use Rattle.bfd_plan.specs.Planned.{IsMet, route_is};
 
 use bfd_num::Steps;
+use bfd_plan::Route;
 use bfd_rules::{Out, Outs};
 use bfd_session::Answer;
 use bfd_shard::{ShardEvent, ShardState};
 use bfd_wheel::Timers;
-use bfd_workers::Route;
 use std::alloc::AllocError;
 use std::marker::Brand;
 use std::sync::ledger::{Blank, Ledger};

@@ -10,7 +10,7 @@ ghost use Rattle.bfd_script.specs.Report.{lines_from, report};
 ghost use Rattle.bfd_script.specs.Sound.{IsScript};
 ghost use Rattle.bfd_gather.specs.Happenings.{Happening, happening_outcomes};
 ghost use Rattle.bfd_replay.specs.World.{replayed};
-ghost use Rattle.bfd_workers.specs.Planned.{IsMet, route_is};
+ghost use Rattle.bfd_plan.specs.Planned.{IsMet, route_is};
 ghost use Rattle.bfd_alone.specs.Telling.{ToldUpTo};
 ghost use Rattle.bfd_alone.specs.Written.{TookFront};
 
@@ -18,12 +18,12 @@ use crate::happening::happen;
 use crate::routes::routes_of;
 use crate::telling::Told;
 use bfd_edge::{Fault, Sink};
+use bfd_plan::{Route, next_of};
 use bfd_rules::Outs;
 use bfd_script::Script;
 use bfd_session::SessionConfig;
 use bfd_shard::ShardState;
 use bfd_wheel::Timers;
-use bfd_workers::{Route, next_of};
 use std::alloc::Global;
 
 /// One event: it happens, its lines are told, and a long text goes to the sink.
@@ -129,7 +129,7 @@ fn tell_all<W: Timers, K: Sink>(
 
 /// Replays the script on one shard, and writes its report to the sink as it comes. It is refused as Failed where the sink failed, and
 /// as Memory where memory was wanting, here or there; the sink took a front of the report then.
-#[tactic(auto, using(bfd_workers::proofs::Whole::is_table))]
+#[tactic(auto, using(bfd_plan::proofs::Worlds::is_table))]
 pub fn report_to<W: Timers, K: Sink>(
     alloc: Global,
     script: Script,

@@ -4,13 +4,13 @@ ghost use Rattle.std.specs.List.{AllByRecursion};
 ghost use Rattle.bfd_sbfd.specs.Reflect.{Ascends as PoolAscends};
 ghost use Rattle.bfd_session.specs.Rows.{Ascends, table_of as table_in};
 ghost use Rattle.bfd_replay.specs.Stage.{IsTable};
-ghost use Rattle.bfd_workers.specs.Planned.{IsMet, happenings, route_is};
+ghost use Rattle.bfd_plan.specs.Planned.{IsMet, happenings, route_is};
 
 use bfd_demux::Demux;
 use bfd_line::Line;
+use bfd_plan::{Route, next_of, route_of, table};
 use bfd_sbfd::Reflector;
 use bfd_session::SessionConfig;
-use bfd_workers::{Route, next_of, route_of, table};
 use std::alloc::{AllocError, Global};
 
 /// What the lines are, in their order, by this table of the sessions and the pool.

@@ -1,11 +1,7 @@
-pub mod Standing
-pub mod Planning
-pub mod Parting
 pub mod Soles
 pub mod Courses
 pub mod Owning
 pub mod Sorting
-pub mod Worlds
 pub mod Joining
 pub mod Endings
 pub mod Summing

@@ -19,7 +19,6 @@ use Rattle.bfd_shard.specs.Shard.{Shard, CanHappen, IsShard}
 use Rattle.bfd_sbfd.specs.declared.reflecting.Reflector.{Reflector}
 use Rattle.bfd_line.specs.declared.entries.Line.{Line}
 use Rattle.bfd_script.specs.Reading.{Lists}
-use Rattle.bfd_script.specs.Sound.{IsScript}
 use Rattle.bfd_engine.specs.Engines.{Shards, configs_at}
 use Rattle.bfd_engine.proofs.Reaching.{dealt_event}
 use Rattle.bfd_gather.specs.declared.queue.Numbered.{Numbered}
@@ -29,18 +28,14 @@ use Rattle.bfd_gather.specs.Happenings as gather
 use Rattle.bfd_shard.proofs.Sharing.{share_map}
 use Rattle.bfd_gather.proofs.Histories.{queue_events, runs_share}
 use Rattle.bfd_replay.specs.World.{totals}
-use Rattle.bfd_replay.specs.Stage.{IsTable}
-use Rattle.bfd_workers.specs.Planned.{AreQueues, IsMet, events_of_table, happening, happenings}
+use Rattle.bfd_plan.specs.Planned.{AreQueues, IsMet, events_of_table, happening, happenings}
 use Rattle.bfd_workers.specs.Working.{AreMet, entries_by, events_in}
 use Rattle.bfd_workers.specs.Ends.{AreStates, AreTold}
 use Rattle.bfd_workers.specs.Replayed.{HaveReplayed}
 use Rattle.bfd_workers.specs.Counts.{one_up, sum_to, ups}
 use Rattle.bfd_workers.proofs.Soles.{events_entries}
 use Rattle.bfd_workers.proofs.Summing.{sum_same, ups_are as counted, ups_shared}
-use Rattle.bfd_workers.proofs.Worlds.{left_is, world_is}
-
-pub is_table : (script : Lists) → IsScript script → IsTable script.configs script.pool
-is_table script s = record { configs = s.configs; pool = s.pool; apart = s.apart; few = s.few }
+use Rattle.bfd_plan.proofs.Worlds.{left_is, world_is}
 
 pub room_enough : (engine : Shards) (s room : ℕ) (configs : List SessionConfig) → engine.configs ≡ configs → room ≡ 5 * length configs + 5 → 5 * length (configs_at engine s) + 5 ≤ room
 room_enough engine s room configs is enough = let a = few_share (length engine.locks) s engine.configs in let b = ap length is in omega (arith, a, b, enough)

@@ -1,4 +1,3 @@
-pub mod Planned
 pub mod Working
 pub mod Jobs
 pub mod Ends

@@ -4,7 +4,7 @@ use Rattle.bfd_session.specs.Kinds.{configs_of}
 use Rattle.bfd_shard.specs.Dealing.{history_of, share}
 use Rattle.bfd_shard.specs.Shard.{Shard}
 use Rattle.bfd_script.specs.Reading.{Lists}
-use Rattle.bfd_workers.specs.Planned.{events_of_table}
+use Rattle.bfd_plan.specs.Planned.{events_of_table}
 use Rattle.bfd_workers.specs.Working.{entries_by}
 
 -- the state of this shard: it was made of the sessions that are dealt to it, and its journal is, in the order of the script, the own

@@ -5,16 +5,16 @@ ghost use Rattle.bfd_replay.specs.World.{replayed, totals};
 ghost use Rattle.bfd_script.specs.Sound.{IsScript};
 ghost use Rattle.bfd_session.specs.Step.{started};
 ghost use Rattle.bfd_replay.specs.Stage.{IsTable};
-ghost use Rattle.bfd_workers.specs.Planned.{happenings, script_with};
+ghost use Rattle.bfd_plan.specs.Planned.{happenings, script_with};
 ghost use Rattle.bfd_workers.specs.Replayed.{HaveReplayed};
 
 use crate::counting::{up_all, up_at_last};
 use crate::finish::in_order;
-use crate::plan::{longest, planned, table};
 use crate::running::{opened, run_all};
 use bfd_edge::Gate;
 use bfd_gather::{Part, report};
 use bfd_line::Line;
+use bfd_plan::{longest, planned, table};
 use bfd_sbfd::Reflector;
 use bfd_script::Script;
 use bfd_session::SessionConfig;
@@ -175,7 +175,7 @@ fn report_parts<W: Timers + Send, R: Threads + Wait + Sync, G: Gate + Sync>(
 /// n, leaves w - 1, and does each shard's events in the order of the script; each turn of worker w for event N stands between
 /// `gate.before(w, N)` and `gate.after(w, N)`. The report is that of one thread, byte for byte. The one refusal is want of
 /// memory.
-#[tactic(auto, using(crate::proofs::Whole::is_table))]
+#[tactic(auto, using(bfd_plan::proofs::Worlds::is_table))]
 pub fn replay<W: Timers + Send, R: Threads + Wait + Sync, G: Gate + Sync>(
     rt: &R,
     alloc: Global,
@@ -204,7 +204,7 @@ pub fn replay<W: Timers + Send, R: Threads + Wait + Sync, G: Gate + Sync>(
 
 /// The same replay, for whoever wants its report alone: the shards with their journals are let go before the report is put
 /// together, so that the two are never held at once. The one refusal is want of memory.
-#[tactic(auto, using(crate::proofs::Whole::is_table))]
+#[tactic(auto, using(bfd_plan::proofs::Worlds::is_table))]
 pub fn reported<W: Timers + Send, R: Threads + Wait + Sync, G: Gate + Sync>(
     rt: &R,
     alloc: Global,

@@ -10,11 +10,11 @@ ghost use Rattle.bfd_engine.specs.Turned.{room_in};
 ghost use Rattle.bfd_gather.specs.Pieces.{event_pieces};
 ghost use Rattle.bfd_workers.specs.Working.{AreMet, HasDoneAt, HasFinished, HasLeft, HasStopped, HasTold, HasUsed, IsElsewhere, IsIdle, IsWorkerReady, IsTurnRefused, IsStopAt, is_tick};
 
-use crate::shrinking::next_of;
 use bfd_edge::Gate;
 use bfd_engine::{Engine, EngineFault, EnginePass};
 use bfd_gather::{Numbered, Part};
 use bfd_num::Steps;
+use bfd_plan::next_of;
 use bfd_rules::{Out, Outs};
 use bfd_session::Answer;
 use bfd_shard::ShardEvent;

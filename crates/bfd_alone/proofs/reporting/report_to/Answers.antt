@@ -9,8 +9,8 @@ use Rattle.bfd_script.specs.Reading.{Lists}
 use Rattle.bfd_script.specs.Report.{report}
 use Rattle.bfd_gather.specs.Happenings.{Happening, happening_outcomes}
 use Rattle.bfd_replay.specs.World.{replayed}
-use Rattle.bfd_workers.specs.Planned.{happenings, route_is, script_with}
-use Rattle.bfd_workers.proofs.Worlds.{world_is}
+use Rattle.bfd_plan.specs.Planned.{happenings, route_is, script_with}
+use Rattle.bfd_plan.proofs.Worlds.{world_is}
 use Rattle.bfd_alone.specs.Written.{TookFront}
 use Rattle.bfd_alone.proofs.Written.{took_nothing, when_ok}
 use Rattle.bfd_alone.proofs.reporting.report_to.Goals as goal

@@ -9,7 +9,7 @@ use Rattle.bfd_session.specs.declared.event.SessionConfig.{SessionConfig}
 use Rattle.bfd_session.proofs.Starting.{started_configs}
 use Rattle.bfd_script.specs.Report.{report}
 use Rattle.bfd_gather.specs.Happenings.{Happening, happening_outcomes}
-use Rattle.bfd_workers.specs.Planned.{IsMet, route_is}
+use Rattle.bfd_plan.specs.Planned.{IsMet, route_is}
 use Rattle.bfd_alone.specs.Telling.{Telling}
 use Rattle.bfd_alone.specs.Written.{TookFront}
 use Rattle.bfd_alone.proofs.Written.{took_nothing, when_ok}

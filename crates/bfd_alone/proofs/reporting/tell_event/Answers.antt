@@ -3,7 +3,7 @@ use Rattle.std.proofs.Common.{◌+◌, ◌++◌, ◌∷◌}
 use Rattle.bfd_session.specs.Alone.{Outcome}
 use Rattle.bfd_script.specs.Report.{lines_from}
 use Rattle.bfd_gather.specs.Happenings.{happening_outcomes}
-use Rattle.bfd_workers.specs.Planned.{route_is}
+use Rattle.bfd_plan.specs.Planned.{route_is}
 use Rattle.bfd_alone.proofs.Written.{took_nothing}
 use Rattle.bfd_alone.proofs.Events.{event_front}
 use Rattle.bfd_alone.proofs.reporting.tell_event.Goals as goal

@@ -6,7 +6,7 @@ use Rattle.bfd_session.specs.Kinds.{configs_of}
 use Rattle.bfd_session.specs.declared.event.SessionConfig.{SessionConfig}
 use Rattle.bfd_script.specs.Report.{lines_from}
 use Rattle.bfd_gather.specs.Happenings.{Happening, happening_outcomes}
-use Rattle.bfd_workers.specs.Planned.{IsMet, route_is}
+use Rattle.bfd_plan.specs.Planned.{IsMet, route_is}
 use Rattle.bfd_alone.specs.Telling.{ToldUpTo}
 use Rattle.bfd_alone.specs.Written.{TookFront}
 use Rattle.bfd_alone.proofs.Written.{took_front}

@@ -3,7 +3,7 @@ use Rattle.std.proofs.Common.{◌≡◌, ◌≤◌, ◌+◌, ◌*◌, length, ma
 use Rattle.std.specs.List.{AllByRecursion}
 use Rattle.bfd_session.specs.Kinds.{configs_of}
 use Rattle.bfd_gather.specs.Happenings.{happening_outcomes}
-use Rattle.bfd_workers.specs.Planned.{IsMet, route_is}
+use Rattle.bfd_plan.specs.Planned.{IsMet, route_is}
 use Rattle.bfd_alone.specs.Telling.{ToldUpTo}
 use Rattle.bfd_alone.proofs.reporting.tell_events.Given as goal
 

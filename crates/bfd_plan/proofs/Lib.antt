@@ -1,0 +1,4 @@
+pub mod Standing
+pub mod Planning
+pub mod Parting
+pub mod Worlds

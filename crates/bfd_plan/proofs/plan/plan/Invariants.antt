@@ -1,0 +1,13 @@
+-- What was put together so far; the plans that are left stand in reverse.
+use Rattle.std.proofs.Common.{length, reverse}
+use Rattle.bfd_plan.specs.Planned.{columns_are}
+use Rattle.bfd_plan.proofs.Parting.{IsPut}
+use Rattle.bfd_plan.proofs.plan.plan.Given as goal
+
+abbrev pub invariant-runs : goal.invariant-runs
+invariant-runs g l = record {
+  put : IsPut l.configs l.pool l.fn.events.items l.shards (columns_are l.columns.items) l.apart (reverse l.left.items);
+}
+
+abbrev pub decreases-runs : goal.decreases-runs
+decreases-runs g l = length l.left.items

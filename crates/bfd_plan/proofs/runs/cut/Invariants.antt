@@ -1,0 +1,12 @@
+-- The lines that are not cut yet; the runs stand in reverse.
+use Rattle.std.proofs.Common.{length, reverse}
+use Rattle.bfd_plan.proofs.Parting.{IsCut}
+use Rattle.bfd_plan.proofs.runs.cut.Given as goal
+
+abbrev pub invariant-runs : goal.invariant-runs
+invariant-runs l = record {
+  cut : IsCut l.fn.lines.items l.left.items (reverse l.runs.items);
+}
+
+abbrev pub decreases-runs : goal.decreases-runs
+decreases-runs l = length l.left.items

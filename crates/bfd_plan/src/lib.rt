@@ -1,0 +1,26 @@
+//! What the lines of a script are, and the queues of its shards.
+//!
+//! Each line of a script is found to be an event of no session, with its answer, or an event of the table's sessions
+//! ([`route_of`]): a packet is screened and selected here, once. [`planned`] deals the events of the sessions out to the queues of
+//! 1 to 64 shards, and tells the others apart. As many runs of lines as there are workers are looked through at once, each in a
+//! thread of its own where one can be had, and what was planned of them is put one behind another.
+//!
+//! Modules: `routing` says what a line is, `runs` cuts the lines into runs, `plan` deals them out, `columns` puts the runs'
+//! queues one behind another, `results` takes what threads gave, `shrinking` takes a list's memory back as it is done.
+//!
+//! It stands on `bfd_demux` for the table, on `bfd_gather` for queues and parts, on `bfd_script`, and on `bfd_engine` for a lemma on what an
+//! arrival reaches. It promises that a route is what the definitions say of its line (`happening`), that each shard's queue has
+//! the events of its sessions and every tick, with their numbers, in the order of the script, and that what is told apart is of
+//! all other lines, however many workers there are.
+#![tactic(auto)]
+
+mod columns;
+mod plan;
+mod results;
+mod routing;
+mod runs;
+mod shrinking;
+
+pub use plan::{longest, planned, table};
+pub use routing::{Route, route_of};
+pub use shrinking::next_of;

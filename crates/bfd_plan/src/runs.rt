@@ -1,0 +1,38 @@
+//! A script's lines in runs one after another.
+ghost use Rattle.std.specs.Prelude.{◌<◌, ◌≤◌, IfOk, length};
+ghost use Rattle.bfd_plan.specs.Planned.{AreRuns};
+
+use bfd_line::Line;
+use std::alloc::{AllocError, Global};
+
+/// Lines that stand one after another, and the number of the first.
+#[derive(Drop)]
+pub(crate) struct Run {
+    pub(crate) first: u64,
+    pub(crate) lines: Vec<Line>,
+}
+
+/// Cuts lines into so many runs at most. The one refusal is want of memory.
+pub(crate) fn cut(alloc: Global, lines: Vec<Line>, count: usize) -> Result<Vec<Run>, AllocError>
+    requires some { 0 < count }
+    requires few { length lines.items ≤ 200000 }
+    ensures { IfOk result (λ runs. AreRuns lines.items runs.items) }
+{
+    let size = lines.len() / count + 1;
+    let mut runs = Vec::new(alloc);
+    let mut left = lines;
+    'runs: while size < left.len() {
+        let at = left.len() - size;
+        let tail = left.split_off(at)?;
+        runs.push(Run {
+            first: at as u64 + 1,
+            lines: tail,
+        })?;
+    }
+    runs.push(Run {
+        first: 1,
+        lines: left,
+    })?;
+    runs.reverse();
+    Ok(runs)
+}

@@ -1,9 +1,0 @@
--- No queue so far is longer, and no less would do.
-use Rattle.std.proofs.Common.{◌≤◌, ◌<◌, ℕ, [], length, map, get_or}
-use Rattle.bfd_workers.proofs.plan.longest.Given as goal
-
-abbrev pub invariant-loop-shard : goal.invariant-loop-shard
-invariant-loop-shard l = record {
-  all : (s : ℕ) → s < l.shard → length (get_or (map (λ q. q.items) l.queues.items) s []) ≤ l.most;
-  least : (most : ℕ) → ((s : ℕ) → length (get_or (map (λ q. q.items) l.queues.items) s []) ≤ most) → l.most ≤ most;
-}
