@@ -60,7 +60,8 @@ pub fn telling_laws()
     ensures none_apart { (number : ℕ) (events : List Happening) (event : ShardEvent)
         → told_apart number (events ++ Among event ∷ []) ≡ told_apart number events }
     ensures append_apart { (number : ℕ) (events others : List Happening)
-        → told_apart number (events ++ others) ≡ told_apart number events ++ told_apart (number + length events) others }
+        → told_apart number (events ++ others)
+        ≡ told_apart number events ++ told_apart (number + length events) others }
     ensures gathered { (shards number last : ℕ) (events : List Happening) (sessions : List Running)
         (parts : List (List Piece))
         → AreParts shards number last events sessions parts

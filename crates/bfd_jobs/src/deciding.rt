@@ -56,8 +56,9 @@ fn decided_answer<R: Threads + Wait + Sync, G: Gate + Sync, S: Source>(
     }
 }
 
-/// What the job has to write, and how a run of it is to end, after it has read what it reads. Ports and ticker are `serve`'s alone, and
-/// every link that is opened is shut. The refusals: the source failed, or there was no memory.
+/// What the job has to write, and how a run of it is to end, after it has read what it reads: no more than 67,108,865 bytes. Ports and
+/// ticker are `serve`'s alone, and every link that is opened is shut. The refusals: Failed where the source failed, and then no link was
+/// opened and no tick asked for; Memory, at any place.
 #[tactic(auto, using(crate::proofs::Telling::closed_tells))]
 pub fn answer_to_job<
     R: Threads + Wait + Sync,

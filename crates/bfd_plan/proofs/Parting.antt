@@ -1,17 +1,18 @@
 -- Lines in runs, and what was planned of the runs, put one behind another.
-use Rattle.std.proofs.Common.{◌≡◌, ◌<◌, ◌≤◌, ◌+◌, ◌++◌, ℕ, zero, suc, List, [], ◌∷◌, length, map, reverse, get_or, take, drop, refl, sym, ap, ◌∙◌, subst, append_assoc, append-nil, arith, length-append, Result, Ok, Err, IfOk}
+use Rattle.std.proofs.Common.{◌≡◌, ◌<◌, ◌≤◌, ◌+◌, ◌++◌, ℕ, zero, suc, List, [], ◌∷◌, length, map, get_or, take, drop, refl, sym, ap, ◌∙◌, subst, append_assoc, append-nil, arith, length-append, Result, Ok}
 use Rattle.std.specs.Global.{Vec}
 use Rattle.std.specs.Prelude.{slice_index_or}
-use Rattle.std.specs.List.{All, AllByRecursion, flat_map}
-use Rattle.std.proofs.lemmas.List.{map-append, length-map, reverse-append, take-append-drop}
+use Rattle.std.specs.List.{AllByRecursion, flat_map}
+use Rattle.std.proofs.lemmas.List.{map-append, length-map, take-append-drop}
 use Rattle.std.proofs.lemmas.Grind.{flat_map-append}
 use Rattle.std.proofs.lemmas.List.Elements.{All-from_recursion}
 use Rattle.bfd_sbfd.specs.declared.reflecting.Reflector.{Reflector}
 use Rattle.bfd_session.specs.declared.event.SessionConfig.{SessionConfig}
 use Rattle.bfd_line.specs.declared.entries.Line.{Line}
+use Rattle.bfd_script.proofs.Elements.{each_more}
 use Rattle.bfd_gather.specs.declared.queue.Numbered.{Numbered}
 use Rattle.bfd_gather.specs.Pieces.{Piece}
-use Rattle.bfd_gather.specs.Happenings.{Happening, queue, told_apart}
+use Rattle.bfd_gather.specs.Happenings.{queue, told_apart}
 use Rattle.bfd_gather.proofs.Histories.{queue_append, apart_append}
 use Rattle.bfd_plan.specs.declared.runs.Run.{Run}
 use Rattle.bfd_plan.specs.Planned.{AreQueues, AreRuns, Follow, IsMet, IsPlanOf, IsRunPlanned, behind, columns_are, happenings, happening, run_lines}
@@ -107,10 +108,6 @@ behind_next all done after left rest qs more less column pieces q split one is l
     ∙ (ap (λ ys. columns_are done ++ behind (columns_are (column ∷ rest)) (map (λ x. x.items) ys)) (sym one)
     ∙ (ap (λ cs. columns_are done ++ behind (columns_are cs) (map (λ x. x.items) more)) (sym split) ∙ so_far)))))
 
-all_met : (P : Happening → Type 0) (xs ys : List Happening) → AllByRecursion P xs → AllByRecursion P ys → AllByRecursion P (xs ++ ys)
-all_met P [] ys h k = k
-all_met P (x ∷ xs) ys h k = (h.0, all_met P xs ys h.1 k)
-
 -- one run more
 put_run : (configs : List SessionConfig) (pool : List Reflector) (all lines rest : List Line) (shards number : ℕ) (before queues after : List (List Numbered)) (apart told apart2 : List Piece)
     → IsRunPlanned configs pool shards number lines queues told → after ≡ behind before queues → apart2 ≡ apart ++ told
@@ -135,7 +132,7 @@ put_run configs pool all lines rest shards number before queues after apart told
           ∙ (ap (λ n. apart ++ (told_apart number (happenings configs pool lines) ++ told_apart (number + n) (happenings configs pool rest))) (sym long)
           ∙ (ap (λ q. apart ++ q) (sym (apart_append number (happenings configs pool lines) (happenings configs pool rest)))
           ∙ (ap (λ hs. apart ++ told_apart number hs) (sym these) ∙ on.told)))));
-      met = λ h. on.met (subst (AllByRecursion (IsMet configs)) (sym these) (all_met (IsMet configs) (happenings configs pool lines) (happenings configs pool rest) p.met h));
+      met = λ h. on.met (subst (AllByRecursion (IsMet configs)) (sym these) (each_more (IsMet configs) (happenings configs pool lines) (happenings configs pool rest) p.met h));
       few = let a = length-append lines rest in omega (arith, a, on.few);
     }
 

@@ -10,7 +10,7 @@ use std::alloc::{AllocError, Global};
 use std::thread;
 use std::thread::Threads;
 
-/// As many columns with no piece.
+/// As many columns with no piece. The one refusal is want of memory.
 pub(crate) fn empty_columns(
     alloc: Global,
     count: usize,
@@ -25,7 +25,7 @@ pub(crate) fn empty_columns(
     Ok(columns)
 }
 
-/// Puts a queue behind each shard's pieces.
+/// Puts a queue behind each shard's pieces. The one refusal is want of memory.
 pub(crate) fn push_pieces(
     alloc: Global,
     columns: Vec<Vec<Vec<Numbered>>>,
@@ -51,7 +51,7 @@ pub(crate) fn push_pieces(
     Ok(done)
 }
 
-/// One queue of a shard's pieces.
+/// One queue of a shard's pieces. The one refusal is want of memory.
 fn whole(alloc: Global, pieces: Vec<Vec<Numbered>>) -> Result<Vec<Numbered>, AllocError>
     ensures { IfOk result (λ queue. queue.items ≡ flat_map (λ q. q.items) pieces.items) }
 {

@@ -2,7 +2,7 @@
 //!
 //! Each line of a script is found to be an event of no session, with its answer, or an event of the table's sessions
 //! ([`route_of`]): a packet is screened and selected here, once. [`planned`] deals the events of the sessions out to the queues of
-//! 1 to 64 shards, and tells the others apart. As many runs of lines as there are workers are looked through at once, each in a
+//! 1 to 64 shards, and tells the others apart. Runs of lines, one for each worker or fewer, are looked through at once, each in a
 //! thread of its own where one can be had, and what was planned of them is put one behind another.
 //!
 //! Modules: `routing` says what a line is, `runs` cuts the lines into runs, `plan` deals them out, `columns` puts the runs'

@@ -99,7 +99,9 @@ fn take_in(
     }
 }
 
-/// The queues and what is told apart of a run of lines. Of all lines' first run the queues get room for what is put behind them.
+/// The queues and what is told apart of a run of lines. The queues get room for a shard's even share of the lines and a 64th of all lines
+/// more, which is a guess: shares differ, and a tick comes to every shard. Those of the first run, behind which the others are put, get it
+/// for all lines. The one refusal is want of memory.
 fn plan_run(
     alloc: Global,
     demux: &Demux,
@@ -181,8 +183,8 @@ fn plan_each<R: Threads + Sync>(
     Ok(plans)
 }
 
-/// The lines of a script: the queue of each shard, and what is told of the events of no session. The lines are cut into as many
-/// runs as there are workers, which are planned at once, and then the runs' queues and what they tell are put one behind another.
+/// The lines of a script: the queue of each shard, and what is told of the events of no session. The lines are cut into
+/// runs, one for each worker or fewer, which are planned at once, and then the runs' queues and what they tell are put one behind another.
 /// The one refusal is want of memory.
 fn plan<R: Threads + Sync>(
     rt: &R,

@@ -12,7 +12,8 @@ pub(crate) struct Run {
     pub(crate) lines: Vec<Line>,
 }
 
-/// Cuts lines into so many runs at most. The one refusal is want of memory.
+/// Cuts lines into runs of one length, of which the first may be shorter: as many as `count`, or fewer where that comes out even. The
+/// one refusal is want of memory.
 pub(crate) fn cut(alloc: Global, lines: Vec<Line>, count: usize) -> Result<Vec<Run>, AllocError>
     requires some { 0 < count }
     requires few { length lines.items ≤ 200000 }

@@ -1,5 +1,5 @@
 -- A run more is put behind those before it.
-use Rattle.std.proofs.Common.{rules, ◌≡◌, ◌∙◌, [], ap, arith, length, map, reverse}
+use Rattle.std.proofs.Common.{rules, ◌∙◌, ap, arith, map, reverse}
 use Rattle.std.proofs.lemmas.List.{length-map, reverse-reverse}
 use Rattle.std.specs.List.{flat_map}
 use Rattle.bfd_plan.specs.Planned.{columns_are}
