@@ -1,11 +1,6 @@
 -- One event more is told.
-use Rattle.std.proofs.Common.{◌≡◌, ◌+◌, ◌++◌, ℕ, List, [], ◌∷◌, length, Option, refl, sym, ap, subst, ◌∙◌, append_assoc, append-nil, arith}
+use Rattle.bfd_alone.proofs.Common.{◌≡◌, ◌+◌, ◌++◌, ℕ, List, [], ◌∷◌, length, Option, refl, sym, ap, subst, ◌∙◌, append_assoc, append-nil, arith, Appends, Outcome, done_line, dropped, event_lines, lines_from, packets_sent, report, ToldUpTo, Telling, TookFront, TookUpTo}
 use Rattle.std.specs.Prelude.{sum_by}
-use Rattle.std.specs.Io.KnownBytes.{Appends}
-use Rattle.bfd_session.specs.Alone.{Outcome}
-use Rattle.bfd_script.specs.Report.{done_line, dropped, event_lines, lines_from, packets_sent, report}
-use Rattle.bfd_alone.specs.Telling.{ToldUpTo, Telling}
-use Rattle.bfd_alone.specs.Written.{TookFront, TookUpTo}
 use Rattle.bfd_alone.proofs.Written.{front_of_longer, took_front, took_of_longer, took_on, took_rest}
 
 -- more was told

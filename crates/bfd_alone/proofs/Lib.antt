@@ -1,3 +1,4 @@
+mod Common
 pub mod Written
 pub mod Routing
 pub mod Events

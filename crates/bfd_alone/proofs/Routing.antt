@@ -1,13 +1,9 @@
 -- One line more is found.
-use Rattle.std.proofs.Common.{◌≡◌, List, [], ◌∷◌, ◌++◌, map, sym, ap, subst, ◌∙◌, append_assoc, append-nil}
-use Rattle.std.specs.List.{AllByRecursion}
+use Rattle.bfd_alone.proofs.Common.{◌≡◌, List, [], ◌∷◌, ◌++◌, map, sym, ap, subst, ◌∙◌, append_assoc, append-nil, AllByRecursion, SessionConfig, Happening, IsMet, happening, happenings, route_is}
 use Rattle.std.proofs.lemmas.List.{map-append}
 use Rattle.bfd_sbfd.specs.declared.reflecting.Reflector.{Reflector}
-use Rattle.bfd_session.specs.declared.event.SessionConfig.{SessionConfig}
 use Rattle.bfd_line.specs.declared.entries.Line.{Line}
-use Rattle.bfd_gather.specs.Happenings.{Happening}
 use Rattle.bfd_plan.specs.declared.routing.Route.{Route}
-use Rattle.bfd_plan.specs.Planned.{IsMet, happening, happenings, route_is}
 
 -- what the lines are, of which those that are left are still to be found
 pub record IsFound (configs : List SessionConfig) (pool : List Reflector) (all left : List Line) (routes : List Route) : Type 0 where

@@ -1,10 +1,8 @@
 -- What a sink took, over several calls.
-use Rattle.std.proofs.Common.{ℕ, List, [], ◌++◌, take, drop, Option, Result, Ok, Err, refl, sym, ap, subst, ◌∙◌, append_assoc}
+use Rattle.bfd_alone.proofs.Common.{ℕ, List, [], ◌++◌, take, drop, Option, Result, Ok, Err, refl, sym, ap, subst, ◌∙◌, append_assoc, Appends, TookUpTo, TookFront}
 use Rattle.std.specs.Prelude.{OnOk}
-use Rattle.std.specs.Io.KnownBytes.{Appends}
 use Rattle.std.proofs.KnownBytes.{Appends-nil, Appends-trans}
 use Rattle.std.proofs.lemmas.List.{take-append-drop}
-use Rattle.bfd_alone.specs.Written.{TookUpTo, TookFront}
 
 -- before the first call nothing was taken
 pub none_taken : (known : Option (List ℕ)) (text : List ℕ) → TookUpTo known known text text

@@ -1,8 +1,6 @@
 -- A box of an engine, in its parts and behind a handle: all three own the same.
-use mir.Syntax.{impl, tnil, dnil}
+use Rattle.bfd_c.proofs.Common.{impl, tnil, dnil, Slot, plain, Bx}
 use mathlib.Core.List.{[]}
-use denote.Signature.{Slot, plain}
-use Rattle.std_alloc.proofs.BoxSteps.Form.{Bx}
 use Rattle.std_heap.specs.contracts.Global as Heap
 use Rattle.std_heap.specs.contracts.GlobalAllocator.TheImpl.{ghosts, dict}
 use Rattle.std_heap.proofs.Global.TheLaws as heap

@@ -1,25 +1,13 @@
 -- Walking rows from the front: what the next row adds.
-use Rattle.std.proofs.Common.{◌≡◌, ℕ, ◌+◌, ◌<◌, Bool, true, false, cond, ◌==◌, ◌&&◌, List, [], ◌∷◌, ◌++◌, length, get_or, take, drop, refl, sym, ◌∙◌, ap, arith, Option, Some, None, add-one, drop-cons, add-zero, suc}
+use Rattle.bfd_demux.proofs.Common.{◌≡◌, ℕ, ◌+◌, ◌<◌, Bool, true, false, cond, ◌==◌, ◌&&◌, List, [], ◌∷◌, ◌++◌, length, get_or, take, drop, refl, sym, ◌∙◌, ap, arith, Option, Some, None, add-one, drop-cons, add-zero, suc, nat_tests, position_from, option_map, option_or, nat_cmp, is_eq, ordering_then, Ordering, Equal, Row, RowKind, Single, Multi, Seek, Reflect, Head, Tail, eq_by_cmp_equiv, and_parts, eqb-true, repeat_after, same_selector, has_addresses}
 use Rattle.std.proofs.Math.Seq.{take-suc}
 use Rattle.std.proofs.lemmas.Grind.{common_steps}
-use Rattle.std.proofs.lemmas.Bool.Decides.{nat_tests}
-use Rattle.std.specs.List.{position_from}
-use Rattle.std.specs.Option.{option_map, option_or}
-use Rattle.std.specs.Ordering.{nat_cmp, is_eq, ordering_then}
-use Rattle.std.specs.declared.cmp.Ordering.{Ordering}
-use Rattle.std.specs.declared.cmp.Ordering.TheVariants.{Equal}
 use Rattle.bfd_packet.specs.declared.arrival.Addr.{Addr}
 use Rattle.bfd_packet.specs.declared.arrival.Addr.TheVariants.{V4, V6}
 use Rattle.bfd_packet.specs.contracts.arrival.AddrOrd.TheImpl as addrs
 use Rattle.bfd_packet.specs.Addresses.{same_addr}
-use Rattle.bfd_demux.specs.declared.row.Row.{Row}
-use Rattle.bfd_demux.specs.declared.row.RowKind.{RowKind}
-use Rattle.bfd_demux.specs.declared.row.RowKind.TheVariants.{Single, Multi, Seek, Reflect, Head, Tail}
 use Rattle.bfd_demux.specs.contracts.row.RowKindOrd.TheImpl as kinds
 use Rattle.bfd_demux.specs.contracts.row.RowKindOrd.TheImpl.Laws.{total-law}
-use Rattle.std.specs.Cmp.{eq_by_cmp_equiv}
-use Rattle.std.proofs.lemmas.Bool.{and_parts, eqb-true}
-use Rattle.bfd_demux.specs.Rows.{repeat_after, same_selector, has_addresses}
 
 -- one more element at the end is found where none before it is
 pub position_from-push : {X : Type 0} (p : X → Bool) (n : ℕ) (xs : List X) (x : X) → position_from p n (xs ++ x ∷ []) ≡ option_or (position_from p n xs) (cond (p x) (Some (n + length xs)) None)

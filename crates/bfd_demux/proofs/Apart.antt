@@ -1,16 +1,7 @@
 -- Where each key comes once, no row is like an earlier one.
-use Rattle.std.proofs.Common.{◌≡◌, ◌≤◌, ℕ, ◌+◌, Bool, true, false, cond, ◌&&◌, List, [], ◌∷◌, ◌++◌, refl, sym, ◌∙◌, ap, arith, None, append_assoc, inl, inr, ◌⊎◌}
-use Rattle.std.specs.List.{filter, position_from}
-use Rattle.std.specs.Ordering.{nat_cmp, is_eq}
-use Rattle.std.specs.Cmp.{tied_itself}
-use Rattle.std.proofs.lemmas.Bool.{eq-eqb}
-use Rattle.bfd_demux.specs.declared.row.Row.{Row}
-use Rattle.bfd_demux.specs.declared.row.RowKind.{RowKind}
+use Rattle.bfd_demux.proofs.Common.{◌≡◌, ◌≤◌, ℕ, ◌+◌, Bool, true, false, cond, ◌&&◌, List, [], ◌∷◌, ◌++◌, refl, sym, ◌∙◌, ap, arith, None, append_assoc, inl, inr, ◌⊎◌, filter, position_from, nat_cmp, is_eq, tied_itself, eq-eqb, Row, RowKind, repeat_after, first_repeat, same_discr, same_addresses, same_selector, has_addresses, discrs_of, addresses_of, how_many, HasKeysOnce}
 use Rattle.bfd_demux.specs.contracts.row.RowKindOrd.TheImpl as kind_order
 use Rattle.bfd_demux.specs.contracts.row.RowKindOrd.TheImpl.Laws.{total-law}
-use Rattle.bfd_demux.specs.Rows.{repeat_after, first_repeat, same_discr, same_addresses, same_selector, has_addresses}
-use Rattle.bfd_demux.specs.Index.{discrs_of, addresses_of}
-use Rattle.bfd_demux.specs.Table.{how_many, HasKeysOnce}
 use Rattle.bfd_demux.proofs.AlikeRows.{nat_level_back, selector_level, selector_level_back, same_selector_is, unaddressed, position_from-none}
 use Rattle.bfd_demux.proofs.Ascending.{how_many-cons}
 use Rattle.bfd_demux.proofs.Once.{how_many-append, how_many-map, how_many-filter, how_many_weaker}

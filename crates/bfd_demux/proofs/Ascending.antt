@@ -1,18 +1,10 @@
 -- Tables in ascending order, and how many of their entries pass a test.
-use Rattle.std.proofs.Common.{◌≡◌, ◌<◌, ◌≤◌, ℕ, ◌+◌, ◌-◌, ◌*◌, ◌^◌, Bool, true, false, cond, List, [], ◌∷◌, length, get_or, refl, sym, ◌∙◌, ap, arith, suc, zero, inl, inr, ◌⊎◌}
+use Rattle.bfd_demux.proofs.Common.{◌≡◌, ◌<◌, ◌≤◌, ℕ, ◌+◌, ◌-◌, ◌*◌, ◌^◌, Bool, true, false, cond, List, [], ◌∷◌, length, get_or, refl, sym, ◌∙◌, ap, arith, suc, zero, inl, inr, ◌⊎◌, leb_tells, sorted_far, sum_by-IsPermutation, filter, list_any, is_eq, is_lt, ordering_reverse, IsTotalOrder, tied_itself, alike_right, Ordering, Less, Equal, Greater, how_many, HasKeysOnce, IsAscending, IsPlaceOf}
 use Rattle.std.proofs.Math.Nat.{pow-le-pow_right, mul-le-mul_left, eq-or-lt_of_le}
-use Rattle.std.proofs.lemmas.Bool.Decides.{leb_tells}
 use Rattle.std.proofs.lemmas.Nat.{pow-add}
 use Rattle.std.proofs.lemmas.List.Sums.{length-filter}
 use Rattle.std.proofs.lemmas.List.MinMax.{ranks_by}
-use Rattle.std.proofs.lemmas.List.Sorted.{sorted_far, sum_by-IsPermutation}
-use Rattle.std.specs.List.{filter, list_any}
 use Rattle.std.specs.List.Sorted.{IsPermutation, IsSortedByKey}
-use Rattle.std.specs.Ordering.{is_eq, is_lt, ordering_reverse}
-use Rattle.std.specs.Cmp.{IsTotalOrder, tied_itself, alike_right}
-use Rattle.std.specs.declared.cmp.Ordering.{Ordering}
-use Rattle.std.specs.declared.cmp.Ordering.TheVariants.{Less, Equal, Greater}
-use Rattle.bfd_demux.specs.Table.{how_many, HasKeysOnce, IsAscending, IsPlaceOf}
 
 pub le_or_lt : (a b : ℕ) → (a ≤ b) ⊎ (b < a)
 le_or_lt a b = elim (leb_tells a b) [ inl le ↦ inl le.1 | inr lt ↦ inr lt.1 ]

@@ -1,3 +1,4 @@
+mod Common
 pub mod AlikeRows
 pub mod Ascending
 pub mod Once

@@ -1,35 +1,16 @@
 -- What a lookup in a sorted table says of the rows.
-use Rattle.std.proofs.Common.{◌≡◌, ◌<◌, ◌≤◌, ℕ, ◌+◌, Bool, true, false, cond, not, ◌==◌, ◌&&◌, ◌||◌, nat_lt, List, [], ◌∷◌, length, map, get_or, refl, sym, ◌∙◌, ap, arith, inl, inr, Option, Some, None, suc, zero}
+use Rattle.bfd_demux.proofs.Common.{◌≡◌, ◌<◌, ◌≤◌, ℕ, ◌+◌, Bool, true, false, cond, not, ◌==◌, ◌&&◌, ◌||◌, nat_lt, List, [], ◌∷◌, length, map, get_or, refl, sym, ◌∙◌, ap, arith, inl, inr, Option, Some, None, suc, zero, nat_tests, list_any-IsPermutation, length_permutation, length-map, filter, list_any, option_map, nat_cmp, is_eq, is_lt, IsTotalOrder, alike_right, Ordering, Less, cases_eq, and_parts, eqb-true, Port, Row, RowKind, Single, Multi, Seek, Reflect, same_selector, has_addresses, IsIndex, names_of, addresses_of, row_name, name_in, name_on, names_before, is_heard, heard_on, how_many, IsAscending, IsPlaceOf, is_of_kind, row_has_discr, knows, is_session, session_index, reflector_index, only, the_one, index_on}
 use Rattle.std.proofs.Math.Nat.{eq-or-lt_of_le}
-use Rattle.std.proofs.lemmas.Bool.Decides.{nat_tests}
-use Rattle.std.proofs.lemmas.List.Sorted.{list_any-IsPermutation, length_permutation}
-use Rattle.std.proofs.lemmas.List.{length-map}
 use Rattle.std.proofs.lemmas.List.Folds.{list_any_at}
 use Rattle.std.proofs.lemmas.List.Elements.{filter_agree}
-use Rattle.std.specs.List.{filter, list_any}
-use Rattle.std.specs.Option.{option_map}
-use Rattle.std.specs.Ordering.{nat_cmp, is_eq, is_lt}
-use Rattle.std.specs.Cmp.{IsTotalOrder, alike_right}
-use Rattle.std.specs.declared.cmp.Ordering.{Ordering}
-use Rattle.std.specs.declared.cmp.Ordering.TheVariants.{Less}
 use Rattle.std.proofs.Math.Bool.{and-false, and-true, or-false}
-use Rattle.std.proofs.lemmas.Bool.{cases_eq, and_parts, eqb-true}
-use Rattle.bfd_packet.specs.declared.arrival.Port.{Port}
 use Rattle.bfd_packet.specs.declared.arrival.Port.TheVariants.{Single as SinglePort, Multi as MultiPort, Echo as EchoPort, Sbfd as SbfdPort, Answer as AnswerPort}
-use Rattle.bfd_demux.specs.declared.row.Row.{Row}
-use Rattle.bfd_demux.specs.declared.row.RowKind.{RowKind}
-use Rattle.bfd_demux.specs.declared.row.RowKind.TheVariants.{Single, Multi, Seek, Reflect}
 use Rattle.bfd_demux.specs.declared.name.Name.{Name}
 use Rattle.bfd_demux.specs.declared.name.Name.TheVariants.{Session, Reflector}
 use Rattle.bfd_demux.specs.contracts.name.NameOrd.TheImpl as name_order
 use Rattle.bfd_demux.specs.contracts.name.NameOrd.TheImpl.Laws as name_laws
 use Rattle.bfd_demux.specs.contracts.row.RowKindOrd.TheImpl as kind_order
 use Rattle.bfd_demux.specs.contracts.row.RowKindOrd.TheImpl.Laws as kind_laws
-use Rattle.bfd_demux.specs.Rows.{same_selector, has_addresses}
-use Rattle.bfd_demux.specs.Index.{IsIndex, names_of, addresses_of, row_name, name_in, name_on, names_before, is_heard, heard_on}
-use Rattle.bfd_demux.specs.Table.{how_many, IsAscending, IsPlaceOf}
-use Rattle.bfd_demux.specs.Selection.{is_of_kind, row_has_discr, knows, is_session, session_index, reflector_index, only, the_one}
-use Rattle.bfd_demux.specs.Parts.{index_on}
 use Rattle.bfd_demux.proofs.AlikeRows.{and_assoc, nat_level, selector_level_back, unaddressed_back}
 use Rattle.bfd_demux.proofs.Ascending.{how_many-cons, how_many-IsPermutation, none_passes, le_or_lt, turned}
 use Rattle.bfd_demux.proofs.Once.{how_many-map, how_many_weaker, discr_once, kind_once, sound_rows}

@@ -1,24 +1,11 @@
 -- In rows without a fault each discriminator and each kind with addresses comes once.
-use Rattle.std.proofs.Common.{◌≡◌, ◌≤◌, ℕ, ◌+◌, Bool, true, false, cond, ◌==◌, ◌&&◌, nat_lt, List, [], ◌∷◌, ◌++◌, length, map, refl, sym, ◌∙◌, ap, arith, Option, Some, None, append_assoc, position}
-use Rattle.std.proofs.lemmas.List.{append-nil}
-use Rattle.std.proofs.lemmas.Bool.Decides.{nat_tests}
-use Rattle.std.specs.List.{filter, position_from}
-use Rattle.std.specs.Option.{option_map, option_or}
-use Rattle.std.specs.Ordering.{is_eq}
-use Rattle.std.proofs.lemmas.Bool.{and_parts, eqb-true}
-use Rattle.bfd_packet.specs.declared.arrival.Port.{Port}
-use Rattle.bfd_demux.specs.declared.row.Row.{Row}
-use Rattle.bfd_demux.specs.declared.row.RowKind.{RowKind}
-use Rattle.bfd_demux.specs.declared.row.RowKind.TheVariants.{Reflect}
+use Rattle.bfd_demux.proofs.Common.{◌≡◌, ◌≤◌, ℕ, ◌+◌, Bool, true, false, cond, ◌==◌, ◌&&◌, nat_lt, List, [], ◌∷◌, ◌++◌, length, map, refl, sym, ◌∙◌, ap, arith, Option, Some, None, append_assoc, position, append-nil, nat_tests, filter, position_from, option_map, option_or, is_eq, and_parts, eqb-true, Port, Row, RowKind, Reflect, repeat_after, first_repeat, same_discr, same_addresses, same_selector, has_addresses, build_fault, early_fault, pair_fault, names_of, addresses_of, row_name, name_in, heard_on, how_many, HasKeysOnce}
 use Rattle.bfd_demux.specs.declared.name.Name.{Name}
 use Rattle.bfd_demux.specs.declared.name.Name.TheVariants.{Session, Reflector}
 use Rattle.bfd_demux.specs.declared.fault.BuildFault.{BuildFault}
 use Rattle.bfd_demux.specs.declared.fault.BuildFault.TheVariants.{SameDiscr, SameAddresses, ZeroDiscr, TooMany}
 use Rattle.bfd_demux.specs.contracts.name.NameOrd.TheImpl as name_order
 use Rattle.bfd_demux.specs.contracts.row.RowKindOrd.TheImpl as kind_order
-use Rattle.bfd_demux.specs.Rows.{repeat_after, first_repeat, same_discr, same_addresses, same_selector, has_addresses, build_fault, early_fault, pair_fault}
-use Rattle.bfd_demux.specs.Index.{names_of, addresses_of, row_name, name_in, heard_on}
-use Rattle.bfd_demux.specs.Table.{how_many, HasKeysOnce}
 use Rattle.bfd_demux.proofs.AlikeRows.{nat_level, selector_level, same_selector_is}
 use Rattle.bfd_demux.proofs.Ascending.{how_many-cons}
 

@@ -1,25 +1,13 @@
 -- What the ports have in common: the tests and the target of each kind of packet.
-use Rattle.std.proofs.Common.{◌≡◌, ◌≢◌, ℕ, Bool, true, false, cond, not, ◌==◌, ◌&&◌, ◌||◌, List, [], ◌∷◌, ◌++◌, refl, sym, ◌∙◌, ap, arith, Option, Some, None, Result, Ok, Err, IfOk, find, if◌then◌else◌, IfSome}
-use Rattle.std.proofs.lemmas.Bool.Decides.{nat_tests}
+use Rattle.bfd_demux.proofs.Common.{◌≡◌, ◌≢◌, ℕ, Bool, true, false, cond, not, ◌==◌, ◌&&◌, ◌||◌, List, [], ◌∷◌, ◌++◌, refl, sym, ◌∙◌, ap, arith, Option, Some, None, Result, Ok, Err, IfOk, find, if◌then◌else◌, IfSome, nat_tests, list_any, option_map, Port, YourUnknown, YourZeroState, NoSession, MultipointYour, NoTail, EchoForm, header_fails, read_of, unless, Row, RowKind, Tail, has_addresses, same_selector, only, the_one, names_on, row_has_discr, row_has_selector, selector_on, tail_selector, is_multipoint, is_by_addresses, is_echo_form, knows, session_index, reflector_index, table_fails, tests_on_header, tests_on_table, first_failing_on, names_session, index_on, target_named, echo_target, first_past_header, first_echo_failing, first_session_failing}
 use Rattle.std.proofs.lemmas.List.Elements.{filter_agree}
-use Rattle.std.specs.List.{list_any}
-use Rattle.std.specs.Option.{option_map}
 use Rattle.bfd_packet.specs.declared.arrival.Arrival.{Arrival}
-use Rattle.bfd_packet.specs.declared.arrival.Port.{Port}
 use Rattle.bfd_packet.specs.declared.arrival.Port.TheVariants.{Single as SinglePort, Multi as MultiPort, Echo as EchoPort, Sbfd as SbfdPort, Answer as AnswerPort}
 use Rattle.bfd_packet.specs.declared.control.Control.{Control}
 use Rattle.bfd_packet.specs.declared.discard.Test.{Test}
-use Rattle.bfd_packet.specs.declared.discard.Test.TheVariants.{YourUnknown, YourZeroState, NoSession, MultipointYour, NoTail, EchoForm}
 use Rattle.bfd_packet.specs.Layout.{fields_of, word_at}
-use Rattle.bfd_packet.specs.HeaderTests.{header_fails, read_of, unless}
 use Rattle.bfd_packet.specs.States.{is_init_or_up}
-use Rattle.bfd_demux.specs.declared.row.Row.{Row}
-use Rattle.bfd_demux.specs.declared.row.RowKind.{RowKind}
-use Rattle.bfd_demux.specs.declared.row.RowKind.TheVariants.{Tail}
 use Rattle.bfd_demux.specs.declared.target.Target.TheVariants.{Session, Reflector, Echo}
-use Rattle.bfd_demux.specs.Rows.{has_addresses, same_selector}
-use Rattle.bfd_demux.specs.Selection.{only, the_one, names_on, row_has_discr, row_has_selector, selector_on, tail_selector, is_multipoint, is_by_addresses, is_echo_form, knows, session_index, reflector_index, table_fails, tests_on_header, tests_on_table, first_failing_on}
-use Rattle.bfd_demux.specs.Parts.{names_session, index_on, target_named, echo_target, first_past_header, first_echo_failing, first_session_failing}
 
 -- tests that agree name the same row
 the_one_agree : (test other : Row → Bool) → ((row : Row) → test row ≡ other row) → (rows : List Row) → the_one test rows ≡ the_one other rows

@@ -1,13 +1,5 @@
 -- What calls without a turn come to, and which call an arrival is.
-use Rattle.std.proofs.Common.{List, Result, Ok, Err, refl, sym, ap, ◌∙◌, append-nil}
-use Rattle.bfd_packet.specs.declared.arrival.Arrival.{Arrival}
-use Rattle.bfd_packet.specs.declared.arrival.Datagram.{Datagram}
-use Rattle.bfd_packet.specs.declared.discard.Test.{Test}
-use Rattle.bfd_rules.specs.declared.outputs.Out.{Out}
-use Rattle.bfd_session.specs.declared.event.Answer.{Answer}
-use Rattle.bfd_engine.specs.Engines.{Shards, Knows}
-use Rattle.bfd_engine.specs.Calls.{IsDone, reflect_act}
-use Rattle.bfd_engine.specs.Inside.{IsReflected}
+use Rattle.bfd_engine.proofs.Common.{List, Result, Ok, Err, refl, sym, ap, ◌∙◌, append-nil, Arrival, Datagram, Test, Out, Answer, Shards, Knows, IsDone, reflect_act, IsReflected}
 
 -- a reflector's packet takes no turn
 pub reflects : (r : Result Datagram Test) (engine : Shards) (k : Knows) (arrival : Arrival) (outs outs2 : List Out) (answer : Answer)

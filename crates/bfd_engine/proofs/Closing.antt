@@ -1,18 +1,6 @@
 -- Shards that are taken out one by one.
-use Rattle.std.proofs.Common.{◌≡◌, ◌≢◌, ◌<◌, ◌≤◌, ◌+◌, ◌*◌, ◌++◌, ◌∷◌, [], ℕ, zero, suc, false, List, length, length-append, set, map, true, Some, slice_get, refl, ap, sym, ◌∙◌, subst, arith}
-use Rattle.std.proofs.lemmas.Option.{slice_get_within, same_Some}
-use mathlib.Core.Logic.{dite}
-use native.Mathlib.Decide.{ℕ_discrete}
-use Rattle.bfd_turn.specs.Lists.{calls, has}
-use Rattle.bfd_turn.specs.Passes.{TableId, AllJoined}
+use Rattle.bfd_engine.proofs.Common.{◌≡◌, ◌≢◌, ◌<◌, ◌≤◌, ◌+◌, ◌*◌, ◌++◌, ◌∷◌, [], ℕ, zero, suc, false, List, length, length-append, set, map, true, Some, slice_get, refl, ap, sym, ◌∙◌, subst, arith, slice_get_within, same_Some, dite, ℕ_discrete, calls, has, TableId, AllJoined, configs_of, Shard, Base, by, configs_in, limit_in, Shards, Held, Knows, IsOf, AllThere, base_at, seen_of, met_word_of, taken_of, made_of, kept_of, EachJoined, IsClosed}
 use Rattle.bfd_turn.specs.Plays.{AllKept}
-use Rattle.bfd_session.specs.Kinds.{configs_of}
-use Rattle.bfd_shard.specs.Shard.{Shard}
-use Rattle.bfd_engine.specs.declared.locked.Base.{Base}
-use Rattle.bfd_engine.specs.Turned.{by, configs_in, limit_in}
-use Rattle.bfd_engine.specs.Engines.{Shards, Held, Knows, IsOf, AllThere, base_at}
-use Rattle.bfd_engine.specs.Calls.{seen_of, met_word_of, taken_of, made_of, kept_of}
-use Rattle.bfd_engine.specs.Passes.{EachJoined, IsClosed}
 use Rattle.bfd_engine.proofs.Places.{K, set_else, last_here, front_here}
 
 next_here : {X : Type 0} (xs ys : List X) (x : X) (i : ℕ) → i ≡ length xs → slice_get (xs ++ x ∷ ys) i ≡ Some x

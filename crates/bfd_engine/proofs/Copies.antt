@@ -1,15 +1,6 @@
 -- A history that is copied from a place on.
-use Rattle.std.proofs.Common.{◌≡◌, ◌≤◌, ◌++◌, ◌∷◌, [], ℕ, zero, suc, List, length, drop, append-nil, set, slice_get, Some, sym, ◌∙◌, subst, Result, Ok, Err, IfErr, refl}
-use Rattle.std.specs.List.{AllByRecursion}
-use Rattle.bfd_session.specs.declared.event.SessionConfig.{SessionConfig}
-use Rattle.bfd_shard.specs.declared.entry.Entry.{Entry}
-use Rattle.bfd_shard.specs.History.{events_of}
-use Rattle.bfd_shard.specs.Shard.{CanHappen, IsHistory}
-use Rattle.bfd_engine.specs.declared.turn.TurnFault.{TurnFault}
+use Rattle.bfd_engine.proofs.Common.{◌≡◌, ◌≤◌, ◌++◌, ◌∷◌, [], ℕ, zero, suc, List, length, drop, append-nil, set, slice_get, Some, sym, ◌∙◌, subst, Result, Ok, Err, IfErr, refl, AllByRecursion, SessionConfig, Entry, events_of, CanHappen, IsHistory, TurnFault, HasLooked, IsSame, OfShard, Knows, met_word, fault_of}
 use Rattle.bfd_engine.specs.declared.turn.TurnFault.TheVariants.{Memory, Full, Spent}
-use Rattle.bfd_engine.specs.Turned.{HasLooked, IsSame, OfShard}
-use Rattle.bfd_engine.specs.Engines.{Knows}
-use Rattle.bfd_engine.specs.Calls.{met_word, fault_of}
 use Rattle.bfd_engine.specs.Reads.{AreGiven, HasRead, IsHistoryUnread, IsUnreadAt}
 use Rattle.bfd_engine.proofs.Places.{K}
 use Rattle.bfd_engine.proofs.Turning.{turned}

@@ -5,7 +5,7 @@ use denote.Param.SendFields.{declared_sync}
 use denote.Struct.Declared as S
 use denote.Struct.Tuple.{tuple_type}
 use mir.Syntax.{Dict}
-use Rattle.std.specs.Prelude.{[], ◌∷◌}
+use Rattle.bfd_engine.proofs.Common.{[], ◌∷◌}
 use Rattle.std.proofs.Crossing.{crosses, Vec-sync}
 use Rattle.bfd_demux.specs.contracts.demux.Demux
 use Rattle.bfd_demux.specs.contracts.demux.Demux.TheInside as inside

@@ -1,14 +1,5 @@
 -- Passes that are cut, shard by shard.
-use Rattle.std.proofs.Common.{◌≡◌, ◌<◌, ◌+◌, ◌++◌, ◌∷◌, [], ℕ, List, length, length-append, set, Option, Some, slice_get, refl, ap, sym, ◌∙◌, subst, arith}
-use Rattle.std.proofs.lemmas.Option.{slice_get_within}
-use mathlib.Core.Logic.{dite}
-use native.Mathlib.Decide.{ℕ_discrete}
-use Rattle.bfd_turn.specs.Lists.{calls}
-use Rattle.bfd_turn.specs.Passes.{TableId, having_made, made_by}
-use Rattle.bfd_engine.specs.Turned.{by}
-use Rattle.bfd_engine.specs.Engines.{Shards, Held, Knows, IsOf, AllThere, AreNew, AreNewAt}
-use Rattle.bfd_engine.specs.Calls.{seen_of, met_word_of, taken_of, made_of, kept_of}
-use Rattle.bfd_engine.specs.Passes.{Parted, IsCut, AreCut, CutsAt}
+use Rattle.bfd_engine.proofs.Common.{◌≡◌, ◌<◌, ◌+◌, ◌++◌, ◌∷◌, [], ℕ, List, length, length-append, set, Option, Some, slice_get, refl, ap, sym, ◌∙◌, subst, arith, slice_get_within, dite, ℕ_discrete, calls, TableId, having_made, made_by, by, Shards, Held, Knows, IsOf, AllThere, AreNew, AreNewAt, seen_of, met_word_of, taken_of, made_of, kept_of, Parted, IsCut, AreCut, CutsAt}
 use Rattle.bfd_engine.proofs.Places.{K, set_here, set_else, last_here, front_here, same_held}
 
 -- one shard is cut

@@ -1,15 +1,5 @@
 -- Passes that are joined, shard by shard.
-use Rattle.std.proofs.Common.{◌≡◌, ◌<◌, ◌≤◌, ◌+◌, ◌++◌, ◌∷◌, [], ℕ, List, length, set, Option, Some, None, slice_get, refl, ap, ap₂, sym, ◌∙◌, subst, arith}
-use Rattle.std.proofs.lemmas.Option.{slice_get_within}
-use mathlib.Core.Logic.{dite}
-use native.Mathlib.Decide.{ℕ_discrete}
-use Rattle.bfd_turn.specs.Lists.{Begins, longer, calls}
-use Rattle.bfd_turn.specs.Passes.{TableId, having_joined}
-use Rattle.bfd_shard.specs.declared.entry.Entry.{Entry}
-use Rattle.bfd_engine.specs.Turned.{by}
-use Rattle.bfd_engine.specs.Engines.{Held, Knows, AllThere}
-use Rattle.bfd_engine.specs.Calls.{seen_of, met_word_of, taken_of, made_of, kept_of, seen_at}
-use Rattle.bfd_engine.specs.Passes.{Joined, IsGlued, AreGlued, GluesAt}
+use Rattle.bfd_engine.proofs.Common.{◌≡◌, ◌<◌, ◌≤◌, ◌+◌, ◌++◌, ◌∷◌, [], ℕ, List, length, set, Option, Some, None, slice_get, refl, ap, ap₂, sym, ◌∙◌, subst, arith, slice_get_within, dite, ℕ_discrete, Begins, longer, calls, TableId, having_joined, Entry, by, Held, Knows, AllThere, seen_of, met_word_of, taken_of, made_of, kept_of, seen_at, Joined, IsGlued, AreGlued, GluesAt}
 use Rattle.bfd_engine.proofs.Places.{K, set_here, set_else}
 
 -- what a shard's lock says of a join

@@ -1,15 +1,6 @@
 -- What a turn adds to what a pass knows.
-use Rattle.std.proofs.Common.{◌≡◌, ◌≢◌, ◌≤◌, ◌+◌, ◌++◌, ◌∷◌, [], ◌==◌, ℕ, List, append_assoc, append-nil, refl, ap, sym, ◌∙◌, subst, arith}
-use mathlib.Core.Logic.{dite}
-use native.Mathlib.Decide.{ℕ_discrete}
+use Rattle.bfd_engine.proofs.Common.{◌≡◌, ◌≢◌, ◌≤◌, ◌+◌, ◌++◌, ◌∷◌, [], ◌==◌, ℕ, List, append_assoc, append-nil, refl, ap, sym, ◌∙◌, subst, arith, dite, ℕ_discrete, eq-eqb, Begins, calls, Entry, ShardEvent, by, entry_of, Knows, seen_at, met_word, taken_at, mine, Turned}
 use Rattle.std.proofs.lemmas.List.Elements.{filter-append}
-use Rattle.std.proofs.lemmas.Bool.{eq-eqb}
-use Rattle.bfd_turn.specs.Lists.{Begins, calls}
-use Rattle.bfd_shard.specs.declared.entry.Entry.{Entry}
-use Rattle.bfd_shard.specs.declared.entry.ShardEvent.{ShardEvent}
-use Rattle.bfd_engine.specs.Turned.{by, entry_of}
-use Rattle.bfd_engine.specs.Engines.{Knows}
-use Rattle.bfd_engine.specs.Calls.{seen_at, met_word, taken_at, mine, Turned}
 
 -- what was seen of each shard begins what is seen of it after
 pub grows : (k l : Knows) (shard r : ℕ) (between new : List Entry) → Turned k l shard between new → Begins (seen_at k r) (seen_at l r)

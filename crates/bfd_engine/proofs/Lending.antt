@@ -1,20 +1,10 @@
 -- A turn that is held, and one that isn't given.
-use Rattle.std.proofs.Common.{◌≡◌, ◌<◌, ◌+◌, ◌++◌, [], ℕ, All, List, set, length-set, Some, None, slice_get, refl, ap, sym, ◌∙◌, subst, arith}
-use Rattle.std.proofs.lemmas.Option.{slice_get_within}
-use Rattle.bfd_turn.specs.Lists.{calls}
-use mathlib.Core.Logic.{dite}
-use native.Mathlib.Decide.{ℕ_discrete}
-use Rattle.bfd_turn.specs.Passes.{TableId, IsBack, WasBusy, WasSpent, having_met}
+use Rattle.bfd_engine.proofs.Common.{◌≡◌, ◌<◌, ◌+◌, ◌++◌, [], ℕ, All, List, set, length-set, Some, None, slice_get, refl, ap, sym, ◌∙◌, subst, arith, slice_get_within, calls, dite, ℕ_discrete, TableId, IsBack, WasBusy, WasSpent, having_met, Base, Entry, by, OfShard, Shards, Held, Knows, IsOf, IsCallers, base_at, seen_of, met_word_of, taken_of, made_of, kept_of}
 use Rattle.bfd_turn.specs.Refusals.{IsRefused}
 use Rattle.bfd_turn.specs.declared.fault.TryFault.{TryFault}
 use Rattle.bfd_turn.specs.declared.fault.TryFault.TheVariants.{Busy as TryBusy, Spent as TrySpent}
-use Rattle.bfd_engine.specs.declared.locked.Base.{Base}
 use Rattle.bfd_turn.specs.Plays.{Adds}
-use Rattle.bfd_shard.specs.declared.entry.Entry.{Entry}
 use Rattle.bfd_engine.specs.declared.holding.HoldFault.TheVariants.{Busy, Spent}
-use Rattle.bfd_engine.specs.Turned.{by, OfShard}
-use Rattle.bfd_engine.specs.Engines.{Shards, Held, Knows, IsOf, IsCallers, base_at}
-use Rattle.bfd_engine.specs.Calls.{seen_of, met_word_of, taken_of, made_of, kept_of}
 use Rattle.bfd_engine.specs.Holds.{HasTaken, HasMet, IsKept}
 use Rattle.bfd_engine.proofs.Places.{K, set_here, set_else, same_held}
 use Rattle.bfd_engine.proofs.Turning.{at_place, elsewhere, same_at}

@@ -1,3 +1,4 @@
+mod Common
 pub mod Rooms
 pub mod Places
 pub mod Sharing

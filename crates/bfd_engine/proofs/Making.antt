@@ -1,10 +1,5 @@
 -- Shards that are made of parts, and taken apart.
-use Rattle.std.proofs.Common.{◌≡◌, ℕ, zero, suc, ◌<◌, List, [], ◌∷◌, ◌++◌, length, map, append-nil, append_assoc, get_or, Some, Result, Ok, IfOk, refl, ap, sym, ◌∙◌, subst, arith}
-use Rattle.std.proofs.lemmas.List.{map-append}
-use Rattle.bfd_session.specs.declared.event.SessionConfig.{SessionConfig}
-use Rattle.bfd_turn.specs.Passes.{TableId}
-use Rattle.bfd_engine.specs.Engines.{Held}
-use Rattle.bfd_engine.specs.Opening.{MayOpen, ArePassed, IsMade, AreMade, AreOpened}
+use Rattle.bfd_engine.proofs.Common.{◌≡◌, ℕ, zero, suc, ◌<◌, List, [], ◌∷◌, ◌++◌, length, map, append-nil, append_assoc, get_or, Some, Result, Ok, IfOk, refl, ap, sym, ◌∙◌, subst, arith, map-append, SessionConfig, TableId, Held, MayOpen, ArePassed, IsMade, AreMade, AreOpened}
 use Rattle.bfd_engine.proofs.Places.{K}
 use Rattle.bfd_engine.proofs.Opening.{more_opened}
 

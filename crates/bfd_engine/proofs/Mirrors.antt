@@ -1,26 +1,14 @@
 -- The reflector that a packet names stands at the place that selection tells.
-use Rattle.std.proofs.Common.{◌≡◌, ◌<◌, ◌==◌, ℕ, zero, suc, Bool, true, false, List, [], ◌∷◌, map, refl, sym, ap, ◌∙◌, subst, arith, Option, None, Some, if◌then◌else◌}
-use Rattle.std.specs.Prelude.{slice_get, nat_lt, unwrap_or}
-use Rattle.std.specs.List.{AllByRecursion}
-use Rattle.std.specs.Option.{option_map}
-use Rattle.std.proofs.lemmas.Bool.Decides.{nat_tests}
-use Rattle.std.proofs.lemmas.Bool.{lt-ltb, le-ltb}
-use Rattle.bfd_packet.specs.declared.arrival.Arrival.{Arrival}
+use Rattle.bfd_engine.proofs.Common.{◌≡◌, ◌<◌, ◌==◌, ℕ, zero, suc, Bool, true, false, List, [], ◌∷◌, map, refl, sym, ap, ◌∙◌, subst, arith, Option, None, Some, if◌then◌else◌, slice_get, nat_lt, unwrap_or, AllByRecursion, option_map, nat_tests, lt-ltb, le-ltb, Arrival, Row, Target, Session, Echo, is_session, names_on, reflector_index, target_on, target_of, the_one, SessionConfig, row_of, row_of_reflector, table_of, IsNamedBy}
 use Rattle.bfd_packet.specs.declared.arrival.Port.{Port}
 use Rattle.bfd_packet.specs.declared.arrival.Port.TheVariants.{Sbfd as SbfdPort}
 use Rattle.bfd_packet.specs.Layout.{fields_of}
-use Rattle.bfd_demux.specs.declared.row.Row.{Row}
-use Rattle.bfd_demux.specs.declared.target.Target.{Target}
-use Rattle.bfd_demux.specs.declared.target.Target.TheVariants.{Session, Reflector as ReflectorAt, Echo}
+use Rattle.bfd_demux.specs.declared.target.Target.TheVariants.{Reflector as ReflectorAt}
 use Rattle.bfd_demux.specs.Table.{how_many}
-use Rattle.bfd_demux.specs.Selection.{is_session, names_on, reflector_index, target_on, target_of, the_one}
 use Rattle.bfd_sbfd.specs.declared.reflecting.Reflector.{Reflector}
 use Rattle.bfd_sbfd.specs.Reflect.{Ascends as PoolAscends}
-use Rattle.bfd_session.specs.declared.event.SessionConfig.{SessionConfig}
-use Rattle.bfd_session.specs.Rows.{row_of, row_of_reflector, table_of}
 use Rattle.bfd_session.proofs.Places.{Standing, AsSession, AsReflector, Found, at_place, found, reflects_below, row_session}
 use Rattle.bfd_session.proofs.Ports.{unreflected}
-use Rattle.bfd_engine.specs.Inside.{IsNamedBy}
 
 none_under : (discr : ℕ) (pool : List Reflector) → AllByRecursion (λ r. discr < r.discr) pool → how_many (reflects_below discr) (map row_of_reflector pool) ≡ 0
 none_under discr [] h = refl

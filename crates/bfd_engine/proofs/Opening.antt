@@ -1,25 +1,10 @@
 -- Shards that are opened one after another.
-use Rattle.std.proofs.Common.{◌≡◌, ℕ, suc, ◌<◌, ◌≤◌, List, [], ◌∷◌, ◌++◌, length, map, length-append, Some, None, slice_get, get_or, Result, Ok, Err, IfOk, refl, ap, sym, ◌∙◌, subst, arith}
-use Rattle.std.specs.List.{AllByRecursion}
+use Rattle.bfd_engine.proofs.Common.{◌≡◌, ℕ, suc, ◌<◌, ◌≤◌, List, [], ◌∷◌, ◌++◌, length, map, length-append, Some, None, slice_get, get_or, Result, Ok, Err, IfOk, refl, ap, sym, ◌∙◌, subst, arith, AllByRecursion, slice_get_within, same_Some, slice_get-get_or, dite, ℕ_discrete, SessionConfig, Running, configs_of, discr_of, IsFit, started, AreFit, table_of, TableId, opened_pass, Row, Base, IsCallers, Shards, Held, AllOf, IsOf, AllThere, IsEngine, configs_at, seen_of, met_word_of, taken_of, made_of, kept_of, IsSorted, IsNewPass, opened_base, IsNewShard, MayOpen, ArePassed, IsOpenedShard, AreOpened, AreShares, share}
 use Rattle.std.proofs.lemmas.List.Elements.{All-nil}
-use Rattle.std.proofs.lemmas.Option.{slice_get_within, same_Some, slice_get-get_or}
-use mathlib.Core.Logic.{dite}
-use native.Mathlib.Decide.{ℕ_discrete}
 use Rattle.bfd_demux.specs.Rows.{build_fault}
-use Rattle.bfd_session.specs.declared.event.SessionConfig.{SessionConfig}
-use Rattle.bfd_session.specs.Kinds.{Running, configs_of, discr_of}
-use Rattle.bfd_session.specs.Step.{IsFit, started}
-use Rattle.bfd_session.specs.Rows.{AreFit, table_of}
 use Rattle.bfd_session.proofs.Starting.{started_configs}
 use Rattle.bfd_sbfd.specs.declared.reflecting.Reflector.{Reflector}
-use Rattle.bfd_turn.specs.Passes.{TableId, opened_pass}
-use Rattle.bfd_demux.specs.declared.row.Row.{Row}
-use Rattle.bfd_engine.specs.declared.locked.Base.{Base}
-use Rattle.bfd_engine.specs.Engines.{IsCallers, Shards, Held, AllOf, IsOf, AllThere, IsEngine, configs_at}
-use Rattle.bfd_engine.specs.Calls.{seen_of, met_word_of, taken_of, made_of, kept_of}
-use Rattle.bfd_engine.specs.Opening.{IsSorted, IsNewPass, opened_base, IsNewShard, MayOpen, ArePassed, IsOpenedShard, AreOpened, AreShares}
 use Rattle.bfd_engine.proofs.Places.{K, last_here, front_here, same_held}
-use Rattle.bfd_shard.specs.Dealing.{share}
 use Rattle.bfd_shard.proofs.Sharing.{few_share, all_share}
 use Rattle.bfd_engine.proofs.Tables.{few_rows, ascending, pool_ascending}
 

@@ -1,12 +1,7 @@
 -- Sessions and reflectors that ascend stand in order.
-use Rattle.std.proofs.Common.{◌<◌, ◌≤◌, ℕ, List, [], ◌∷◌, map, arith}
-use Rattle.std.specs.List.{AllByRecursion}
+use Rattle.bfd_engine.proofs.Common.{◌<◌, ◌≤◌, ℕ, List, [], ◌∷◌, map, arith, AllByRecursion, SessionConfig, discr_of, Ascends, Climbs, IsSorted}
 use Rattle.bfd_sbfd.specs.declared.reflecting.Reflector.{Reflector}
 use Rattle.bfd_sbfd.specs.Reflect.{Ascends as PoolAscends}
-use Rattle.bfd_session.specs.declared.event.SessionConfig.{SessionConfig}
-use Rattle.bfd_session.specs.Kinds.{discr_of}
-use Rattle.bfd_session.specs.Rows.{Ascends}
-use Rattle.bfd_engine.specs.Opening.{Climbs, IsSorted}
 
 module _ {X : Type 0} (discr : X → ℕ) where
   no_lower : (d : ℕ) (xs : List X) → AllByRecursion (λ later. d < discr later) xs → AllByRecursion (λ e. d ≤ e) (map discr xs)

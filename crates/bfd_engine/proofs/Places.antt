@@ -1,11 +1,5 @@
 -- Passes at their places.
-use Rattle.std.proofs.Common.{◌≡◌, ◌≢◌, ℕ, zero, suc, ◌<◌, List, [], ◌∷◌, ◌++◌, length, set, length-set, set-set, Option, Some, None, slice_get, refl, ap, sym, ◌∙◌, arith}
-use Rattle.std.proofs.lemmas.Option.{slice_get_within, same_Some}
-use mathlib.Core.Logic.{dite}
-use native.Mathlib.Decide.{ℕ_discrete}
-use Rattle.bfd_turn.specs.Passes.{TableId}
-use Rattle.bfd_engine.specs.Turned.{OfShard}
-use Rattle.bfd_engine.specs.Engines.{Shards, Held, Knows, IsOf, AllThere, base_at}
+use Rattle.bfd_engine.proofs.Common.{◌≡◌, ◌≢◌, ℕ, zero, suc, ◌<◌, List, [], ◌∷◌, ◌++◌, length, set, length-set, set-set, Option, Some, None, slice_get, refl, ap, sym, ◌∙◌, arith, slice_get_within, same_Some, dite, ℕ_discrete, TableId, OfShard, Shards, Held, Knows, IsOf, AllThere, base_at}
 
 module _ {X : Type 0} where
   pub set_here : (xs : List X) (i : ℕ) (x : X) → i < length xs → slice_get (set xs i x) i ≡ Some x

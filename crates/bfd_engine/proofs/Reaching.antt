@@ -1,26 +1,13 @@
 -- An arrival that fails no test of the table is for a session that takes it, or for the reflector that it names.
-use Rattle.std.proofs.Common.{◌≡◌, ◌<◌, ◌/◌, ◌%◌, ℕ, zero, suc, List, [], ◌∷◌, length, map, sym, ap, ◌∙◌, subst, None, Some}
-use Rattle.std.specs.Prelude.{slice_get, unwrap_or}
-use Rattle.bfd_packet.specs.declared.arrival.Arrival.{Arrival}
-use Rattle.bfd_demux.specs.declared.target.Target.{Target}
-use Rattle.bfd_demux.specs.declared.target.Target.TheVariants.{Session, Reflector as ReflectorAt, Echo}
-use Rattle.bfd_demux.specs.Selection.{first_header_failing, target_of}
+use Rattle.bfd_engine.proofs.Common.{◌≡◌, ◌<◌, ◌/◌, ◌%◌, ℕ, zero, suc, List, [], ◌∷◌, length, map, sym, ap, ◌∙◌, subst, None, Some, slice_get, unwrap_or, Arrival, Target, Session, Echo, first_header_failing, target_of, SessionConfig, Event, Running, configs_of, started, Ascends, table_of, share, IsTaken, Shards, configs_at, Arrives}
+use Rattle.bfd_demux.specs.declared.target.Target.TheVariants.{Reflector as ReflectorAt}
 use Rattle.bfd_sbfd.specs.declared.reflecting.Reflector.{Reflector}
 use Rattle.bfd_sbfd.specs.Reflect.{Ascends as PoolAscends}
-use Rattle.bfd_session.specs.declared.event.SessionConfig.{SessionConfig}
-use Rattle.bfd_session.specs.declared.event.Event.{Event}
 use Rattle.bfd_session.specs.declared.event.Event.TheVariants.{Packet, Returned}
-use Rattle.bfd_session.specs.Kinds.{Running, configs_of}
-use Rattle.bfd_session.specs.Step.{started}
-use Rattle.bfd_session.specs.Rows.{Ascends, table_of}
 use Rattle.bfd_session.specs.Reaching.{Stands, Reaches}
 use Rattle.bfd_session.proofs.Reach.{reaches}
 use Rattle.bfd_session.proofs.Starting.{started_configs}
-use Rattle.bfd_shard.specs.Dealing.{share}
-use Rattle.bfd_shard.specs.Shard.{IsTaken}
 use Rattle.bfd_shard.proofs.Sharing.{there}
-use Rattle.bfd_engine.specs.Engines.{Shards, configs_at}
-use Rattle.bfd_engine.specs.Inside.{Arrives}
 use Rattle.bfd_engine.proofs.Mirrors.{Mirrored, mirrored}
 
 config_at : (ss : List Running) (k : ℕ) (s : Running) → slice_get ss k ≡ Some s → slice_get (configs_of ss) k ≡ Some s.config

@@ -1,12 +1,5 @@
 -- The room that an event asks for, by a shard's configurations and by its sessions.
-use Rattle.std.proofs.Common.{◌≡◌, ◌*◌, ◌∙◌, ℕ, List, sym, ap, refl, Option, Some}
-use Rattle.std.proofs.lemmas.List.{length-map}
-use Rattle.bfd_session.specs.Kinds.{Running, configs_of}
-use Rattle.bfd_shard.specs.declared.entry.ShardEvent.{ShardEvent}
-use Rattle.bfd_shard.specs.declared.entry.ShardEvent.TheVariants.{Own, Tick}
-use Rattle.bfd_shard.specs.Shard.{room_for}
-use Rattle.bfd_engine.specs.declared.locked.Base.{Base}
-use Rattle.bfd_engine.specs.Turned.{configs_in, room_in}
+use Rattle.bfd_engine.proofs.Common.{◌≡◌, ◌*◌, ◌∙◌, ℕ, List, sym, ap, refl, Option, Some, length-map, Running, configs_of, ShardEvent, Own, Tick, room_for, Base, configs_in, room_in}
 
 room_is : (ss : List Running) (e : ShardEvent) → room_in (configs_of ss) e ≡ room_for ss e
 room_is ss (Own place moment event) = refl

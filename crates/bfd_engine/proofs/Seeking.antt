@@ -1,21 +1,11 @@
 -- What a binary search of the discriminators finds is the session's place.
-use Rattle.std.proofs.Common.{◌≡◌, ◌<◌, ◌≤◌, ◌==◌, ◌+◌, ℕ, zero, suc, Bool, true, false, List, [], ◌∷◌, length, map, get_or, refl, sym, ap, ◌∙◌, subst, arith, inl, inr, None, Some, Result, Ok, Err, MatchResult, if◌then◌else◌}
-use Rattle.std.specs.Prelude.{slice_get, unwrap_or}
-use Rattle.std.specs.List.{AllByRecursion, position_from}
+use Rattle.bfd_engine.proofs.Common.{◌≡◌, ◌<◌, ◌≤◌, ◌==◌, ◌+◌, ℕ, zero, suc, Bool, true, false, List, [], ◌∷◌, length, map, get_or, refl, sym, ap, ◌∙◌, subst, arith, inl, inr, None, Some, Result, Ok, Err, MatchResult, if◌then◌else◌, slice_get, unwrap_or, AllByRecursion, position_from, eq-eqb, ne_eqb, length-map, SessionConfig, Event, discr_of, Ascends, place_of, CanTake, IsTaken}
 use Rattle.std.specs.List.Sorted.{IsBinarySearchResult}
 use Rattle.std.specs.Ordering.{nat_cmp}
 use Rattle.std.proofs.Math.Nat.{eq-or-lt_of_le}
-use Rattle.std.proofs.lemmas.Bool.{eq-eqb, ne_eqb}
 use Rattle.std.proofs.lemmas.Iterator.Adapters.{position_from-zero}
 use Rattle.std.proofs.lemmas.List.Sorted.{searched}
-use Rattle.std.proofs.lemmas.List.{length-map}
-use Rattle.bfd_session.specs.declared.event.SessionConfig.{SessionConfig}
-use Rattle.bfd_session.specs.declared.event.Event.{Event}
-use Rattle.bfd_session.specs.Kinds.{discr_of}
-use Rattle.bfd_session.specs.Rows.{Ascends, place_of}
-use Rattle.bfd_session.specs.Step.{CanTake}
 use Rattle.bfd_sbfd.proofs.Searching.{differs}
-use Rattle.bfd_shard.specs.Shard.{IsTaken}
 
 -- what is true of each discriminator is true of the one at a place
 each_at : (P : ℕ → Type 0) (cs : List SessionConfig) (k : ℕ) → AllByRecursion (λ c. P (discr_of c)) cs → k < length cs → P (get_or (map discr_of cs) k 0)

@@ -1,8 +1,5 @@
 -- A list that is dealt out in turn, one element after another.
-use Rattle.std.proofs.Common.{◌≡◌, ◌≢◌, ◌==◌, ℕ, suc, ◌+◌, ◌-◌, ◌<◌, List, [], ◌∷◌, ◌++◌, refl, ap, sym, ◌∙◌, append_assoc, append-nil, arith, if◌then◌else◌}
-use Rattle.std.specs.Prelude.{nat_lt}
-use Rattle.std.proofs.lemmas.Bool.Decides.{nat_tests}
-use Rattle.bfd_shard.specs.Dealing.{share}
+use Rattle.bfd_engine.proofs.Common.{◌≡◌, ◌≢◌, ◌==◌, ℕ, suc, ◌+◌, ◌-◌, ◌<◌, List, [], ◌∷◌, ◌++◌, refl, ap, sym, ◌∙◌, append_assoc, append-nil, arith, if◌then◌else◌, nat_lt, nat_tests, share}
 
 module _ {A : Type 0} where
   share_none : (n c : ℕ) (xs : List A) → xs ≡ [] → share n c xs ≡ []

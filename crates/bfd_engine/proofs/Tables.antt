@@ -1,21 +1,12 @@
 -- Rows that make a table differ in their discriminators.
-use Rattle.std.proofs.Common.{◌≡◌, ◌<◌, ◌≤◌, ◌==◌, ◌++◌, ◌+◌, ℕ, Bool, true, false, List, [], ◌∷◌, length, map, refl, Option, None, Some, arith, if◌then◌else◌}
-use Rattle.std.specs.Prelude.{nat_lt, position}
-use Rattle.std.specs.List.{position_from, AllByRecursion}
-use Rattle.std.specs.Option.{option_map, option_or}
-use Rattle.std.proofs.lemmas.Bool.Decides.{nat_tests}
-use Rattle.bfd_demux.specs.declared.row.Row.{Row}
+use Rattle.bfd_engine.proofs.Common.{◌≡◌, ◌<◌, ◌≤◌, ◌==◌, ◌++◌, ◌+◌, ℕ, Bool, true, false, List, [], ◌∷◌, length, map, refl, Option, None, Some, arith, if◌then◌else◌, nat_lt, position, position_from, AllByRecursion, option_map, option_or, nat_tests, Row, SessionConfig, discr_of, Ascends, row_of, rows_of, row_of_reflector, table_of, Climbs}
 use Rattle.bfd_demux.specs.declared.fault.BuildFault.{BuildFault}
 use Rattle.bfd_demux.specs.declared.fault.BuildFault.TheVariants.{SameDiscr, ZeroDiscr, TooMany}
 use Rattle.bfd_demux.proofs.Once.{unmapped}
 use Rattle.bfd_demux.specs.Rows.{same_discr, repeat_after, first_repeat, pair_fault, early_fault, build_fault}
-use Rattle.bfd_session.specs.declared.event.SessionConfig.{SessionConfig}
-use Rattle.bfd_session.specs.Kinds.{discr_of}
-use Rattle.bfd_session.specs.Rows.{Ascends, row_of, rows_of, row_of_reflector, table_of}
 use Rattle.bfd_session.proofs.Tables.{Apart, Fresh}
 use Rattle.bfd_sbfd.specs.declared.reflecting.Reflector.{Reflector}
 use Rattle.bfd_sbfd.specs.Reflect.{Ascends as PoolAscends}
-use Rattle.bfd_engine.specs.Opening.{Climbs}
 
 or_first : {A : Type 0} (a b : Option A) → option_or a b ≡ None → a ≡ None
 or_first None b e = refl

@@ -1,18 +1,7 @@
 -- What an event of a shard did, of its history.
-use Rattle.std.proofs.Common.{◌≡◌, ◌∙◌, ◌++◌, ◌∷◌, [], ℕ, List, ap, ap₂, sym, subst}
-use Rattle.bfd_rules.specs.declared.outputs.Out.{Out}
+use Rattle.bfd_engine.proofs.Common.{◌≡◌, ◌∙◌, ◌++◌, ◌∷◌, [], ℕ, List, ap, ap₂, sym, subst, Out, Answer, SessionConfig, Running, configs_of, Entry, ShardEvent, Own, Tick, events_of, last_tick, runs, outcome_of, Shard, IsExact, IsShard, IsOver, NoneDue, calls, by, OfShard, entry_of, configs_in, given_after, HasTurned, IsTimely}
 use Rattle.bfd_session.specs.Alone.{Outcome}
-use Rattle.bfd_session.specs.declared.event.Answer.{Answer}
-use Rattle.bfd_session.specs.declared.event.SessionConfig.{SessionConfig}
-use Rattle.bfd_session.specs.Kinds.{Running, configs_of}
-use Rattle.bfd_shard.specs.declared.entry.Entry.{Entry}
-use Rattle.bfd_shard.specs.declared.entry.ShardEvent.{ShardEvent}
-use Rattle.bfd_shard.specs.declared.entry.ShardEvent.TheVariants.{Own, Tick}
 use Rattle.bfd_shard.specs.Expired.{expired, forgotten}
-use Rattle.bfd_shard.specs.History.{events_of, last_tick, runs, outcome_of}
-use Rattle.bfd_shard.specs.Shard.{Shard, IsExact, IsShard, IsOver, NoneDue}
-use Rattle.bfd_turn.specs.Lists.{calls}
-use Rattle.bfd_engine.specs.Turned.{by, OfShard, entry_of, configs_in, given_after, HasTurned, IsTimely}
 
 pub timely : (old new : Shard) (caller : ℕ) (event : ShardEvent) (configs : List SessionConfig) (seen : List Entry) → IsShard old → IsShard new
     → configs_of old.sessions ≡ configs → configs_of new.sessions ≡ configs_of old.sessions → new.journal ≡ old.journal ++ entry_of caller event ∷ []

@@ -1,20 +1,8 @@
 -- What one turn of a shard leaves of a caller's passes.
-use Rattle.std.proofs.Common.{◌≡◌, ◌≢◌, ℕ, List, [], ◌∷◌, ◌++◌, length, set, Option, Some, Result, Ok, Err, IfOk, IfErr, OnErr, slice_get, refl, ap, sym, ◌∙◌, subst, append-nil, arith}
-use Rattle.std.proofs.lemmas.Option.{slice_get_within}
-use mathlib.Core.Logic.{dite}
-use native.Mathlib.Decide.{ℕ_discrete}
+use Rattle.bfd_engine.proofs.Common.{◌≡◌, ◌≢◌, ℕ, List, [], ◌∷◌, ◌++◌, length, set, Option, Some, Result, Ok, Err, IfOk, IfErr, OnErr, slice_get, refl, ap, sym, ◌∙◌, subst, append-nil, arith, slice_get_within, dite, ℕ_discrete, Out, Answer, Entry, ShardEvent, calls, TurnFault, by, entry_of, configs_in, limit_in, given_after, IsSame, HasTurned, HasLooked, IsTurnCause, Shards, Held, Knows, base_at, configs_at, seen_of, seen_at, met_word_of, taken_of, made_of, kept_of, Turned, IsCause, fault_of, IsCall, IsFailed}
 use Rattle.bfd_rules.specs.EventFrame.{Outputs}
-use Rattle.bfd_rules.specs.declared.outputs.Out.{Out}
-use Rattle.bfd_session.specs.declared.event.Answer.{Answer}
-use Rattle.bfd_shard.specs.declared.entry.Entry.{Entry}
-use Rattle.bfd_shard.specs.declared.entry.ShardEvent.{ShardEvent}
-use Rattle.bfd_turn.specs.Lists.{calls}
-use Rattle.bfd_engine.specs.declared.turn.TurnFault.{TurnFault}
 use Rattle.bfd_engine.specs.declared.turn.TurnFault.TheVariants.{Memory, Full, Spent}
 use Rattle.bfd_engine.specs.declared.fault.EngineFault.{EngineFault}
-use Rattle.bfd_engine.specs.Turned.{by, entry_of, configs_in, limit_in, given_after, IsSame, HasTurned, HasLooked, IsTurnCause}
-use Rattle.bfd_engine.specs.Engines.{Shards, Held, Knows, base_at, configs_at}
-use Rattle.bfd_engine.specs.Calls.{seen_of, seen_at, met_word_of, taken_of, made_of, kept_of, Turned, IsCause, fault_of, IsCall, IsFailed}
 use Rattle.bfd_engine.proofs.Places.{K, set_here, set_else}
 
 pub at_place : (k l : Knows) (s : ℕ) (p q : K) → slice_get k.1 s ≡ Some (Some p) → l ≡ (k.0, set k.1 s (Some q), k.2) → slice_get l.1 s ≡ Some (Some q)

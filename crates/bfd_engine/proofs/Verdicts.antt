@@ -1,38 +1,12 @@
 -- The answer to an arrival tells the first test that it fails.
-use Rattle.std.proofs.Common.{◌≡◌, ◌<◌, ◌+◌, ◌/◌, ◌%◌, ◌++◌, ◌∷◌, [], ℕ, zero, suc, List, length, Option, None, Some, Result, Ok, Err, IfOk, refl, sym, ap, ◌∙◌}
-use Rattle.std.specs.Prelude.{slice_get}
-use Rattle.std.specs.Option.{option_or}
+use Rattle.bfd_engine.proofs.Common.{◌≡◌, ◌<◌, ◌+◌, ◌/◌, ◌%◌, ◌++◌, ◌∷◌, [], ℕ, zero, suc, List, length, Option, None, Some, Result, Ok, Err, IfOk, refl, sym, ap, ◌∙◌, slice_get, option_or, Arrival, Datagram, Test, Out, Target, Session, Echo, first_table_failing, reflect, Answer, Event, SessionConfig, coming_to, Running, table_of, reply, Entry, ShardEvent, Own, events_of, last_tick, outcome_of, own_outcome, run, runs, runs_from, IsTaken, entry_of, Shards, Knows, configs_at, IsCall, IsDone, coming_act, reflect_act, seen_at, Arrives, IsAnswered, packet_answer, return_answer, arrival_judged}
 use Rattle.std.specs.Result.{result_err}
-use Rattle.bfd_packet.specs.declared.arrival.Arrival.{Arrival}
-use Rattle.bfd_packet.specs.declared.arrival.Datagram.{Datagram}
-use Rattle.bfd_packet.specs.declared.discard.Test.{Test}
-use Rattle.bfd_rules.specs.declared.outputs.Out.{Out}
-use Rattle.bfd_demux.specs.declared.target.Target.{Target}
-use Rattle.bfd_demux.specs.declared.target.Target.TheVariants.{Session, Reflector as ReflectorAt, Echo}
-use Rattle.bfd_demux.specs.Selection.{first_table_failing}
-use Rattle.bfd_sbfd.specs.Reflect.{reflect}
-use Rattle.bfd_session.specs.declared.event.Answer.{Answer}
-use Rattle.bfd_session.specs.declared.event.Event.{Event}
+use Rattle.bfd_demux.specs.declared.target.Target.TheVariants.{Reflector as ReflectorAt}
 use Rattle.bfd_session.specs.declared.event.Event.TheVariants.{Packet, Returned}
-use Rattle.bfd_session.specs.declared.event.SessionConfig.{SessionConfig}
 use Rattle.bfd_session.specs.Alone.{effective}
-use Rattle.bfd_session.specs.Arrivals.{coming_to}
 use Rattle.bfd_session.specs.Discards.{answer_by, first_discarding, first_own_failing, judging}
-use Rattle.bfd_session.specs.Kinds.{Running}
-use Rattle.bfd_session.specs.Rows.{table_of}
-use Rattle.bfd_session.specs.Step.{reply}
 use Rattle.bfd_session.proofs.Discarding.{discards_first, reply_first}
-use Rattle.bfd_shard.specs.declared.entry.Entry.{Entry}
-use Rattle.bfd_shard.specs.declared.entry.ShardEvent.{ShardEvent}
-use Rattle.bfd_shard.specs.declared.entry.ShardEvent.TheVariants.{Own}
-use Rattle.bfd_shard.specs.History.{events_of, last_tick, outcome_of, own_outcome, run, runs, runs_from}
-use Rattle.bfd_shard.specs.Shard.{IsTaken}
 use Rattle.bfd_engine.specs.declared.fault.EngineFault.{EngineFault}
-use Rattle.bfd_engine.specs.Turned.{entry_of}
-use Rattle.bfd_engine.specs.Engines.{Shards, Knows, configs_at}
-use Rattle.bfd_engine.specs.Calls.{IsCall, IsDone, coming_act, reflect_act, seen_at}
-use Rattle.bfd_engine.specs.Inside.{Arrives}
-use Rattle.bfd_engine.specs.Judging.{IsAnswered, packet_answer, return_answer, arrival_judged}
 use Rattle.bfd_engine.proofs.Reaching.{dealt_event}
 
 -- a session stands where its configuration does

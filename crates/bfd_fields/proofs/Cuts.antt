@@ -1,11 +1,7 @@
 -- Where a text is cut at a byte.
-use Rattle.std.proofs.Common.{◌≡◌, ℕ, ◌+◌, ◌<◌, ◌≤◌, ◌==◌, not, cond, Bool, true, false, List, [], ◌∷◌, ◌++◌, length, map, take, drop, refl, ap, ◌∙◌, sym, arith, subst, zero, suc}
-use Rattle.std.specs.Prelude.{slice_index}
-use Rattle.std.specs.List.{onto_first, position_or_len, slice_split}
-use Rattle.std.proofs.lemmas.List.{append-nil, length-drop}
+use Rattle.bfd_fields.proofs.Common.{◌≡◌, ℕ, ◌+◌, ◌<◌, ◌≤◌, ◌==◌, not, cond, Bool, true, false, List, [], ◌∷◌, ◌++◌, length, map, take, drop, refl, ap, ◌∙◌, sym, arith, subst, zero, suc, slice_index, onto_first, position_or_len, slice_split, append-nil, length-drop, false_from_ne_true}
 use Rattle.std.proofs.lemmas.List.Splits.{slice_split_first}
 use Rattle.std.proofs.lemmas.List.Sums.{position_or_len_is, prefix_len-le-length}
-use Rattle.std.proofs.lemmas.Bool.{false_from_ne_true}
 use Rattle.memchr.specs.Find.{NoneBefore, Nowhere, Passes, is_byte}
 
 -- ---- the first such byte

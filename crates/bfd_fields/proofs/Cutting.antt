@@ -1,14 +1,9 @@
 -- The four parts of an address, cut off one after another.
-use Rattle.std.proofs.Common.{◌≡◌, ℕ, ◌+◌, ◌*◌, ◌==◌, cond, Bool, true, false, List, [], ◌∷◌, Result, Ok, Err, refl, ap, sym, arith}
-use Rattle.std.proofs.lemmas.Bool.Decides.{nat_tests}
-use Rattle.std.specs.Char.{is_ascii_digit}
-use Rattle.std.specs.List.{list_all, onto_first, slice_split}
+use Rattle.bfd_fields.proofs.Common.{◌≡◌, ℕ, ◌+◌, ◌*◌, ◌==◌, cond, Bool, true, false, List, [], ◌∷◌, Result, Ok, Err, refl, ap, sym, arith, nat_tests, is_ascii_digit, list_all, onto_first, slice_split, number_in, dotted_of, octet_of, part_of, quad_of}
 use Rattle.bfd_fields.specs.declared.fault.LineFault.{LineFault}
 use Rattle.bfd_fields.specs.declared.fault.LineFault.TheVariants.{BadAddress}
-use Rattle.bfd_fields.specs.Fields.{number_in}
 use Rattle.bfd_fields.specs.Gives.{◌>>=◌}
 use Rattle.bfd_packet.specs.declared.arrival.Addr.TheVariants.{V4}
-use Rattle.bfd_fields.specs.Values.{dotted_of, octet_of, part_of, quad_of}
 
 abbrev is_dot : ℕ → Bool
 is_dot byte = byte == 46

@@ -1,13 +1,9 @@
 -- Hexadecimal digits that are decoded into room of their own size.
-use Rattle.std.proofs.Common.{◌≡◌, ℕ, ◌*◌, ◌≤◌, ◌==◌, false, List, ◌∷◌, length, take, Ok, refl, arith}
-use Rattle.std.proofs.lemmas.Bool.Decides.{nat_tests}
-use Rattle.std.specs.Prelude.{codes}
+use Rattle.bfd_fields.proofs.Common.{◌≡◌, ℕ, ◌*◌, ◌≤◌, ◌==◌, false, List, ◌∷◌, length, take, Ok, refl, arith, nat_tests, codes, decode_sized, decoded, payload_of}
 use Rattle.std.specs.Str.{bytes_eq}
 use Rattle.std.proofs.Math.Bool.{and-false}
-use Rattle.hex.specs.Hex.{decode_sized}
 use Rattle.hex.proofs.HexLemmas.{decode_sized-twice}
 use Rattle.bfd_fields.specs.Gives.{◌>>=◌}
-use Rattle.bfd_fields.specs.Values.{decoded, payload_of}
 
 no_dash : (field : List ℕ) → 2 ≤ length field → bytes_eq field (codes "-") ≡ false
 no_dash (a ∷ b ∷ field) some = and-false (a == 45)

@@ -1,13 +1,9 @@
 -- The first line of a text ends at its first LF.
-use Rattle.std.proofs.Common.{◌≡◌, ℕ, ◌+◌, ◌<◌, ◌==◌, not, cond, Bool, true, false, List, [], ◌∷◌, length, take, drop, refl, ap, ◌∙◌, arith, suc, subst, ◌≤◌}
-use Rattle.std.specs.Prelude.{slice_index}
-use Rattle.std.specs.List.{prefix_len}
+use Rattle.bfd_fields.proofs.Common.{◌≡◌, ℕ, ◌+◌, ◌<◌, ◌==◌, not, cond, Bool, true, false, List, [], ◌∷◌, length, take, drop, refl, ap, ◌∙◌, arith, suc, subst, ◌≤◌, slice_index, prefix_len, false_from_ne_true, lines_of, onto_line}
 use Rattle.memchr.specs.Find.{NoneBefore, Nowhere, Passes}
 use Rattle.std.proofs.Math.Seq.{take-length}
 use Rattle.std.proofs.Math.ListN.{drop_of_length-le}
 use Rattle.std.proofs.lemmas.List.Sums.{prefix_len_is}
-use Rattle.std.proofs.lemmas.Bool.{false_from_ne_true}
-use Rattle.bfd_fields.specs.Fields.{lines_of, onto_line}
 
 -- a byte before the first LF
 abbrev in_line : ℕ → Bool

@@ -1,6 +1,5 @@
 -- The front of bytes is bytes.
-use Rattle.std.proofs.Common.{ℕ, List, [], ◌∷◌, take, arith, suc, zero}
-use Rattle.hex.specs.Hex.{IsBytes}
+use Rattle.bfd_fields.proofs.Common.{ℕ, List, [], ◌∷◌, take, arith, suc, zero, IsBytes}
 
 pub bytes_front : (m : ℕ) (xs : List ℕ) → IsBytes xs → IsBytes (take m xs)
 bytes_front zero xs h i = omega arith

@@ -1,11 +1,6 @@
 -- Spaces that are marked by bits.
-use Rattle.std.proofs.Common.{◌≡◌, ℕ, zero, suc, ◌+◌, ◌-◌, ◌*◌, ◌/◌, ◌^◌, ◌<◌, ◌≤◌, ◌==◌, cond, not, Bool, true, false, List, [], ◌∷◌, length, map, take, drop, refl, ap, sym, subst, ◌∙◌, arith}
-use Rattle.std.proofs.lemmas.List.{drop-map, drop-take, length-take-le}
+use Rattle.bfd_fields.proofs.Common.{◌≡◌, ℕ, zero, suc, ◌+◌, ◌-◌, ◌*◌, ◌/◌, ◌^◌, ◌<◌, ◌≤◌, ◌==◌, cond, not, Bool, true, false, List, [], ◌∷◌, length, map, take, drop, refl, ap, sym, subst, ◌∙◌, arith, drop-map, drop-take, length-take-le, trailing_mask_l, position_or_len, mask_l, count_trailing_zeros}
 use Rattle.std.proofs.lemmas.Nat.{shr-shr}
-use Rattle.std.proofs.lemmas.Simd.{trailing_mask_l}
-use Rattle.std.specs.List.{position_or_len}
-use Rattle.std.specs.Simd.Lanes.{mask_l}
-use lib.Count.{count_trailing_zeros}
 use Rattle.bfd_fields.proofs.Cuts.{near}
 
 none : (n : ℕ) → 0 / 2 ^ n ≡ 0

@@ -1,17 +1,10 @@
 -- Hexadecimal digits that are read and written side by side.
-use Rattle.std.proofs.Common.{inl, inr, ◌++◌, ◌≡◌, ℕ, zero, suc, ◌+◌, ◌-◌, ◌*◌, ◌/◌, ◌%◌, ◌^◌, ◌<◌, ◌==◌, ◌&&◌, ◌||◌, cond, Bool, true, false, List, [], ◌∷◌, length, map, replicate, get_or, slice_index, bit_and, bit_or, eqb, eqb-true, ltb, Option, Some, None, unwrap_or, Result, Ok, Err, take, drop, refl, ap, sym, ◌∙◌, arith}
-use Rattle.std.proofs.lemmas.Bool.{and_parts, cases_eq, cases_lt}
-use Rattle.std.proofs.lemmas.Bool.Decides.{nat_tests}
-use Rattle.std.proofs.lemmas.List.{append_assoc, append-nil, take-append-drop}
-use Rattle.std.proofs.lemmas.Simd.{mask_l-mod}
-use Rattle.std.specs.List.{slice_split}
-use Rattle.std.specs.Simd.Lanes.{Each1, chunk, mask_l, sel_l, top, zip2}
-use Rattle.hex.specs.Hex.{◌>>=◌, decode_pairs, decode_sized, digit_or_error, encode_lower, encode_with, hex_digit_value, lower_digits, pair_value, value_at}
+use Rattle.bfd_fields.proofs.Common.{inl, inr, ◌++◌, ◌≡◌, ℕ, zero, suc, ◌+◌, ◌-◌, ◌*◌, ◌/◌, ◌%◌, ◌^◌, ◌<◌, ◌==◌, ◌&&◌, ◌||◌, cond, Bool, true, false, List, [], ◌∷◌, length, map, replicate, get_or, slice_index, bit_and, bit_or, eqb, eqb-true, ltb, Option, Some, None, unwrap_or, Result, Ok, Err, take, drop, refl, ap, sym, ◌∙◌, arith, and_parts, cases_eq, cases_lt, nat_tests, append_assoc, append-nil, take-append-drop, mask_l-mod, slice_split, Each1, chunk, mask_l, sel_l, top, zip2, decode_pairs, decode_sized, digit_or_error, encode_lower, encode_with, hex_digit_value, lower_digits, pair_value, value_at, address_of, dotted_of}
+use Rattle.hex.specs.Hex.{◌>>=◌}
 use Rattle.hex.specs.declared.error.FromHexError.{FromHexError}
 use Rattle.hex.proofs.HexLemmas.{decode_sized-odd, decode_sized-other}
 use Rattle.hex.proofs.Pairs.{cons_byte, decode_pairs-ok_pair, decode_sized-pairs}
 use Rattle.bfd_fields.specs.Spelling.{hex_field}
-use Rattle.bfd_fields.specs.Values.{address_of, dotted_of}
 
 -- what passes for each number below n
 all_below : (ℕ → Bool) → ℕ → Bool

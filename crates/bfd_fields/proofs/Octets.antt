@@ -1,16 +1,8 @@
 -- The numbers of an address, digit by digit.
-use Rattle.std.proofs.Common.{◌≡◌, ℕ, ◌+◌, ◌-◌, ◌*◌, ◌/◌, ◌%◌, ◌<◌, ◌≤◌, ◌==◌, cond, Bool, true, false, List, [], ◌∷◌, length, take, drop, Ok, Err, refl, ap, ◌∙◌, sym, arith}
+use Rattle.bfd_fields.proofs.Common.{◌≡◌, ℕ, ◌+◌, ◌-◌, ◌*◌, ◌/◌, ◌%◌, ◌<◌, ◌≤◌, ◌==◌, cond, Bool, true, false, List, [], ◌∷◌, length, take, drop, Ok, Err, refl, ap, ◌∙◌, sym, arith, nat_tests, length-drop, nat_lt, slice_index, digit_value, is_ascii_digit, before_first, slice_split, digits_value, is_number, address_by, address_of, dotted_of, octet_of, quad_of}
 use Rattle.std.proofs.Math.Seq.{take-length}
-use Rattle.std.proofs.lemmas.Bool.Decides.{nat_tests}
-use Rattle.std.proofs.lemmas.List.{length-drop}
-use Rattle.std.specs.Prelude.{nat_lt, slice_index}
-use Rattle.std.specs.Char.{digit_value, is_ascii_digit}
-use Rattle.std.specs.List.{before_first, slice_split}
-use Rattle.std.specs.Str.Parse.{digits_value}
 use Rattle.hex.specs.declared.error.FromHexError.TheVariants.{InvalidStringLength, OddLength}
 use Rattle.bfd_packet.specs.declared.arrival.Addr.TheVariants.{V4}
-use Rattle.bfd_fields.specs.Fields.{is_number}
-use Rattle.bfd_fields.specs.Values.{address_by, address_of, dotted_of, octet_of, quad_of}
 use Rattle.bfd_fields.proofs.Cutting.{four}
 
 abbrev is_dot : ℕ → Bool

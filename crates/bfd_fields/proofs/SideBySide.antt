@@ -1,12 +1,5 @@
 -- Bytes that are looked at side by side.
-use Rattle.std.proofs.Common.{◌≡◌, ℕ, zero, suc, ◌-◌, ◌+◌, ◌<◌, ◌%◌, ◌^◌, ◌≤◌, cond, Bool, true, false, List, [], ◌∷◌, length, map, replicate, take, drop, eqb, eqb-true, ltb, ltb-false, refl, ap, sym, ◌∙◌, arith}
-use Rattle.std.proofs.lemmas.Bool.{and_parts}
-use Rattle.std.proofs.lemmas.Bool.Decides.{nat_tests}
-use Rattle.std.proofs.lemmas.List.{drop-drop, length-map}
-use Rattle.std.proofs.lemmas.Simd.{length-zip2, mask_l-mod}
-use Rattle.std.specs.List.{list_all}
-use Rattle.std.specs.Simd.Lanes.{mask_l, top, zip2}
-use Rattle.bfd_fields.specs.Fields.{is_printable}
+use Rattle.bfd_fields.proofs.Common.{◌≡◌, ℕ, zero, suc, ◌-◌, ◌+◌, ◌<◌, ◌%◌, ◌^◌, ◌≤◌, cond, Bool, true, false, List, [], ◌∷◌, length, map, replicate, take, drop, eqb, eqb-true, ltb, ltb-false, refl, ap, sym, ◌∙◌, arith, and_parts, nat_tests, drop-drop, length-map, length-zip2, mask_l-mod, list_all, mask_l, top, zip2, is_printable}
 
 -- what a comparison leaves in a lane
 abbrev below : ℕ → ℕ → ℕ

@@ -1,12 +1,6 @@
 -- A part that has all pieces.
-use Rattle.std.proofs.Common.{◌≡◌, ◌≢◌, ◌⊎◌, inl, inr, ◌<◌, ◌++◌, ℕ, List, [], ◌∷◌, length, take, drop, map, get_or, refl, sym, ap, ◌∙◌, arith, length-drop, take-append-drop, None, Some}
-use Rattle.std.specs.List.{AllByRecursion, sum_by}
-use Rattle.std.proofs.lemmas.List.{get_or_default}
-use Rattle.std.proofs.lemmas.List.Sums.{sum_by-cons}
-use Rattle.bfd_gather.specs.declared.key.Mark.{Mark}
-use Rattle.bfd_gather.specs.Pieces.{Piece, texts}
-use Rattle.bfd_gather.specs.Spread.{Dealt, pieces_in, IsSpread, dealt_text}
-use Rattle.bfd_gather.specs.Inside.{HasAll, IsPart, first_key, mark_key, pieces_at}
+use Rattle.bfd_gather.proofs.Common.{◌≡◌, ◌≢◌, ◌⊎◌, inl, inr, ◌<◌, ◌++◌, ℕ, List, [], ◌∷◌, length, take, drop, map, get_or, refl, sym, ap, ◌∙◌, arith, length-drop, take-append-drop, None, Some, AllByRecursion, get_or_default, sum_by-cons, Mark, Piece, texts, Dealt, pieces_in, IsSpread, dealt_text, HasAll, IsPart, first_key, mark_key, pieces_at}
+use Rattle.std.specs.List.{sum_by}
 use Rattle.bfd_gather.proofs.Marks.{long_of}
 use Rattle.bfd_gather.proofs.Taking.{here, away, same_or_not, txs_of, drops_of}
 

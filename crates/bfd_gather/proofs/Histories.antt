@@ -1,22 +1,10 @@
 -- A shard's sessions after its history, and what it tells of one event more.
-use Rattle.std.proofs.Common.{◌≡◌, suc, ◌≢◌, ◌⊎◌, inl, inr, ◌<◌, ◌+◌, ◌/◌, ◌%◌, ◌++◌, max, ℕ, Bool, List, [], ◌∷◌, length, map, get_or, refl, sym, ap, ◌∙◌, subst, append_assoc, append-nil, arith, Option, None, Some, if◌then◌else◌, ext_get_or}
-use Rattle.std.specs.List.{cons_option, filter_map}
-use Rattle.std.proofs.lemmas.List.{get_or-map, length-map}
-use Rattle.std.proofs.lemmas.Bool.{cases_eq, eq-eqb, ne_eqb}
+use Rattle.bfd_gather.proofs.Common.{◌≡◌, suc, ◌≢◌, ◌⊎◌, inl, inr, ◌<◌, ◌+◌, ◌/◌, ◌%◌, ◌++◌, max, ℕ, Bool, List, [], ◌∷◌, length, map, get_or, refl, sym, ap, ◌∙◌, subst, append_assoc, append-nil, arith, Option, None, Some, if◌then◌else◌, ext_get_or, cons_option, filter_map, get_or-map, length-map, cases_eq, eq-eqb, ne_eqb, Event, Outcome, Running, ShardEvent, Own, Tick, event_in, history_of, share, later, last_from, last_tick, run_from, moved, outcome_of, runs, event_pieces, whole_piece, Happening, Apart, Among, session_event, in_shard, numbered, queue, shard_tells, told_apart}
 use Rattle.bfd_session.specs.declared.event.SessionConfig.{SessionConfig}
-use Rattle.bfd_session.specs.declared.event.Event.{Event}
-use Rattle.bfd_session.specs.Alone.{Outcome}
-use Rattle.bfd_session.specs.Kinds.{Running}
 use Rattle.bfd_session.specs.Step.{started}
-use Rattle.bfd_shard.specs.declared.entry.ShardEvent.{ShardEvent}
-use Rattle.bfd_shard.specs.declared.entry.ShardEvent.TheVariants.{Own, Tick}
-use Rattle.bfd_shard.specs.Dealing.{event_in, history_of, share}
-use Rattle.bfd_shard.specs.History.{later, last_from, last_tick, run_from, moved, outcome_of, runs}
 use Rattle.bfd_shard.proofs.Runs.{moved_at, moved_long, runs_at, runs_long}
 use Rattle.bfd_shard.proofs.Ticks.{nobody}
 use Rattle.bfd_gather.specs.declared.queue.Numbered.{Numbered}
-use Rattle.bfd_gather.specs.Pieces.{event_pieces, whole_piece}
-use Rattle.bfd_gather.specs.Happenings.{Happening, Apart, Among, session_event, in_shard, numbered, queue, shard_tells, told_apart}
 use Rattle.bfd_shard.proofs.Sharing.{share_map}
 use Rattle.bfd_gather.proofs.Sharing.{own_here, own_away, tick_here}
 

@@ -1,9 +1,6 @@
 -- The order of keys.
-use Rattle.std.proofs.Common.{◌≡◌, ◌<◌, ◌==◌, ◌&&◌, ◌||◌, ℕ, true, false, arith}
-use Rattle.std.specs.Prelude.{nat_lt}
+use Rattle.bfd_gather.proofs.Common.{◌≡◌, ◌<◌, ◌==◌, ◌&&◌, ◌||◌, ℕ, true, false, arith, nat_lt, Key, precedes}
 use Rattle.std.proofs.lemmas.Bool.Decides.{nat_tests}
-use Rattle.bfd_gather.specs.declared.key.Key.{Key}
-use Rattle.bfd_gather.specs.Pieces.{precedes}
 
 -- the piece of an earlier event stands before
 pub earlier : (a b : Key) → a.event < b.event → precedes a b ≡ true

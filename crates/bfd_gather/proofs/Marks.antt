@@ -1,18 +1,10 @@
 -- A part's marks and text, as pieces are told and taken.
-use Rattle.std.proofs.Common.{◌≡◌, ◌≤◌, ◌<◌, ◌+◌, ◌++◌, ℕ, suc, zero, List, [], ◌∷◌, length, take, drop, map, get_or, subst, Result, Ok, Err, OnOk, OnErr, drop-cons, refl, sym, ap, ◌∙◌, append_assoc, append-nil, arith, length-append, length-drop}
-use Rattle.std.specs.List.{AllByRecursion, flat_map, sum_by}
-use Rattle.std.proofs.lemmas.List.{take-append-le, drop-append-le, map-append}
-use Rattle.std.proofs.lemmas.List.Sums.{sum_by-append, sum_by-cons}
+use Rattle.bfd_gather.proofs.Common.{◌≡◌, ◌≤◌, ◌<◌, ◌+◌, ◌++◌, ℕ, suc, zero, List, [], ◌∷◌, length, take, drop, map, get_or, subst, Result, Ok, Err, OnOk, OnErr, drop-cons, refl, sym, ap, ◌∙◌, append_assoc, append-nil, arith, length-append, length-drop, AllByRecursion, flat_map, take-append-le, drop-append-le, map-append, sum_by-append, sum_by-cons, Out, Outcome, event_lines, item_line, packets_sent_by, Mark, Piece, texts, key, whole_piece, item_piece, pieces_at, mark_key, mark, mark_of, IsPart}
+use Rattle.std.specs.List.{sum_by}
 use Rattle.std.proofs.Math.Seq.{take-append_seam, drop-append_seam, take-add}
-use Rattle.bfd_rules.specs.declared.outputs.Out.{Out}
 use Rattle.bfd_session.specs.declared.event.Answer.TheVariants.{Handled}
-use Rattle.bfd_session.specs.Alone.{Outcome}
 use Rattle.std.proofs.lemmas.Grind.{flat_map-append}
 use Rattle.bfd_rules.specs.Names.{named}
-use Rattle.bfd_script.specs.Report.{event_lines, item_line, packets_sent_by}
-use Rattle.bfd_gather.specs.declared.key.Mark.{Mark}
-use Rattle.bfd_gather.specs.Pieces.{Piece, texts, key, whole_piece, item_piece}
-use Rattle.bfd_gather.specs.Inside.{pieces_at, mark_key, mark, mark_of, IsPart}
 use Rattle.bfd_script.proofs.Sizes.{item_some}
 use Rattle.bfd_gather.proofs.Sizes.{event_some}
 

@@ -1,9 +1,5 @@
 -- The best of one part more.
-use Rattle.std.proofs.Common.{◌≡◌, ◌⊎◌, inl, inr, ◌<◌, ◌+◌, ℕ, Bool, true, false, List, [], length, get_or, refl, sym, ap, ◌∙◌, subst, arith, if◌then◌else◌, Option, None, Some}
-use Rattle.std.proofs.lemmas.Bool.{both_ways}
-use Rattle.bfd_gather.specs.declared.key.Key.{Key}
-use Rattle.bfd_gather.specs.Pieces.{Piece, precedes}
-use Rattle.bfd_gather.specs.Inside.{first_key, better, IsBest, BestOf, IsLeast}
+use Rattle.bfd_gather.proofs.Common.{◌≡◌, ◌⊎◌, inl, inr, ◌<◌, ◌+◌, ℕ, Bool, true, false, List, [], length, get_or, refl, sym, ap, ◌∙◌, subst, arith, if◌then◌else◌, Option, None, Some, both_ways, Key, Piece, precedes, first_key, better, IsBest, BestOf, IsLeast}
 use Rattle.bfd_gather.proofs.Keys.{itself, onward}
 
 pub before_or_at : (k n : ℕ) → k < n + 1 → (k < n) ⊎ (k ≡ n)

@@ -1,13 +1,6 @@
 -- A shard's sessions after an event of the whole table.
-use Rattle.std.proofs.Common.{◌≡◌, ◌≢◌, ◌<◌, ◌/◌, ◌%◌, max, ℕ, List, set, refl, sym, ap, ◌∙◌, Option, None, Some}
-use Rattle.std.specs.Prelude.{slice_get}
+use Rattle.bfd_gather.proofs.Common.{◌≡◌, ◌≢◌, ◌<◌, ◌/◌, ◌%◌, max, ℕ, List, set, refl, sym, ap, ◌∙◌, Option, None, Some, slice_get, Event, stepped, ticked, Running, Own, Tick, share, moved, own_moved, own_outcome, outcome_of}
 use Rattle.std.proofs.lemmas.Nat.{div-add-mod'}
-use Rattle.bfd_session.specs.declared.event.Event.{Event}
-use Rattle.bfd_session.specs.Alone.{stepped, ticked}
-use Rattle.bfd_session.specs.Kinds.{Running}
-use Rattle.bfd_shard.specs.declared.entry.ShardEvent.TheVariants.{Own, Tick}
-use Rattle.bfd_shard.specs.Dealing.{share}
-use Rattle.bfd_shard.specs.History.{moved, own_moved, own_outcome, outcome_of}
 use Rattle.bfd_shard.proofs.Sharing.{not_there, share_map, share_other, share_set, there}
 
 -- an own event of the table is the same event of its shard

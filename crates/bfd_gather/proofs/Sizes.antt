@@ -1,11 +1,8 @@
 -- Each packet that a piece counts has text of its own.
-use Rattle.std.proofs.Common.{◌≤◌, ◌+◌, ℕ, length, arith, length-append}
-use Rattle.std.specs.List.{flat_map}
+use Rattle.bfd_gather.proofs.Common.{◌≤◌, ◌+◌, ℕ, length, arith, length-append, flat_map, Outcome, dropped_by, packets_sent, dropped, item_line, answer_line, event_lines}
 use Rattle.std.specs.Fmt.{decimal}
 use Rattle.bfd_session.specs.declared.event.Answer.{Answer}
 use Rattle.bfd_session.specs.declared.event.Answer.TheVariants.{Dropped}
-use Rattle.bfd_session.specs.Alone.{Outcome}
-use Rattle.bfd_script.specs.Report.{dropped_by, packets_sent, dropped, item_line, answer_line, event_lines}
 use Rattle.bfd_script.proofs.Sizes.{some_after, sent_short}
 
 answer_some : (n : ℕ) (a : Answer) → dropped_by a ≤ length (answer_line n a)

@@ -1,13 +1,7 @@
 -- The least first piece of the parts is the first of what is left.
-use Rattle.std.proofs.Common.{◌≡◌, ◌≢◌, ◌⊎◌, inl, inr, ◌<◌, ◌+◌, ◌==◌, ◌++◌, ℕ, Bool, true, false, List, [], ◌∷◌, length, drop, get_or, set, get_or-set_same, get_or-set_other, length-set, refl, sym, ap, ◌∙◌, subst, append_assoc, append-nil, arith, None, Some}
-use Rattle.std.specs.List.{AllByRecursion, sum_by}
-use Rattle.std.proofs.lemmas.Bool.{eq-eqb}
+use Rattle.bfd_gather.proofs.Common.{◌≡◌, ◌≢◌, ◌⊎◌, inl, inr, ◌<◌, ◌+◌, ◌==◌, ◌++◌, ℕ, Bool, true, false, List, [], ◌∷◌, length, drop, get_or, set, get_or-set_same, get_or-set_other, length-set, refl, sym, ap, ◌∙◌, subst, append_assoc, append-nil, arith, None, Some, AllByRecursion, eq-eqb, sum_by-cons, Key, Piece, precedes, Dealt, pieces_in, IsBefore, IsSpread, dealt_text, IsLeast, first_key, first_text, first_txs, first_drops}
+use Rattle.std.specs.List.{sum_by}
 use Rattle.std.proofs.lemmas.Bool.Decides.{nat_tests}
-use Rattle.std.proofs.lemmas.List.Sums.{sum_by-cons}
-use Rattle.bfd_gather.specs.declared.key.Key.{Key}
-use Rattle.bfd_gather.specs.Pieces.{Piece, precedes}
-use Rattle.bfd_gather.specs.Spread.{Dealt, pieces_in, IsBefore, IsSpread, dealt_text}
-use Rattle.bfd_gather.specs.Inside.{IsLeast, first_key, first_text, first_txs, first_drops}
 
 -- how many packets dealt pieces tell were sent and were dropped
 abbrev pub txs_of : List Dealt → ℕ

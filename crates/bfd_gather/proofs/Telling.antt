@@ -1,23 +1,9 @@
 -- What the shards tell is what the whole table gives, dealt out.
-use Rattle.std.proofs.Common.{◌≡◌, ◌≢◌, ◌⊎◌, inl, inr, ◌<◌, ◌≤◌, ◌+◌, ◌-◌, ◌*◌, ◌/◌, ◌%◌, ◌==◌, ◌++◌, max, ℕ, zero, suc, Bool, List, [], ◌∷◌, map, refl, sym, ap, ◌∙◌, subst, arith, None, Some, if◌then◌else◌}
-use Rattle.std.specs.List.{cons_option, filter, flat_map}
-use Rattle.std.proofs.lemmas.List.{map-append}
+use Rattle.bfd_gather.proofs.Common.{◌≡◌, ◌≢◌, ◌⊎◌, inl, inr, ◌<◌, ◌≤◌, ◌+◌, ◌-◌, ◌*◌, ◌/◌, ◌%◌, ◌==◌, ◌++◌, max, ℕ, zero, suc, Bool, List, [], ◌∷◌, map, refl, sym, ap, ◌∙◌, subst, arith, None, Some, if◌then◌else◌, cons_option, filter, flat_map, map-append, cases_eq, eq-eqb, ne_eqb, Out, Event, tick_items, Running, ShardEvent, Own, Tick, share, later, moved, outcome_of, Piece, whole_piece, item_piece, event_pieces, Happening, Apart, Among, numbered, queue, shard_tells, told_apart, Dealt, deal, pieces_in}
 use Rattle.std.proofs.lemmas.List.Elements.{filter-append}
 use Rattle.std.proofs.lemmas.Nat.{div-add-mod', mul-le}
 use Rattle.std.proofs.Math.Nat.{mul-add-mod_self_left, mod-lt, mod-eq_of_lt}
-use Rattle.std.proofs.lemmas.Bool.{cases_eq, eq-eqb, ne_eqb}
-use Rattle.bfd_rules.specs.declared.outputs.Out.{Out}
-use Rattle.bfd_session.specs.declared.event.Event.{Event}
-use Rattle.bfd_session.specs.Alone.{tick_items}
-use Rattle.bfd_session.specs.Kinds.{Running}
-use Rattle.bfd_shard.specs.declared.entry.ShardEvent.{ShardEvent}
-use Rattle.bfd_shard.specs.declared.entry.ShardEvent.TheVariants.{Own, Tick}
-use Rattle.bfd_shard.specs.Dealing.{share}
-use Rattle.bfd_shard.specs.History.{later, moved, outcome_of}
 use Rattle.bfd_gather.specs.declared.queue.Numbered.{Numbered}
-use Rattle.bfd_gather.specs.Pieces.{Piece, whole_piece, item_piece, event_pieces}
-use Rattle.bfd_gather.specs.Happenings.{Happening, Apart, Among, numbered, queue, shard_tells, told_apart}
-use Rattle.bfd_gather.specs.Spread.{Dealt, deal, pieces_in}
 use Rattle.bfd_gather.proofs.Sharing.{own_here, own_gives, own_away, tick_here}
 use Rattle.bfd_gather.proofs.Taking.{here, away}
 

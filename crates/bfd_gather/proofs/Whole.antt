@@ -1,24 +1,12 @@
 -- The parts of a replay have the pieces of its report, in its order, and their text is the report's lines.
-use Rattle.std.proofs.Common.{◌≡◌, inl, inr, ◌<◌, ◌≤◌, ◌+◌, ◌*◌, ◌%◌, ◌++◌, max, ℕ, suc, List, [], ◌∷◌, length, map, get_or, refl, sym, ap, ◌∙◌, subst, append-nil, arith}
-use Rattle.std.specs.List.{AllByRecursion, flat_map, sum_by}
+use Rattle.bfd_gather.proofs.Common.{◌≡◌, inl, inr, ◌<◌, ◌≤◌, ◌+◌, ◌*◌, ◌%◌, ◌++◌, max, ℕ, suc, List, [], ◌∷◌, length, map, get_or, refl, sym, ap, ◌∙◌, subst, append-nil, arith, AllByRecursion, flat_map, map-append, sum_by-append, sum_by-cons, Out, Outcome, tick_items, Running, discr_of, configs_of, ShardEvent, Own, Tick, later, moved, outcome_of, item_line, event_lines, lines_from, packets_sent_by, packets_sent, dropped, done_line, report, Piece, whole_piece, item_piece, event_pieces, Happening, Apart, Among, happening_outcomes, told_whole, AreParts, Dealt, deal, pieces_in, IsBefore, Ordered, IsSpread, AreGathered, dealt_text}
+use Rattle.std.specs.List.{sum_by}
 use Rattle.std.proofs.lemmas.Grind.{flat_map-append}
-use Rattle.std.proofs.lemmas.List.{map-append}
-use Rattle.std.proofs.lemmas.List.Sums.{sum_by-append, sum_by-cons}
 use Rattle.std.proofs.Math.Nat.{mod-lt}
-use Rattle.bfd_rules.specs.declared.outputs.Out.{Out}
-use Rattle.bfd_session.specs.Alone.{Outcome, tick_items}
-use Rattle.bfd_session.specs.Kinds.{Running, discr_of, configs_of}
 use Rattle.bfd_rules.specs.Names.{named}
 use Rattle.bfd_session.specs.Rows.{Ascends}
 use Rattle.bfd_session.proofs.Naming.{tick_named}
-use Rattle.bfd_shard.specs.declared.entry.ShardEvent.{ShardEvent}
-use Rattle.bfd_shard.specs.declared.entry.ShardEvent.TheVariants.{Own, Tick}
-use Rattle.bfd_shard.specs.History.{later, moved, outcome_of}
 use Rattle.bfd_shard.proofs.Runs.{moved_configs}
-use Rattle.bfd_script.specs.Report.{item_line, event_lines, lines_from, packets_sent_by, packets_sent, dropped, done_line, report}
-use Rattle.bfd_gather.specs.Pieces.{Piece, whole_piece, item_piece, event_pieces}
-use Rattle.bfd_gather.specs.Happenings.{Happening, Apart, Among, happening_outcomes, told_whole, AreParts}
-use Rattle.bfd_gather.specs.Spread.{Dealt, deal, pieces_in, IsBefore, Ordered, IsSpread, AreGathered, dealt_text}
 use Rattle.bfd_gather.proofs.Keys.{earlier, lower}
 use Rattle.bfd_gather.proofs.Scan.{before_or_at}
 use Rattle.bfd_gather.proofs.Taking.{txs_of, drops_of}

@@ -1,12 +1,5 @@
 -- Heights by their digits, the lists that they name, and what a tick of the clock moves.
-use Rattle.std.proofs.Common.{◌≡◌, ◌≢◌, ◌⊎◌, inl, inr, ℕ, zero, suc, ◌+◌, ◌-◌, ◌*◌, ◌/◌, ◌%◌, ◌^◌, ◌<◌, ◌≤◌, Bool, true, false, cond, refl, sym, ◌∙◌, ap, arith, nat_le, nat_lt, nat_eq, if◌then◌else◌}
-use Rattle.std.proofs.lemmas.Bool.Decides.{nat_tests}
-use Rattle.std.proofs.lemmas.Bool.{eqb-true, eqb-false, leb-true, cases_eq, cases_lt}
-use Rattle.bfd_wheel.specs.Taken.{bit}
-use Rattle.bfd_wheel.proofs.TakenIds.{bit_same, bit_other}
-use Rattle.bfd_levels.specs.Height.{height}
-use Rattle.bfd_levels.specs.Lists.{slot, place, level_of, reach}
-use Rattle.bfd_levels.specs.Moves.{GoesDown}
+use Rattle.bfd_levels.proofs.Common.{◌≡◌, ◌≢◌, ◌⊎◌, inl, inr, ℕ, zero, suc, ◌+◌, ◌-◌, ◌*◌, ◌/◌, ◌%◌, ◌^◌, ◌<◌, ◌≤◌, Bool, true, false, cond, refl, sym, ◌∙◌, ap, arith, nat_le, nat_lt, nat_eq, if◌then◌else◌, nat_tests, eqb-true, eqb-false, leb-true, cases_eq, cases_lt, bit, bit_same, bit_other, height, slot, place, level_of, reach, GoesDown}
 
 -- ---- heights
 

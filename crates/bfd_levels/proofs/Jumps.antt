@@ -1,15 +1,5 @@
 -- A long advance: ids that are taken off, and ids that are linked anew.
-use Rattle.std.proofs.Common.{◌≡◌, ◌≢◌, inl, inr, ℕ, ◌+◌, ◌<◌, ◌≤◌, Bool, true, false, cond, List, length, sym, ◌∙◌, ap, subst, arith, nat_lt, slice_index, slice_set}
-use Rattle.std.proofs.lemmas.List.{get_or-set_same, get_or-set_other}
-use Rattle.std.proofs.lemmas.Bool.Decides.{nat_tests}
-use Rattle.std.proofs.lemmas.Bool.{cases_eq}
-use Rattle.bfd_lanes.specs.Places.{never}
-use Rattle.bfd_wheel.specs.declared.links.Node.{Node}
-use Rattle.bfd_wheel.specs.Rings.{Unlinks}
-use Rattle.bfd_wheel.specs.Wheel.{due_in, next_in, prev_in}
-use Rattle.bfd_levels.specs.Lists.{place, level_of, load, loads, at_tick, at_jump}
-use Rattle.bfd_levels.specs.Rings.{IsPlaced}
-use Rattle.bfd_levels.specs.Moves.{Relinks}
+use Rattle.bfd_levels.proofs.Common.{◌≡◌, ◌≢◌, inl, inr, ℕ, ◌+◌, ◌<◌, ◌≤◌, Bool, true, false, cond, List, length, sym, ◌∙◌, ap, subst, arith, nat_lt, slice_index, slice_set, get_or-set_same, get_or-set_other, nat_tests, cases_eq, never, Node, Unlinks, due_in, next_in, prev_in, place, level_of, load, loads, at_tick, at_jump, IsPlaced, Relinks}
 use Rattle.bfd_levels.proofs.Digits.{place_head, level_later}
 use Rattle.bfd_levels.proofs.Placing.{freed, renamed, relinked}
 use Rattle.bfd_levels.proofs.Loads.{total_less, loads_gone, load_less}

@@ -1,11 +1,5 @@
 -- Sums over the ids, and what they have to do with the potential.
-use Rattle.std.proofs.Common.{◌≡◌, ◌≢◌, inl, inr, ℕ, zero, suc, ◌+◌, ◌*◌, ◌<◌, ◌≤◌, Bool, true, false, cond, List, [], ◌∷◌, map, length, slice_index, None, Some, refl, sym, ◌∙◌, ap, arith, nat_eq}
-use Rattle.std.proofs.lemmas.Bool.Decides.{nat_tests}
-use Rattle.std.proofs.lemmas.Bool.{cases_eq}
-use Rattle.bfd_lanes.specs.Places.{never, due_of}
-use Rattle.bfd_wheel.specs.Wheel.{due_in}
-use Rattle.bfd_levels.specs.Height.{weight, potential}
-use Rattle.bfd_levels.specs.Lists.{level_of, load, loads, total, at_tick}
+use Rattle.bfd_levels.proofs.Common.{◌≡◌, ◌≢◌, inl, inr, ℕ, zero, suc, ◌+◌, ◌*◌, ◌<◌, ◌≤◌, Bool, true, false, cond, List, [], ◌∷◌, map, length, slice_index, None, Some, refl, sym, ◌∙◌, ap, arith, nat_eq, nat_tests, cases_eq, never, due_of, due_in, weight, potential, level_of, load, loads, total, at_tick}
 use Rattle.bfd_levels.proofs.Digits.{level_place}
 
 -- ---- sums

@@ -1,9 +1,5 @@
 -- Where a due tick stands while the clock goes from one tick to the next, list by list.
-use Rattle.std.proofs.Common.{◌≡◌, ◌≢◌, ◌⊎◌, inl, inr, ℕ, zero, suc, ◌+◌, ◌<◌, ◌≤◌, Bool, true, false, cond, refl, sym, ◌∙◌, ap, arith, add-one, nat_eq}
-use Rattle.std.proofs.lemmas.Bool.Decides.{nat_tests}
-use Rattle.std.proofs.lemmas.Bool.{cases_eq}
-use Rattle.bfd_levels.specs.Lists.{slot, place, reach, midway}
-use Rattle.bfd_levels.specs.Moves.{GoesDown}
+use Rattle.bfd_levels.proofs.Common.{◌≡◌, ◌≢◌, ◌⊎◌, inl, inr, ℕ, zero, suc, ◌+◌, ◌<◌, ◌≤◌, Bool, true, false, cond, refl, sym, ◌∙◌, ap, arith, add-one, nat_eq, nat_tests, cases_eq, slot, place, reach, midway, GoesDown}
 use Rattle.bfd_levels.proofs.Digits.{goes_down, moved_or_same, reach-le}
 
 chosen : (a b x y : ℕ) → a ≡ b → cond (nat_eq a b) x y ≡ x

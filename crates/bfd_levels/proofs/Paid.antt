@@ -1,9 +1,5 @@
 -- Rings, and the steps so far with what the ids still weigh.
-use Rattle.std.proofs.Common.{◌≡◌, ◌≢◌, ℕ, ◌+◌, ◌<◌, ◌≤◌, List, sym, subst, arith, slice_index}
-use Rattle.bfd_lanes.specs.Places.{never}
-use Rattle.bfd_wheel.specs.declared.links.Node.{Node}
-use Rattle.bfd_levels.specs.Lists.{loads}
-use Rattle.bfd_levels.specs.Rings.{IsPlaced}
+use Rattle.bfd_levels.proofs.Common.{◌≡◌, ◌≢◌, ℕ, ◌+◌, ◌<◌, ◌≤◌, List, sym, subst, arith, slice_index, never, Node, loads, IsPlaced}
 use Rattle.bfd_levels.proofs.Placing.{renamed}
 use Rattle.bfd_levels.proofs.Loads.{loads_same}
 

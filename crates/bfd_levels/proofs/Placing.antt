@@ -1,15 +1,7 @@
 -- Rings behind any heads: a node is taken out, put in or moved, the lists get other names, and the start.
-use Rattle.std.proofs.Common.{◌≡◌, ◌≢◌, inl, inr, ℕ, suc, ◌+◌, ◌<◌, ◌≤◌, Bool, cond, List, length, sym, ◌∙◌, ap, arith, slice_index, slice_set, refl}
-use Rattle.std.proofs.lemmas.List.{get_or-set_same, get_or-set_other, length-set}
-use Rattle.std.proofs.lemmas.Bool.{cases_lt, lt-ltb, le-ltb}
-use Rattle.bfd_lanes.specs.Places.{never}
-use Rattle.bfd_wheel.specs.declared.links.Node.{Node}
-use Rattle.bfd_wheel.specs.Rings.{IsOn, IsRing, Unlinks, Links}
-use Rattle.bfd_wheel.specs.Wheel.{due_in, next_in, prev_in, IsLinked}
+use Rattle.bfd_levels.proofs.Common.{◌≡◌, ◌≢◌, inl, inr, ℕ, suc, ◌+◌, ◌<◌, ◌≤◌, Bool, cond, List, length, sym, ◌∙◌, ap, arith, slice_index, slice_set, refl, get_or-set_same, get_or-set_other, length-set, cases_lt, lt-ltb, le-ltb, never, Node, IsOn, IsRing, Unlinks, Links, due_in, next_in, prev_in, IsLinked, head_for, IsPlaced, Relinks, CanMove}
 use Rattle.bfd_wheel.proofs.Rings.{TakesOut, PutsIn, ring_without, ring_with, ring_moved}
 use Rattle.bfd_wheel.proofs.Wheels.{head_on, id_on, ring_linked, ranked, ranked_own, ranked_same, ranked_below, start_ranked}
-use Rattle.bfd_levels.specs.Rings.{head_for, IsPlaced}
-use Rattle.bfd_levels.specs.Moves.{Relinks, CanMove}
 
 -- ---- the heads of the nodes
 

@@ -1,10 +1,5 @@
 -- What each call does to the potential, and what a list of calls may take.
-use Rattle.std.proofs.Common.{◌≡◌, inl, inr, ℕ, zero, suc, ◌+◌, ◌*◌, ◌<◌, ◌≤◌, max, Bool, true, false, cond, List, [], ◌∷◌, map, replicate, refl, ap, arith, nat_le, slice_set}
-use Rattle.std.specs.Prelude.{Option, None, Some}
-use Rattle.std.proofs.lemmas.Bool.Decides.{nat_tests}
-use Rattle.std.proofs.lemmas.Bool.{cases_lt}
-use Rattle.bfd_lanes.specs.Places.{without}
-use Rattle.bfd_levels.specs.Height.{height, weight, potential, Clocked, potential_of}
+use Rattle.bfd_levels.proofs.Common.{◌≡◌, inl, inr, ℕ, zero, suc, ◌+◌, ◌*◌, ◌<◌, ◌≤◌, max, Bool, true, false, cond, List, [], ◌∷◌, map, replicate, refl, ap, arith, nat_le, slice_set, Option, None, Some, nat_tests, cases_lt, without, height, weight, potential, Clocked, potential_of}
 use Rattle.bfd_levels.specs.Calls.{WheelCall, Set, Clear, Advance, Made, wheel_after, KeepsSteps, KeepsAll, after_all, steps_of, call_share, shares}
 use Rattle.bfd_levels.proofs.Digits.{height-le, height_later}
 

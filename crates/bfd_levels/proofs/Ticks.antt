@@ -1,9 +1,5 @@
 -- How many lists the clock reaches on its way, and the overdue list.
-use Rattle.std.proofs.Common.{◌≡◌, ◌≢◌, inl, inr, ℕ, ◌+◌, ◌-◌, ◌*◌, ◌/◌, ◌%◌, ◌<◌, ◌≤◌, List, refl, ◌∙◌, arith, slice_index}
-use Rattle.std.proofs.lemmas.Bool.{cases_lt}
-use Rattle.bfd_lanes.specs.Places.{never}
-use Rattle.bfd_wheel.specs.Taken.{bit}
-use Rattle.bfd_levels.specs.Lists.{slot, midway, reach}
+use Rattle.bfd_levels.proofs.Common.{◌≡◌, ◌≢◌, inl, inr, ℕ, ◌+◌, ◌-◌, ◌*◌, ◌/◌, ◌%◌, ◌<◌, ◌≤◌, List, refl, ◌∙◌, arith, slice_index, cases_lt, never, bit, slot, midway, reach}
 use Rattle.bfd_levels.proofs.Digits.{place_come, overdue_same, bit_zero}
 use Rattle.bfd_levels.proofs.Midway.{midway_still}
 

@@ -1,8 +1,5 @@
 -- The clock at one tick: the lists that it reaches one after another, and the overdue list.
-use Rattle.std.proofs.Common.{◌≡◌, ℕ, ◌+◌, List, sym, ◌∙◌, ap, arith, slice_index}
-use Rattle.bfd_wheel.specs.declared.links.Node.{Node}
-use Rattle.bfd_levels.specs.Lists.{midway, reach, at_tick, at_midway, loads}
-use Rattle.bfd_levels.specs.Rings.{IsPlaced}
+use Rattle.bfd_levels.proofs.Common.{◌≡◌, ℕ, ◌+◌, List, sym, ◌∙◌, ap, arith, slice_index, Node, midway, reach, at_tick, at_midway, loads, IsPlaced}
 use Rattle.bfd_levels.proofs.Placing.{renamed}
 use Rattle.bfd_levels.proofs.Loads.{loads_same}
 use Rattle.bfd_levels.proofs.Midway.{midway_begins, midway_ends, midway_still}

@@ -1,15 +1,6 @@
 -- The wheel after one change, as its callers see it.
-use Rattle.std.proofs.Common.{◌≡◌, ◌≢◌, ℕ, ◌+◌, ◌<◌, ◌≤◌, List, length, map, replicate, subst, sym, ◌∙◌, ap, arith, slice_index, slice_set}
-use Rattle.std.specs.Prelude.{Option}
+use Rattle.bfd_levels.proofs.Common.{◌≡◌, ◌≢◌, ℕ, ◌+◌, ◌<◌, ◌≤◌, List, length, map, replicate, subst, sym, ◌∙◌, ap, arith, slice_index, slice_set, Option, get_or-set_same, get_or-set_other, length-map, never, due_of, Node, Unlinks, Links, next_in, prev_in, IsLinked, potential, place, at_tick, loads, IsLevels, IsPlaced}
 use Rattle.std.proofs.lemmas.Simd.{length-replicate, get_or-replicate}
-use Rattle.std.proofs.lemmas.List.{get_or-set_same, get_or-set_other, length-map}
-use Rattle.bfd_lanes.specs.Places.{never, due_of}
-use Rattle.bfd_wheel.specs.declared.links.Node.{Node}
-use Rattle.bfd_wheel.specs.Rings.{Unlinks, Links}
-use Rattle.bfd_wheel.specs.Wheel.{next_in, prev_in, IsLinked}
-use Rattle.bfd_levels.specs.Height.{potential}
-use Rattle.bfd_levels.specs.Lists.{place, at_tick, loads, IsLevels}
-use Rattle.bfd_levels.specs.Rings.{IsPlaced}
 use Rattle.bfd_levels.proofs.Digits.{place_head}
 use Rattle.bfd_levels.proofs.Placing.{freed, filled, linked, start}
 use Rattle.bfd_levels.proofs.Loads.{loads_potential}

@@ -1,11 +1,5 @@
 -- A walk along a list that a tick reaches, visit by visit.
-use Rattle.std.proofs.Common.{◌≡◌, ◌≢◌, ◌⊎◌, inl, inr, ℕ, ◌+◌, ◌<◌, ◌≤◌, List, length, refl, sym, ◌∙◌, subst, slice_index, arith}
-use Rattle.bfd_lanes.specs.Places.{never}
-use Rattle.bfd_wheel.specs.declared.links.Node.{Node}
-use Rattle.bfd_wheel.specs.Wheel.{next_in}
-use Rattle.bfd_levels.specs.Lists.{place, level_of, slot, midway, at_midway, loads}
-use Rattle.bfd_levels.specs.Rings.{IsPlaced}
-use Rattle.bfd_levels.specs.Moves.{Visit, takes, moves, stays, CanMove, GoesDown}
+use Rattle.bfd_levels.proofs.Common.{◌≡◌, ◌≢◌, ◌⊎◌, inl, inr, ℕ, ◌+◌, ◌<◌, ◌≤◌, List, length, refl, sym, ◌∙◌, subst, slice_index, arith, never, Node, next_in, place, level_of, slot, midway, at_midway, loads, IsPlaced, Visit, takes, moves, stays, CanMove, GoesDown}
 use Rattle.bfd_levels.proofs.Digits.{place_head}
 use Rattle.bfd_levels.proofs.Placing.{can_move}
 use Rattle.bfd_levels.proofs.Midway.{midway_hit, midway_miss}

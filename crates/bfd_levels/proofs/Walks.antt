@@ -1,17 +1,8 @@
 -- A walk along one list, which takes off what has come and moves the rest to other lists.
-use Rattle.std.proofs.Common.{◌≡◌, ◌≢◌, ◌⊎◌, inl, inr, ℕ, suc, ◌+◌, ◌<◌, ◌≤◌, List, length, refl, sym, ◌∙◌, ap, subst, arith, slice_index, slice_set}
-use Rattle.std.proofs.lemmas.List.{get_or-set_same, get_or-set_other, length-set}
-use Rattle.std.proofs.lemmas.Bool.{cases_eq, cases_lt}
-use Rattle.bfd_lanes.specs.Places.{never}
-use Rattle.bfd_wheel.specs.declared.links.Node.{Node}
-use Rattle.bfd_wheel.specs.Rings.{IsOn, Unlinks}
-use Rattle.bfd_wheel.specs.Wheel.{due_in, next_in, prev_in}
+use Rattle.bfd_levels.proofs.Common.{◌≡◌, ◌≢◌, ◌⊎◌, inl, inr, ℕ, suc, ◌+◌, ◌<◌, ◌≤◌, List, length, refl, sym, ◌∙◌, ap, subst, arith, slice_index, slice_set, get_or-set_same, get_or-set_other, length-set, cases_eq, cases_lt, never, Node, IsOn, Unlinks, due_in, next_in, prev_in, level_of, loads, head_for, IsPlaced, Relinks}
 use Rattle.bfd_wheel.proofs.Rings.{ring_without}
 use Rattle.bfd_wheel.proofs.Wheels.{head_on, id_on, ranked, ranked_own, ranked_same, ranked_below}
 use Rattle.bfd_wheel.proofs.Walk.{upto, upto-le, upto_one, upto_falls, upto_up}
-use Rattle.bfd_levels.specs.Lists.{level_of, loads}
-use Rattle.bfd_levels.specs.Rings.{head_for, IsPlaced}
-use Rattle.bfd_levels.specs.Moves.{Relinks}
 use Rattle.bfd_levels.proofs.Placing.{head_id, head_own, head_same, out_of, ring_relinked, renamed}
 use Rattle.bfd_levels.proofs.Loads.{loads_same, loads_gone, loads_lower}
 

@@ -1,14 +1,9 @@
 -- The due tick that an event of a head leaves keeps the variables sound; nothing keeps a head from sending.
-use Rattle.std.proofs.Common.{◌≡◌, ◌^◌, ◌<◌, ℕ, Bool, true, false, refl, Option, Some, IfSome, arith, if◌then◌else◌}
+use Rattle.bfd_mp.proofs.Common.{◌≡◌, ◌^◌, ◌<◌, ℕ, Bool, true, false, refl, Option, Some, IfSome, arith, if◌then◌else◌, moment_bound, next_j, Vars, may_send, tx_interval, draws, drawn, IsHeadSteady, IsHeadSound}
 use Rattle.std.proofs.lemmas.Grind.{common_steps}
-use Rattle.bfd_num.specs.Numbers.{moment_bound, next_j}
 use Rattle.bfd_rules.specs.declared.variables.Mark.{Mark}
-use Rattle.bfd_rules.specs.declared.variables.Vars.{Vars}
-use Rattle.bfd_rules.specs.Quantities.{may_send, tx_interval}
 use Rattle.bfd_rules.specs.Jitter.{pick}
-use Rattle.bfd_rules.specs.EventFrame.{draws, drawn}
 use Rattle.bfd_rules.proofs.Drawing.{picked_below, stands_there}
-use Rattle.bfd_mp.specs.Sound.{IsHeadSteady, IsHeadSound}
 
 -- a head may always send
 pub may_always : (v : Vars) → IsHeadSteady v → may_send true v ≡ true

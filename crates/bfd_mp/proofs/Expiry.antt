@@ -1,13 +1,7 @@
 -- A tick forgets a tail's last packet exactly where the deadline has come by its limit.
-use Rattle.std.proofs.Common.{◌≡◌, ◌↔◌, ℕ, Bool, true, false, refl, Option, None, IsSome, if◌then◌else◌}
+use Rattle.bfd_mp.proofs.Common.{◌≡◌, ◌↔◌, ℕ, Bool, true, false, refl, Option, None, IsSome, if◌then◌else◌, has_come, Vars, is_up, Course, changes, enters, TailConfig, deadline}
 use Rattle.bfd_packet.specs.declared.control.State.TheVariants.{Down}
-use Rattle.bfd_num.specs.Due.{has_come}
-use Rattle.bfd_rules.specs.declared.variables.Vars.{Vars}
-use Rattle.bfd_rules.specs.Quantities.{is_up}
-use Rattle.bfd_rules.specs.EventFrame.{Course, changes, enters}
 use Rattle.bfd_rules.proofs.Heard.{exactly}
-use Rattle.bfd_mp.specs.declared.config.TailConfig.{TailConfig}
-use Rattle.bfd_mp.specs.Waiting.{deadline}
 use Rattle.bfd_mp.specs.TailSettle as settling
 
 -- in every state

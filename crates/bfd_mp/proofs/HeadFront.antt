@@ -1,15 +1,6 @@
 -- What was put out before stays in front of what a head's rules put out, and changes nothing else of them.
-use Rattle.std.proofs.Common.{◌≡◌, ℕ, Bool, true, false, List, refl, is_some}
-use Rattle.bfd_num.specs.Numbers.{floor_tick}
-use Rattle.bfd_num.specs.Due.{has_come}
-use Rattle.bfd_rules.specs.declared.commands.Cmd.{Cmd}
-use Rattle.bfd_rules.specs.declared.outputs.Out.{Out}
-use Rattle.bfd_rules.specs.EventFrame.{Course, is_untold, based, redrawn}
-use Rattle.bfd_rules.proofs.Courses.{after, either, changes-after, sends-after}
-use Rattle.bfd_mp.specs.declared.config.HeadConfig.{HeadConfig}
-use Rattle.bfd_mp.specs.Transmit.{transmits}
+use Rattle.bfd_mp.proofs.Common.{◌≡◌, ℕ, Bool, true, false, List, refl, is_some, floor_tick, has_come, Cmd, Out, Course, is_untold, based, redrawn, after, either, changes-after, sends-after, HeadConfig, transmits, head_refusal, head_commanded, head_done}
 use Rattle.bfd_mp.specs.HeadSettle as settling
-use Rattle.bfd_mp.specs.Command.{head_refusal, head_commanded, head_done}
 use Rattle.bfd_mp.specs.HeadFinish as finishing
 
 transmits-after : (c : HeadConfig) (poll : Bool) (os : List Out) (s : Course) → transmits c poll (after os s) ≡ after os (transmits c poll s)

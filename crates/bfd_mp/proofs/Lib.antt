@@ -1,3 +1,4 @@
+mod Common
 pub mod Drawing
 pub mod HeadFront
 pub mod TailFront

@@ -1,24 +1,10 @@
 -- Each output of a head or a tail names its discriminator: what is true of each output that does stays true of all outputs.
-use Rattle.std.proofs.Common.{ℕ, Bool, true, false, List, is_some}
+use Rattle.bfd_mp.proofs.Common.{ℕ, Bool, true, false, List, is_some, Control, fields_of, floor_tick, has_come, Cmd, Out, is_admin_down, Course, changes, is_untold, based, redrawn, OfOwn, own_name, chosen_names, changes_names, sends_names, HeadConfig, TailConfig, deadline, transmits, head_refusal, head_commanded, head_done, tail_refusal, tail_commanded, tail_done}
 use Rattle.std.specs.List.{AllByRecursion}
-use Rattle.bfd_packet.specs.declared.control.Control.{Control}
-use Rattle.bfd_packet.specs.Layout.{fields_of}
-use Rattle.bfd_num.specs.Numbers.{floor_tick}
-use Rattle.bfd_num.specs.Due.{has_come}
-use Rattle.bfd_rules.specs.declared.commands.Cmd.{Cmd}
-use Rattle.bfd_rules.specs.declared.outputs.Out.{Out}
-use Rattle.bfd_rules.specs.Quantities.{is_admin_down}
-use Rattle.bfd_rules.specs.EventFrame.{Course, changes, is_untold, based, redrawn}
-use Rattle.bfd_rules.proofs.Courses.{OfOwn, own_name, chosen_names, changes_names, sends_names}
-use Rattle.bfd_mp.specs.declared.config.HeadConfig.{HeadConfig}
-use Rattle.bfd_mp.specs.declared.config.TailConfig.{TailConfig}
-use Rattle.bfd_mp.specs.Waiting.{deadline}
-use Rattle.bfd_mp.specs.Transmit.{transmits}
 use Rattle.bfd_mp.specs.HeadSettle as head
 use Rattle.bfd_mp.specs.HeadFinish as finishing
 use Rattle.bfd_mp.specs.TailSettle as tail
 use Rattle.bfd_mp.specs.TailReceive as receiving
-use Rattle.bfd_mp.specs.Command.{head_refusal, head_commanded, head_done, tail_refusal, tail_commanded, tail_done}
 use Rattle.bfd_rules.specs.Names.{AllNamed}
 
 -- a head

@@ -1,19 +1,9 @@
 -- An event by which nothing is due, and which does nothing of its own, leaves sound variables as they are and puts
 -- nothing out.
-use Rattle.std.proofs.Common.{◌≡◌, ◌&&◌, not, ℕ, Bool, true, false, refl, sym, ap, ◌∙◌, Option, List}
+use Rattle.bfd_mp.proofs.Common.{◌≡◌, ◌&&◌, not, ℕ, Bool, true, false, refl, sym, ap, ◌∙◌, Option, List, floor_tick, has_come, Out, Vars, may_send, Course, course, begins, is_news, is_untold, drawn, redrawn, HeadConfig, TailConfig, deadline, IsHeadSound, IsTailSound}
 use Rattle.std.proofs.Math.Bool.{and-false}
-use Rattle.bfd_num.specs.Numbers.{floor_tick}
-use Rattle.bfd_num.specs.Due.{has_come}
-use Rattle.bfd_rules.specs.declared.outputs.Out.{Out}
 use Rattle.bfd_rules.specs.declared.variables.Mark.{Mark}
-use Rattle.bfd_rules.specs.declared.variables.Vars.{Vars}
-use Rattle.bfd_rules.specs.Quantities.{may_send}
-use Rattle.bfd_rules.specs.EventFrame.{Course, course, begins, is_news, is_untold, drawn, redrawn}
 use Rattle.bfd_rules.proofs.Still.{no_news, drawn_stands}
-use Rattle.bfd_mp.specs.declared.config.HeadConfig.{HeadConfig}
-use Rattle.bfd_mp.specs.declared.config.TailConfig.{TailConfig}
-use Rattle.bfd_mp.specs.Waiting.{deadline}
-use Rattle.bfd_mp.specs.Sound.{IsHeadSound, IsTailSound}
 use Rattle.bfd_mp.specs.HeadSettle as head
 use Rattle.bfd_mp.specs.HeadFinish as finishing
 use Rattle.bfd_mp.specs.TailSettle as tail

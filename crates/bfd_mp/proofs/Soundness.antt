@@ -1,30 +1,16 @@
 -- Each part of an event keeps a head's variables steady and a tail's sound, and the end of a head's event makes them sound.
-use Rattle.std.proofs.Common.{◌≡◌, ◌<◌, ◌≤◌, ◌==◌, ◌-◌, min, ℕ, Bool, true, false, refl, Some, IsSome, is_some, List, arith, if◌then◌else◌}
+use Rattle.bfd_mp.proofs.Common.{◌≡◌, ◌<◌, ◌≤◌, ◌==◌, ◌-◌, min, ℕ, Bool, true, false, refl, Some, IsSome, is_some, List, arith, if◌then◌else◌, Control, fields_of, moment_bound, floor_tick, has_come, Cmd, Vars, is_up, is_admin_down, Course, changes, sends, stamped, enters, is_untold, based, redrawn, HeadConfig, TailConfig, deadline, IsHeadSteady, IsHeadSound, IsTailSound, transmits, head_refusal, head_commanded, head_done, tail_refusal, tail_commanded, tail_done}
 use Rattle.std.proofs.lemmas.Grind.{common_steps}
 use Rattle.std.proofs.lemmas.Bool.Decides.{nat_tests}
-use Rattle.bfd_packet.specs.declared.control.Control.{Control}
 use Rattle.bfd_packet.specs.declared.control.State.{State}
 use Rattle.bfd_packet.specs.declared.control.State.TheVariants.{AdminDown, Down, Init, Up}
-use Rattle.bfd_packet.specs.Layout.{fields_of}
-use Rattle.bfd_num.specs.Numbers.{moment_bound, floor_tick}
-use Rattle.bfd_num.specs.Due.{has_come}
-use Rattle.bfd_rules.specs.declared.commands.Cmd.{Cmd}
 use Rattle.bfd_rules.specs.declared.commands.Cmd.TheVariants.{Disable, Enable, Tx, Mult}
-use Rattle.bfd_rules.specs.declared.variables.Vars.{Vars}
-use Rattle.bfd_rules.specs.Quantities.{is_up, is_admin_down}
-use Rattle.bfd_rules.specs.EventFrame.{Course, changes, sends, stamped, enters, is_untold, based, redrawn}
-use Rattle.bfd_mp.specs.declared.config.HeadConfig.{HeadConfig}
-use Rattle.bfd_mp.specs.declared.config.TailConfig.{TailConfig}
 use Rattle.bfd_mp.specs.Counting.{counted}
-use Rattle.bfd_mp.specs.Waiting.{deadline}
-use Rattle.bfd_mp.specs.Sound.{IsHeadSteady, IsHeadSound, IsTailSound}
-use Rattle.bfd_mp.specs.Transmit.{transmits}
 use Rattle.bfd_mp.specs.HeadSettle as head
 use Rattle.bfd_mp.specs.HeadFinish as finishing
 use Rattle.bfd_mp.specs.TailSettle as tail
 use Rattle.bfd_mp.specs.TailReceive as receiving
 use Rattle.bfd_mp.specs.TailReceive.{IsSized}
-use Rattle.bfd_mp.specs.Command.{head_refusal, head_commanded, head_done, tail_refusal, tail_commanded, tail_done}
 use Rattle.bfd_mp.proofs.Drawing.{drawn_sound}
 
 -- a head

@@ -1,18 +1,7 @@
 -- What was put out before stays in front of what a tail's rules put out, and changes nothing else of them.
-use Rattle.std.proofs.Common.{◌≡◌, ℕ, List, refl, is_some}
-use Rattle.bfd_packet.specs.declared.control.Control.{Control}
-use Rattle.bfd_packet.specs.Layout.{fields_of}
-use Rattle.bfd_num.specs.Due.{has_come}
-use Rattle.bfd_rules.specs.declared.commands.Cmd.{Cmd}
-use Rattle.bfd_rules.specs.declared.outputs.Out.{Out}
-use Rattle.bfd_rules.specs.Quantities.{is_admin_down}
-use Rattle.bfd_rules.specs.EventFrame.{Course}
-use Rattle.bfd_mp.specs.declared.config.TailConfig.{TailConfig}
-use Rattle.bfd_mp.specs.Waiting.{deadline}
+use Rattle.bfd_mp.proofs.Common.{◌≡◌, ℕ, List, refl, is_some, Control, fields_of, has_come, Cmd, Out, is_admin_down, Course, TailConfig, deadline, tail_refusal, tail_commanded, tail_done, after, either, changes-after}
 use Rattle.bfd_mp.specs.TailSettle as settling
 use Rattle.bfd_mp.specs.TailReceive as receiving
-use Rattle.bfd_mp.specs.Command.{tail_refusal, tail_commanded, tail_done}
-use Rattle.bfd_rules.proofs.Courses.{after, either, changes-after}
 
 pub settle-after : (c : TailConfig) (limit : ℕ) (os : List Out) (s : Course) → settling.settle c limit (after os s) ≡ after os (settling.settle c limit s)
 unfolding settling.settle

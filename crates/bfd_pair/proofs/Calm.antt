@@ -1,35 +1,12 @@
 -- Only a packet in Init or Up makes a session tell a change to Up, or leaves one Up that wasn't.
-use Rattle.std.proofs.Common.{◌≡◌, inl, inr, ◌++◌, not, ℕ, Bool, true, false, List, [], ◌∷◌, refl, sym, ap, ◌∙◌, Option, None, Some, Result, Ok, Err, if◌then◌else◌}
-use Rattle.std.proofs.lemmas.Bool.{both_ways, not-true, or_from, or_parts}
-use Rattle.bfd_packet.specs.declared.arrival.Arrival.{Arrival}
-use Rattle.bfd_packet.specs.declared.control.Control.{Control}
-use Rattle.bfd_packet.specs.declared.control.State.{State}
-use Rattle.bfd_packet.specs.declared.control.State.TheVariants.{AdminDown, Down, Init, Up}
-use Rattle.bfd_packet.specs.declared.discard.Test.{Test}
-use Rattle.bfd_packet.specs.declared.keys.SeqState.{SeqState}
-use Rattle.bfd_packet.specs.Layout.{fields_of}
-use Rattle.bfd_packet.specs.States.{is_init_or_up}
-use Rattle.bfd_rules.specs.declared.commands.Cmd.{Cmd}
-use Rattle.bfd_rules.specs.declared.config.Config.{Config}
-use Rattle.bfd_rules.specs.declared.outputs.Out.{Out}
+use Rattle.bfd_pair.proofs.Common.{◌≡◌, inl, inr, ◌++◌, not, ℕ, Bool, true, false, List, [], ◌∷◌, refl, sym, ap, ◌∙◌, Option, None, Some, Result, Ok, Err, if◌then◌else◌, both_ways, not-true, or_from, or_parts, Arrival, Control, State, AdminDown, Down, Init, Up, Test, SeqState, fields_of, is_init_or_up, Cmd, Config, Out, Mark, Vars, is_up, same_state, Course, course, changes, sends, told, transmits, SessionConfig, Pair, Packet, Command, Running, Flow, begun, settled, acted, finished, step, step_from, stepped_flow, tick, tick_from, ticked_flow, next, emits, tick_next, tick_emits, tells_up}
 use Rattle.bfd_rules.specs.declared.outputs.Out.TheVariants.{Changed, Sent}
-use Rattle.bfd_rules.specs.declared.variables.Mark.{Mark}
-use Rattle.bfd_rules.specs.declared.variables.Vars.{Vars}
-use Rattle.bfd_rules.specs.Quantities.{is_up, same_state}
-use Rattle.bfd_rules.specs.EventFrame.{Course, course, changes, sends, told}
 use Rattle.bfd_rules.proofs.Still.{same_itself}
-use Rattle.bfd_p2p.specs.Transmit.{transmits}
 use Rattle.bfd_p2p.specs.Receive as receiving
 use Rattle.bfd_echo.specs.declared.echo.Echo.{Echo}
 use Rattle.bfd_echo.specs.declared.echo.EchoResult.{EchoResult}
 use Rattle.bfd_echo.specs.declared.echo.EchoResult.TheVariants.{Nothing, Sent as EchoSent, Failed}
-use Rattle.bfd_session.specs.declared.event.SessionConfig.{SessionConfig}
-use Rattle.bfd_session.specs.declared.event.SessionConfig.TheVariants.{Pair}
-use Rattle.bfd_session.specs.declared.event.Event.TheVariants.{Packet, Command}
-use Rattle.bfd_session.specs.Kinds.{Running, Flow}
 use Rattle.bfd_session.specs.Echoing.{settled_by, settled_running, settles_echo}
-use Rattle.bfd_session.specs.Step.{begun, settled, acted, finished, step, step_from, stepped_flow, tick, tick_from, ticked_flow, next, emits, tick_next, tick_emits}
-use Rattle.bfd_pair.specs.Handshake.{tells_up}
 use Rattle.bfd_pair.proofs.Points.{IsPoint}
 use Rattle.bfd_pair.proofs.Rules.{Goes, moves_keeps, settle_keeps, commanded_keeps, finish_keeps, low_keeps}
 

@@ -1,44 +1,20 @@
 -- A session outside Init and Up that handles no packet stays there, and sends no packet in Init or Up.
-use Rattle.std.proofs.Common.{◌≡◌, inl, inr, ◌++◌, ◌+◌, not, ℕ, Bool, true, false, List, [], refl, sym, ap, ◌∙◌, subst, Option, None, Some, Result, Ok, Err, if◌then◌else◌}
-use Rattle.std.proofs.lemmas.Bool.{not-true}
+use Rattle.bfd_pair.proofs.Common.{◌≡◌, inl, inr, ◌++◌, ◌+◌, not, ℕ, Bool, true, false, List, [], refl, sym, ap, ◌∙◌, subst, Option, None, Some, Result, Ok, Err, if◌then◌else◌, not-true, Arrival, Control, State, Init, Up, Test, SeqState, fields_of, is_init_or_up, Cmd, Config, Out, Mark, Vars, is_admin_down, is_up, Course, course, changes, sends, told, transmits, packet_bytes, packet_of, SessionConfig, Pair, Packet, Command, Running, Flow, begun, settled, acted, finished, step, step_from, stepped_flow, tick, tick_from, ticked_flow, next, emits, tick_next, tick_emits, reply, answer_of, answer_to_packet, packets_among, renewed_state}
 use Rattle.std.proofs.Math.Bool.{and-false}
 use Rattle.bfd_auth.specs.Sealed.{sealed, section_of}
-use Rattle.bfd_packet.specs.declared.arrival.Arrival.{Arrival}
-use Rattle.bfd_packet.specs.declared.control.Control.{Control}
-use Rattle.bfd_packet.specs.declared.control.State.{State}
-use Rattle.bfd_packet.specs.declared.control.State.TheVariants.{Init, Up}
-use Rattle.bfd_packet.specs.declared.discard.Test.{Test}
 use Rattle.bfd_packet.specs.declared.discard.Test.TheVariants.{AdminDown as DiscardAdminDown}
-use Rattle.bfd_packet.specs.declared.keys.SeqState.{SeqState}
 use Rattle.bfd_packet.specs.KeyChain.{KeyChain, key_at}
-use Rattle.bfd_packet.specs.Layout.{fields_of}
-use Rattle.bfd_packet.specs.States.{is_init_or_up}
 use Rattle.bfd_packet.proofs.RoundTrip.{reads_state}
-use Rattle.bfd_rules.specs.declared.commands.Cmd.{Cmd}
-use Rattle.bfd_rules.specs.declared.config.Config.{Config}
-use Rattle.bfd_rules.specs.declared.outputs.Out.{Out}
-use Rattle.bfd_rules.specs.declared.variables.Mark.{Mark}
-use Rattle.bfd_rules.specs.declared.variables.Vars.{Vars}
 use Rattle.bfd_rules.specs.declared.verdict.Verdict.TheVariants.{Accepted, Dropped}
-use Rattle.bfd_rules.specs.Quantities.{is_admin_down, is_up}
-use Rattle.bfd_rules.specs.EventFrame.{Course, course, changes, sends, told}
 use Rattle.bfd_p2p.specs.Frame.{renews}
-use Rattle.bfd_p2p.specs.Transmit.{transmits, packet_bytes, packet_of}
 use Rattle.bfd_p2p.specs.Receive as receiving
 use Rattle.bfd_p2p.specs.Receive.{is_single}
 use Rattle.bfd_echo.specs.declared.echo.Echo.{Echo}
-use Rattle.bfd_session.specs.declared.event.SessionConfig.{SessionConfig}
-use Rattle.bfd_session.specs.declared.event.SessionConfig.TheVariants.{Pair}
-use Rattle.bfd_session.specs.declared.event.Event.TheVariants.{Packet, Command}
 use Rattle.bfd_session.specs.declared.event.Answer.{Answer}
 use Rattle.bfd_session.specs.declared.event.Answer.TheVariants.{Handled}
-use Rattle.bfd_session.specs.Kinds.{Running, Flow}
 use Rattle.bfd_session.specs.Echoing.{echoing, settles_echo}
-use Rattle.bfd_session.specs.Step.{begun, settled, acted, finished, step, step_from, stepped_flow, tick, tick_from, ticked_flow, next, emits, tick_next, tick_emits, reply, answer_of, answer_to_packet}
-use Rattle.bfd_pair.specs.Run.{packets_among}
 use Rattle.bfd_pair.proofs.Points.{IsPoint}
 use Rattle.bfd_pair.proofs.Packets.{Each, each_append, packets-append, told_packets}
-use Rattle.bfd_session.proofs.Renewing.{renewed_state}
 use Rattle.bfd_pair.proofs.Rules.{Goes, settle_keeps, commanded_keeps, finish_keeps, kept_keeps}
 
 -- the packet isn't in Init or Up

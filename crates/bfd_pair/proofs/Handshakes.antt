@@ -1,22 +1,6 @@
 -- A side comes to Up by a handshake alone.
-use Rattle.std.proofs.Common.{◌≡◌, ◌⊎◌, inl, inr, ◌++◌, ◌*◌, ◌<◌, max, ℕ, Bool, true, false, List, [], ◌∷◌, length, refl, sym, ap, ◌∙◌, Option, None, Some}
-use Rattle.std.proofs.lemmas.Bool.{both_ways}
-use Rattle.bfd_packet.specs.declared.arrival.Arrival.{Arrival}
-use Rattle.bfd_packet.specs.declared.discard.Test.{Test}
-use Rattle.bfd_packet.specs.Layout.{fields_of}
-use Rattle.bfd_packet.specs.States.{is_init_or_up}
-use Rattle.bfd_rules.specs.declared.config.Config.{Config}
-use Rattle.bfd_rules.specs.Quantities.{is_up}
-use Rattle.bfd_session.specs.declared.event.SessionConfig.{SessionConfig}
-use Rattle.bfd_session.specs.declared.event.SessionConfig.TheVariants.{Pair}
-use Rattle.bfd_session.specs.Kinds.{discr_of}
+use Rattle.bfd_pair.proofs.Common.{◌≡◌, ◌⊎◌, inl, inr, ◌++◌, ◌*◌, ◌<◌, max, ℕ, Bool, true, false, List, [], ◌∷◌, length, refl, sym, ap, ◌∙◌, Option, None, Some, both_ways, Arrival, Test, fields_of, is_init_or_up, Config, is_up, SessionConfig, Pair, discr_of, Side, Left, Right, PairEvent, Tick, Give, Order, End, Both, Move, other, side_of, items_of, packet_at, arrival_to, screened, judged_move, comes, given_packet, pair_run, turn, Heard, IsHandshake, sent_by_then, tells_up, is_up_after}
 use Rattle.bfd_session.specs.Alone.{effective}
-use Rattle.bfd_pair.specs.declared.event.Side.{Side}
-use Rattle.bfd_pair.specs.declared.event.Side.TheVariants.{Left, Right}
-use Rattle.bfd_pair.specs.declared.event.PairEvent.{PairEvent}
-use Rattle.bfd_pair.specs.declared.event.PairEvent.TheVariants.{Tick, Give, Order}
-use Rattle.bfd_pair.specs.Run.{End, Both, Move, other, side_of, items_of, packet_at, arrival_to, screened, judged_move, comes, given_packet, pair_run, turn}
-use Rattle.bfd_pair.specs.Handshake.{Heard, IsHandshake, sent_by_then, tells_up, is_up_after}
 use Rattle.bfd_pair.proofs.Points.{IsPoint, way_point, run_point}
 use Rattle.bfd_pair.proofs.Calm.{tick_untold, tick_low, order_untold, order_low, packet_untold, packet_low}
 use Rattle.bfd_pair.proofs.Naming.{names, way_payload}

@@ -1,23 +1,9 @@
 -- A side in Init or Up, and each packet in Init or Up that it has sent, come after it handled a packet of the other side.
-use Rattle.std.proofs.Common.{◌≡◌, ◌⊎◌, inl, inr, ◌++◌, ◌==◌, ◌-◌, ◌<◌, ◌≤◌, ℕ, Bool, true, false, List, [], ◌∷◌, length, length-append, refl, sym, ap, ◌∙◌, subst, arith, append_assoc, append-nil, None, Some}
-use Rattle.std.specs.Prelude.{slice_get}
+use Rattle.bfd_pair.proofs.Common.{◌≡◌, ◌⊎◌, inl, inr, ◌++◌, ◌==◌, ◌-◌, ◌<◌, ◌≤◌, ℕ, Bool, true, false, List, [], ◌∷◌, length, length-append, refl, sym, ap, ◌∙◌, subst, arith, append_assoc, append-nil, None, Some, slice_get, both_ways, fields_of, is_init_or_up, SessionConfig, Pair, started, Side, Left, Right, PairEvent, Give, End, Both, side_of, packet_at, both_after, pair_run, turn, Heard, sent_by_then, drawn_state}
 use Rattle.std.proofs.lemmas.Bool.Decides.{nat_tests}
-use Rattle.std.proofs.lemmas.Bool.{both_ways}
-use Rattle.bfd_packet.specs.Layout.{fields_of}
-use Rattle.bfd_packet.specs.States.{is_init_or_up}
 use Rattle.bfd_p2p.specs.Machine.{made as pair_made}
-use Rattle.bfd_session.specs.declared.event.SessionConfig.{SessionConfig}
-use Rattle.bfd_session.specs.declared.event.SessionConfig.TheVariants.{Pair}
-use Rattle.bfd_session.specs.Step.{started}
-use Rattle.bfd_pair.specs.declared.event.Side.{Side}
-use Rattle.bfd_pair.specs.declared.event.Side.TheVariants.{Left, Right}
-use Rattle.bfd_pair.specs.declared.event.PairEvent.{PairEvent}
-use Rattle.bfd_pair.specs.declared.event.PairEvent.TheVariants.{Give}
-use Rattle.bfd_pair.specs.Run.{End, Both, side_of, packet_at, both_after, pair_run, turn}
-use Rattle.bfd_pair.specs.Handshake.{Heard, sent_by_then}
 use Rattle.bfd_pair.proofs.Points.{IsPoint, run_point}
 use Rattle.bfd_pair.proofs.Packets.{each_at, Later, first_or_later}
-use Rattle.bfd_session.proofs.Renewing.{drawn_state}
 use Rattle.bfd_pair.proofs.Cold.{IsCold}
 use Rattle.bfd_pair.proofs.Sides.{Grows, Quiet, Hears, hears_or_quiet}
 

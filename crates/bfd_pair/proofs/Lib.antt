@@ -1,3 +1,4 @@
+mod Common
 pub mod Points
 pub mod Packets
 pub mod Rules

@@ -1,30 +1,18 @@
 -- A packet that fails no test up to selection over a session's one row: the session takes it, and in Init or Up it names the session.
-use Rattle.std.proofs.Common.{◌≡◌, ◌==◌, ◌&&◌, ◌||◌, ◌++◌, not, ℕ, Bool, true, false, List, [], ◌∷◌, refl, sym, ap, ◌∙◌, subst, None, Some, if◌then◌else◌, arith}
-use Rattle.std.specs.Prelude.{find, unwrap_or}
+use Rattle.bfd_pair.proofs.Common.{◌≡◌, ◌==◌, ◌&&◌, ◌||◌, ◌++◌, not, ℕ, Bool, true, false, List, [], ◌∷◌, refl, sym, ap, ◌∙◌, subst, None, Some, if◌then◌else◌, arith, find, unwrap_or, Arrival, Test, fields_of, is_init_or_up, Config, SessionConfig, Pair, Packet, discr_of, CanTake, arrival_to, screened}
 use Rattle.std.proofs.lemmas.Bool.Decides.{nat_tests}
 use Rattle.bfd_packet.specs.declared.arrival.Addr.{Addr}
-use Rattle.bfd_packet.specs.declared.arrival.Arrival.{Arrival}
 use Rattle.bfd_packet.specs.declared.arrival.Port.{Port}
 use Rattle.bfd_packet.specs.declared.arrival.Port.TheVariants.{Single as SinglePort, Multi as MultiPort}
-use Rattle.bfd_packet.specs.declared.discard.Test.{Test}
 use Rattle.bfd_packet.specs.declared.discard.Test.TheVariants.{Short, Version, LengthMin, LengthOver, DetectMult, Multipoint, MyDiscr, YourUnknown, YourZeroState, NoSession, MultipointYour, NoTail}
 use Rattle.bfd_packet.specs.HeaderTests.{header_fails, first_failing}
-use Rattle.bfd_packet.specs.Layout.{fields_of}
-use Rattle.bfd_packet.specs.States.{is_init_or_up}
-use Rattle.bfd_rules.specs.declared.config.Config.{Config}
 use Rattle.bfd_rules.specs.declared.config.Role.{Role}
 use Rattle.bfd_rules.specs.declared.config.Role.TheVariants.{Single, Multi}
 use Rattle.bfd_p2p.specs.Port.{port_of}
 use Rattle.bfd_demux.specs.declared.row.Row.{Row}
 use Rattle.bfd_demux.specs.Selection.{first_header_failing, first_table_failing, first_failing_on, is_multipoint, table_fails, tests_on_header}
-use Rattle.bfd_session.specs.declared.event.SessionConfig.{SessionConfig}
-use Rattle.bfd_session.specs.declared.event.SessionConfig.TheVariants.{Pair}
-use Rattle.bfd_session.specs.declared.event.Event.TheVariants.{Packet}
-use Rattle.bfd_session.specs.Kinds.{discr_of}
 use Rattle.bfd_session.specs.Rows.{kind_of, row_of}
-use Rattle.bfd_session.specs.Step.{CanTake}
 use Rattle.bfd_session.proofs.Ports.{each_passes}
-use Rattle.bfd_pair.specs.Run.{arrival_to, screened}
 
 never : true ≡ false → ⊥
 never h = cc

@@ -1,12 +1,6 @@
 -- The packets among outputs, and facts of each of them.
-use Rattle.std.proofs.Common.{◌≡◌, ◌≤◌, ◌++◌, ◌⊎◌, inl, inr, ℕ, zero, suc, Bool, true, false, List, [], ◌∷◌, length, refl, ap, subst, arith, Some, if◌then◌else◌}
-use Rattle.std.specs.Prelude.{slice_get, unwrap_or}
-use Rattle.bfd_rules.specs.declared.outputs.Out.{Out}
+use Rattle.bfd_pair.proofs.Common.{◌≡◌, ◌≤◌, ◌++◌, ◌⊎◌, inl, inr, ℕ, zero, suc, Bool, true, false, List, [], ◌∷◌, length, refl, ap, subst, arith, Some, if◌then◌else◌, slice_get, unwrap_or, Out, Vars, same_state, told, packets_among}
 use Rattle.bfd_rules.specs.declared.outputs.Out.TheVariants.{Changed, Sent}
-use Rattle.bfd_rules.specs.declared.variables.Vars.{Vars}
-use Rattle.bfd_rules.specs.Quantities.{same_state}
-use Rattle.bfd_rules.specs.EventFrame.{told}
-use Rattle.bfd_pair.specs.Run.{packets_among}
 
 pub packets-append : (xs ys : List Out) → packets_among (xs ++ ys) ≡ packets_among xs ++ packets_among ys
 packets-append [] ys = refl

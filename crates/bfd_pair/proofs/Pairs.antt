@@ -1,14 +1,5 @@
 -- An event leaves a pair of what the past, with it, makes.
-use Rattle.std.proofs.Common.{◌≡◌, ◌≤◌, ◌++◌, ℕ, true, false, List, [], ◌∷◌, sym, ap, ◌∙◌, subst, arith}
-use Rattle.bfd_num.specs.Numbers.{greatest_tick}
-use Rattle.bfd_session.specs.declared.event.SessionConfig.{SessionConfig}
-use Rattle.bfd_pair.specs.declared.event.Side.{Side}
-use Rattle.bfd_pair.specs.declared.event.Side.TheVariants.{Left, Right}
-use Rattle.bfd_pair.specs.declared.event.PairEvent.{PairEvent}
-use Rattle.bfd_pair.specs.declared.peer.Peer.{Peer}
-use Rattle.bfd_pair.specs.Run.{End, Both, items_of, opened_side, pair_run, turn}
-use Rattle.bfd_pair.specs.Handshake.{IsHandshake, tells_up, is_up_after}
-use Rattle.bfd_pair.specs.Inside.{seen, both_of, Pairing, pairing_of, IsPeer, IsPair}
+use Rattle.bfd_pair.proofs.Common.{◌≡◌, ◌≤◌, ◌++◌, ℕ, true, false, List, [], ◌∷◌, sym, ap, ◌∙◌, subst, arith, greatest_tick, SessionConfig, Side, Left, Right, PairEvent, Peer, End, Both, items_of, opened_side, pair_run, turn, IsHandshake, tells_up, is_up_after, seen, both_of, Pairing, pairing_of, IsPeer, IsPair}
 use Rattle.bfd_pair.proofs.Points.{IsPoint, way_point, turn_config}
 use Rattle.bfd_pair.proofs.Hearing.{run_more}
 use Rattle.bfd_pair.proofs.Handshakes.{handshakes, comes_up}

@@ -1,24 +1,12 @@
 -- A side of the program as a side of the definitions.
-use Rattle.std.proofs.Common.{◌≡◌, ◌≤◌, ◌<◌, ◌-◌, ◌++◌, ℕ, List, [], ◌∷◌, length, take, drop, sym, ap, ◌∙◌, subst, arith, Option, None, Some}
+use Rattle.bfd_pair.proofs.Common.{◌≡◌, ◌≤◌, ◌<◌, ◌-◌, ◌++◌, ℕ, List, [], ◌∷◌, length, take, drop, sym, ap, ◌∙◌, subst, arith, Option, None, Some, moment_bound, Arrival, Config, Out, SessionConfig, Pair, Packet, Running, IsFit, IsSound, CanTake, sound_by, started, Peer, arrival_to, packets_among, arrives, comes, seen, by_way, IsPeer}
 use Rattle.std.proofs.lemmas.List.{take_all, length-drop}
 use Rattle.std.proofs.Math.Seq.{drop-append_seam}
-use Rattle.bfd_num.specs.Numbers.{moment_bound}
-use Rattle.bfd_packet.specs.declared.arrival.Arrival.{Arrival}
-use Rattle.bfd_rules.specs.declared.config.Config.{Config}
-use Rattle.bfd_rules.specs.declared.outputs.Out.{Out}
 use Rattle.bfd_demux.specs.declared.row.Row.{Row}
 use Rattle.bfd_demux.specs.Rows.{build_fault}
 use Rattle.bfd_demux.specs.Selection.{first_header_failing, first_table_failing}
-use Rattle.bfd_session.specs.declared.event.SessionConfig.{SessionConfig}
-use Rattle.bfd_session.specs.declared.event.SessionConfig.TheVariants.{Pair}
-use Rattle.bfd_session.specs.declared.event.Event.TheVariants.{Packet}
-use Rattle.bfd_session.specs.Kinds.{Running}
 use Rattle.bfd_session.specs.Rows.{row_of}
-use Rattle.bfd_session.specs.Step.{IsFit, IsSound, CanTake, sound_by, started}
 use Rattle.bfd_session.proofs.Tables.{no_fault as no_faults}
-use Rattle.bfd_pair.specs.declared.peer.Peer.{Peer}
-use Rattle.bfd_pair.specs.Run.{arrival_to, packets_among, arrives, comes}
-use Rattle.bfd_pair.specs.Inside.{seen, by_way, IsPeer}
 use Rattle.bfd_pair.proofs.Points.{IsPoint, way_point}
 use Rattle.bfd_pair.proofs.Packets.{packets_few}
 use Rattle.bfd_pair.proofs.Naming.{takes}

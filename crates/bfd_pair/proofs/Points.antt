@@ -1,14 +1,5 @@
 -- The sessions of a pair are point-to-point ones, and stay so: no event changes a configuration.
-use Rattle.std.proofs.Common.{◌≡◌, ℕ, List, [], ◌∷◌, refl, sym, ◌∙◌, subst, length, Option, None, Some}
-use Rattle.bfd_packet.specs.declared.arrival.Arrival.{Arrival}
-use Rattle.bfd_packet.specs.declared.discard.Test.{Test}
-use Rattle.bfd_session.specs.declared.event.SessionConfig.{SessionConfig}
-use Rattle.bfd_session.specs.declared.event.SessionConfig.TheVariants.{Pair}
-use Rattle.bfd_pair.specs.declared.event.Side.{Side}
-use Rattle.bfd_pair.specs.declared.event.Side.TheVariants.{Left, Right}
-use Rattle.bfd_pair.specs.declared.event.PairEvent.{PairEvent}
-use Rattle.bfd_pair.specs.declared.event.PairEvent.TheVariants.{Tick, Give, Order}
-use Rattle.bfd_pair.specs.Run.{End, Both, side_of, packet_at, arrival_to, screened, judged_move, comes, given_packet, opened_side, both_after, pair_run, turn}
+use Rattle.bfd_pair.proofs.Common.{◌≡◌, ℕ, List, [], ◌∷◌, refl, sym, ◌∙◌, subst, length, Option, None, Some, Arrival, Test, SessionConfig, Pair, Side, Left, Right, PairEvent, Tick, Give, Order, End, Both, side_of, packet_at, arrival_to, screened, judged_move, comes, given_packet, opened_side, both_after, pair_run, turn}
 
 -- a point-to-point session's configuration
 abbrev pub IsPoint : SessionConfig → Type 0

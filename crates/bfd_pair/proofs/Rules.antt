@@ -1,25 +1,11 @@
 -- What every rule of a point-to-point session keeps, but for the state machine's answer to a packet in Init or Up: a fact of a
 -- session's state and its outputs which holds on where variables change and the state doesn't, where the state changes to one of the
 -- allowed ones and is told, and where a packet with the present state is sent.
-use Rattle.std.proofs.Common.{◌≡◌, ◌⊎◌, inl, inr, ◌&&◌, ℕ, not, Bool, true, false, refl, ap, ◌∙◌, is_some, if◌then◌else◌}
-use Rattle.bfd_num.specs.Numbers.{floor_tick}
+use Rattle.bfd_pair.proofs.Common.{◌≡◌, ◌⊎◌, inl, inr, ◌&&◌, ℕ, not, Bool, true, false, refl, ap, ◌∙◌, is_some, if◌then◌else◌, floor_tick, Control, State, AdminDown, Down, Init, Up, SeqState, is_init_or_up, Cmd, Config, Mark, Vars, may_send, deadline, seq_deadline, is_idle, is_admin_down, Course, course, changes, sends, enters, tells, is_untold, based, drawn, redrawn, renewed_state, drawn_state, transmits}
 use Rattle.bfd_num.specs.Due.{has_come}
-use Rattle.bfd_packet.specs.declared.control.Control.{Control}
-use Rattle.bfd_packet.specs.declared.control.State.{State}
-use Rattle.bfd_packet.specs.declared.control.State.TheVariants.{AdminDown, Down, Init, Up}
-use Rattle.bfd_packet.specs.declared.keys.SeqState.{SeqState}
-use Rattle.bfd_packet.specs.States.{is_init_or_up}
-use Rattle.bfd_rules.specs.declared.commands.Cmd.{Cmd}
 use Rattle.bfd_rules.specs.declared.commands.Cmd.TheVariants.{Disable, Enable, Reset}
-use Rattle.bfd_rules.specs.declared.config.Config.{Config}
-use Rattle.bfd_rules.specs.declared.variables.Mark.{Mark}
-use Rattle.bfd_rules.specs.declared.variables.Vars.{Vars}
-use Rattle.bfd_rules.specs.Quantities.{may_send, deadline, seq_deadline, is_idle, is_admin_down}
 use Rattle.bfd_rules.specs.Renewal.{renewed}
-use Rattle.bfd_rules.specs.EventFrame.{Course, course, changes, sends, enters, tells, is_untold, based, drawn, redrawn}
-use Rattle.bfd_session.proofs.Renewing.{renewed_state, drawn_state}
 use Rattle.bfd_p2p.specs.Frame.{renews, moves}
-use Rattle.bfd_p2p.specs.Transmit.{transmits}
 use Rattle.bfd_p2p.specs.Settle as settling
 use Rattle.bfd_p2p.specs.Receive as receiving
 use Rattle.bfd_p2p.specs.Command.{refusal, commanded, done}

@@ -1,19 +1,9 @@
 -- What an event makes of one side: it handles a packet, or stays as cold as it was.
-use Rattle.std.proofs.Common.{◌≡◌, ◌⊎◌, inl, inr, ◌++◌, ◌*◌, max, ℕ, Bool, true, false, List, [], refl, sym, ap, ◌∙◌, append-nil, length, Option, None, Some}
-use Rattle.bfd_packet.specs.declared.arrival.Arrival.{Arrival}
-use Rattle.bfd_packet.specs.declared.discard.Test.{Test}
-use Rattle.bfd_packet.specs.States.{is_init_or_up}
-use Rattle.bfd_rules.specs.declared.commands.Cmd.{Cmd}
-use Rattle.bfd_session.specs.declared.event.Event.TheVariants.{Packet, Command}
+use Rattle.bfd_pair.proofs.Common.{◌≡◌, ◌⊎◌, inl, inr, ◌++◌, ◌*◌, max, ℕ, Bool, true, false, List, [], refl, sym, ap, ◌∙◌, append-nil, length, Option, None, Some, Arrival, Test, is_init_or_up, Cmd, Packet, Command, Side, Left, Right, PairEvent, Tick, Give, Order, End, Both, Move, other, side_of, packets_among, packet_at, arrival_to, screened, own_move, judged_move, comes, given_packet, ticking, side_moves, turn}
 use Rattle.bfd_session.specs.declared.event.Answer.{Answer}
 use Rattle.bfd_session.specs.declared.event.Answer.TheVariants.{Handled}
 use Rattle.bfd_session.specs.Alone.{effective, step_outcome, tick_items}
-use Rattle.bfd_pair.specs.declared.event.Side.{Side}
-use Rattle.bfd_pair.specs.declared.event.Side.TheVariants.{Left, Right}
-use Rattle.bfd_pair.specs.declared.event.PairEvent.{PairEvent}
-use Rattle.bfd_pair.specs.declared.event.PairEvent.TheVariants.{Tick, Give, Order}
 use Rattle.bfd_pair.specs.declared.event.PairAnswer.TheVariants.{Did}
-use Rattle.bfd_pair.specs.Run.{End, Both, Move, other, side_of, packets_among, packet_at, arrival_to, screened, own_move, judged_move, comes, given_packet, ticking, side_moves, turn}
 use Rattle.bfd_pair.proofs.Points.{IsPoint}
 use Rattle.bfd_pair.proofs.Packets.{Each}
 use Rattle.bfd_pair.proofs.Cold.{IsCold, is_handled, tick_state, tick_packets, order_state, order_packets, packet_state, packet_packets}

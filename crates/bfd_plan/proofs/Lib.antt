@@ -1,3 +1,4 @@
+mod Common
 pub mod Standing
 pub mod Planning
 pub mod Parting

@@ -1,21 +1,13 @@
 -- Lines in runs, and what was planned of the runs, put one behind another.
-use Rattle.std.proofs.Common.{◌≡◌, ◌<◌, ◌≤◌, ◌+◌, ◌++◌, ℕ, zero, suc, List, [], ◌∷◌, length, map, get_or, take, drop, refl, sym, ap, ◌∙◌, subst, append_assoc, append-nil, arith, length-append, Result, Ok}
+use Rattle.bfd_plan.proofs.Common.{◌≡◌, ◌<◌, ◌≤◌, ◌+◌, ◌++◌, ℕ, zero, suc, List, [], ◌∷◌, length, map, get_or, take, drop, refl, sym, ap, ◌∙◌, subst, append_assoc, append-nil, arith, length-append, Result, Ok, slice_index_or, AllByRecursion, flat_map, map-append, length-map, take-append-drop, Reflector, SessionConfig, Line, queue, told_apart, AreQueues, AreRuns, Follow, IsMet, IsPlanOf, IsRunPlanned, behind, columns_are, happenings, happening, run_lines}
 use Rattle.std.specs.Global.{Vec}
-use Rattle.std.specs.Prelude.{slice_index_or}
-use Rattle.std.specs.List.{AllByRecursion, flat_map}
-use Rattle.std.proofs.lemmas.List.{map-append, length-map, take-append-drop}
 use Rattle.std.proofs.lemmas.Grind.{flat_map-append}
 use Rattle.std.proofs.lemmas.List.Elements.{All-from_recursion}
-use Rattle.bfd_sbfd.specs.declared.reflecting.Reflector.{Reflector}
-use Rattle.bfd_session.specs.declared.event.SessionConfig.{SessionConfig}
-use Rattle.bfd_line.specs.declared.entries.Line.{Line}
 use Rattle.bfd_script.proofs.Elements.{each_more}
 use Rattle.bfd_gather.specs.declared.queue.Numbered.{Numbered}
 use Rattle.bfd_gather.specs.Pieces.{Piece}
-use Rattle.bfd_gather.specs.Happenings.{queue, told_apart}
 use Rattle.bfd_gather.proofs.Histories.{queue_append, apart_append}
 use Rattle.bfd_plan.specs.declared.runs.Run.{Run}
-use Rattle.bfd_plan.specs.Planned.{AreQueues, AreRuns, Follow, IsMet, IsPlanOf, IsRunPlanned, behind, columns_are, happenings, happening, run_lines}
 use Rattle.bfd_plan.proofs.Planning.{IsOnPlan, plan_start, plan_end}
 
 -- lines that are cut from the end on: these are left

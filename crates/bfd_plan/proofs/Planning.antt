@@ -1,14 +1,7 @@
 -- One line more is planned.
-use Rattle.std.proofs.Common.{◌≡◌, ◌⊎◌, inl, inr, ◌<◌, ◌≤◌, ◌+◌, ◌++◌, ℕ, List, [], ◌∷◌, length, sym, ap, ◌∙◌, subst, append_assoc, append-nil, arith, Option, None, Some}
-use Rattle.std.specs.Prelude.{slice_index_or}
-use Rattle.std.specs.List.{AllByRecursion, cons_option}
-use Rattle.bfd_sbfd.specs.declared.reflecting.Reflector.{Reflector}
-use Rattle.bfd_session.specs.declared.event.SessionConfig.{SessionConfig}
-use Rattle.bfd_line.specs.declared.entries.Line.{Line}
+use Rattle.bfd_plan.proofs.Common.{◌≡◌, ◌⊎◌, inl, inr, ◌<◌, ◌≤◌, ◌+◌, ◌++◌, ℕ, List, [], ◌∷◌, length, sym, ap, ◌∙◌, subst, append_assoc, append-nil, arith, Option, None, Some, slice_index_or, AllByRecursion, cons_option, Reflector, SessionConfig, Line, Happening, Apart, Among, in_shard, numbered, queue, told_apart, IsPlanned, IsMet, IsRunPlanned, happenings, happening}
 use Rattle.bfd_gather.specs.declared.queue.Numbered.{Numbered}
 use Rattle.bfd_gather.specs.Pieces.{Piece}
-use Rattle.bfd_gather.specs.Happenings.{Happening, Apart, Among, in_shard, numbered, queue, told_apart}
-use Rattle.bfd_plan.specs.Planned.{IsPlanned, IsMet, IsRunPlanned, happenings, happening}
 
 one_then : (xs rest : List Numbered) (o : Option Numbered) → (xs ++ cons_option o []) ++ rest ≡ xs ++ cons_option o rest
 one_then xs rest None = ap (λ ys. ys ++ rest) (append-nil xs)

@@ -1,6 +1,5 @@
 -- A session at a place is handed what every session takes.
-use Rattle.std.proofs.Common.{◌<◌, ℕ, zero, suc, List, [], ◌∷◌, length, refl, arith}
-use Rattle.bfd_session.specs.declared.event.SessionConfig.{SessionConfig}
+use Rattle.bfd_plan.proofs.Common.{◌<◌, ℕ, zero, suc, List, [], ◌∷◌, length, refl, arith, SessionConfig}
 use Rattle.bfd_session.specs.declared.event.Event.{Event}
 use Rattle.bfd_session.specs.Step.{CanTake}
 use Rattle.bfd_shard.specs.Shard.{IsTaken}

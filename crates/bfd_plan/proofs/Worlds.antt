@@ -1,29 +1,22 @@
 -- The world of a replay is one shard with every session.
-use Rattle.std.proofs.Common.{◌≡◌, ◌∙◌, ℕ, List, [], ◌∷◌, map, refl, sym, ap, Option, None, Some, Result, Ok, Err}
-use Rattle.std.specs.Prelude.{slice_get}
-use Rattle.std.specs.List.{cons_option, filter_map}
+use Rattle.bfd_plan.proofs.Common.{◌≡◌, ◌∙◌, ℕ, List, [], ◌∷◌, map, refl, sym, ap, Option, None, Some, Result, Ok, Err, slice_get, cons_option, filter_map, Reflector, SessionConfig, Line, Happening, Apart, Among, session_event, events_of_table, happening, happening_by, happenings, reflecting}
 use Rattle.bfd_packet.specs.declared.arrival.Datagram.{Datagram}
 use Rattle.bfd_packet.specs.declared.discard.Test.{Test}
-use Rattle.bfd_sbfd.specs.declared.reflecting.Reflector.{Reflector}
 use Rattle.bfd_sbfd.specs.Reflect.{reflect}
 use Rattle.bfd_session.specs.declared.event.Event.{Event}
-use Rattle.bfd_session.specs.declared.event.SessionConfig.{SessionConfig}
 use Rattle.bfd_session.specs.Kinds.{Running, configs_of}
 use Rattle.bfd_session.specs.Step.{started}
 use Rattle.bfd_session.proofs.Starting.{started_configs}
 use Rattle.bfd_shard.specs.declared.entry.ShardEvent.{ShardEvent}
 use Rattle.bfd_shard.specs.declared.entry.ShardEvent.TheVariants.{Own, Tick}
 use Rattle.bfd_shard.specs.History.{later, moved, own_moved, own_outcome, outcome_of, runs}
-use Rattle.bfd_line.specs.declared.entries.Line.{Line}
 use Rattle.bfd_script.specs.Doing.{Doing, Rests, Reflects, Happens, Passes, doing}
 use Rattle.bfd_script.specs.Reading.{Lists}
 use Rattle.bfd_script.specs.Sound.{IsScript}
-use Rattle.bfd_gather.specs.Happenings.{Happening, Apart, Among, session_event}
 use Rattle.bfd_gather.specs.Happenings as gather
 use Rattle.bfd_gather.proofs.Histories.{left_by, left_runs}
 use Rattle.bfd_replay.specs.World.{World, Turn, own, own_of, ticks, carried_out, happens, outcomes, world_after, reflected, opened, world}
 use Rattle.bfd_replay.specs.World as worlds
-use Rattle.bfd_plan.specs.Planned.{events_of_table, happening, happening_by, happenings, reflecting}
 use Rattle.bfd_replay.specs.Stage.{IsTable}
 use Rattle.bfd_replay.proofs.SameConfigs.{happens_keeps}
 

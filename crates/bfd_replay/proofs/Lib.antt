@@ -1,3 +1,4 @@
+mod Common
 pub mod Ticks
 pub mod Loops
 pub mod Turns

@@ -1,21 +1,12 @@
 -- An event leaves a stage.
-use Rattle.std.proofs.Common.{None, ◌≡◌, ◌≤◌, ◌+◌, ◌*◌, ℕ, List, length, map, sym, ap, ◌∙◌, subst, arith}
+use Rattle.bfd_replay.proofs.Common.{None, ◌≡◌, ◌≤◌, ◌+◌, ◌*◌, ℕ, List, length, map, sym, ap, ◌∙◌, subst, arith, Out, Reflector, SessionConfig, Answer, Running, configs_of, Line, Ascends, table_of, started, Turn, turned, world_of, happens}
 use Rattle.std.proofs.lemmas.List.{length-map}
 use Rattle.bfd_num.specs.Numbers.{greatest_tick}
-use Rattle.bfd_rules.specs.declared.outputs.Out.{Out}
 use Rattle.bfd_rules.specs.EventFrame.{Outputs}
-use Rattle.bfd_sbfd.specs.declared.reflecting.Reflector.{Reflector}
-use Rattle.bfd_session.specs.declared.event.SessionConfig.{SessionConfig}
-use Rattle.bfd_session.specs.declared.event.Answer.{Answer}
-use Rattle.bfd_session.specs.Kinds.{Running, configs_of}
 use Rattle.bfd_demux.specs.declared.row.Row.{Row}
 use Rattle.bfd_demux.specs.Rows.{build_fault}
-use Rattle.bfd_line.specs.declared.entries.Line.{Line}
-use Rattle.bfd_session.specs.Rows.{Ascends, table_of}
 use Rattle.bfd_session.proofs.Starting.{started_configs}
 use Rattle.bfd_script.proofs.Faults as script
-use Rattle.bfd_session.specs.Step.{started}
-use Rattle.bfd_replay.specs.World.{Turn, turned, world_of, happens}
 use Rattle.bfd_replay.specs.Stage.{IsStage, IsTable}
 use Rattle.bfd_replay.proofs.SameConfigs.{happens_keeps}
 

@@ -1,15 +1,9 @@
 -- The due tick that an event leaves keeps the variables sound.
-use Rattle.std.proofs.Common.{◌≡◌, ◌^◌, ◌<◌, ℕ, Bool, true, false, refl, Option, None, Some, IfSome, arith, if◌then◌else◌}
+use Rattle.bfd_sbfd.proofs.Common.{◌≡◌, ◌^◌, ◌<◌, ℕ, Bool, true, false, refl, Option, None, Some, IfSome, arith, if◌then◌else◌, moment_bound, next_j, Vars, may_send, tx_interval, draws, drawn, SeekConfig, IsSeekPlain, IsSeekSteady, IsSeekSound}
 use Rattle.std.proofs.lemmas.Grind.{common_steps}
-use Rattle.bfd_num.specs.Numbers.{moment_bound, next_j}
 use Rattle.bfd_rules.specs.declared.variables.Mark.{Mark}
-use Rattle.bfd_rules.specs.declared.variables.Vars.{Vars}
-use Rattle.bfd_rules.specs.Quantities.{may_send, tx_interval}
 use Rattle.bfd_rules.specs.Jitter.{pick}
-use Rattle.bfd_rules.specs.EventFrame.{draws, drawn}
 use Rattle.bfd_rules.proofs.Drawing.{picked_below, stands_there}
-use Rattle.bfd_sbfd.specs.declared.config.SeekConfig.{SeekConfig}
-use Rattle.bfd_sbfd.specs.Sound.{IsSeekPlain, IsSeekSteady, IsSeekSound}
 
 interval_few : (c : SeekConfig) (v : Vars) → IsSeekSteady c v → tx_interval v < 2 ^ 32
 interval_few c v steady = grind (arith, common_steps)

@@ -1,14 +1,6 @@
 -- A tick forgets the last answer exactly where the deadline has come by its limit.
-use Rattle.std.proofs.Common.{◌≡◌, ◌&&◌, ◌↔◌, ◌∙◌, ℕ, Bool, true, false, refl, None, IsSome, if◌then◌else◌}
-use Rattle.bfd_num.specs.Numbers.{floor_tick}
-use Rattle.bfd_num.specs.Due.{has_come}
-use Rattle.bfd_rules.specs.Quantities.{may_send}
-use Rattle.bfd_rules.specs.EventFrame.{Course, changes, sends, is_untold, redrawn}
+use Rattle.bfd_sbfd.proofs.Common.{◌≡◌, ◌&&◌, ◌↔◌, ◌∙◌, ℕ, Bool, true, false, refl, None, IsSome, if◌then◌else◌, floor_tick, has_come, may_send, Course, changes, sends, is_untold, redrawn, SeekConfig, deadline, moves, transmits}
 use Rattle.bfd_rules.proofs.Heard.{alike, drawn_heard, exactly}
-use Rattle.bfd_sbfd.specs.declared.config.SeekConfig.{SeekConfig}
-use Rattle.bfd_sbfd.specs.Waiting.{deadline}
-use Rattle.bfd_sbfd.specs.Frame.{moves}
-use Rattle.bfd_sbfd.specs.Transmit.{transmits}
 use Rattle.bfd_sbfd.specs.Settle as settling
 use Rattle.bfd_sbfd.specs.Finish as finishing
 

@@ -1,22 +1,8 @@
 -- What was put out before stays in front of what an initiator's rules put out, and changes nothing else of them.
-use Rattle.std.proofs.Common.{◌≡◌, ◌&&◌, ℕ, true, List, refl, is_some}
-use Rattle.bfd_packet.specs.declared.control.Control.{Control}
-use Rattle.bfd_packet.specs.Layout.{fields_of}
-use Rattle.bfd_num.specs.Numbers.{floor_tick}
-use Rattle.bfd_num.specs.Due.{has_come}
-use Rattle.bfd_rules.specs.declared.commands.Cmd.{Cmd}
-use Rattle.bfd_rules.specs.declared.outputs.Out.{Out}
-use Rattle.bfd_rules.specs.declared.variables.Vars.{Vars}
-use Rattle.bfd_rules.specs.Quantities.{may_send, is_admin_down}
-use Rattle.bfd_rules.specs.EventFrame.{Course, is_untold, based, redrawn}
+use Rattle.bfd_sbfd.proofs.Common.{◌≡◌, ◌&&◌, ℕ, true, List, refl, is_some, Control, fields_of, floor_tick, has_come, Cmd, Out, Vars, may_send, is_admin_down, Course, is_untold, based, redrawn, SeekConfig, deadline, moves, transmits, refusal, commanded, done}
 use Rattle.bfd_rules.proofs.Courses.{after, either, changes-after, sends-after}
-use Rattle.bfd_sbfd.specs.declared.config.SeekConfig.{SeekConfig}
-use Rattle.bfd_sbfd.specs.Waiting.{deadline}
-use Rattle.bfd_sbfd.specs.Frame.{moves}
-use Rattle.bfd_sbfd.specs.Transmit.{transmits}
 use Rattle.bfd_sbfd.specs.Settle as settling
 use Rattle.bfd_sbfd.specs.Receive as receiving
-use Rattle.bfd_sbfd.specs.Command.{refusal, commanded, done}
 use Rattle.bfd_sbfd.specs.Finish as finishing
 
 moves-after : (discr : ℕ) (v : Vars) (os : List Out) (s : Course) → moves discr v (after os s) ≡ after os (moves discr v s)

@@ -1,3 +1,4 @@
+mod Common
 pub mod Drawing
 pub mod Searching
 pub mod Front

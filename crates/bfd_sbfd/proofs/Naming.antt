@@ -1,23 +1,9 @@
 -- Each output of an initiator names its discriminator: what is true of each output that does stays true of all outputs.
-use Rattle.std.proofs.Common.{◌&&◌, ℕ, true, List, is_some}
+use Rattle.bfd_sbfd.proofs.Common.{◌&&◌, ℕ, true, List, is_some, Control, fields_of, floor_tick, has_come, Cmd, Out, Vars, may_send, is_admin_down, Course, is_untold, based, redrawn, SeekConfig, deadline, moves, transmits, refusal, commanded, done}
 use Rattle.std.specs.List.{AllByRecursion}
-use Rattle.bfd_packet.specs.declared.control.Control.{Control}
-use Rattle.bfd_packet.specs.Layout.{fields_of}
-use Rattle.bfd_num.specs.Numbers.{floor_tick}
-use Rattle.bfd_num.specs.Due.{has_come}
-use Rattle.bfd_rules.specs.declared.commands.Cmd.{Cmd}
-use Rattle.bfd_rules.specs.declared.outputs.Out.{Out}
-use Rattle.bfd_rules.specs.declared.variables.Vars.{Vars}
-use Rattle.bfd_rules.specs.Quantities.{may_send, is_admin_down}
-use Rattle.bfd_rules.specs.EventFrame.{Course, is_untold, based, redrawn}
 use Rattle.bfd_rules.proofs.Courses.{OfOwn, own_name, chosen_names, changes_names, sends_names}
-use Rattle.bfd_sbfd.specs.declared.config.SeekConfig.{SeekConfig}
-use Rattle.bfd_sbfd.specs.Waiting.{deadline}
-use Rattle.bfd_sbfd.specs.Frame.{moves}
-use Rattle.bfd_sbfd.specs.Transmit.{transmits}
 use Rattle.bfd_sbfd.specs.Settle as settling
 use Rattle.bfd_sbfd.specs.Receive as receiving
-use Rattle.bfd_sbfd.specs.Command.{refusal, commanded, done}
 use Rattle.bfd_sbfd.specs.Finish as finishing
 use Rattle.bfd_rules.specs.Names.{AllNamed}
 

@@ -1,15 +1,7 @@
 -- An event by which nothing is due, and which does nothing of its own, leaves sound variables as they are and puts
 -- nothing out.
-use Rattle.std.proofs.Common.{◌≡◌, ℕ, true, false, refl, ap, ◌∙◌, List}
-use Rattle.bfd_num.specs.Numbers.{floor_tick}
-use Rattle.bfd_num.specs.Due.{has_come}
-use Rattle.bfd_rules.specs.declared.outputs.Out.{Out}
-use Rattle.bfd_rules.specs.declared.variables.Vars.{Vars}
-use Rattle.bfd_rules.specs.EventFrame.{Course, course, begins, redrawn}
+use Rattle.bfd_sbfd.proofs.Common.{◌≡◌, ℕ, true, false, refl, ap, ◌∙◌, List, floor_tick, has_come, Out, Vars, Course, course, begins, redrawn, SeekConfig, deadline, IsSeekSound}
 use Rattle.bfd_rules.proofs.Still.{no_news, drawn_stands}
-use Rattle.bfd_sbfd.specs.declared.config.SeekConfig.{SeekConfig}
-use Rattle.bfd_sbfd.specs.Waiting.{deadline}
-use Rattle.bfd_sbfd.specs.Sound.{IsSeekSound}
 use Rattle.bfd_sbfd.specs.Settle as settling
 use Rattle.bfd_sbfd.specs.Finish as finishing
 

@@ -1,5 +1,5 @@
 -- What a binary search of an ascending pool finds is the reflector with the discriminator.
-use Rattle.std.proofs.Common.{◌≡◌, ◌<◌, ◌≤◌, ◌==◌, ℕ, zero, suc, false, List, [], ◌∷◌, length, get_or, refl, sym, ap, arith, inl, inr, None, Some, Ok, Err, find}
+use Rattle.bfd_sbfd.proofs.Common.{◌≡◌, ◌<◌, ◌≤◌, ◌==◌, ℕ, zero, suc, false, List, [], ◌∷◌, length, get_or, refl, sym, ap, arith, inl, inr, None, Some, Ok, Err, find}
 use Rattle.std.proofs.Math.Nat.{eq-or-lt_of_le}
 use Rattle.std.proofs.lemmas.Bool.Decides.{nat_tests}
 use Rattle.std.proofs.lemmas.Cmp.{ranked}

@@ -1,26 +1,12 @@
 -- Each part of an event keeps variables steady, and the end of an event makes them sound.
-use Rattle.std.proofs.Common.{◌≡◌, ◌^◌, ◌<◌, ◌&&◌, ℕ, Bool, true, false, refl, Some, IsSome, is_some, List, arith, if◌then◌else◌}
+use Rattle.bfd_sbfd.proofs.Common.{◌≡◌, ◌^◌, ◌<◌, ◌&&◌, ℕ, Bool, true, false, refl, Some, IsSome, is_some, List, arith, if◌then◌else◌, Control, fields_of, moment_bound, floor_tick, has_come, Cmd, Vars, may_send, is_admin_down, Course, changes, sends, stamped, is_untold, based, redrawn, SeekConfig, deadline, IsSeekPlain, IsSeekSteady, IsSeekSound, moves, in_use, transmits, refusal, commanded, done}
 use Rattle.std.proofs.lemmas.Grind.{common_steps}
 use Rattle.std.proofs.lemmas.Bool.Decides.{nat_tests}
-use Rattle.bfd_packet.specs.declared.control.Control.{Control}
 use Rattle.bfd_packet.specs.declared.control.State.{State}
 use Rattle.bfd_packet.specs.declared.control.State.TheVariants.{AdminDown, Down, Init, Up}
-use Rattle.bfd_packet.specs.Layout.{fields_of}
-use Rattle.bfd_num.specs.Numbers.{moment_bound, floor_tick}
-use Rattle.bfd_num.specs.Due.{has_come}
-use Rattle.bfd_rules.specs.declared.commands.Cmd.{Cmd}
 use Rattle.bfd_rules.specs.declared.commands.Cmd.TheVariants.{Disable, Enable, Tx, Mult}
-use Rattle.bfd_rules.specs.declared.variables.Vars.{Vars}
-use Rattle.bfd_rules.specs.Quantities.{may_send, is_admin_down}
-use Rattle.bfd_rules.specs.EventFrame.{Course, changes, sends, stamped, is_untold, based, redrawn}
-use Rattle.bfd_sbfd.specs.declared.config.SeekConfig.{SeekConfig}
-use Rattle.bfd_sbfd.specs.Waiting.{deadline}
-use Rattle.bfd_sbfd.specs.Sound.{IsSeekPlain, IsSeekSteady, IsSeekSound}
-use Rattle.bfd_sbfd.specs.Frame.{moves, in_use}
-use Rattle.bfd_sbfd.specs.Transmit.{transmits}
 use Rattle.bfd_sbfd.specs.Settle as settling
 use Rattle.bfd_sbfd.specs.Receive as receiving
-use Rattle.bfd_sbfd.specs.Command.{refusal, commanded, done}
 use Rattle.bfd_sbfd.specs.Finish as finishing
 use Rattle.bfd_sbfd.proofs.Drawing.{drawn_sound}
 

@@ -1,20 +1,13 @@
 -- Addresses that are kept as they came, and a set of others.
-use Rattle.std.proofs.Common.{◌≡◌, ℕ, Bool, true, false, ◌||◌, cond, List, [], ◌∷◌, ◌++◌, ◌-◌, ◌≤◌, length, take, drop, slice_index_or, refl, sym, ap, subst, ◌∙◌, arith}
+use Rattle.bfd_script.proofs.Common.{◌≡◌, ℕ, Bool, true, false, ◌||◌, cond, List, [], ◌∷◌, ◌++◌, ◌-◌, ◌≤◌, length, take, drop, slice_index_or, refl, sym, ap, subst, ◌∙◌, arith, length-drop, AllByRecursion, is_eq, is_gt, is_lt, ordering_reverse, RowKind, has_addresses, selector_level_back, same_turned, AreUpTo, among}
 use Rattle.std.proofs.lemmas.Cmp.{eq_by_cmp_equiv, tied_itself, upto}
 use Rattle.std.proofs.Math.Seq.{take-length}
-use Rattle.std.proofs.lemmas.List.{length-drop}
 use Rattle.std.proofs.lemmas.List.Folds.{list_any-append}
-use Rattle.std.specs.List.{AllByRecursion}
-use Rattle.std.specs.Ordering.{is_eq, is_gt, is_lt, ordering_reverse}
 use Rattle.std.specs.declared.cmp.Ordering.{Ordering}
 use Rattle.std.specs.declared.cmp.Ordering.TheVariants.{Less, Equal, Greater}
-use Rattle.bfd_demux.specs.declared.row.RowKind.{RowKind}
 use Rattle.bfd_demux.specs.contracts.row.RowKindOrd.TheImpl as order
 use Rattle.bfd_demux.specs.contracts.row.RowKindOrd.TheImpl.Laws.{total-law}
-use Rattle.bfd_demux.specs.Rows.{has_addresses, same_selector}
-use Rattle.bfd_demux.proofs.AlikeRows.{selector_level_back}
-use Rattle.bfd_session.proofs.Tables.{same_turned}
-use Rattle.bfd_script.specs.Tables.{AreUpTo, among}
+use Rattle.bfd_demux.specs.Rows.{same_selector}
 use Rattle.bfd_script.proofs.Elements.{each_more, each_to}
 use Rattle.bfd_script.proofs.Inserting.{noted}
 

@@ -1,6 +1,5 @@
 -- What is true of each element.
-use Rattle.std.proofs.Common.{List, [], ◌∷◌, ◌++◌}
-use Rattle.std.specs.List.{AllByRecursion}
+use Rattle.bfd_script.proofs.Common.{List, [], ◌∷◌, ◌++◌, AllByRecursion}
 
 pub each_more : {X : Type 0} (P : X → Type 0) (xs ys : List X) → AllByRecursion P xs → AllByRecursion P ys → AllByRecursion P (xs ++ ys)
 each_more P [] ys a b = b

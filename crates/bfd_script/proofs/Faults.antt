@@ -1,16 +1,5 @@
 -- The table of a script has no fault.
-use Rattle.std.proofs.Common.{◌==◌, ◌<◌, ◌≤◌, ◌+◌, None, ◌≡◌, List, [], ◌∷◌, length}
-use Rattle.std.specs.List.{AllByRecursion}
-use Rattle.std.proofs.lemmas.Bool.{or_parts}
-use Rattle.bfd_sbfd.specs.declared.reflecting.Reflector.{Reflector}
-use Rattle.bfd_session.specs.declared.event.SessionConfig.{SessionConfig}
-use Rattle.bfd_session.specs.Kinds.{discr_of}
-use Rattle.bfd_session.specs.Rows.{table_of}
-use Rattle.bfd_session.proofs.Tables.{IsElsewhere, no_fault_with}
-use Rattle.bfd_demux.specs.Rows.{build_fault}
-use Rattle.bfd_script.specs.Rows.{has_discr}
-use Rattle.bfd_line.specs.Ranges.{IsReflector}
-use Rattle.bfd_script.specs.Sound.{AreApart, AreConfigs, ArePool}
+use Rattle.bfd_script.proofs.Common.{◌==◌, ◌<◌, ◌≤◌, ◌+◌, None, ◌≡◌, List, [], ◌∷◌, length, AllByRecursion, or_parts, Reflector, SessionConfig, discr_of, table_of, IsElsewhere, no_fault_with, build_fault, has_discr, IsReflector, AreApart, AreConfigs, ArePool}
 
 -- no reflector has a session's discriminator, told for the sessions
 

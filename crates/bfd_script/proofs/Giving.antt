@@ -1,27 +1,15 @@
 -- A session of a table becomes another: the entries, the places, and what stays true of the sessions.
-use Rattle.std.proofs.Common.{◌≡◌, ℕ, ◌<◌, ◌==◌, Bool, true, false, cond, List, [], ◌∷◌, ◌++◌, length, Option, Some, None, refl, sym, ap, ◌∙◌, arith, subst, append_assoc, append-nil, length-append}
-use Rattle.std.specs.Prelude.{find}
-use Rattle.std.specs.List.{list_any, AllByRecursion}
-use Rattle.std.specs.Map.{values_of, lookup, set_value}
-use Rattle.std.specs.BTreeMap.{is_at}
-use Rattle.std.specs.Ordering.{nat_cmp, is_eq}
-use Rattle.bfd_demux.proofs.AlikeRows.{nat_level}
-use Rattle.bfd_session.specs.Rows.{Ascends, row_of, same_selector, Differs}
+use Rattle.bfd_script.proofs.Common.{◌≡◌, ℕ, ◌<◌, ◌==◌, Bool, true, false, cond, List, [], ◌∷◌, ◌++◌, length, Option, Some, None, refl, sym, ap, ◌∙◌, arith, subst, append_assoc, length-append, find, list_any, AllByRecursion, values_of, lookup, set_value, is_at, nat_cmp, is_eq, nat_level, row_of, Differs, SessionConfig, discr_of, RowKind, by_discr, changed, has_selector, keyed_more, keyed_with, keys_in, keys_of, one_more, AreKeys, AreNext, IsChain, IsKey, IsNext, IsRow, AreConfigs, IsIndexed}
+use Rattle.std.proofs.Common.{append-nil}
+use Rattle.bfd_session.specs.Rows.{Ascends, same_selector}
 use Rattle.bfd_packet.specs.KeyChain.{KeyChain}
 use Rattle.bfd_packet.specs.declared.keys.AuthType.{AuthType}
 use Rattle.bfd_packet.specs.declared.keys.Key.{Key}
 use Rattle.bfd_rules.specs.declared.config.Config.{Config}
-use Rattle.bfd_session.specs.declared.event.SessionConfig.{SessionConfig}
 use Rattle.bfd_session.specs.declared.event.SessionConfig.TheVariants.{Pair}
-use Rattle.bfd_session.specs.Kinds.{discr_of}
 use Rattle.bfd_session.specs.Step.{IsFit}
-use Rattle.bfd_demux.specs.declared.row.RowKind.{RowKind}
 use Rattle.bfd_demux.specs.Rows.{same_selector as same_kind}
-use Rattle.bfd_script.specs.Rows.{by_discr, changed, has_selector, keyed_more, keyed_with, keys_in, keys_of, one_more}
 use Rattle.bfd_line.specs.Secrets.{key_fault}
-use Rattle.bfd_line.specs.Ranges.{AreKeys, AreNext, IsChain, IsKey, IsNext, IsRow}
-use Rattle.bfd_script.specs.Sound.{AreConfigs}
-use Rattle.bfd_script.specs.Tables.{IsIndexed}
 use Rattle.bfd_script.proofs.Elements.{each_to}
 use Rattle.bfd_script.proofs.Numbered.{values_by}
 

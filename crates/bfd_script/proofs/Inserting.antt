@@ -1,24 +1,9 @@
 -- One more session in a table: the entries, the places, and what stays true of the sessions.
-use Rattle.std.proofs.Common.{◌≡◌, ℕ, ◌<◌, ◌==◌, Bool, true, false, ◌||◌, cond, List, [], ◌∷◌, length, refl, sym, ap, ◌∙◌, arith, nat_lt, subst}
-use Rattle.std.proofs.lemmas.Bool.Decides.{nat_tests}
-use Rattle.std.specs.Prelude.{is_some}
-use Rattle.std.specs.List.{AllByRecursion}
-use Rattle.std.specs.Map.{values_of, lookup}
-use Rattle.std.specs.BTreeMap.{is_at, insert_entry}
-use Rattle.std.specs.Ordering.{nat_cmp, is_eq}
-use Rattle.bfd_session.specs.Rows.{Ascends, row_of, same_selector, Differs}
-use Rattle.bfd_session.specs.declared.event.SessionConfig.{SessionConfig}
-use Rattle.bfd_session.specs.Kinds.{discr_of}
+use Rattle.bfd_script.proofs.Common.{◌≡◌, ℕ, ◌<◌, ◌==◌, Bool, true, false, ◌||◌, cond, List, [], ◌∷◌, length, refl, sym, ap, ◌∙◌, arith, nat_lt, subst, nat_tests, is_some, AllByRecursion, values_of, lookup, is_at, insert_entry, nat_cmp, is_eq, row_of, Differs, SessionConfig, discr_of, RowKind, has_addresses, selector_level, unaddressed_back, same_turned, has_discr, has_place, has_selector, inserted, by_discr, IsRow, AreConfigs, IsIndexed}
+use Rattle.bfd_session.specs.Rows.{Ascends, same_selector}
 use Rattle.bfd_session.specs.Step.{IsFit}
-use Rattle.bfd_demux.specs.declared.row.RowKind.{RowKind}
 use Rattle.bfd_demux.specs.contracts.row.RowKindOrd.TheImpl as kinds
-use Rattle.bfd_demux.specs.Rows.{has_addresses, same_selector as same_kind}
-use Rattle.bfd_demux.proofs.AlikeRows.{selector_level, unaddressed_back}
-use Rattle.bfd_session.proofs.Tables.{same_turned}
-use Rattle.bfd_script.specs.Rows.{has_discr, has_place, has_selector, inserted, by_discr}
-use Rattle.bfd_line.specs.Ranges.{IsRow}
-use Rattle.bfd_script.specs.Sound.{AreConfigs}
-use Rattle.bfd_script.specs.Tables.{IsIndexed}
+use Rattle.bfd_demux.specs.Rows.{same_selector as same_kind}
 use Rattle.bfd_script.proofs.Elements.{each_to}
 use Rattle.bfd_script.proofs.Numbered.{any_inserted, each_inserted, entries_more, known_among, length_inserted, none_any}
 

@@ -1,3 +1,4 @@
+mod Common
 pub mod Numbered
 pub mod Inserting
 pub mod Pooling

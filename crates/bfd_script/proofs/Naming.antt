@@ -1,17 +1,7 @@
 -- One more session in a table, or other keys for one: the sessions that events name are there still.
-use Rattle.std.proofs.Common.{◌≡◌, ℕ, ◌+◌, ◌<◌, ◌==◌, Bool, true, false, ◌||◌, List, length, nat_le, refl, sym, ap, ◌∙◌, subst, arith}
-use Rattle.std.proofs.lemmas.Bool.Decides.{nat_tests}
-use Rattle.std.proofs.lemmas.Bool.{or_right, or_parts}
-use Rattle.bfd_session.specs.declared.event.SessionConfig.{SessionConfig}
-use Rattle.bfd_session.specs.Kinds.{discr_of}
+use Rattle.bfd_script.proofs.Common.{◌≡◌, ℕ, ◌+◌, ◌<◌, ◌==◌, Bool, true, false, ◌||◌, List, length, nat_le, refl, sym, ap, ◌∙◌, subst, arith, nat_tests, or_right, or_parts, SessionConfig, discr_of, is_named, changed, has_discr, inserted, Reflector, has_reflector, reflector_discr, pooled, AreApart, AreNamed, IsReading}
 use Rattle.bfd_line.specs.declared.entries.Line.{Line}
 use Rattle.bfd_line.specs.declared.entries.Line.TheVariants as events
-use Rattle.bfd_script.specs.Reading.{is_named}
-use Rattle.bfd_script.specs.Rows.{changed, has_discr, inserted}
-use Rattle.bfd_sbfd.specs.declared.reflecting.Reflector.{Reflector}
-use Rattle.bfd_script.specs.Rows.{has_reflector, reflector_discr, pooled}
-use Rattle.bfd_script.specs.Sound.{AreApart, AreNamed}
-use Rattle.bfd_script.specs.Tables.{IsReading}
 use Rattle.bfd_script.proofs.Numbered.{length_inserted}
 use Rattle.bfd_script.proofs.Pooling.{apart_inserted, apart_pooled}
 use Rattle.bfd_script.proofs.Elements.{each_to}

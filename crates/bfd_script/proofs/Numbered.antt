@@ -1,15 +1,6 @@
 -- One more in an ascending list of things with numbers: the entries of a map, and what stays true of each.
-use Rattle.std.proofs.Common.{◌≡◌, ℕ, ◌+◌, ◌<◌, ◌==◌, Bool, true, false, ◌||◌, cond, List, [], ◌∷◌, length, Option, Some, refl, ap, ◌∙◌, arith, nat_lt}
-use Rattle.std.proofs.lemmas.Bool.Decides.{nat_tests}
-use Rattle.std.specs.Prelude.{is_some}
-use Rattle.std.specs.List.{list_any, AllByRecursion}
-use Rattle.std.specs.Map.{values_of, lookup}
-use Rattle.std.specs.BTreeMap.{is_at, insert_entry}
-use Rattle.std.specs.Ordering.{nat_cmp, is_eq, match_ordering}
+use Rattle.bfd_script.proofs.Common.{◌≡◌, ℕ, ◌+◌, ◌<◌, ◌==◌, Bool, true, false, ◌||◌, cond, List, [], ◌∷◌, length, Option, Some, refl, ap, ◌∙◌, arith, nat_lt, nat_tests, is_some, list_any, AllByRecursion, values_of, lookup, is_at, insert_entry, nat_cmp, is_eq, match_ordering, or_parts, nat_level, by_number, has_number, insert_by}
 use Rattle.std.specs.declared.cmp.Ordering.TheVariants.{Less, Equal, Greater}
-use Rattle.std.proofs.lemmas.Bool.{or_parts}
-use Rattle.bfd_demux.proofs.AlikeRows.{nat_level}
-use Rattle.bfd_script.specs.Rows.{by_number, has_number, insert_by}
 
 -- ---- the entries
 

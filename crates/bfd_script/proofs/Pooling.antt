@@ -1,19 +1,6 @@
 -- One more reflector in a pool, and a pool beside a table of sessions.
-use Rattle.std.proofs.Common.{◌≡◌, ℕ, ◌<◌, ◌==◌, Bool, true, false, ◌||◌, cond, List, [], ◌∷◌, refl, sym, ap, ◌∙◌, arith, nat_lt, subst}
-use Rattle.std.proofs.lemmas.Bool.Decides.{nat_tests}
-use Rattle.std.specs.Prelude.{is_some}
-use Rattle.std.specs.Map.{values_of, lookup}
-use Rattle.std.specs.BTreeMap.{is_at, insert_entry}
-use Rattle.std.specs.Ordering.{nat_cmp}
-use Rattle.std.proofs.lemmas.Bool.{or_parts, or_from, ltb-true}
+use Rattle.bfd_script.proofs.Common.{◌≡◌, ℕ, ◌<◌, ◌==◌, Bool, true, false, ◌||◌, cond, List, [], ◌∷◌, refl, sym, ap, ◌∙◌, arith, nat_lt, subst, nat_tests, is_some, values_of, lookup, is_at, insert_entry, nat_cmp, or_parts, or_from, ltb-true, Reflector, SessionConfig, discr_of, has_discr, has_reflector, inserted, reflector_discr, pool_by_discr, pooled, IsReflector, AreApart, ArePool, IsPool}
 use Rattle.bfd_sbfd.specs.Reflect.{Ascends}
-use Rattle.bfd_sbfd.specs.declared.reflecting.Reflector.{Reflector}
-use Rattle.bfd_session.specs.declared.event.SessionConfig.{SessionConfig}
-use Rattle.bfd_session.specs.Kinds.{discr_of}
-use Rattle.bfd_script.specs.Rows.{has_discr, has_reflector, inserted, reflector_discr, pool_by_discr, pooled}
-use Rattle.bfd_line.specs.Ranges.{IsReflector}
-use Rattle.bfd_script.specs.Sound.{AreApart, ArePool}
-use Rattle.bfd_script.specs.Tables.{IsPool}
 use Rattle.bfd_script.proofs.Elements.{each_to}
 use Rattle.bfd_script.proofs.Numbered.{any_inserted, each_inserted, entries_more, is_above, known_among}
 

@@ -1,21 +1,9 @@
 -- Sessions that rise before a map of others: what a look-up finds, and what a change of one does.
-use Rattle.std.proofs.Common.{◌≡◌, ℕ, ◌+◌, ◌-◌, ◌<◌, ◌==◌, Bool, true, false, cond, not, List, [], ◌∷◌, ◌++◌, length, get_or, set, Some, None, zero, suc, refl, sym, ap, ◌∙◌, arith, nat_lt, subst, append-nil, append_assoc, length-append}
-use Rattle.std.proofs.lemmas.Bool.Decides.{nat_tests}
-use Rattle.std.proofs.lemmas.Bool.{ltb-true}
+use Rattle.bfd_script.proofs.Common.{◌≡◌, ℕ, ◌+◌, ◌-◌, ◌<◌, ◌==◌, Bool, true, false, cond, not, List, [], ◌∷◌, ◌++◌, length, get_or, set, Some, None, zero, suc, refl, sym, ap, ◌∙◌, arith, nat_lt, subst, append_assoc, length-append, nat_tests, ltb-true, find, AllByRecursion, position_or_len, slice_get, values_of, lookup, is_at, insert_entry, nat_cmp, nat_level, place_of, numbers_differ, SessionConfig, discr_of, by_discr, changed, has_discr, inserted, AreRows}
+use Rattle.std.proofs.Common.{append-nil}
 use Rattle.std.proofs.lemmas.List.Quantifiers.{position-Some}
 use Rattle.std.proofs.lemmas.Option.{get_or_from_slice_get}
-use Rattle.std.specs.Prelude.{find}
-use Rattle.std.specs.List.{AllByRecursion, position_or_len, slice_get}
-use Rattle.std.specs.Map.{values_of, lookup}
-use Rattle.std.specs.BTreeMap.{is_at, insert_entry}
-use Rattle.std.specs.Ordering.{nat_cmp}
-use Rattle.bfd_demux.proofs.AlikeRows.{nat_level}
-use Rattle.bfd_session.specs.Rows.{Ascends, place_of}
-use Rattle.bfd_session.proofs.Tables.{numbers_differ}
-use Rattle.bfd_session.specs.declared.event.SessionConfig.{SessionConfig}
-use Rattle.bfd_session.specs.Kinds.{discr_of}
-use Rattle.bfd_script.specs.Rows.{by_discr, changed, has_discr, inserted}
-use Rattle.bfd_script.specs.Tables.{AreRows}
+use Rattle.bfd_session.specs.Rows.{Ascends}
 use Rattle.bfd_script.proofs.Giving.{Keeps, ascends_changed, length_changed}
 use Rattle.bfd_script.proofs.Inserting.{ascends_inserted}
 use Rattle.bfd_script.proofs.Numbered.{entry_inserted, length_inserted, values_by}

@@ -1,23 +1,10 @@
 -- What a caller did, act after act.
-use Rattle.std.proofs.Common.{◌≡◌, ℕ, ◌+◌, ◌≤◌, List, [], ◌∷◌, ◌++◌, length, Result, Ok, Err, refl, ap, ap₂, sym, ◌∙◌, subst, append_assoc, append-nil, length-append, le_refl, arith}
-use Rattle.bfd_packet.specs.declared.arrival.Arrival.{Arrival}
-use Rattle.bfd_packet.specs.declared.arrival.Datagram.{Datagram}
+use Rattle.bfd_serve.proofs.Common.{◌≡◌, ◌+◌, ◌≤◌, ◌++◌, length, Result, Ok, Err, refl, ap, ap₂, sym, ◌∙◌, subst, append_assoc, append-nil, length-append, le_refl, arith, Arrival, Datagram, Entry, ShardEvent, Begins, calls, risen, LinkTold, more_traffic, by, entry_of, given_after, Shards, Knows, configs_at, Act, Turns, Rests, seen_at, met_word, mine, IsDone, IsCall, IsFailed, IsCause, End, Full, Spent, Memory, calls_of, entries, until, datagrams, given_by, sends_of_acts, HasSent, IsSentAfter, Did, Stops, IsAside, IsStopped, IsWhole, AreDone, end_of}
+use Rattle.std.proofs.Common.{ℕ, List, [], ◌∷◌}
 use Rattle.bfd_session.specs.declared.event.Answer.{Answer}
 use Rattle.bfd_rules.specs.declared.outputs.Out.{Out}
-use Rattle.bfd_shard.specs.declared.entry.Entry.{Entry}
-use Rattle.bfd_shard.specs.declared.entry.ShardEvent.{ShardEvent}
-use Rattle.bfd_turn.specs.Lists.{Begins, calls}
-use Rattle.bfd_edge.specs.Faults.{risen}
-use Rattle.bfd_edge.specs.Links.{LinkTold, more_traffic}
 use Rattle.bfd_engine.specs.declared.fault.EngineFault.{EngineFault}
 use Rattle.bfd_engine.specs.declared.fault.EngineFault.TheVariants as fault
-use Rattle.bfd_engine.specs.Turned.{by, entry_of, given_after}
-use Rattle.bfd_engine.specs.Engines.{Shards, Knows, configs_at}
-use Rattle.bfd_engine.specs.Calls.{Act, Turns, Rests, seen_at, met_word, mine, IsDone, IsCall, IsFailed, IsCause}
-use Rattle.bfd_serve.specs.declared.ending.End.{End}
-use Rattle.bfd_serve.specs.declared.ending.End.TheVariants.{Full, Spent, Memory}
-use Rattle.bfd_serve.specs.Calls.{calls_of, entries, until, datagrams, given_by, sends_of_acts}
-use Rattle.bfd_serve.specs.Works.{HasSent, IsSentAfter, Did, Stops, IsAside, IsStopped, IsWhole, AreDone, end_of}
 use Rattle.bfd_serve.proofs.Packets.{traffic_same, traffic_join, risen_same, risen_join, lacks_append}
 use Rattle.bfd_serve.proofs.Histories.{until_last, entries_append, calls_of_append, weight, weight_append, sends_append, sends_base, sends_grow}
 use Rattle.bfd_serve.proofs.Gains.{begins_self, begins_trans, calls_append, mine_call, mine_fault, grows, words, taken_call}

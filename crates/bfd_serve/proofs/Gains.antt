@@ -1,16 +1,6 @@
 -- What one turn adds to a caller's calls.
-use Rattle.std.proofs.Common.{◌≡◌, ◌≢◌, ℕ, ◌+◌, ◌≤◌, ◌==◌, true, false, List, [], ◌∷◌, ◌++◌, length, refl, ap, ap₂, sym, ◌∙◌, subst, append_assoc, append-nil, arith}
-use mathlib.Core.Logic.{dite}
-use native.Mathlib.Decide.{ℕ_discrete}
-use Rattle.std.proofs.lemmas.List.Elements.{filter-append}
-use Rattle.std.proofs.lemmas.Bool.Decides.{nat_tests}
-use Rattle.bfd_shard.specs.declared.entry.Entry.{Entry}
-use Rattle.bfd_shard.specs.declared.entry.ShardEvent.{ShardEvent}
-use Rattle.bfd_turn.specs.Lists.{Begins, calls}
-use Rattle.bfd_engine.specs.Turned.{by, entry_of}
-use Rattle.bfd_engine.specs.Engines.{Knows}
-use Rattle.bfd_engine.specs.Calls.{seen_at, met_word, taken_at, mine, Turned}
-use Rattle.bfd_serve.specs.Calls.{Call, entries}
+use Rattle.bfd_serve.proofs.Common.{◌≡◌, ◌≢◌, ◌+◌, ◌≤◌, ◌==◌, true, false, ◌++◌, length, refl, ap, ap₂, sym, ◌∙◌, subst, append_assoc, append-nil, arith, dite, ℕ_discrete, filter-append, nat_tests, Entry, ShardEvent, Begins, calls, by, entry_of, Knows, seen_at, met_word, taken_at, mine, Turned, Call, entries}
+use Rattle.std.proofs.Common.{ℕ, List, [], ◌∷◌}
 
 pub begins_self : (h : List Entry) → Begins h h
 begins_self h = ([], sym (append-nil h))

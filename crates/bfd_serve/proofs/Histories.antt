@@ -1,13 +1,6 @@
 -- Sends as histories grow.
-use Rattle.std.proofs.Common.{◌≡◌, ℕ, zero, suc, ◌+◌, ◌-◌, ◌<◌, ◌≤◌, ◌==◌, Bool, true, false, cond, List, [], ◌∷◌, ◌++◌, length, refl, ap, ap₂, sym, ◌∙◌, subst, append_assoc, append-nil, length-append, arith}
-use Rattle.std.proofs.lemmas.List.Elements.{filter_map-append}
-use Rattle.std.proofs.lemmas.Bool.Decides.{nat_tests}
-use Rattle.bfd_shard.specs.declared.entry.Entry.{Entry}
-use Rattle.bfd_turn.specs.Lists.{Begins, calls}
-use Rattle.bfd_engine.specs.Turned.{by, given_after}
-use Rattle.bfd_engine.specs.Engines.{Shards, configs_at}
-use Rattle.bfd_engine.specs.Calls.{Act, Turns, Rests}
-use Rattle.bfd_serve.specs.Calls.{Call, call_in, calls_of, on_shard, entries, until, datagrams, given_by, sends_of_acts}
+use Rattle.bfd_serve.proofs.Common.{◌≡◌, zero, suc, ◌+◌, ◌-◌, ◌<◌, ◌≤◌, ◌==◌, Bool, true, false, cond, ◌++◌, length, refl, ap, ap₂, sym, ◌∙◌, subst, append_assoc, append-nil, length-append, arith, filter_map-append, nat_tests, Entry, Begins, calls, by, given_after, Shards, configs_at, Act, Turns, Rests, Call, call_in, calls_of, on_shard, entries, until, datagrams, given_by, sends_of_acts}
+use Rattle.std.proofs.Common.{ℕ, List, [], ◌∷◌}
 
 until_more_by : (n i : ℕ) (x : Entry) (h more : List Entry) (b : Bool) → (x.caller == n) ≡ b → i < length (calls by n (x ∷ h)) → ((j : ℕ) → j < length (calls by n h) → until n j (h ++ more) ≡ until n j h) → until n i ((x ∷ h) ++ more) ≡ until n i (x ∷ h)
 until_more_by n zero x h more true is less rec = rw is refl

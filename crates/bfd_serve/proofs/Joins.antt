@@ -1,14 +1,7 @@
 -- One pass more is taken in.
-use Rattle.std.proofs.Common.{◌≡◌, ℕ, ◌<◌, ◌≤◌, List, [], ◌∷◌, ◌++◌, length, get_or, Some, refl, ap, sym, ◌∙◌, subst, append_assoc, append-nil, le_refl, arith}
-use Rattle.std.specs.List.{All}
-use Rattle.std.proofs.lemmas.List.Elements.{All-push, All-pop, All-nil}
-use Rattle.std.proofs.lemmas.List.Sums.{sum_by-append}
-use Rattle.bfd_turn.specs.Lists.{Begins}
-use Rattle.bfd_turn.proofs.Beginnings.{begins_itself, begins_through, longer_begins}
-use Rattle.bfd_engine.specs.Engines.{Shards, Knows, IsOf, AllThere}
-use Rattle.bfd_engine.specs.Calls.{seen_at, met_word, taken_at, kept_at, mine}
+use Rattle.bfd_serve.proofs.Common.{◌≡◌, ◌<◌, ◌≤◌, ◌++◌, length, get_or, Some, refl, ap, sym, ◌∙◌, subst, append_assoc, append-nil, le_refl, arith, All, All-push, All-pop, All-nil, sum_by-append, Begins, begins_itself, begins_through, longer_begins, Shards, Knows, IsOf, AllThere, seen_at, met_word, taken_at, kept_at, mine, calls_kept, AreJoined}
+use Rattle.std.proofs.Common.{ℕ, List, [], ◌∷◌}
 use Rattle.bfd_engine.specs.Passes.{Joined}
-use Rattle.bfd_serve.specs.Joins.{calls_kept, AreJoined}
 
 calls_kept-append : (s : ℕ) (xs ys : List Knows) → calls_kept s (xs ++ ys) ≡ calls_kept s xs ++ calls_kept s ys
 calls_kept-append s [] ys = refl

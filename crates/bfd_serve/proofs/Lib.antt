@@ -1,3 +1,4 @@
+mod Common
 pub mod Packets
 pub mod Histories
 pub mod Gains

@@ -1,6 +1,6 @@
 -- Lists whose elements move from one to another.
-use Rattle.std.proofs.Common.{◌≡◌, ◌<◌, List, [], ◌∷◌, ◌++◌, length, get_or, ap, sym, ◌∙◌, append_assoc, arith}
-use Rattle.std.specs.List.{remove}
+use Rattle.bfd_serve.proofs.Common.{◌≡◌, ◌<◌, ◌++◌, length, get_or, ap, sym, ◌∙◌, append_assoc, arith, remove}
+use Rattle.std.proofs.Common.{List, [], ◌∷◌}
 
 module _ {X : Type 0} where
   -- the first of the rest goes behind what is there

@@ -1,11 +1,7 @@
 -- What is to be done at one tick more.
-use Rattle.std.proofs.Common.{◌≡◌, ℕ, zero, suc, ◌+◌, ◌<◌, ◌≤◌, true, false, List, [], ◌∷◌, ◌++◌, length, take, drop, get_or, refl, ap, sym, ◌∙◌, append_assoc, append-nil, arith}
-use Rattle.std.proofs.lemmas.List.{take_more, take-append-drop}
+use Rattle.bfd_serve.proofs.Common.{◌≡◌, zero, suc, ◌+◌, ◌<◌, ◌≤◌, true, false, ◌++◌, length, take, drop, get_or, refl, ap, sym, ◌∙◌, append_assoc, append-nil, arith, take_more, take-append-drop, Line, Shards, Act, Turns, is_due, orders_due, order_act, orders_acts, advances, tick_acts, ticks_acts, orders_left}
+use Rattle.std.proofs.Common.{ℕ, List, [], ◌∷◌}
 use Rattle.bfd_shard.specs.declared.entry.ShardEvent.TheVariants.{Tick as TickEvent}
-use Rattle.bfd_line.specs.declared.entries.Line.{Line}
-use Rattle.bfd_engine.specs.Engines.{Shards}
-use Rattle.bfd_engine.specs.Calls.{Act, Turns}
-use Rattle.bfd_serve.specs.Orders.{is_due, orders_due, order_act, orders_acts, advances, tick_acts, ticks_acts, orders_left}
 
 -- the order at a place is due
 pub due_next : (t i : ℕ) (orders : List Line) (order : Line) → i < length orders → get_or orders i order ≡ order → is_due t order ≡ true → orders_due t (drop i orders) ≡ orders_due t (drop (i + 1) orders) + 1

@@ -1,15 +1,8 @@
 -- What a link tells after several sends.
-use Rattle.std.proofs.Common.{◌≡◌, ℕ, ◌+◌, ◌<◌, ◌≤◌, List, [], ◌∷◌, ◌++◌, take, take_all, drop, length, slice_index_or, Option, Some, None, Ok, Err, refl, ap, ap₂, sym, ◌∙◌, subst, inl, inr, append_assoc, append-nil, arith}
-use Rattle.std.proofs.lemmas.List.{take_more, take-append-drop}
-use Rattle.std.proofs.lemmas.List.Elements.{filter_map-append}
-use Rattle.bfd_packet.specs.declared.arrival.Arrival.{Arrival}
-use Rattle.bfd_packet.specs.declared.arrival.Datagram.{Datagram}
+use Rattle.bfd_serve.proofs.Common.{◌≡◌, ◌+◌, ◌<◌, ◌≤◌, ◌++◌, take, take_all, drop, length, slice_index_or, Option, Some, None, Ok, Err, refl, ap, ap₂, sym, ◌∙◌, subst, inl, inr, append_assoc, append-nil, arith, take_more, take-append-drop, filter_map-append, Arrival, Datagram, risen, Traffic, LinkTold, more_traffic, after_send, datagram_in, datagrams, Lacks, HasSent}
+use Rattle.std.proofs.Common.{ℕ, List, [], ◌∷◌}
 use Rattle.bfd_rules.specs.declared.outputs.Out.{Out}
 use Rattle.bfd_edge.specs.declared.fault.Fault.TheVariants as fault
-use Rattle.bfd_edge.specs.Faults.{risen}
-use Rattle.bfd_edge.specs.Links.{Traffic, LinkTold, more_traffic, after_send}
-use Rattle.bfd_serve.specs.Calls.{datagram_in, datagrams, Lacks}
-use Rattle.bfd_serve.specs.Works.{HasSent}
 
 pub traffic_same : (x : Option Traffic) → more_traffic [] [] x ≡ x
 traffic_same None = refl

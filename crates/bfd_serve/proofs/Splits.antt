@@ -1,17 +1,8 @@
 -- Passes that are split off one after another.
-use Rattle.std.proofs.Common.{◌≡◌, ℕ, suc, ◌+◌, ◌<◌, ◌≤◌, List, [], ◌∷◌, ◌++◌, length, map, slice_get, refl, ap, ap₂, sym, ◌∙◌, subst, length-append, arith}
-use Rattle.std.specs.List.{All, sum_by}
-use Rattle.std.proofs.lemmas.List.Elements.{All-push, All-nil, All-cons, All-weaker, All-tail, All-head}
-use Rattle.std.proofs.lemmas.List.{map-append}
-use Rattle.std.proofs.lemmas.List.Sums.{sum_by-le}
-use Rattle.bfd_turn.specs.Lists.{Begins, calls, numbers_of}
-use Rattle.bfd_turn.proofs.Beginnings.{begins_itself, begins_whole}
-use Rattle.bfd_engine.specs.Turned.{by}
-use Rattle.bfd_engine.specs.Engines.{Shards, Held, Knows, IsOf, AllThere}
-use Rattle.bfd_engine.specs.Calls.{seen_of, taken_of, made_of, kept_of, seen_at, taken_at, mine}
+use Rattle.bfd_serve.proofs.Common.{◌≡◌, suc, ◌+◌, ◌<◌, ◌≤◌, ◌++◌, length, map, slice_get, refl, ap, ap₂, sym, ◌∙◌, subst, length-append, arith, All, sum_by, All-push, All-nil, All-cons, All-weaker, All-tail, All-head, map-append, sum_by-le, Begins, calls, numbers_of, begins_itself, begins_whole, by, Shards, Held, Knows, IsOf, AllThere, seen_of, taken_of, made_of, kept_of, seen_at, taken_at, mine, number_of, numbers, IsOther, IsFresh, HasSplit, calls_kept, AreJoined, HasNoCalls, IsUnserved}
+use Rattle.std.proofs.Common.{ℕ, List, [], ◌∷◌}
 use Rattle.bfd_engine.specs.Opening.{IsNewPass}
 use Rattle.bfd_engine.specs.Passes.{Parted}
-use Rattle.bfd_serve.specs.Joins.{number_of, numbers, IsOther, IsFresh, HasSplit, calls_kept, AreJoined, HasNoCalls, IsUnserved}
 
 module _ (engine : Shards) where
   pub split_none : (l : Knows) → IsNewPass engine l → HasSplit engine l [] 0

@@ -1,33 +1,9 @@
 -- From what each caller did to what all did.
-use Rattle.std.proofs.Common.{◌≡◌, ℕ, zero, suc, ◌+◌, ◌*◌, ◌<◌, ◌≤◌, List, [], ◌∷◌, ◌++◌, length, map, Some, slice_get, get_or, slice_index_or, refl, ap, sym, ◌∙◌, subst, length-append, arith}
-use Rattle.std.specs.List.{All, sum}
-use Rattle.std.proofs.lemmas.List.Elements.{All-get_or}
-use Rattle.std.proofs.lemmas.List.{length-map, get_or-map, get_or_default, same_lists, get_or_append_left}
-use Rattle.std.proofs.lemmas.List.Sums.{sum_by-le}
+use Rattle.bfd_serve.proofs.Common.{◌≡◌, zero, suc, ◌+◌, ◌*◌, ◌<◌, ◌≤◌, ◌++◌, length, map, Some, slice_get, get_or, slice_index_or, refl, ap, sym, ◌∙◌, subst, length-append, arith, All, sum, All-get_or, length-map, get_or-map, get_or_default, same_lists, get_or_append_left, sum_by-le, dite, dec_lt, Arrival, Datagram, Entry, Line, Begins, calls, numbers_of, begins_length, risen, LinkTold, TickerTold, by, Shards, Knows, IsOf, Act, seen_of, met_word_of, seen_at, met_word, taken_at, kept_at, mine, End, Full, Spent, calls_of, entries, sends_of_acts, worker_acts, Did, IsWorkerEnd, HasWorked, IsTimerEnd, HasTimed, is_clock_fault, pass_of, link_of, end_of_job, lost_of, IsOpen, IsReady, IsWorked, number_of, numbers, IsOther, IsFresh, HasSplit, calls_kept, AreJoined}
+use Rattle.std.proofs.Common.{ℕ, List, [], ◌∷◌}
 use Rattle.std.proofs.lemmas.Option.{slice_get_past}
 use Rattle.std.proofs.Math.Seq.{get_or-append_seam}
-use mathlib.Core.Logic.{dite}
-use native.Mathlib.Decide.{dec_lt}
-use Rattle.bfd_packet.specs.declared.arrival.Arrival.{Arrival}
-use Rattle.bfd_packet.specs.declared.arrival.Datagram.{Datagram}
-use Rattle.bfd_shard.specs.declared.entry.Entry.{Entry}
-use Rattle.bfd_line.specs.declared.entries.Line.{Line}
-use Rattle.bfd_turn.specs.Lists.{Begins, calls, numbers_of}
-use Rattle.bfd_turn.proofs.Beginnings.{begins_length}
-use Rattle.bfd_edge.specs.Faults.{risen}
-use Rattle.bfd_edge.specs.Links.{LinkTold}
-use Rattle.bfd_edge.specs.Tickers.{TickerTold}
-use Rattle.bfd_engine.specs.Turned.{by}
-use Rattle.bfd_engine.specs.Engines.{Shards, Knows, IsOf}
-use Rattle.bfd_engine.specs.Calls.{Act, seen_of, met_word_of, seen_at, met_word, taken_at, kept_at, mine}
-use Rattle.bfd_serve.specs.declared.ending.End.{End}
-use Rattle.bfd_serve.specs.declared.ending.End.TheVariants.{Full, Spent}
 use Rattle.bfd_serve.specs.declared.jobs.Job.{Job}
-use Rattle.bfd_serve.specs.Calls.{calls_of, entries, sends_of_acts, worker_acts}
-use Rattle.bfd_serve.specs.Works.{Did, IsWorkerEnd, HasWorked}
-use Rattle.bfd_serve.specs.Ticks.{IsTimerEnd, HasTimed, is_clock_fault}
-use Rattle.bfd_serve.specs.Jobs.{pass_of, link_of, end_of_job, lost_of, IsOpen, IsReady, IsWorked}
-use Rattle.bfd_serve.specs.Joins.{number_of, numbers, IsOther, IsFresh, HasSplit, calls_kept, AreJoined}
 use Rattle.bfd_serve.specs.Serves.{HasDone, WorkerDid, TimerDid, IsTended, IsServedBy, HasServed}
 use Rattle.bfd_serve.proofs.Histories.{weight, sends_base}
 use Rattle.bfd_serve.proofs.Doing.{sends_later, stops_grow}

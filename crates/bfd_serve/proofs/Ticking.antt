@@ -1,20 +1,7 @@
 -- The timer's ticks, one after another.
-use Rattle.std.proofs.Common.{◌≡◌, ◌⊎◌, ℕ, ◌+◌, ◌<◌, ◌≤◌, Bool, true, false, List, [], ◌∷◌, ◌++◌, length, drop, Option, Some, None, refl, ap, ap₂, sym, ◌∙◌, subst, inl, inr, append_assoc, append-nil, length-append, arith}
-use Rattle.std.proofs.lemmas.List.{drop-drop}
-use Rattle.bfd_packet.specs.declared.arrival.Datagram.{Datagram}
-use Rattle.bfd_shard.specs.declared.entry.Entry.{Entry}
-use Rattle.bfd_line.specs.declared.entries.Line.{Line}
+use Rattle.bfd_serve.proofs.Common.{◌≡◌, ◌⊎◌, ◌+◌, ◌<◌, ◌≤◌, Bool, true, false, ◌++◌, length, drop, Option, Some, None, refl, ap, ap₂, sym, ◌∙◌, subst, inl, inr, append_assoc, append-nil, length-append, arith, drop-drop, Datagram, Entry, Line, risen, LinkTold, Ticks, TickerTold, after_next, one_given, Shards, Knows, Act, seen_at, met_word, End, ClockFault, Full, Spent, Memory, orders_due, orders_acts, tick_acts, ticks_acts, orders_left, timer_acts, Stops, IsStopped, IsWhole, more_given, IsTimerEnd, is_clock_fault, HasTimed, IsTicking, IsFinished}
+use Rattle.std.proofs.Common.{ℕ, List, [], ◌∷◌}
 use Rattle.bfd_edge.specs.declared.ticker.Next.TheVariants as next
-use Rattle.bfd_edge.specs.Faults.{risen}
-use Rattle.bfd_edge.specs.Links.{LinkTold}
-use Rattle.bfd_edge.specs.Tickers.{Ticks, TickerTold, after_next, one_given}
-use Rattle.bfd_engine.specs.Engines.{Shards, Knows}
-use Rattle.bfd_engine.specs.Calls.{Act, seen_at, met_word}
-use Rattle.bfd_serve.specs.declared.ending.End.{End}
-use Rattle.bfd_serve.specs.declared.ending.End.TheVariants.{ClockFault, Full, Spent, Memory}
-use Rattle.bfd_serve.specs.Orders.{orders_due, orders_acts, tick_acts, ticks_acts, orders_left, timer_acts}
-use Rattle.bfd_serve.specs.Works.{Stops, IsStopped, IsWhole}
-use Rattle.bfd_serve.specs.Ticks.{more_given, IsTimerEnd, is_clock_fault, HasTimed, IsTicking, IsFinished}
 use Rattle.bfd_serve.proofs.Packets.{risen_same, risen_join}
 use Rattle.bfd_serve.proofs.Doing.{did_none, did_less, aside_same, whole_none, whole_then, stopped_then, stopped_less}
 use Rattle.bfd_serve.proofs.Ordering.{ticks_snoc, left_snoc}

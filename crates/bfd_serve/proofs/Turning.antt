@@ -1,17 +1,8 @@
 -- A worker's turns, one after another.
-use Rattle.std.proofs.Common.{◌≡◌, ◌⊎◌, ℕ, ◌+◌, ◌<◌, ◌≤◌, false, List, [], ◌∷◌, ◌++◌, length, Result, Ok, Err, refl, ap, sym, ◌∙◌, subst, inl, inr, append-nil, length-append, le_refl, arith}
-use Rattle.bfd_packet.specs.declared.arrival.Arrival.{Arrival}
-use Rattle.bfd_packet.specs.declared.arrival.Datagram.{Datagram}
-use Rattle.bfd_shard.specs.declared.entry.Entry.{Entry}
+use Rattle.bfd_serve.proofs.Common.{◌≡◌, ◌⊎◌, ◌+◌, ◌<◌, ◌≤◌, false, ◌++◌, length, Result, Ok, Err, refl, ap, sym, ◌∙◌, subst, inl, inr, append-nil, length-append, le_refl, arith, Arrival, Datagram, Entry, risen, LinkTold, after_receive, Shards, Knows, Act, seen_at, met_word, End, Ended, LinkFault, Full, Spent, Memory, act_at, worker_acts, Did, Stops, AreDone, IsWorking, HasWorked, IsWorkerEnd}
+use Rattle.std.proofs.Common.{ℕ, List, [], ◌∷◌}
 use Rattle.bfd_edge.specs.declared.link.Received.TheVariants as received
-use Rattle.bfd_edge.specs.Faults.{risen}
-use Rattle.bfd_edge.specs.Links.{LinkTold, after_receive}
-use Rattle.bfd_engine.specs.Engines.{Shards, Knows}
-use Rattle.bfd_engine.specs.Calls.{Act, seen_at, met_word}
-use Rattle.bfd_serve.specs.declared.ending.End.{End}
-use Rattle.bfd_serve.specs.declared.ending.End.TheVariants.{Ended, LinkFault, Full, Turns as TurnsMade, Spent, Memory}
-use Rattle.bfd_serve.specs.Calls.{act_at, worker_acts}
-use Rattle.bfd_serve.specs.Works.{Did, Stops, AreDone, IsWorking, HasWorked, IsWorkerEnd}
+use Rattle.bfd_serve.specs.declared.ending.End.TheVariants.{Turns as TurnsMade}
 use Rattle.bfd_serve.proofs.Packets.{traffic_same, risen_same, risen_join}
 use Rattle.bfd_serve.proofs.Doing.{did_none, did_hear, did_then}
 

@@ -1,17 +1,7 @@
 -- How many turns on one shard some acts can take.
-use Rattle.std.proofs.Common.{◌≡◌, ◌≢◌, ℕ, zero, suc, ◌+◌, ◌≤◌, ◌==◌, Bool, true, false, List, [], ◌∷◌, length, take, drop, refl, ap, ◌∙◌, le_refl, length-append, arith}
-use Rattle.std.proofs.lemmas.List.{length-map, take-append-drop}
-use mathlib.Core.Logic.{dite}
-use native.Mathlib.Decide.{ℕ_discrete}
-use Rattle.std.proofs.lemmas.Bool.Decides.{nat_tests}
-use Rattle.bfd_packet.specs.declared.arrival.Arrival.{Arrival}
-use Rattle.bfd_shard.specs.declared.entry.ShardEvent.{ShardEvent}
+use Rattle.bfd_serve.proofs.Common.{◌≡◌, ◌≢◌, zero, suc, ◌+◌, ◌≤◌, ◌==◌, Bool, true, false, length, take, drop, refl, ap, ◌∙◌, le_refl, length-append, arith, length-map, take-append-drop, dite, ℕ_discrete, nat_tests, Arrival, ShardEvent, Line, Shards, Act, Turns, Rests, act_at, worker_acts, orders_due, order_act, orders_acts, advances, tick_acts, ticks_acts, orders_left, timer_acts}
+use Rattle.std.proofs.Common.{ℕ, List, [], ◌∷◌}
 use Rattle.bfd_shard.specs.declared.entry.ShardEvent.TheVariants.{Tick as TickEvent}
-use Rattle.bfd_line.specs.declared.entries.Line.{Line}
-use Rattle.bfd_engine.specs.Engines.{Shards}
-use Rattle.bfd_engine.specs.Calls.{Act, Turns, Rests}
-use Rattle.bfd_serve.specs.Calls.{act_at, worker_acts}
-use Rattle.bfd_serve.specs.Orders.{orders_due, order_act, orders_acts, advances, tick_acts, ticks_acts, orders_left, timer_acts}
 use Rattle.bfd_serve.proofs.Histories.{weight, weight_append}
 
 module _ (n s : ℕ) where

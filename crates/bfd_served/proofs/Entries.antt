@@ -1,16 +1,10 @@
 -- One entry more.
-use Rattle.std.proofs.Common.{◌≡◌, ◌≤◌, ◌<◌, ℕ, zero, suc, ◌+◌, List, [], ◌∷◌, ◌++◌, length, take, drop, get_or, sym, ◌∙◌, ap, subst, append_assoc, append-nil, length-append, arith}
-use Rattle.std.proofs.lemmas.List.{take_more, drop_more}
+use Rattle.bfd_served.proofs.Common.{◌≡◌, ◌≤◌, ◌<◌, ℕ, zero, suc, ◌+◌, List, [], ◌∷◌, ◌++◌, length, take, drop, get_or, sym, ◌∙◌, ap, subst, append_assoc, append-nil, length-append, arith, take_more, drop_more, SessionConfig, Entry, CanHappen, IsHistory, event_lines, packets_sent, discr_in, entry_text, entries_text, entries_sent, reply_at, turn_line}
 use Rattle.bfd_rules.specs.declared.outputs.Out.{Out}
 use Rattle.bfd_session.specs.declared.event.Answer.{Answer}
-use Rattle.bfd_session.specs.declared.event.SessionConfig.{SessionConfig}
 use Rattle.bfd_session.specs.Alone.{Outcome}
-use Rattle.bfd_shard.specs.declared.entry.Entry.{Entry}
 use Rattle.bfd_shard.specs.History.{events_of}
-use Rattle.bfd_shard.specs.Shard.{CanHappen, IsHistory}
-use Rattle.bfd_script.specs.Report.{event_lines, packets_sent}
 use Rattle.bfd_served.proofs.Sizes.{entry_some}
-use Rattle.bfd_served.specs.Served.{discr_in, entry_text, entries_text, entries_sent, reply_at, turn_line}
 
 one_at : (cs : List SessionConfig) (js : List Entry) (i : ℕ) (d : Entry) → i < length js → IsHistory cs (events_of js) → CanHappen cs (get_or js i d).event
 one_at cs [] i d h all = absurd (omega arith)

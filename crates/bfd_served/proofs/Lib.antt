@@ -1,3 +1,4 @@
+mod Common
 pub mod Starting
 pub mod Sizes
 pub mod Entries

@@ -1,14 +1,7 @@
 -- One shard more.
-use Rattle.std.proofs.Common.{◌≡◌, ◌<◌, ℕ, ◌+◌, List, [], ◌∷◌, ◌++◌, length, map, drop, get_or, sym, ◌∙◌, ap, subst, append_assoc, append-nil, length-drop, arith}
-use Rattle.std.specs.Prelude.{sum_by}
-use Rattle.std.specs.List.{AllByRecursion}
-use Rattle.std.proofs.lemmas.List.{drop_more, length-map, nil_from_length}
+use Rattle.bfd_served.proofs.Common.{◌≡◌, ◌<◌, ℕ, ◌+◌, List, [], ◌∷◌, ◌++◌, length, map, drop, get_or, sym, ◌∙◌, ap, subst, append_assoc, append-nil, length-drop, arith, sum_by, AllByRecursion, drop_more, length-map, nil_from_length, SessionConfig, configs_of, Shard, History, shard_history, shard_sent, shard_text, shards_text, served, served_line}
 use Rattle.std.proofs.lemmas.List.Sums.{sum_by-cons}
-use Rattle.bfd_session.specs.declared.event.SessionConfig.{SessionConfig}
-use Rattle.bfd_session.specs.Kinds.{configs_of}
 use Rattle.bfd_session.specs.Rows.{AreFit}
-use Rattle.bfd_shard.specs.Shard.{Shard}
-use Rattle.bfd_served.specs.Served.{History, shard_history, shard_sent, shard_text, shards_text, served, served_line}
 
 -- the configurations with which a shard was made
 abbrev pub made_with : Shard → List SessionConfig

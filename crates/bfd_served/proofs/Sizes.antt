@@ -1,12 +1,7 @@
 -- Each entry, and each packet that it sent, has text of its own.
-use Rattle.std.proofs.Common.{◌≤◌, ◌+◌, ℕ, List, length, arith, length-append}
-use Rattle.std.specs.List.{flat_map}
-use Rattle.bfd_session.specs.declared.event.SessionConfig.{SessionConfig}
+use Rattle.bfd_served.proofs.Common.{◌≤◌, ◌+◌, ℕ, List, length, arith, length-append, flat_map, SessionConfig, Entry, packets_sent, item_line, answer_line, event_lines, discr_in, entry_text, reply_at, turn_line}
 use Rattle.bfd_session.specs.Alone.{Outcome}
-use Rattle.bfd_shard.specs.declared.entry.Entry.{Entry}
-use Rattle.bfd_script.specs.Report.{packets_sent, item_line, answer_line, event_lines}
 use Rattle.bfd_script.proofs.Sizes.{sent_short}
-use Rattle.bfd_served.specs.Served.{discr_in, entry_text, reply_at, turn_line}
 
 lines_some : (n : ℕ) (o : Outcome) → packets_sent o ≤ length (event_lines n o)
 lines_some n o = omega (arith, sent_short n o.items, length-append (flat_map (item_line n) o.items) (answer_line n o.answer))

@@ -1,10 +1,6 @@
 -- A shard made anew.
-use Rattle.std.proofs.Common.{◌≡◌, ℕ, List, [], ◌++◌, sym, ◌∙◌, ap, subst, append_assoc}
-use Rattle.bfd_session.specs.declared.event.SessionConfig.{SessionConfig}
-use Rattle.bfd_shard.specs.declared.entry.Entry.{Entry}
+use Rattle.bfd_served.proofs.Common.{◌≡◌, ℕ, List, [], ◌++◌, sym, ◌∙◌, ap, subst, append_assoc, SessionConfig, Entry, IsHistory, entries_text, shard_line}
 use Rattle.bfd_shard.specs.History.{events_of}
-use Rattle.bfd_shard.specs.Shard.{IsHistory}
-use Rattle.bfd_served.specs.Served.{entries_text, shard_line}
 
 -- a history of shards with these configurations
 pub history_same : (cs own : List SessionConfig) (js ks : List Entry) → own ≡ cs → ks ≡ js → IsHistory cs (events_of js) → IsHistory own (events_of ks)

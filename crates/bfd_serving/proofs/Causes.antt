@@ -1,33 +1,14 @@
 -- What the first fault shows.
-use Rattle.std.proofs.Common.{◌≡◌, ◌≢◌, ◌⊎◌, ℕ, zero, suc, ◌+◌, ◌<◌, ◌≤◌, ◌==◌, true, false, List, [], ◌∷◌, ◌++◌, length, get_or, refl, ap, sym, ◌∙◌, subst, inl, inr, arith}
-use Rattle.std.specs.List.{All}
-use Rattle.std.proofs.lemmas.List.Elements.{All-head, All-tail}
-use Rattle.std.proofs.lemmas.Bool.Decides.{nat_tests}
-use Rattle.std.proofs.lemmas.Option.{slice_get_past}
-use mathlib.Core.Logic.{dite}
-use native.Mathlib.Decide.{ℕ_discrete, dec_lt}
-use Rattle.bfd_shard.specs.Shard.{Shard}
-use Rattle.bfd_line.specs.declared.entries.Line.{Line}
+use Rattle.bfd_serving.proofs.Common.{◌≡◌, ◌≢◌, ◌⊎◌, ℕ, zero, suc, ◌+◌, ◌<◌, ◌≤◌, ◌==◌, true, false, List, [], ◌∷◌, ◌++◌, length, get_or, refl, ap, sym, ◌∙◌, subst, inl, inr, arith, All, All-head, All-tail, nat_tests, slice_get_past, dite, ℕ_discrete, dec_lt, Shard, Line, LinkTold, IsNewLink, TickerTold, Shards, calls, by, Act, End, Limits, worker_acts, IsTimerEnd, is_clock_fault, finish_by, finish_from, HadMemory, calls_on, journal_in, history_at, no_words, HaveRun, AreClosedShards}
 use Rattle.bfd_edge.specs.Faults.{risen}
-use Rattle.bfd_edge.specs.Links.{LinkTold, IsNewLink}
-use Rattle.bfd_edge.specs.Tickers.{TickerTold}
-use Rattle.bfd_engine.specs.Engines.{Shards}
-use Rattle.bfd_turn.specs.Lists.{calls}
-use Rattle.bfd_engine.specs.Turned.{by}
-use Rattle.bfd_engine.specs.Calls.{Act, Turns as TurnsOn}
-use Rattle.bfd_serve.specs.declared.ending.End.{End}
+use Rattle.bfd_engine.specs.Calls.{Turns as TurnsOn}
 use Rattle.bfd_serve.specs.declared.ending.End.TheVariants as end
-use Rattle.bfd_serve.specs.declared.serving.Limits.{Limits}
-use Rattle.bfd_serve.specs.Calls.{worker_acts}
 use Rattle.bfd_serve.specs.Works.{IsWorkerEnd, StartsOn}
-use Rattle.bfd_serve.specs.Ticks.{IsTimerEnd, is_clock_fault}
 use Rattle.bfd_serve.specs.Orders.{timer_acts}
 use Rattle.bfd_serve.proofs.Histories.{weight_append}
 use Rattle.bfd_serve.proofs.Turning.{acts_append}
 use Rattle.bfd_serving.specs.declared.finish.Finish.{Finish}
 use Rattle.bfd_serving.specs.declared.finish.Finish.TheVariants.{Done, LinkFault, ClockFault, JournalFull, Turns}
-use Rattle.bfd_serving.specs.Finishes.{finish_by, finish_from, HadMemory}
-use Rattle.bfd_serving.specs.Runs.{calls_on, journal_in, history_at, no_words, HaveRun, AreClosedShards}
 use Rattle.bfd_serving.specs.Causes.{IsRunDone, IsAll, IsOverfull, IsFinishCause, Completes}
 use Rattle.bfd_serving.proofs.Counts.{all_counted, bonus, bonus_some, gather}
 use Rattle.bfd_serving.proofs.Closings.{there_is}

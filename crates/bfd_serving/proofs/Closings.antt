@@ -1,34 +1,12 @@
 -- From what all did to the histories of the closed shards.
-use Rattle.std.proofs.Common.{◌≡◌, ◌≢◌, ℕ, zero, suc, ◌+◌, ◌*◌, ◌<◌, ◌≤◌, ◌==◌, false, List, [], ◌∷◌, length, Some, slice_get, get_or, slice_index_or, refl, ap, sym, ◌∙◌, subst, arith}
-use Rattle.std.specs.List.{All}
-use Rattle.std.proofs.lemmas.Bool.Decides.{nat_tests}
-use Rattle.std.proofs.lemmas.List.Elements.{All-same, All-cons}
+use Rattle.bfd_serving.proofs.Common.{◌≡◌, ◌≢◌, ℕ, zero, suc, ◌+◌, ◌*◌, ◌<◌, ◌≤◌, ◌==◌, false, List, [], ◌∷◌, length, Some, slice_get, get_or, slice_index_or, refl, ap, sym, ◌∙◌, subst, arith, All, nat_tests, All-same, All-cons, get_or_default, slice_get_past, get_or_from_slice_get, slice_get_within, same_Some, dite, dec_lt, calls, has, numbers_of, Entry, Shard, IsShard, Line, LinkTold, TickerTold, by, Shards, Knows, IsOf, Act, seen_of, met_word_of, seen_at, met_word, made_at, kept_at, End, Limits, IsTimerEnd, worker_acts, journal_in, history_at, no_words, told_on_link, TimerRan, WorkerRan, HaveRun, AreClosedShards, IsUnspent}
 use Rattle.std.proofs.lemmas.Nat.{mul-le}
-use Rattle.std.proofs.lemmas.List.{get_or_default}
-use Rattle.std.proofs.lemmas.Option.{slice_get_past, get_or_from_slice_get, slice_get_within, same_Some}
-use mathlib.Core.Logic.{dite}
-use native.Mathlib.Decide.{dec_lt}
-use Rattle.bfd_turn.specs.Lists.{calls, has, numbers_of}
 use Rattle.bfd_turn.specs.Plays.{AllKept}
-use Rattle.bfd_shard.specs.declared.entry.Entry.{Entry}
-use Rattle.bfd_shard.specs.Shard.{Shard, IsShard}
-use Rattle.bfd_line.specs.declared.entries.Line.{Line}
-use Rattle.bfd_edge.specs.Links.{LinkTold}
-use Rattle.bfd_edge.specs.Tickers.{TickerTold}
 use Rattle.bfd_packet.specs.declared.arrival.Datagram.{Datagram}
-use Rattle.bfd_engine.specs.Turned.{by}
-use Rattle.bfd_engine.specs.Engines.{Shards, Knows, IsOf}
-use Rattle.bfd_engine.specs.Calls.{Act, seen_of, met_word_of, seen_at, met_word, made_at, kept_at}
 use Rattle.bfd_engine.specs.Passes.{EachJoined, IsClosed, AreClosed}
-use Rattle.bfd_serve.specs.declared.ending.End.{End}
 use Rattle.bfd_serve.specs.declared.ending.End.TheVariants.{Ended, Spent}
-use Rattle.bfd_serve.specs.declared.serving.Limits.{Limits}
 use Rattle.bfd_serve.specs.Works.{IsWorkerEnd}
-use Rattle.bfd_serve.specs.Ticks.{IsTimerEnd}
-use Rattle.bfd_serve.specs.Calls.{worker_acts}
 use Rattle.bfd_serve.specs.Serves.{TimerDid, WorkerDid, HasServed}
-use Rattle.bfd_serving.specs.Runs.{journal_in, history_at, no_words, told_on_link, TimerRan, WorkerRan, HaveRun, AreClosedShards}
-use Rattle.bfd_serving.specs.Finishes.{IsUnspent}
 
 pub there_is : {X : Type 0} (xs : List X) (i : ℕ) → i < length xs → (x : X) × (slice_get xs i ≡ Some x)
 there_is [] i h = absurd (omega arith)

@@ -1,14 +1,5 @@
 -- A history has as many entries as its callers have calls, and the calls of all callers are added up.
-use Rattle.std.proofs.Common.{◌≡◌, ◌≢◌, ℕ, zero, suc, ◌+◌, ◌<◌, ◌≤◌, ◌==◌, true, false, cond, List, [], ◌∷◌, ◌++◌, length, get_or, refl, ap, sym, ◌∙◌, subst, length-append, arith}
-use Rattle.std.proofs.lemmas.Bool.Decides.{nat_tests}
-use Rattle.std.proofs.lemmas.List.{get_or_append_left}
-use mathlib.Core.Logic.{dite}
-use native.Mathlib.Decide.{ℕ_discrete, dec_lt}
-use Rattle.bfd_turn.specs.Lists.{calls}
-use Rattle.bfd_shard.specs.declared.entry.Entry.{Entry}
-use Rattle.bfd_engine.specs.Turned.{by}
-use Rattle.bfd_engine.specs.Calls.{Act}
-use Rattle.bfd_serving.specs.Runs.{calls_on, all_on}
+use Rattle.bfd_serving.proofs.Common.{◌≡◌, ◌≢◌, ℕ, zero, suc, ◌+◌, ◌<◌, ◌≤◌, ◌==◌, true, false, cond, List, [], ◌∷◌, ◌++◌, length, get_or, refl, ap, sym, ◌∙◌, subst, length-append, arith, nat_tests, get_or_append_left, dite, ℕ_discrete, dec_lt, calls, Entry, by, Act, calls_on, all_on}
 use Rattle.bfd_serving.proofs.Shuts.{get_last}
 
 -- the calls of the callers 0 to n

@@ -1,18 +1,7 @@
 -- Sessions that are copied and dealt out.
-use Rattle.std.proofs.Common.{◌≡◌, ℕ, zero, suc, ◌+◌, ◌-◌, ◌<◌, ◌≤◌, List, [], ◌∷◌, ◌++◌, length, map, drop, get_or, refl, ap, sym, ◌∙◌, subst, append_assoc, append-nil, arith}
-use Rattle.std.specs.List.{AllByRecursion}
-use Rattle.std.proofs.lemmas.List.Elements.{recursion_from_All}
-use Rattle.std.proofs.lemmas.List.{drop_more, drop_all, length-map, get_or-map, same_lists, get_or_default, drop-drop}
-use Rattle.std.proofs.lemmas.Option.{get_or_from_slice_get}
-use Rattle.bfd_session.specs.declared.event.SessionConfig.{SessionConfig}
-use Rattle.bfd_session.specs.Kinds.{configs_of}
-use Rattle.bfd_session.specs.Rows.{AreFit}
+use Rattle.bfd_serving.proofs.Common.{◌≡◌, ℕ, zero, suc, ◌+◌, ◌-◌, ◌<◌, ◌≤◌, List, [], ◌∷◌, ◌++◌, length, map, drop, get_or, refl, ap, sym, ◌∙◌, subst, append_assoc, append-nil, arith, AllByRecursion, recursion_from_All, drop_more, drop_all, length-map, get_or-map, same_lists, get_or_default, drop-drop, get_or_from_slice_get, SessionConfig, configs_of, AreFit, Shard, share, Shards, AreDealt, AreClosedShards}
 use Rattle.bfd_session.specs.Step.{IsFit}
-use Rattle.bfd_shard.specs.Shard.{Shard}
-use Rattle.bfd_shard.specs.Dealing.{share}
-use Rattle.bfd_engine.specs.Engines.{Shards}
 use Rattle.bfd_shard.proofs.Sharing.{all_share}
-use Rattle.bfd_serving.specs.Runs.{AreDealt, AreClosedShards}
 use Rattle.bfd_serving.proofs.Closings.{there_is}
 
 module _ {A : Type 0} where

@@ -1,13 +1,6 @@
 -- What each entry of the closed shards did.
-use Rattle.std.proofs.Common.{◌≡◌, ◌<◌, ◌+◌, ◌++◌, ◌∷◌, [], ◌==◌, ℕ, zero, suc, Bool, true, false, cond, List, Option, None, Some, Result, Ok, Err, refl, sym, ap, ◌∙◌, subst, length, take, drop, arith}
-use Rattle.std.specs.Prelude.{slice_get}
-use Rattle.std.specs.List.{AllByRecursion}
-use Rattle.std.proofs.lemmas.Bool.Decides.{nat_tests}
-use Rattle.std.proofs.lemmas.List.{map-append}
-use Rattle.std.proofs.lemmas.Option.{slice_get_within}
+use Rattle.bfd_serving.proofs.Common.{◌≡◌, ◌<◌, ◌+◌, ◌++◌, ◌∷◌, [], ◌==◌, ℕ, zero, suc, Bool, true, false, cond, List, Option, None, Some, Result, Ok, Err, refl, sym, ap, ◌∙◌, subst, length, take, drop, arith, slice_get, AllByRecursion, nat_tests, map-append, slice_get_within, dite, dec_lt, SessionConfig, Running, table_of, place_of, Entry, Shard, CanHappen, IsHistory, IsOnTime, IsTaken, NoneDue, Line, calls, LinkTold, TickerTold, by, entry_of, Shards, configs_at, Act, Rests, ask_act, coming_act, reflect_act, End, Limits, calls_of, entries, worker_acts, is_clock_fault, journal_in, history_at, HaveRun, AreClosedShards}
 use Rattle.bfd_script.proofs.Elements.{each_more}
-use mathlib.Core.Logic.{dite}
-use native.Mathlib.Decide.{dec_lt}
 use Rattle.bfd_packet.specs.declared.arrival.Arrival.{Arrival}
 use Rattle.bfd_packet.specs.declared.arrival.Datagram.{Datagram}
 use Rattle.bfd_packet.specs.declared.discard.Test.{Test}
@@ -19,35 +12,19 @@ use Rattle.bfd_sbfd.specs.Reflect.{reflect}
 use Rattle.bfd_session.specs.declared.event.Answer.{Answer}
 use Rattle.bfd_session.specs.declared.event.Event.{Event}
 use Rattle.bfd_session.specs.declared.event.Event.TheVariants.{Packet, Returned, Command, Show as Showing}
-use Rattle.bfd_session.specs.declared.event.SessionConfig.{SessionConfig}
 use Rattle.bfd_session.specs.Alone.{effective}
 use Rattle.bfd_session.specs.Arrivals.{coming_by}
-use Rattle.bfd_session.specs.Kinds.{Running}
-use Rattle.bfd_session.specs.Rows.{table_of, place_of}
 use Rattle.bfd_session.specs.Step.{reply}
-use Rattle.bfd_shard.specs.declared.entry.Entry.{Entry}
 use Rattle.bfd_shard.specs.declared.entry.ShardEvent.{ShardEvent}
 use Rattle.bfd_shard.specs.declared.entry.ShardEvent.TheVariants.{Own, Tick as TickEvent}
 use Rattle.bfd_shard.specs.Expired.{expired, forgotten}
 use Rattle.bfd_shard.specs.History.{events_of, last_tick, runs}
-use Rattle.bfd_shard.specs.Shard.{Shard, CanHappen, IsHistory, IsOnTime, IsTaken, NoneDue}
-use Rattle.bfd_line.specs.declared.entries.Line.{Line}
 use Rattle.bfd_line.specs.declared.entries.Line.TheVariants.{Cmd as CmdLine, Show}
-use Rattle.bfd_turn.specs.Lists.{calls}
-use Rattle.bfd_edge.specs.Links.{LinkTold}
-use Rattle.bfd_edge.specs.Tickers.{TickerTold}
-use Rattle.bfd_engine.specs.Turned.{by, entry_of}
-use Rattle.bfd_engine.specs.Engines.{Shards, configs_at}
-use Rattle.bfd_engine.specs.Calls.{Act, Turns, Rests, ask_act, coming_act, reflect_act}
+use Rattle.bfd_engine.specs.Calls.{Turns}
 use Rattle.bfd_engine.specs.Judging.{packet_answer, return_answer}
 use Rattle.bfd_engine.proofs.Verdicts.{own_answer, packet_is, return_is, runs_there}
-use Rattle.bfd_serve.specs.declared.ending.End.{End}
-use Rattle.bfd_serve.specs.declared.serving.Limits.{Limits}
-use Rattle.bfd_serve.specs.Calls.{calls_of, entries, worker_acts}
 use Rattle.bfd_serve.specs.Orders.{advances, orders_due, order_act, orders_acts, orders_left, ticks_acts, timer_acts}
-use Rattle.bfd_serve.specs.Ticks.{is_clock_fault}
 use Rattle.bfd_serving.specs.Entered.{AreTimely, AreJudged, HasAnswer}
-use Rattle.bfd_serving.specs.Runs.{journal_in, history_at, HaveRun, AreClosedShards}
 
 -- the shard whose history has an entry
 

@@ -1,3 +1,4 @@
+mod Common
 pub mod Shuts
 pub mod Closings
 pub mod Tables

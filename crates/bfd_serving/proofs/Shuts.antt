@@ -1,18 +1,11 @@
 -- Links that are open, and one more that can't be opened.
-use Rattle.std.proofs.Common.{◌≡◌, ℕ, zero, suc, ◌+◌, ◌≤◌, true, List, [], ◌∷◌, ◌++◌, length, get_or, Some, Err, refl, ap, sym, ◌∙◌, subst, arith}
-use Rattle.std.specs.List.{All}
-use Rattle.std.proofs.lemmas.List.Elements.{All-cons, All-get_or}
-use mathlib.Core.Logic.{dite}
-use native.Mathlib.Decide.{dec_lt}
-use Rattle.bfd_edge.specs.Links.{LinkTold, IsNewLink}
+use Rattle.bfd_serving.proofs.Common.{◌≡◌, ℕ, zero, suc, ◌+◌, ◌≤◌, true, List, [], ◌∷◌, ◌++◌, length, get_or, Some, Err, refl, ap, sym, ◌∙◌, subst, arith, All, All-cons, All-get_or, dite, dec_lt, LinkTold, IsNewLink, refused_as, IsUncalled, IsOpenTo, AreUncalled, IsFaultOf, IsUnopened}
 use Rattle.bfd_edge.specs.Ports.{PortsTold, after_open}
 use Rattle.bfd_edge.specs.declared.fault.Fault.{Fault}
 use Rattle.bfd_edge.specs.declared.fault.Fault.TheVariants as fault
 use Rattle.bfd_serving.specs.declared.finish.Refused.{Refused}
 use Rattle.bfd_serving.specs.declared.finish.Refused.TheVariants.{Memory}
 use Rattle.bfd_edge.specs.Faults.{risen}
-use Rattle.bfd_serving.specs.Finishes.{refused_as}
-use Rattle.bfd_serving.specs.Linking.{IsUncalled, IsOpenTo, AreUncalled, IsFaultOf, IsUnopened}
 
 pub get_last : {X : Type 0} (xs : List X) (x : X) (i : ℕ) (d : X) → i ≡ length xs → get_or (xs ++ x ∷ []) i d ≡ x
 get_last [] x zero d h = refl

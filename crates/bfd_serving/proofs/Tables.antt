@@ -1,15 +1,11 @@
 -- The table of a script has no fault, and its sessions and reflectors stand in order.
-use Rattle.std.proofs.Common.{None, ◌≡◌, List}
+use Rattle.bfd_serving.proofs.Common.{None, ◌≡◌, List, SessionConfig, table_of, Line, script_with}
 use Rattle.bfd_sbfd.specs.declared.reflecting.Reflector.{Reflector}
-use Rattle.bfd_session.specs.declared.event.SessionConfig.{SessionConfig}
-use Rattle.bfd_session.specs.Rows.{table_of}
 use Rattle.bfd_demux.specs.Rows.{build_fault}
 use Rattle.bfd_engine.specs.Opening.{IsSorted}
 use Rattle.bfd_engine.proofs.Ordered as ordered
-use Rattle.bfd_line.specs.declared.entries.Line.{Line}
 use Rattle.bfd_script.specs.Sound.{IsScript}
 use Rattle.bfd_script.proofs.Faults as script
-use Rattle.bfd_serving.specs.Runs.{script_with}
 
 -- the table of a script has no fault
 pub no_fault : (configs : List SessionConfig) (pool : List Reflector) (events : List Line) → IsScript (script_with configs pool events) → build_fault (table_of configs pool) ≡ None

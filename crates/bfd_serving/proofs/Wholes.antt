@@ -1,23 +1,9 @@
 -- A whole run, put together.
-use Rattle.std.proofs.Common.{◌≡◌, ℕ, ◌<◌, ◌≤◌, List, ◌∷◌, length, map, slice_index_or, Some, ap, sym, ◌∙◌, subst, arith}
-use Rattle.std.specs.List.{All}
-use Rattle.std.proofs.lemmas.List.Elements.{All-cons, All-get_or}
-use mathlib.Core.Logic.{dite}
-use native.Mathlib.Decide.{dec_lt}
-use Rattle.bfd_shard.specs.Shard.{Shard}
-use Rattle.bfd_line.specs.declared.entries.Line.{Line}
+use Rattle.bfd_serving.proofs.Common.{◌≡◌, ℕ, ◌<◌, ◌≤◌, List, ◌∷◌, length, map, slice_index_or, Some, ap, sym, ◌∙◌, subst, arith, All, All-cons, All-get_or, dite, dec_lt, Shard, Line, LinkTold, IsNewLink, TickerTold, Shards, End, Limits, finish_from, HadMemory, IsUncalled, IsOpenTo, AreShut, history_at, told_on_link, HaveRun, IsOpened, AreClosedShards}
 use Rattle.bfd_script.specs.Reading.{Lists}
-use Rattle.bfd_edge.specs.Links.{LinkTold, IsNewLink}
 use Rattle.bfd_edge.specs.Ports.{PortsTold}
-use Rattle.bfd_edge.specs.Tickers.{TickerTold}
-use Rattle.bfd_engine.specs.Engines.{Shards}
-use Rattle.bfd_serve.specs.declared.ending.End.{End}
-use Rattle.bfd_serve.specs.declared.serving.Limits.{Limits}
 use Rattle.bfd_served.specs.Served.{shard_history, served}
 use Rattle.bfd_serving.specs.declared.finish.Finish.{Finish}
-use Rattle.bfd_serving.specs.Finishes.{finish_from, HadMemory}
-use Rattle.bfd_serving.specs.Linking.{IsUncalled, IsOpenTo, AreShut}
-use Rattle.bfd_serving.specs.Runs.{history_at, told_on_link, HaveRun, IsOpened, AreClosedShards}
 use Rattle.bfd_serving.specs.Wholes.{HasRun}
 use Rattle.bfd_serving.proofs.Causes.{cause, completes}
 use Rattle.bfd_serving.proofs.Entered.{timely, judged}

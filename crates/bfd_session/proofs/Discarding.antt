@@ -1,34 +1,17 @@
 -- The one list of tests that may discard an arrival is the table's and then the session's, and a session's verdict tells of
 -- the first of its own that fails.
-use Rattle.std.proofs.Common.{◌≡◌, ◌||◌, ◌++◌, ◌∷◌, not, ℕ, Bool, true, false, List, [], refl, sym, ap, ◌∙◌, Option, None, Some, Result, cond, if◌then◌else◌, take, find}
-use Rattle.std.proofs.lemmas.Bool.{and_parts}
+use Rattle.bfd_session.proofs.Common.{◌≡◌, ◌||◌, ◌++◌, ◌∷◌, not, ℕ, Bool, true, false, List, [], refl, sym, ap, ◌∙◌, Option, None, Some, Result, cond, if◌then◌else◌, take, find, and_parts, list_all, Arrival, Port, State, Test, Ttl, AuthUnexpected, AuthMissing, AuthType, AuthKey, AuthLen, AuthSeq, AuthDigest, SeqState, unless, fields_of, Config, Vars, is_admin_down, Row, is_multipoint, table_fails, tests_on_header, tests_on_table, first_table_failing, SessionConfig, Pair, Packet, Running, reply, answer_to_packet}
 use Rattle.std.proofs.lemmas.List.Folds.{find-append}
-use Rattle.std.specs.List.{list_all}
 use Rattle.std.specs.Option.{option_or}
-use Rattle.bfd_packet.specs.declared.arrival.Arrival.{Arrival}
-use Rattle.bfd_packet.specs.declared.arrival.Port.{Port}
 use Rattle.bfd_packet.specs.declared.arrival.Port.TheVariants.{Single, Multi, Answer as AnswerPort}
-use Rattle.bfd_packet.specs.declared.control.State.{State}
-use Rattle.bfd_packet.specs.declared.discard.Test.{Test}
-use Rattle.bfd_packet.specs.declared.discard.Test.TheVariants.{Ttl, AuthUnexpected, AuthMissing, AuthType, AuthKey, AuthLen, AuthSeq, AuthDigest, AdminDown}
-use Rattle.bfd_packet.specs.declared.keys.SeqState.{SeqState}
+use Rattle.bfd_packet.specs.declared.discard.Test.TheVariants.{AdminDown}
 use Rattle.bfd_packet.specs.KeyChain.{KeyChain}
-use Rattle.bfd_packet.specs.HeaderTests.{unless}
-use Rattle.bfd_packet.specs.Layout.{fields_of}
 use Rattle.bfd_auth.specs.Verdict.{verdict, section_fails, section_tests}
-use Rattle.bfd_rules.specs.declared.config.Config.{Config}
-use Rattle.bfd_rules.specs.declared.variables.Vars.{Vars}
 use Rattle.bfd_rules.specs.declared.verdict.Verdict.{Verdict}
 use Rattle.bfd_rules.specs.declared.verdict.Verdict.TheVariants.{Accepted, Dropped}
-use Rattle.bfd_rules.specs.Quantities.{is_admin_down}
 use Rattle.bfd_p2p.specs.Receive.{session_fails, session_tests, authenticated, judged_by, verdict_by, verdict_on}
-use Rattle.bfd_demux.specs.declared.row.Row.{Row}
-use Rattle.bfd_demux.specs.Selection.{is_multipoint, table_fails, tests_on_header, tests_on_table, first_table_failing}
-use Rattle.bfd_session.specs.declared.event.SessionConfig.{SessionConfig}
-use Rattle.bfd_session.specs.declared.event.SessionConfig.TheVariants.{Pair, Head}
-use Rattle.bfd_session.specs.declared.event.Event.TheVariants.{Packet}
-use Rattle.bfd_session.specs.Kinds.{Running}
-use Rattle.bfd_session.specs.Step.{reply, answer_to_packet, verdict_by as verdict_of}
+use Rattle.bfd_session.specs.declared.event.SessionConfig.TheVariants.{Head}
+use Rattle.bfd_session.specs.Step.{verdict_by as verdict_of}
 use Rattle.bfd_session.specs.Discards.{unauthentic, pair_fails, plain_fails, own_fails, own_tests, first_own_failing, discards, first_discarding, test_of, judging, answer_by}
 
 -- two sentences that agree on the tests of a list find the same

@@ -1,20 +1,11 @@
 -- A tick comes exactly when the moment that it rounds has come; and what a tick leaves is not due by it.
-use Rattle.std.proofs.Common.{◌≡◌, ◌||◌, ◌*◌, ℕ, false, refl, sym, ap, ◌∙◌, Option, None, Some, arith}
-use Rattle.std.proofs.lemmas.Bool.{or_parts}
-use Rattle.std.proofs.lemmas.Bool.Decides.{nat_tests}
-use Rattle.std.specs.Prelude.{nat_le}
-use Rattle.bfd_num.specs.Numbers.{ceil_tick, floor_tick}
-use Rattle.bfd_num.specs.Due.{has_come, sooner}
+use Rattle.bfd_session.proofs.Common.{◌≡◌, ◌||◌, ◌*◌, ℕ, false, refl, sym, ap, ◌∙◌, Option, None, Some, arith, or_parts, nat_tests, nat_le, ceil_tick, floor_tick, has_come, sooner, Echo, due, tick_of, IsEchoOver, pair_of, seek_of, head_of, tail_of}
 use Rattle.bfd_p2p.specs.Machine as pair
 use Rattle.bfd_p2p.specs.Over.{IsOver}
 use Rattle.bfd_sbfd.specs.Machine as seek
 use Rattle.bfd_sbfd.specs.Over as seek_left
 use Rattle.bfd_mp.specs.Machine as tree
 use Rattle.bfd_mp.specs.Over.{IsHeadOver, IsTailOver}
-use Rattle.bfd_echo.specs.declared.echo.Echo.{Echo}
-use Rattle.bfd_session.specs.Due.{due, tick_of}
-use Rattle.bfd_session.specs.Echoing.{IsEchoOver}
-use Rattle.bfd_session.specs.Inside.{pair_of, seek_of, head_of, tail_of}
 
 -- the sooner of two has come where one of them has
 pub has_come-sooner : (t : ℕ) (a b : Option ℕ) → has_come t (sooner a b) ≡ (has_come t a || has_come t b)

@@ -1,17 +1,7 @@
 -- The end of a point-to-point session's event leaves what its Echo function runs by.
-use Rattle.std.proofs.Common.{◌≡◌, ℕ, Bool, true, false, refl, ap, ◌∙◌, Option, None, Some, if◌then◌else◌}
-use Rattle.bfd_num.specs.Numbers.{floor_tick, next_j}
-use Rattle.bfd_num.specs.Due.{has_come}
-use Rattle.bfd_rules.specs.declared.config.Config.{Config}
-use Rattle.bfd_rules.specs.declared.variables.Mark.{Mark}
-use Rattle.bfd_rules.specs.declared.variables.Vars.{Vars}
-use Rattle.bfd_rules.specs.Quantities.{may_send, tx_interval}
+use Rattle.bfd_session.proofs.Common.{◌≡◌, ℕ, Bool, true, false, refl, ap, ◌∙◌, Option, None, Some, if◌then◌else◌, floor_tick, next_j, has_come, Config, Mark, Vars, may_send, tx_interval, Course, sends, is_untold, based, draws, drawn, redrawn, transmits, Echo, echo_due, IsEchoOver}
 use Rattle.bfd_rules.specs.Jitter.{pick}
-use Rattle.bfd_rules.specs.EventFrame.{Course, sends, is_untold, based, draws, drawn, redrawn}
-use Rattle.bfd_p2p.specs.Transmit.{transmits}
 use Rattle.bfd_p2p.specs.Finish.{extra, finish}
-use Rattle.bfd_echo.specs.declared.echo.Echo.{Echo}
-use Rattle.bfd_session.specs.Echoing.{echo_due, IsEchoOver}
 
 -- the variables that it runs by are the same
 pub record IsEchoKept (v w : Vars) : Type 0 where

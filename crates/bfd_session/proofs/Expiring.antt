@@ -1,41 +1,22 @@
 -- A tick forgets that a packet was heard exactly where the Detection Time has expired.
-use Rattle.std.proofs.Common.{◌≡◌, ◌+◌, ◌-◌, ◌==◌, ◌||◌, ◌&&◌, ℕ, Bool, true, false, refl, ap, ◌∙◌, Option, None, Some, is_none, IsSome, option_map, [], arith, if◌then◌else◌, sym}
-use Rattle.std.proofs.lemmas.Grind.{common_steps}
+use Rattle.bfd_session.proofs.Common.{◌≡◌, ◌+◌, ◌-◌, ◌==◌, ◌||◌, ◌&&◌, ℕ, Bool, true, false, refl, ap, ◌∙◌, Option, None, Some, is_none, IsSome, [], arith, if◌then◌else◌, sym, common_steps, Down, Up, floor_tick, has_come, Config, Vars, deadline, seq_deadline, is_up, demand_here, may_send, poll_again, poll_renewed, used_renewed, demand_renewed, renewed, Course, enters, changes, sends, is_untold, redrawn, renews, moves, transmits, failed, HeadConfig, Echo, EchoResult, Failed, SessionConfig, Pair, Running, Flow, detects, detects_by, settled_by, settled_running, settles_echo, echoing, sound_by, tick, tick_next, ticked_flow, begun}
+use Rattle.std.proofs.Common.{option_map}
 use Rattle.std.proofs.Math.Bool.{or-false}
-use Rattle.bfd_packet.specs.declared.control.State.TheVariants.{Down, Up}
 use Rattle.bfd_packet.specs.States.{is_init_or_up}
-use Rattle.bfd_num.specs.Numbers.{floor_tick}
-use Rattle.bfd_num.specs.Due.{has_come}
-use Rattle.bfd_rules.specs.declared.config.Config.{Config}
-use Rattle.bfd_rules.specs.declared.variables.Vars.{Vars}
-use Rattle.bfd_rules.specs.Quantities.{deadline, seq_deadline, is_up, demand_here, may_send}
-use Rattle.bfd_rules.specs.Renewal.{poll_again, poll_renewed, used_renewed, demand_renewed, renewed}
-use Rattle.bfd_rules.specs.EventFrame.{Course, enters, changes, sends, is_untold, redrawn}
 use Rattle.bfd_rules.specs.Sound as pair
 use Rattle.bfd_rules.proofs.Heard.{alike, drawn_heard}
-use Rattle.bfd_p2p.specs.Frame.{renews, moves}
-use Rattle.bfd_p2p.specs.Transmit.{transmits}
 use Rattle.bfd_p2p.specs.Settle as settling
 use Rattle.bfd_p2p.specs.Finish as finishing
-use Rattle.bfd_p2p.specs.Machine.{failed}
 use Rattle.bfd_sbfd.specs.Waiting.{wait, deadline as seek_deadline}
 use Rattle.bfd_sbfd.proofs.Expiry as seek
-use Rattle.bfd_mp.specs.declared.config.HeadConfig.{HeadConfig}
 use Rattle.bfd_mp.specs.Waiting.{deadline as tail_deadline}
 use Rattle.bfd_mp.specs.Counting.{counted}
 use Rattle.bfd_mp.specs.Transmit.{transmits as head_transmits}
 use Rattle.bfd_mp.specs.HeadSettle as head_settle
 use Rattle.bfd_mp.specs.HeadFinish as head_finish
 use Rattle.bfd_mp.proofs.Expiry as tail
-use Rattle.bfd_echo.specs.declared.echo.Echo.{Echo}
-use Rattle.bfd_echo.specs.declared.echo.EchoResult.{EchoResult}
-use Rattle.bfd_echo.specs.declared.echo.EchoResult.TheVariants.{Failed}
-use Rattle.bfd_session.specs.declared.event.SessionConfig.{SessionConfig}
-use Rattle.bfd_session.specs.declared.event.SessionConfig.TheVariants.{Pair, Seek, Head, Tail}
-use Rattle.bfd_session.specs.Kinds.{Running, Flow}
-use Rattle.bfd_session.specs.Due.{detects, detects_by}
-use Rattle.bfd_session.specs.Echoing.{settled_by, settled_running, settles_echo, echoing}
-use Rattle.bfd_session.specs.Step.{IsSound, sound_by, tick, tick_next, ticked_flow, begun}
+use Rattle.bfd_session.specs.declared.event.SessionConfig.TheVariants.{Seek, Head, Tail}
+use Rattle.bfd_session.specs.Step.{IsSound}
 
 -- Renewal: whether a packet was heard stays
 

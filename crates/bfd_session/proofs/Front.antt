@@ -1,37 +1,16 @@
 -- What was put out before an event stays in front of what the event puts out, and changes nothing else of it; and an event
 -- of a session of another kind than a point-to-point one leaves the Echo function.
-use Rattle.std.proofs.Common.{◌≡◌, ◌++◌, ◌&&◌, ℕ, Bool, true, false, List, [], refl, sym, ap, ◌∙◌, append-nil, Option, None, Some, is_some, Result, Ok, Err}
-use Rattle.bfd_packet.specs.declared.control.Control.{Control}
-use Rattle.bfd_packet.specs.declared.discard.Test.{Test}
-use Rattle.bfd_packet.specs.declared.keys.SeqState.{SeqState}
-use Rattle.bfd_rules.specs.declared.commands.Cmd.{Cmd}
-use Rattle.bfd_rules.specs.declared.config.Config.{Config}
+use Rattle.bfd_session.proofs.Common.{◌≡◌, ◌++◌, ◌&&◌, ℕ, Bool, true, false, List, [], refl, sym, ap, ◌∙◌, append-nil, Option, None, Some, is_some, Result, Ok, Err, Control, Test, SeqState, Cmd, Config, Vars, floor_tick, has_come, may_send, deadline, seq_deadline, is_admin_down, Course, is_untold, based, redrawn, renews, moves, transmits, refusal, commanded, done, Echo, EchoResult, Nothing, Sent, Failed, SessionConfig, Pair, Event, Packet, Returned, Command, Show, Running, Flow, along, settled_by, settled_running, settles_echo, echoing, turns_echo, step, tick, acted, finished, begun, step_from, stepped_flow, emits, answer_of, reply, reply_from, tick_from, ticked_flow, tick_emits}
 use Rattle.bfd_rules.specs.declared.outputs.Out.{Out}
-use Rattle.bfd_rules.specs.declared.variables.Vars.{Vars}
-use Rattle.bfd_num.specs.Numbers.{floor_tick}
-use Rattle.bfd_num.specs.Due.{has_come}
-use Rattle.bfd_rules.specs.Quantities.{may_send, deadline, seq_deadline, is_admin_down}
-use Rattle.bfd_rules.specs.EventFrame.{Course, is_untold, based, redrawn}
 use Rattle.bfd_rules.proofs.Courses.{after, either, changes-after, sends-after}
-use Rattle.bfd_p2p.specs.Frame.{renews, moves}
-use Rattle.bfd_p2p.specs.Transmit.{transmits}
 use Rattle.bfd_p2p.specs.Settle as settling
 use Rattle.bfd_p2p.specs.Receive as receiving
-use Rattle.bfd_p2p.specs.Command.{refusal, commanded, done}
 use Rattle.bfd_p2p.specs.Finish as finishing
 use Rattle.bfd_sbfd.proofs.Front as seek
 use Rattle.bfd_mp.proofs.HeadFront as head
 use Rattle.bfd_mp.proofs.TailFront as tail
-use Rattle.bfd_echo.specs.declared.echo.Echo.{Echo}
-use Rattle.bfd_echo.specs.declared.echo.EchoResult.{EchoResult}
-use Rattle.bfd_echo.specs.declared.echo.EchoResult.TheVariants.{Nothing, Sent, Failed}
-use Rattle.bfd_session.specs.declared.event.SessionConfig.{SessionConfig}
-use Rattle.bfd_session.specs.declared.event.SessionConfig.TheVariants.{Pair, Seek, Head, Tail}
-use Rattle.bfd_session.specs.declared.event.Event.{Event}
-use Rattle.bfd_session.specs.declared.event.Event.TheVariants.{Packet, Returned, Command, Show}
-use Rattle.bfd_session.specs.Kinds.{Running, Flow, along}
-use Rattle.bfd_session.specs.Echoing.{settled_by, settled_running, settles_echo, echoing, turns_echo}
-use Rattle.bfd_session.specs.Step.{step, tick, settled, acted, finished, begun, step_from, stepped_flow, emits, answer_of, reply, reply_from, tick_from, ticked_flow, tick_emits}
+use Rattle.bfd_session.specs.declared.event.SessionConfig.TheVariants.{Seek, Head, Tail}
+use Rattle.bfd_session.specs.Step.{settled}
 
 renews-after : (eff : ℕ) (v : Vars) (os : List Out) (s : Course) → renews eff v (after os s) ≡ after os (renews eff v s)
 unfolding renews

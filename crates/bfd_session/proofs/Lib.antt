@@ -1,3 +1,4 @@
+mod Common
 pub mod Front
 pub mod DueTick
 pub mod EchoKept

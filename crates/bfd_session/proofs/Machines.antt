@@ -1,18 +1,11 @@
 -- A machine at the end of an event, as a session.
-use Rattle.std.proofs.Common.{◌≡◌, ℕ, Option, None, sym, ap, ◌∙◌}
-use Rattle.bfd_rules.specs.declared.config.Config.{Config}
-use Rattle.bfd_rules.specs.declared.variables.Vars.{Vars}
+use Rattle.bfd_session.proofs.Common.{◌≡◌, ℕ, Option, None, sym, ap, ◌∙◌, Config, Vars, HeadConfig, Echo, SessionConfig, Pair, pair_of, seek_of, head_of, tail_of, Running, Flow, left_by}
 use Rattle.bfd_p2p.specs.Machine as pair
 use Rattle.bfd_sbfd.specs.declared.config.SeekConfig.{SeekConfig}
 use Rattle.bfd_sbfd.specs.Machine as seek
-use Rattle.bfd_mp.specs.declared.config.HeadConfig.{HeadConfig}
 use Rattle.bfd_mp.specs.declared.config.TailConfig.{TailConfig}
 use Rattle.bfd_mp.specs.Machine as tree
-use Rattle.bfd_echo.specs.declared.echo.Echo.{Echo}
-use Rattle.bfd_session.specs.declared.event.SessionConfig.{SessionConfig}
-use Rattle.bfd_session.specs.declared.event.SessionConfig.TheVariants.{Pair, Seek, Head, Tail}
-use Rattle.bfd_session.specs.Inside.{pair_of, seek_of, head_of, tail_of}
-use Rattle.bfd_session.specs.Kinds.{Running, Flow, left_by}
+use Rattle.bfd_session.specs.declared.event.SessionConfig.TheVariants.{Seek, Head, Tail}
 use Rattle.bfd_session.proofs.Front.{LeavesEcho}
 
 -- a session by its parts, with another's configuration

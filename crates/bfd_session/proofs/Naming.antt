@@ -1,37 +1,16 @@
 -- Each output of an event names the event's session.
-use Rattle.std.proofs.Common.{◌≡◌, ◌&&◌, ℕ, Bool, true, false, List, [], Option, None, Some, is_some, Result, Ok, Err, if◌then◌else◌}
-use Rattle.std.specs.List.{AllByRecursion}
+use Rattle.bfd_session.proofs.Common.{◌≡◌, ◌&&◌, ℕ, Bool, true, false, List, [], Option, None, Some, is_some, Result, Ok, Err, if◌then◌else◌, AllByRecursion, Control, Test, SeqState, floor_tick, has_come, Cmd, Config, Vars, may_send, deadline, seq_deadline, is_admin_down, Course, changes, sends, is_untold, redrawn, renews, moves, transmits, refusal, commanded, Echo, EchoResult, Nothing, Failed, SessionConfig, Pair, Event, Packet, Returned, Command, Show, Running, Flow, discr_of, settled_by, settled_running, settles_echo, echoing, step, tick, acted, finished, begun, stepped_flow, ticked_flow, emits, tick_emits}
 use Rattle.bfd_packet.specs.declared.arrival.Datagram.{Datagram}
-use Rattle.bfd_packet.specs.declared.control.Control.{Control}
-use Rattle.bfd_packet.specs.declared.discard.Test.{Test}
-use Rattle.bfd_packet.specs.declared.keys.SeqState.{SeqState}
-use Rattle.bfd_num.specs.Numbers.{floor_tick}
-use Rattle.bfd_num.specs.Due.{has_come}
-use Rattle.bfd_rules.specs.declared.commands.Cmd.{Cmd}
-use Rattle.bfd_rules.specs.declared.config.Config.{Config}
-use Rattle.bfd_rules.specs.declared.variables.Vars.{Vars}
-use Rattle.bfd_rules.specs.Quantities.{may_send, deadline, seq_deadline, is_admin_down}
-use Rattle.bfd_rules.specs.EventFrame.{Course, changes, sends, is_untold, redrawn}
 use Rattle.bfd_rules.proofs.Courses.{own_name, changes_names, sends_names}
-use Rattle.bfd_p2p.specs.Frame.{renews, moves}
-use Rattle.bfd_p2p.specs.Transmit.{transmits}
 use Rattle.bfd_p2p.specs.Settle as settling
 use Rattle.bfd_p2p.specs.Receive as receiving
-use Rattle.bfd_p2p.specs.Command.{refusal, commanded}
 use Rattle.bfd_p2p.specs.Finish as finishing
 use Rattle.bfd_sbfd.proofs.Naming as seek
 use Rattle.bfd_mp.proofs.Naming as tree
-use Rattle.bfd_echo.specs.declared.echo.Echo.{Echo}
-use Rattle.bfd_echo.specs.declared.echo.EchoResult.{EchoResult}
-use Rattle.bfd_echo.specs.declared.echo.EchoResult.TheVariants.{Nothing, Sent as Packets, Failed}
-use Rattle.bfd_session.specs.declared.event.SessionConfig.{SessionConfig}
-use Rattle.bfd_session.specs.declared.event.SessionConfig.TheVariants.{Pair, Seek, Head, Tail}
-use Rattle.bfd_session.specs.declared.event.Event.{Event}
-use Rattle.bfd_session.specs.declared.event.Event.TheVariants.{Packet, Returned, Command, Show}
-use Rattle.bfd_session.specs.Kinds.{Running, Flow, discr_of}
+use Rattle.bfd_echo.specs.declared.echo.EchoResult.TheVariants.{Sent as Packets}
+use Rattle.bfd_session.specs.declared.event.SessionConfig.TheVariants.{Seek, Head, Tail}
 use Rattle.bfd_rules.specs.Names.{named}
-use Rattle.bfd_session.specs.Echoing.{settled_by, settled_running, settles_echo, echoing}
-use Rattle.bfd_session.specs.Step.{step, tick, settled, acted, finished, begun, stepped_flow, ticked_flow, emits, tick_emits}
+use Rattle.bfd_session.specs.Step.{settled}
 
 -- all outputs so far name this session
 record Names (d : ℕ) (s : Course) : Type 0 where

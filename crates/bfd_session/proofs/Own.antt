@@ -1,52 +1,23 @@
 -- An own event keeps a session sound.
-use Rattle.std.proofs.Common.{◌≡◌, ◌<◌, ◌≤◌, ◌==◌, ◌||◌, ◌&&◌, not, ℕ, Bool, true, false, refl, ◌∙◌, Option, None, Some, is_some, is_none, IsSome, IfSome, option_map, List, [], length, Result, Ok, Err, arith, if◌then◌else◌, cond}
-use Rattle.std.proofs.lemmas.Grind.{common_steps}
-use Rattle.std.proofs.lemmas.Bool.Decides.{nat_tests}
+use Rattle.bfd_session.proofs.Common.{◌≡◌, ◌<◌, ◌≤◌, ◌==◌, ◌||◌, ◌&&◌, not, ℕ, Bool, true, false, refl, ◌∙◌, Option, None, Some, is_some, is_none, IsSome, IfSome, List, [], length, Result, Ok, Err, arith, if◌then◌else◌, cond, common_steps, nat_tests, nat_le, unwrap_or, slice_index, Port, Control, State, Down, Init, Up, Test, Short, Version, LengthMin, LengthOver, DetectMult, SeqState, fields_of, first_failing, header_fails, moment_bound, Cmd, Config, Vars, is_admin_down, poll_renewed, used_renewed, demand_renewed, renewed, Course, sends, IsPlain, IsPlace, HasPeerMult, IsSteady, is_interval, renews, moves, transmits, key_place, is_wrong_kind, is_out_of_range, refusal, path_done, demand_done, done, commanded, HeadConfig, Echo, HasMoments, SessionConfig, Pair, Event, Packet, Returned, Command, Show, Running, Flow, left_by, echoing, back_to, CanTake, HasSize, step, acted, begun, next, stepped_flow}
+use Rattle.std.proofs.Common.{option_map}
 use Rattle.std.proofs.lemmas.List.Quantifiers.{position-Some}
-use Rattle.std.specs.Prelude.{nat_le, unwrap_or, slice_index}
-use Rattle.bfd_packet.specs.declared.arrival.Port.{Port}
-use Rattle.bfd_packet.specs.declared.control.Control.{Control}
-use Rattle.bfd_packet.specs.declared.control.State.{State}
-use Rattle.bfd_packet.specs.declared.control.State.TheVariants.{AdminDown, Down, Init, Up}
-use Rattle.bfd_packet.specs.declared.discard.Test.{Test}
-use Rattle.bfd_packet.specs.declared.discard.Test.TheVariants.{Short, Version, LengthMin, LengthOver, DetectMult}
+use Rattle.bfd_packet.specs.declared.control.State.TheVariants.{AdminDown}
 use Rattle.bfd_packet.specs.declared.keys.Key.{Key}
-use Rattle.bfd_packet.specs.declared.keys.SeqState.{SeqState}
 use Rattle.bfd_packet.specs.KeyChain.{KeyChain, place_of, no_key}
-use Rattle.bfd_packet.specs.Layout.{fields_of}
-use Rattle.bfd_packet.specs.HeaderTests.{first_failing, header_fails}
-use Rattle.bfd_num.specs.Numbers.{moment_bound}
-use Rattle.bfd_rules.specs.declared.commands.Cmd.{Cmd}
 use Rattle.bfd_rules.specs.declared.commands.Cmd.TheVariants.{Disable, Enable, Reset, Path, Tx, Rx, Mult, Demand, EchoEvery, Key as KeyOf}
 use Rattle.bfd_rules.specs.declared.commands.Refusal.{Refusal}
-use Rattle.bfd_rules.specs.declared.config.Config.{Config}
-use Rattle.bfd_rules.specs.declared.variables.Vars.{Vars}
-use Rattle.bfd_rules.specs.Quantities.{is_admin_down}
-use Rattle.bfd_rules.specs.Renewal.{poll_renewed, used_renewed, demand_renewed, renewed}
-use Rattle.bfd_rules.specs.EventFrame.{Course, sends}
-use Rattle.bfd_rules.specs.Sound.{IsPlain, IsPlace, HasPeerMult, IsSteady, is_interval}
-use Rattle.bfd_p2p.specs.Frame.{renews, moves}
-use Rattle.bfd_p2p.specs.Transmit.{transmits}
 use Rattle.bfd_p2p.specs.Receive as receiving
-use Rattle.bfd_p2p.specs.Command.{key_place, is_wrong_kind, is_out_of_range, refusal, path_done, demand_done, done, commanded}
 use Rattle.bfd_sbfd.specs.declared.config.SeekConfig.{SeekConfig}
 use Rattle.bfd_sbfd.specs.Sound.{IsSeekSteady, IsSeekSound}
 use Rattle.bfd_sbfd.proofs.Soundness as seek
-use Rattle.bfd_mp.specs.declared.config.HeadConfig.{HeadConfig}
 use Rattle.bfd_mp.specs.declared.config.TailConfig.{TailConfig}
 use Rattle.bfd_mp.specs.Sound.{IsHeadSteady, IsHeadSound, IsTailSound}
 use Rattle.bfd_mp.proofs.Soundness as tree
-use Rattle.bfd_echo.specs.declared.echo.Echo.{Echo}
-use Rattle.bfd_echo.specs.Rules.{HasMoments}
 use Rattle.bfd_echo.proofs.Moments.{returned_moments}
-use Rattle.bfd_session.specs.declared.event.SessionConfig.{SessionConfig}
-use Rattle.bfd_session.specs.declared.event.SessionConfig.TheVariants.{Pair, Seek, Head, Tail}
-use Rattle.bfd_session.specs.declared.event.Event.{Event}
-use Rattle.bfd_session.specs.declared.event.Event.TheVariants.{Packet, Returned, Command, Show}
-use Rattle.bfd_session.specs.Kinds.{Running, Flow, left_by}
-use Rattle.bfd_session.specs.Echoing.{echoing, back_to}
+use Rattle.bfd_session.specs.declared.event.SessionConfig.TheVariants.{Seek, Head, Tail}
 use Rattle.bfd_session.specs.Step as session
-use Rattle.bfd_session.specs.Step.{CanTake, HasSize, step, acted, settled, begun, next, stepped_flow}
+use Rattle.bfd_session.specs.Step.{settled}
 use Rattle.bfd_session.proofs.Front.{LeavesEcho, step_leaves}
 use Rattle.bfd_session.proofs.Soundness.{IsPairSteady, poll_plain, used_plain, demand_plain, enters_plain, renews_steady, moves_steady, choice_steady, echoing_moments, pair_settled_steady, pair_finished_sound}
 

@@ -1,9 +1,5 @@
 -- Renewal and the draw of a due tick leave the state.
-use Rattle.std.proofs.Common.{◌≡◌, ◌∙◌, ℕ, Bool, arith}
-use Rattle.bfd_rules.specs.declared.variables.Mark.{Mark}
-use Rattle.bfd_rules.specs.declared.variables.Vars.{Vars}
-use Rattle.bfd_rules.specs.EventFrame.{drawn}
-use Rattle.bfd_rules.specs.Renewal.{poll_renewed, used_renewed, demand_renewed, renewed}
+use Rattle.bfd_session.proofs.Common.{◌≡◌, ◌∙◌, ℕ, Bool, arith, Mark, Vars, drawn, poll_renewed, used_renewed, demand_renewed, renewed}
 
 poll_state : (before v : Vars) → (poll_renewed before v).state ≡ v.state
 unfolding poll_renewed

@@ -1,13 +1,7 @@
 -- A tick by which nothing is due leaves sound variables as they are, and puts nothing out.
-use Rattle.std.proofs.Common.{◌≡◌, ◌*◌, ◌++◌, append-nil, ℕ, Bool, true, false, refl, ap, ◌∙◌, Option, None, Some, IsSome, IsTrue, ◌↔◌, option_map, List, [], if◌then◌else◌}
-use Rattle.std.proofs.lemmas.Bool.{leb-false}
-use Rattle.bfd_num.specs.Numbers.{floor_tick}
-use Rattle.bfd_num.specs.Due.{has_come, sooner}
-use Rattle.bfd_rules.specs.declared.config.Config.{Config}
+use Rattle.bfd_session.proofs.Common.{◌≡◌, ◌*◌, ◌++◌, append-nil, ℕ, Bool, true, false, refl, ap, ◌∙◌, Option, None, Some, IsSome, IsTrue, ◌↔◌, List, [], if◌then◌else◌, leb-false, floor_tick, has_come, sooner, Config, Vars, deadline, seq_deadline, Course, course, begins, redrawn, Echo, SessionConfig, Pair, Running, Flow, along, left_by, due, due_by, tick_of, should_echo, echoing, interval_of, echo_due, settled_running, settles_echo, goes_on, number_by, number_after, turns_echo, IsPairSound, sound_by, tick, finished, tick_next, ticked_flow, tick_emits, begun}
+use Rattle.std.proofs.Common.{option_map}
 use Rattle.bfd_rules.specs.declared.outputs.Out.{Out}
-use Rattle.bfd_rules.specs.declared.variables.Vars.{Vars}
-use Rattle.bfd_rules.specs.Quantities.{deadline, seq_deadline}
-use Rattle.bfd_rules.specs.EventFrame.{Course, course, begins, redrawn}
 use Rattle.bfd_rules.specs.Sound as pair
 use Rattle.bfd_rules.proofs.Still.{no_news, drawn_stands}
 use Rattle.bfd_p2p.specs.Settle as settling
@@ -15,15 +9,10 @@ use Rattle.bfd_p2p.specs.Finish as finishing
 use Rattle.bfd_sbfd.specs.Waiting.{deadline as seek_deadline}
 use Rattle.bfd_sbfd.proofs.Rest as seek
 use Rattle.bfd_mp.proofs.Rest as tree
-use Rattle.bfd_echo.specs.declared.echo.Echo.{Echo}
 use Rattle.bfd_echo.specs.Timing.{due as echo_tick}
 use Rattle.bfd_echo.proofs.DueTick.{outcome_rests}
-use Rattle.bfd_session.specs.declared.event.SessionConfig.{SessionConfig}
-use Rattle.bfd_session.specs.declared.event.SessionConfig.TheVariants.{Pair, Seek, Head, Tail}
-use Rattle.bfd_session.specs.Kinds.{Running, Flow, along, left_by}
-use Rattle.bfd_session.specs.Due.{due, due_by, tick_of}
-use Rattle.bfd_session.specs.Echoing.{should_echo, echoing, interval_of, echo_due, settled_running, settles_echo, goes_on, number_by, number_after, turns_echo}
-use Rattle.bfd_session.specs.Step.{IsSound, IsPairSound, sound_by, tick, finished, tick_next, ticked_flow, tick_emits, begun}
+use Rattle.bfd_session.specs.declared.event.SessionConfig.TheVariants.{Seek, Head, Tail}
+use Rattle.bfd_session.specs.Step.{IsSound}
 use Rattle.bfd_session.proofs.DueTick.{parts, not_late, not_due}
 
 -- settling with nothing due

@@ -1,20 +1,14 @@
 -- What a binary search of sessions finds is the place of the session with the discriminator.
-use Rattle.std.proofs.Common.{◌≡◌, ◌<◌, ◌==◌, ◌+◌, ◌∙◌, ℕ, zero, suc, List, [], ◌∷◌, length, map, get_or, refl, sym, ap, arith, cond, not, Option, inl, inr, None, Some, Result, Ok, Err}
+use Rattle.bfd_session.proofs.Common.{◌≡◌, ◌<◌, ◌==◌, ◌+◌, ◌∙◌, ℕ, zero, suc, List, [], ◌∷◌, length, map, get_or, refl, sym, ap, arith, cond, not, Option, inl, inr, None, Some, Result, Ok, Err, eq-eqb, ne_eqb, nat_tests, position_or_len, AllByRecursion, position, SessionConfig, discr_of, Ascends}
 use Rattle.std.proofs.Math.Nat.{eq-or-lt_of_le}
-use Rattle.std.proofs.lemmas.Bool.{eq-eqb, ne_eqb}
-use Rattle.std.proofs.lemmas.Bool.Decides.{nat_tests}
 use Rattle.std.proofs.lemmas.Cmp.{ranked}
 use Rattle.std.proofs.lemmas.List.{length-map}
 use Rattle.std.proofs.lemmas.List.Sums.{position_or_len_is}
-use Rattle.std.specs.List.{position_or_len, AllByRecursion}
 use Rattle.std.specs.List.Sorted.{IsSearchInRange, IsBinarySearchResult, IsNonDecreasingBy}
-use Rattle.std.specs.Prelude.{position}
 use Rattle.std.specs.Ordering.{nat_cmp, ordering_index}
 use Rattle.std.specs.Result.{result_ok}
 use Rattle.bfd_sbfd.proofs.Searching.{no_lower, differs}
-use Rattle.bfd_session.specs.declared.event.SessionConfig.{SessionConfig}
-use Rattle.bfd_session.specs.Kinds.{discr_of}
-use Rattle.bfd_session.specs.Rows.{Ascends, place_of}
+use Rattle.bfd_session.specs.Rows.{place_of}
 
 module _ {X : Type 0} (config : X → SessionConfig) where
   -- what is true of each configuration is true of the one at a place

@@ -1,40 +1,19 @@
 -- A tick keeps a session sound.
-use Rattle.std.proofs.Common.{◌≡◌, ◌^◌, ◌<◌, ◌&&◌, ◌↔◌, ℕ, Bool, true, false, refl, Option, None, Some, IsSome, IsTrue, IfSome, option_map, [], arith, rules, if◌then◌else◌}
-use Rattle.std.proofs.lemmas.Grind.{common_steps}
-use Rattle.bfd_packet.specs.declared.control.State.{State}
-use Rattle.bfd_packet.specs.declared.control.State.TheVariants.{Down, Up}
-use Rattle.bfd_packet.specs.declared.keys.SeqState.{SeqState}
-use Rattle.bfd_num.specs.Numbers.{moment_bound, floor_tick, next_j}
-use Rattle.bfd_num.specs.Due.{has_come}
-use Rattle.bfd_rules.specs.declared.config.Config.{Config}
+use Rattle.bfd_session.proofs.Common.{◌≡◌, ◌^◌, ◌<◌, ◌&&◌, ◌↔◌, ℕ, Bool, true, false, refl, Option, None, Some, IsSome, IsTrue, IfSome, [], arith, rules, if◌then◌else◌, common_steps, State, Down, Up, SeqState, moment_bound, floor_tick, next_j, has_come, Config, Mark, Vars, deadline, seq_deadline, demand_here, may_send, tx_interval, is_idle, poll_again, poll_renewed, used_renewed, demand_renewed, renewed, Course, enters, changes, sends, draws, drawn, is_untold, based, redrawn, IsPlain, IsRenewed, HasPeerMult, IsSteady, renews, moves, transmits, failed, Echo, EchoResult, Nothing, Sent, Failed, HasMoments, outcome, SessionConfig, Pair, Running, Flow, left_by, should_echo, echoing, interval_of, settled_by, settled_running, settles_echo, goes_on, tick, tick_next, ticked_flow, begun}
+use Rattle.std.proofs.Common.{option_map}
 use Rattle.bfd_rules.specs.declared.variables.Poll.{Poll}
 use Rattle.bfd_rules.specs.declared.variables.Poll.TheVariants.{Idle, Wanted}
-use Rattle.bfd_rules.specs.declared.variables.Mark.{Mark}
-use Rattle.bfd_rules.specs.declared.variables.Vars.{Vars}
-use Rattle.bfd_rules.specs.Quantities.{deadline, seq_deadline, demand_here, may_send, tx_interval, is_idle}
 use Rattle.bfd_rules.specs.Jitter.{pick}
-use Rattle.bfd_rules.specs.Renewal.{poll_again, poll_renewed, used_renewed, demand_renewed, renewed}
-use Rattle.bfd_rules.specs.EventFrame.{Course, enters, changes, sends, draws, drawn, is_untold, based, redrawn}
-use Rattle.bfd_rules.specs.Sound.{IsPlain, IsRenewed, HasPeerMult, IsSteady, IsSound}
+use Rattle.bfd_rules.specs.Sound.{IsSound}
 use Rattle.bfd_rules.proofs.Drawing.{picked_below, stands_there}
-use Rattle.bfd_p2p.specs.Frame.{renews, moves}
-use Rattle.bfd_p2p.specs.Transmit.{transmits}
 use Rattle.bfd_p2p.specs.Settle as settling
 use Rattle.bfd_p2p.specs.Finish as finishing
-use Rattle.bfd_p2p.specs.Machine.{failed}
 use Rattle.bfd_sbfd.proofs.Soundness as seek
 use Rattle.bfd_mp.proofs.Soundness as tree
-use Rattle.bfd_echo.specs.declared.echo.Echo.{Echo}
-use Rattle.bfd_echo.specs.declared.echo.EchoResult.{EchoResult}
-use Rattle.bfd_echo.specs.declared.echo.EchoResult.TheVariants.{Nothing, Sent, Failed}
-use Rattle.bfd_echo.specs.Rules.{HasMoments, outcome, settled as echo_settled}
+use Rattle.bfd_echo.specs.Rules.{settled as echo_settled}
 use Rattle.bfd_echo.proofs.Moments.{begun_moments, settled_moments}
-use Rattle.bfd_session.specs.declared.event.SessionConfig.{SessionConfig}
-use Rattle.bfd_session.specs.declared.event.SessionConfig.TheVariants.{Pair, Seek, Head, Tail}
+use Rattle.bfd_session.specs.declared.event.SessionConfig.TheVariants.{Seek, Head, Tail}
 use Rattle.bfd_session.specs.Step as session
-use Rattle.bfd_session.specs.Kinds.{Running, Flow, left_by}
-use Rattle.bfd_session.specs.Echoing.{should_echo, echoing, interval_of, settled_by, settled_running, settles_echo, goes_on}
-use Rattle.bfd_session.specs.Step.{tick, tick_next, ticked_flow, begun}
 
 -- Renewal
 

@@ -1,11 +1,8 @@
 -- Sessions in a list: which takes what is asked of it, and what keeps their configurations.
-use Rattle.std.proofs.Common.{◌≡◌, ℕ, List, [], ◌∷◌, map, get_or, refl, sym, ap, subst}
+use Rattle.bfd_session.proofs.Common.{◌≡◌, ℕ, List, [], ◌∷◌, map, get_or, refl, sym, ap, subst, Event, Running, configs_of, CanTake}
 use Rattle.std.proofs.lemmas.Option.{get_or_from_slice_get}
-use Rattle.bfd_session.specs.declared.event.Event.{Event}
 use Rattle.bfd_session.specs.Alone.{ticked}
-use Rattle.bfd_session.specs.Kinds.{Running, configs_of}
 use Rattle.bfd_session.specs.Reaching.{Stands}
-use Rattle.bfd_session.specs.Step.{CanTake}
 
 -- the session at a place takes what was asked of it
 pub takes_at : (ss : List Running) (k : ℕ) (event : Event) (st : Stands ss k event) (d : Running) → CanTake (get_or ss k d).config event

@@ -1,19 +1,7 @@
 -- What a session starts with: a point-to-point one is Down, so without an Echo function.
-use Rattle.std.proofs.Common.{◌≡◌, ◌&&◌, Bool, true, false, refl, ap, ◌∙◌, None, IsTrue, ◌↔◌, List, [], ◌∷◌, map}
-use Rattle.bfd_packet.specs.declared.control.State.TheVariants.{Down}
-use Rattle.bfd_rules.specs.declared.config.Config.{Config}
-use Rattle.bfd_rules.specs.declared.variables.Vars.{Vars}
-use Rattle.bfd_rules.specs.EventFrame.{begins}
-use Rattle.bfd_rules.specs.Quantities.{is_up}
+use Rattle.bfd_session.proofs.Common.{◌≡◌, ◌&&◌, Bool, true, false, refl, ap, ◌∙◌, None, IsTrue, ◌↔◌, List, [], ◌∷◌, map, Down, Config, Vars, begins, is_up, Machine, initial, made, is_echo_wanted, SessionConfig, should_echo, pair_of, IsPairSound, started, configs_of}
 use Rattle.bfd_rules.specs.Sound.{IsSound}
-use Rattle.bfd_p2p.specs.Machine.{Machine, initial, made}
 use Rattle.bfd_p2p.specs.Receive.{is_single}
-use Rattle.bfd_echo.specs.Timing.{is_echo_wanted}
-use Rattle.bfd_session.specs.declared.event.SessionConfig.{SessionConfig}
-use Rattle.bfd_session.specs.Echoing.{should_echo}
-use Rattle.bfd_session.specs.Inside.{pair_of}
-use Rattle.bfd_session.specs.Step.{IsPairSound, started}
-use Rattle.bfd_session.specs.Kinds.{configs_of}
 use Rattle.bfd_session.proofs.Renewing.{drawn_state}
 
 made_down : (c : Config) → (made c).state ≡ Down

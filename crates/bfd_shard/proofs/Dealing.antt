@@ -1,18 +1,7 @@
 -- A session's own events are all that it is made of.
-use Rattle.std.proofs.Common.{◌≡◌, ◌≢◌, ◌⊎◌, inl, inr, ℕ, ◌+◌, ◌*◌, ◌/◌, ◌%◌, Bool, true, false, List, [], ◌∷◌, Some, None, refl, ap, sym, ◌∙◌, max}
-use Rattle.std.specs.Prelude.{if◌then◌else◌, ◌==◌}
-use Rattle.std.specs.List.{cons_option}
+use Rattle.bfd_shard.proofs.Common.{◌≡◌, ◌≢◌, ◌⊎◌, inl, inr, ℕ, ◌+◌, ◌*◌, ◌/◌, ◌%◌, Bool, true, false, List, [], ◌∷◌, Some, None, refl, ap, sym, ◌∙◌, max, if◌then◌else◌, ◌==◌, cons_option, cases_eq, eq-eqb, ne_eqb, eqb-true, eqb-false, SessionConfig, Event, stepped, ticked, Running, started, ShardEvent, Own, Tick, last_from, last_tick, run_from, run}
 use Rattle.std.proofs.lemmas.Nat.{div-add-mod'}
-use Rattle.std.proofs.lemmas.Bool.{cases_eq, eq-eqb, ne_eqb, eqb-true, eqb-false}
-use Rattle.bfd_session.specs.declared.event.SessionConfig.{SessionConfig}
-use Rattle.bfd_session.specs.declared.event.Event.{Event}
-use Rattle.bfd_session.specs.Alone.{stepped, ticked}
-use Rattle.bfd_session.specs.Kinds.{Running}
-use Rattle.bfd_session.specs.Step.{started}
-use Rattle.bfd_shard.specs.declared.entry.ShardEvent.{ShardEvent}
-use Rattle.bfd_shard.specs.declared.entry.ShardEvent.TheVariants.{Own, Tick}
 use Rattle.bfd_shard.specs.Dealing.{own_events, history_of}
-use Rattle.bfd_shard.specs.History.{last_from, last_tick, run_from, run}
 
 -- a session is made of its own events
 

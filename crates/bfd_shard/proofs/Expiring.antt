@@ -1,19 +1,6 @@
 -- A tick expires exactly the sessions whose Detection Time has expired by it.
-use Rattle.std.proofs.Common.{◌≡◌, ◌&&◌, ◌||◌, ◌*◌, ◌+◌, ◌++◌, ℕ, max, Bool, true, false, List, [], ◌∷◌, map, Option, Some, None, is_some, is_none, IsSome, refl, ap, sym, ◌∙◌, subst}
-use Rattle.std.specs.Prelude.{if◌then◌else◌, zip}
-use Rattle.std.specs.List.{AllByRecursion}
-use Rattle.bfd_num.specs.Due.{has_come}
-use Rattle.bfd_lanes.specs.Places.{places}
-use Rattle.bfd_session.specs.declared.event.SessionConfig.{SessionConfig}
-use Rattle.bfd_session.specs.Alone.{ticked}
-use Rattle.bfd_session.specs.Due.{detects}
-use Rattle.bfd_session.specs.Kinds.{Running, configs_of}
-use Rattle.bfd_session.specs.Step.{IsSound, tick_next}
-use Rattle.bfd_shard.specs.declared.entry.ShardEvent.{ShardEvent}
-use Rattle.bfd_shard.specs.declared.entry.ShardEvent.TheVariants.{Own, Tick}
+use Rattle.bfd_shard.proofs.Common.{◌≡◌, ◌&&◌, ◌||◌, ◌*◌, ◌+◌, ◌++◌, ℕ, max, Bool, true, false, List, [], ◌∷◌, map, Option, Some, None, is_some, is_none, IsSome, refl, ap, sym, ◌∙◌, subst, if◌then◌else◌, zip, AllByRecursion, has_come, places, SessionConfig, ticked, detects, Running, configs_of, IsSound, tick_next, ShardEvent, Own, Tick, events_of, last_tick, moved, runs, Shard, IsExact, IsShard}
 use Rattle.bfd_shard.specs.Expired.{expired, forgets, forgotten, has_expired}
-use Rattle.bfd_shard.specs.History.{events_of, last_tick, moved, runs}
-use Rattle.bfd_shard.specs.Shard.{Shard, IsExact, IsShard}
 use Rattle.bfd_shard.proofs.Runs.{runs_more}
 
 -- what a tick does to what was heard

@@ -1,3 +1,4 @@
+mod Common
 pub mod Moves
 pub mod Ticks
 pub mod Runs

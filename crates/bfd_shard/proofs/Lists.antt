@@ -1,8 +1,6 @@
 -- Lists of any elements: one of several lists as it grows, a Vec after its slice was changed, and the next of a list.
-use Rattle.std.proofs.Common.{◌≡◌, ◌≢◌, ◌<◌, ◌++◌, ℕ, List, [], ◌∷◌, length, map, set, take, take_all, drop, get_or, get_or-set_same, get_or-set_other, sym, ap, subst, ◌∙◌, append-nil, length-append, arith}
-use Rattle.std.specs.List.{All}
+use Rattle.bfd_shard.proofs.Common.{◌≡◌, ◌≢◌, ◌<◌, ◌++◌, ℕ, List, [], ◌∷◌, length, map, set, take, take_all, drop, get_or, get_or-set_same, get_or-set_other, sym, ap, subst, ◌∙◌, append-nil, length-append, arith, All, drop_all, get_or-map, length-map, map-set}
 use Rattle.std.proofs.Math.Seq.{get_or-append_seam}
-use Rattle.std.proofs.lemmas.List.{drop_all, get_or-map, length-map, map-set}
 
 module _ {V A : Type 0} (f : V → List A) where
   -- the list that has grown

@@ -1,17 +1,6 @@
 -- One session of a list changes.
-use Rattle.std.proofs.Common.{◌≡◌, ◌<◌, ℕ, zero, suc, List, [], ◌∷◌, length, map, set, get_or, refl, sym, ap, subst, Some, arith}
-use Rattle.std.specs.Prelude.{slice_get, unwrap_or}
-use Rattle.std.specs.List.{AllByRecursion}
-use Rattle.std.proofs.lemmas.List.{map-set}
-use Rattle.bfd_session.specs.declared.event.SessionConfig.{SessionConfig}
-use Rattle.bfd_session.specs.declared.event.Event.{Event}
-use Rattle.bfd_session.specs.Due.{due}
-use Rattle.bfd_session.specs.Kinds.{Running, configs_of}
+use Rattle.bfd_shard.proofs.Common.{◌≡◌, ◌<◌, ℕ, zero, suc, List, [], ◌∷◌, length, map, set, get_or, refl, sym, ap, subst, Some, arith, slice_get, unwrap_or, AllByRecursion, map-set, SessionConfig, Event, due, Running, configs_of, CanTake, ShardEvent, Own, Tick, CanHappen}
 use Rattle.bfd_session.specs.Reaching.{Stands}
-use Rattle.bfd_session.specs.Step.{CanTake}
-use Rattle.bfd_shard.specs.declared.entry.ShardEvent.{ShardEvent}
-use Rattle.bfd_shard.specs.declared.entry.ShardEvent.TheVariants.{Own, Tick}
-use Rattle.bfd_shard.specs.Shard.{CanHappen}
 use Rattle.bfd_shard.specs.Inside.{MayCome}
 
 -- the due ticks then change at its place

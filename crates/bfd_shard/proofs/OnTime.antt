@@ -1,14 +1,6 @@
 -- Every tick of a history is on time where its last event is, and all before it were.
-use Rattle.std.proofs.Common.{◌≡◌, ◌⊎◌, inl, inr, ◌∙◌, ◌++◌, ◌∷◌, [], ℕ, List, refl, sym, ap, subst}
-use Rattle.std.specs.List.{AllByRecursion}
-use Rattle.bfd_session.specs.declared.event.SessionConfig.{SessionConfig}
-use Rattle.bfd_session.specs.Kinds.{Running, configs_of}
-use Rattle.bfd_session.specs.Step.{IsSound}
-use Rattle.bfd_shard.specs.declared.entry.ShardEvent.{ShardEvent}
-use Rattle.bfd_shard.specs.declared.entry.ShardEvent.TheVariants.{Tick}
+use Rattle.bfd_shard.proofs.Common.{◌≡◌, ◌⊎◌, inl, inr, ◌∙◌, ◌++◌, ◌∷◌, [], ℕ, List, refl, sym, ap, subst, AllByRecursion, SessionConfig, Running, configs_of, IsSound, ShardEvent, Tick, events_of, last_tick, later, moved, runs, Shard, IsOnTime, IsOver, IsShard, NoneDue}
 use Rattle.bfd_shard.specs.Expired.{expired, forgotten}
-use Rattle.bfd_shard.specs.History.{events_of, last_tick, later, moved, runs}
-use Rattle.bfd_shard.specs.Shard.{Shard, IsOnTime, IsOver, IsShard, NoneDue}
 use Rattle.bfd_shard.proofs.Runs.{last_more, runs_more}
 
 -- the law of expiry

@@ -1,23 +1,8 @@
 -- A history that grows by one event.
-use Rattle.std.proofs.Common.{◌≡◌, ◌≢◌, ◌⊎◌, inl, inr, ℕ, ◌+◌, ◌<◌, ◌≤◌, refl, sym, ◌∙◌, ap, subst, List, [], ◌∷◌, ◌++◌, length, length-append, map, max, get_or, set, Option, None, Some, Bool, true, false, arith, get_or-set_same, get_or-set_other, length-set, zero, suc, ext_get_or}
-use Rattle.std.specs.Prelude.{if◌then◌else◌, ◌==◌, slice_get, unwrap_or}
-use Rattle.std.specs.List.{AllByRecursion}
-use Rattle.std.proofs.lemmas.List.{get_or-map, length-map, map-append}
+use Rattle.bfd_shard.proofs.Common.{◌≡◌, ◌≢◌, ◌⊎◌, inl, inr, ℕ, ◌+◌, ◌<◌, ◌≤◌, refl, sym, ◌∙◌, ap, subst, List, [], ◌∷◌, ◌++◌, length, length-append, map, max, get_or, set, Option, None, Some, Bool, true, false, arith, get_or-set_same, get_or-set_other, length-set, zero, suc, ext_get_or, if◌then◌else◌, ◌==◌, slice_get, unwrap_or, AllByRecursion, get_or-map, length-map, map-append, cases_eq, greatest_tick, SessionConfig, Event, stepped, ticked, Running, configs_of, IsSound, started, ShardEvent, Own, Tick, Entry, events_of, later, last_from, last_tick, after, run_from, run, runs_from, runs, moved, own_moved, shard_of, IsShard, IsHistory, IsOnTime, CanHappen}
 use Rattle.std.proofs.lemmas.Bool.Decides.{nat_tests}
-use Rattle.std.proofs.lemmas.Bool.{cases_eq}
 use Rattle.std.proofs.lemmas.Option.{get_or_from_slice_get, slice_get_within}
-use Rattle.bfd_num.specs.Numbers.{greatest_tick}
-use Rattle.bfd_session.specs.declared.event.SessionConfig.{SessionConfig}
-use Rattle.bfd_session.specs.declared.event.Event.{Event}
-use Rattle.bfd_session.specs.Alone.{stepped, ticked}
-use Rattle.bfd_session.specs.Kinds.{Running, configs_of}
-use Rattle.bfd_session.specs.Step.{IsSound, started}
 use Rattle.bfd_session.proofs.Standing.{ticked_configs}
-use Rattle.bfd_shard.specs.declared.entry.ShardEvent.{ShardEvent}
-use Rattle.bfd_shard.specs.declared.entry.ShardEvent.TheVariants.{Own, Tick}
-use Rattle.bfd_shard.specs.declared.entry.Entry.{Entry}
-use Rattle.bfd_shard.specs.History.{events_of, later, last_from, last_tick, after, run_from, run, runs_from, runs, moved, own_moved}
-use Rattle.bfd_shard.specs.Shard.{shard_of, IsShard, IsHistory, IsOnTime, CanHappen}
 use Rattle.bfd_shard.proofs.Ticks.{nobody}
 
 -- one session

@@ -1,16 +1,6 @@
 -- A shard at the start.
-use Rattle.std.proofs.Common.{◌≡◌, ◌<◌, ◌≤◌, ◌+◌, ◌++◌, subst, ℕ, zero, suc, List, [], ◌∷◌, length, map, take, drop, get_or, set, refl, sym, ap, ◌∙◌, add-one, arith, Option}
-use Rattle.std.specs.List.{AllByRecursion}
-use Rattle.std.proofs.lemmas.List.{length-map, map-append}
-use Rattle.bfd_lanes.specs.Held.{HeldIds, room_of}
-use Rattle.bfd_session.specs.declared.event.SessionConfig.{SessionConfig}
-use Rattle.bfd_session.specs.Due.{due}
-use Rattle.bfd_session.specs.Kinds.{Running, configs_of}
-use Rattle.bfd_session.specs.Step.{IsSound, started}
+use Rattle.bfd_shard.proofs.Common.{◌≡◌, ◌<◌, ◌≤◌, ◌+◌, ◌++◌, subst, ℕ, zero, suc, List, [], ◌∷◌, length, map, take, drop, get_or, set, refl, sym, ap, ◌∙◌, add-one, arith, Option, AllByRecursion, length-map, map-append, HeldIds, room_of, SessionConfig, due, Running, configs_of, IsSound, started, Entry, last_from, run_from, runs_from, runs, shard_of, IsShard, IsTimed}
 use Rattle.bfd_session.proofs.Starting.{started_configs}
-use Rattle.bfd_shard.specs.declared.entry.Entry.{Entry}
-use Rattle.bfd_shard.specs.History.{last_from, run_from, runs_from, runs}
-use Rattle.bfd_shard.specs.Shard.{shard_of, IsShard, IsTimed}
 use Rattle.bfd_shard.proofs.OnTime.{none_yet}
 
 -- one more of a list stands in for the other's

@@ -1,22 +1,10 @@
 -- A tick of the sessions that are due, one after another, is a tick of all.
-use Rattle.std.proofs.Common.{◌≡◌, ◌≢◌, ◌⊎◌, inl, inr, ℕ, ◌+◌, ◌*◌, max, ◌<◌, ◌≤◌, refl, sym, ◌∙◌, ap, subst, List, [], ◌∷◌, ◌++◌, append_assoc, append-nil, length, length-append, map, set, get_or, Option, None, Bool, true, false, arith, drop, drop-cons, add-one, zero, suc, get_or-set_same, get_or-set_other, length-set}
-use Rattle.std.specs.Prelude.{if◌then◌else◌}
+use Rattle.bfd_shard.proofs.Common.{◌≡◌, ◌≢◌, ◌⊎◌, inl, inr, ℕ, ◌+◌, ◌*◌, max, ◌<◌, ◌≤◌, refl, sym, ◌∙◌, ap, subst, List, [], ◌∷◌, ◌++◌, append_assoc, append-nil, length, length-append, map, set, get_or, Option, None, Bool, true, false, arith, drop, drop-cons, add-one, zero, suc, get_or-set_same, get_or-set_other, length-set, if◌then◌else◌, drop_all, get_or-map, length-map, AllByRecursion, flat_map, cases_eq, has_come, moment_bound, greatest_tick, places, without, ticked, tick_items, due, Running, IsSound, started, tick_next, tick_emits, NoneDue}
 use Rattle.std.proofs.Math.Seq.{get_or-append_seam, set-append_seam}
-use Rattle.std.proofs.lemmas.List.{drop_all, get_or-map, length-map}
-use Rattle.std.specs.List.{AllByRecursion, flat_map}
-use Rattle.std.proofs.lemmas.Bool.{cases_eq}
-use Rattle.bfd_num.specs.Due.{has_come}
-use Rattle.bfd_num.specs.Numbers.{moment_bound, greatest_tick}
-use Rattle.bfd_lanes.specs.Places.{places, without}
 use Rattle.bfd_rules.specs.declared.outputs.Out.{Out}
 use Rattle.bfd_packet.specs.declared.arrival.Addr.TheVariants.{V4}
 use Rattle.bfd_rules.specs.declared.config.Role.TheVariants.{Single}
 use Rattle.bfd_session.specs.declared.event.SessionConfig.TheVariants.{Pair}
-use Rattle.bfd_session.specs.Alone.{ticked, tick_items}
-use Rattle.bfd_session.specs.Due.{due}
-use Rattle.bfd_session.specs.Kinds.{Running}
-use Rattle.bfd_session.specs.Step.{IsSound, started, tick_next, tick_emits}
-use Rattle.bfd_shard.specs.Shard.{NoneDue}
 
 -- a session for places past the end
 abbrev pub nobody : Running

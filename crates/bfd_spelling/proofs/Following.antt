@@ -1,10 +1,7 @@
 -- A table that ascends and differs, seen from its front: each session against those before it.
-use Rattle.std.proofs.Common.{◌≡◌, ◌<◌, false, List, [], ◌∷◌, ◌++◌, ◌∙◌}
-use Rattle.std.specs.List.{AllByRecursion}
+use Rattle.bfd_spelling.proofs.Common.{◌≡◌, ◌<◌, false, List, [], ◌∷◌, ◌++◌, ◌∙◌, AllByRecursion, SessionConfig, each_more, each_to}
 use Rattle.bfd_session.specs.Rows.{Ascends, row_of, same_selector, Differs}
-use Rattle.bfd_session.specs.declared.event.SessionConfig.{SessionConfig}
 use Rattle.bfd_session.specs.Kinds.{discr_of}
-use Rattle.bfd_script.proofs.Elements.{each_more, each_to}
 use Rattle.bfd_session.proofs.Tables.{same_turned}
 
 -- each session before is below this one, and has other selecting addresses

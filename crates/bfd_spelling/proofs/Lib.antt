@@ -1,3 +1,4 @@
+mod Common
 pub mod Visible
 pub mod Splitting
 pub mod Numerals

@@ -1,10 +1,5 @@
 -- Table rows and events, written and read again.
-use Rattle.std.proofs.Common.{◌≡◌, ℕ, nat_le, ◌<◌, ◌≤◌, ◌^◌, ◌-◌, Bool, true, false, cond, ◌&&◌, List, [], ◌∷◌, length, Some, Ok, Err, refl, sym, ap, ◌∙◌, arith}
-use Rattle.std.proofs.lemmas.Bool.Decides.{nat_tests}
-use Rattle.std.specs.Prelude.{codes}
-use Rattle.std.specs.Fmt.{decimal}
-use Rattle.std.specs.List.{AllByRecursion}
-use Rattle.std.proofs.lemmas.Bool.{leb-true, and_parts}
+use Rattle.bfd_spelling.proofs.Common.{◌≡◌, ℕ, nat_le, ◌<◌, ◌≤◌, ◌^◌, ◌-◌, Bool, true, false, cond, ◌&&◌, List, [], ◌∷◌, length, Some, Ok, Err, refl, sym, ap, ◌∙◌, arith, nat_tests, codes, decimal, AllByRecursion, leb-true, and_parts, FieldCount, OutOfRange, Version, cmd_entry, entry_in_line, numbered_of, plain_of, received_of, shown_of, number_in, ◌>>=◌, IsAsked, IsEvent, IsKey, IsReceived, hex_field, spaced, address_field, auth_fields, event_fields, is_new_line, key_fields, port_field, verb_fields}
 use Rattle.bfd_num.specs.Numbers.{moment_bound, greatest_tick}
 use Rattle.hex.specs.Hex.{IsBytes}
 use Rattle.bfd_packet.specs.KeyChain.{digest_size, fits_kind, type_number}
@@ -16,24 +11,16 @@ use Rattle.bfd_packet.specs.declared.keys.AuthType.TheVariants as kinds
 use Rattle.bfd_packet.specs.declared.keys.Key.{Key}
 use Rattle.bfd_rules.specs.declared.commands.Cmd.{Cmd}
 use Rattle.bfd_rules.specs.declared.commands.Cmd.TheVariants as commands
-use Rattle.bfd_fields.specs.declared.fault.LineFault.TheVariants.{FieldCount, OutOfRange}
 use Rattle.bfd_line.specs.declared.entries.Entry.TheVariants as entries
 use Rattle.bfd_line.specs.declared.entries.Line.{Line}
 use Rattle.bfd_line.specs.declared.entries.Line.TheVariants as events
 use Rattle.bfd_line.specs.declared.verbs.Verb.{Verb}
 use Rattle.bfd_line.specs.declared.verbs.Verb.TheVariants as verbs
 use Rattle.bfd_line.specs.declared.words.Place.TheVariants as places
-use Rattle.bfd_line.specs.declared.words.Version.{Version}
 use Rattle.bfd_line.specs.declared.words.Version.TheVariants.{One, Two}
 use Rattle.bfd_line.specs.Arrivals.{arrival_of, port_in}
-use Rattle.bfd_line.specs.Entries.{cmd_entry, entry_in_line, numbered_of, plain_of, received_of, shown_of}
-use Rattle.bfd_fields.specs.Fields.{number_in}
-use Rattle.bfd_fields.specs.Gives.{◌>>=◌}
 use Rattle.bfd_line.specs.Secrets.{chain_of, fitting, key_of, kind_by, auth_type_of, one_key, secret_of}
-use Rattle.bfd_line.specs.Ranges.{IsAsked, IsEvent, IsKey, IsReceived}
-use Rattle.bfd_fields.specs.Spelling.{hex_field, spaced}
 use Rattle.bfd_line.specs.Verbs.{command, fits, command_number, verb_of}
-use Rattle.bfd_spelling.specs.Written.{address_field, auth_fields, event_fields, is_new_line, key_fields, port_field, verb_fields}
 use Rattle.bfd_spelling.proofs.Numerals.{number_again, number_field, number_short}
 use Rattle.bfd_spelling.proofs.Rereading.{address_again, address_is_field, address_short, bytes_again, hex_is_field, hex_short, payload_again}
 use Rattle.bfd_spelling.proofs.Visible.{IsField, word}

@@ -1,13 +1,7 @@
 -- Numbers, written and read again.
-use Rattle.std.proofs.Common.{◌≡◌, ℕ, ◌<◌, ◌≤◌, ◌^◌, ◌==◌, Bool, true, false, ◌&&◌, List, [], ◌∷◌, length, Ok, refl, arith, nat_lt, inl, inr}
-use Rattle.std.proofs.lemmas.Bool.Decides.{nat_tests}
-use Rattle.std.proofs.lemmas.Bool.{cases_lt, and_parts}
+use Rattle.bfd_spelling.proofs.Common.{◌≡◌, ℕ, ◌<◌, ◌≤◌, ◌^◌, ◌==◌, Bool, true, false, ◌&&◌, List, [], ◌∷◌, length, Ok, refl, arith, nat_lt, inl, inr, nat_tests, cases_lt, and_parts, slice_index, decimal, list_all, AllByRecursion, is_number, number_in}
 use Rattle.std.proofs.lemmas.Fmt.{digits_decimal, digits_value-decimal, decimal_nonempty, first_decimal, decimal_digit, length-decimal-le}
-use Rattle.std.specs.Prelude.{slice_index}
 use Rattle.std.specs.Char.{is_ascii_digit}
-use Rattle.std.specs.Fmt.{decimal}
-use Rattle.std.specs.List.{list_all, AllByRecursion}
-use Rattle.bfd_fields.specs.Fields.{is_number, number_in}
 use Rattle.bfd_fields.proofs.Decimal.{own}
 use Rattle.bfd_spelling.proofs.Visible.{IsField}
 

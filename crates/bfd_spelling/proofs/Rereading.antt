@@ -1,15 +1,10 @@
 -- Addresses and bytes, written and read again.
-use Rattle.std.proofs.Common.{◌≡◌, ℕ, ◌+◌, ◌*◌, ◌/◌, ◌%◌, ◌<◌, ◌≤◌, ◌^◌, ◌==◌, Bool, true, false, cond, List, [], ◌∷◌, ◌++◌, length, Ok, Err, refl, sym, ap, ◌∙◌, arith, suc, zero, append-nil, length-append}
+use Rattle.bfd_spelling.proofs.Common.{◌≡◌, ℕ, ◌+◌, ◌*◌, ◌/◌, ◌%◌, ◌<◌, ◌≤◌, ◌^◌, ◌==◌, Bool, true, false, cond, List, [], ◌∷◌, ◌++◌, length, Ok, Err, refl, sym, ap, ◌∙◌, arith, suc, zero, append-nil, length-append, nat_tests, slice_index, codes, decimal, list_all, slice_split, and_parts, hex_field, address_field, dotted_field, each_more}
 use Rattle.std.proofs.Math.Nat.{mod-lt}
 use Rattle.std.proofs.Math.Seq.{take_all}
-use Rattle.std.proofs.lemmas.Bool.Decides.{nat_tests}
-use Rattle.std.specs.Prelude.{slice_index, codes}
-use Rattle.std.specs.Fmt.{decimal}
 use Rattle.std.specs.Int.{byte_at, bytes_high_first}
-use Rattle.std.specs.List.{list_all, slice_split}
 use Rattle.std.specs.Str.{bytes_eq}
 use Rattle.std.proofs.Math.Bool.{and-false}
-use Rattle.std.proofs.lemmas.Bool.{and_parts}
 use Rattle.byteorder.specs.Endian.{big_bytes, big_number}
 use Rattle.byteorder.specs.Numbers.{big_number-reads_back, length-bytes_high_first}
 use Rattle.hex.specs.Hex.{IsBytes, decode_pairs, encode_lower, encode_with, lower_digits}
@@ -17,11 +12,8 @@ use Rattle.hex.specs.declared.error.FromHexError.TheVariants.{OddLength, Invalid
 use Rattle.hex.proofs.HexLemmas.{decode_of-encode_lower, decode_sized-encode_lower, length-encode_with}
 use Rattle.bfd_packet.specs.declared.arrival.Addr.{Addr}
 use Rattle.bfd_packet.specs.declared.arrival.Addr.TheVariants.{V4, V6}
-use Rattle.bfd_fields.specs.Spelling.{hex_field}
 use Rattle.bfd_fields.specs.Values.{IsAddress, address_by, address_of, bytes_of, dotted_of, octet_of, part_of, payload_of, quad_of}
-use Rattle.bfd_spelling.specs.Written.{address_field, dotted_field}
 use Rattle.bfd_spelling.proofs.Numerals.{number_again, number_dotless, number_field, octet_short}
-use Rattle.bfd_script.proofs.Elements.{each_more}
 use Rattle.bfd_spelling.proofs.Visible.{IsVisible, IsField, is_visible, seen}
 use Rattle.bfd_spelling.proofs.Splitting.{split_front, split_last}
 

@@ -1,9 +1,5 @@
 -- Table rows, written and read again.
-use Rattle.std.proofs.Common.{◌≡◌, ℕ, ◌≤◌, Bool, true, false, cond, [], ◌∷◌, length, None, Ok, Err, refl, ap, ◌∙◌, arith}
-use Rattle.std.proofs.lemmas.Bool.Decides.{nat_tests}
-use Rattle.std.specs.Prelude.{codes}
-use Rattle.std.specs.Fmt.{decimal}
-use Rattle.std.specs.List.{AllByRecursion}
+use Rattle.bfd_spelling.proofs.Common.{◌≡◌, ℕ, ◌≤◌, Bool, true, false, cond, [], ◌∷◌, length, None, Ok, Err, refl, ap, ◌∙◌, arith, nat_tests, codes, decimal, AllByRecursion, SessionConfig, OutOfRange, Version, entry_in_line, ◌>>=◌, IsHeadRow, IsPairRow, IsReflector, IsRow, IsSeekRow, IsTailRow, spaced, address_field, mode_field, reflector_fields, role_field, row_fields, up_field}
 use Rattle.bfd_rules.specs.Sound.{IsConfig, is_echo_interval}
 use Rattle.bfd_rules.specs.declared.config.Config.{Config}
 use Rattle.bfd_rules.specs.declared.config.Role.{Role}
@@ -14,21 +10,13 @@ use Rattle.bfd_mp.specs.declared.config.TailConfig.{TailConfig}
 use Rattle.bfd_sbfd.specs.Sound.{IsSeekConfig}
 use Rattle.bfd_sbfd.specs.declared.config.SeekConfig.{SeekConfig}
 use Rattle.bfd_sbfd.specs.declared.reflecting.Reflector.{Reflector}
-use Rattle.bfd_session.specs.declared.event.SessionConfig.{SessionConfig}
 use Rattle.bfd_session.specs.declared.event.SessionConfig.TheVariants.{Pair, Seek, Head, Tail}
 use Rattle.bfd_session.specs.Step.{IsFit}
-use Rattle.bfd_fields.specs.declared.fault.LineFault.TheVariants.{OutOfRange}
 use Rattle.bfd_line.specs.declared.entries.Entry.TheVariants as entries
 use Rattle.bfd_line.specs.declared.words.Place.TheVariants as places
-use Rattle.bfd_line.specs.declared.words.Version.{Version}
-use Rattle.bfd_line.specs.Entries.{entry_in_line}
-use Rattle.bfd_fields.specs.Gives.{◌>>=◌}
 use Rattle.bfd_line.specs.Pairs.{active_of, config_by, echo_of, ends_of, p2p_row, pair_with, role_of, timing_of}
 use Rattle.bfd_line.specs.Seamless.{initiator_of, reflecting_of, up_of}
-use Rattle.bfd_line.specs.Ranges.{IsHeadRow, IsPairRow, IsReflector, IsRow, IsSeekRow, IsTailRow}
-use Rattle.bfd_fields.specs.Spelling.{spaced}
 use Rattle.bfd_line.specs.Trees.{listener_of, sender_of}
-use Rattle.bfd_spelling.specs.Written.{address_field, mode_field, reflector_fields, role_field, row_fields, up_field}
 use Rattle.bfd_spelling.proofs.Numerals.{number_again, number_field, number_short}
 use Rattle.bfd_spelling.proofs.Rereading.{address_again, address_is_field, address_short}
 use Rattle.bfd_spelling.proofs.Visible.{IsField, word}

@@ -1,40 +1,27 @@
 -- A whole script, written and read again.
-use Rattle.std.proofs.Common.{◌≡◌, ℕ, ◌+◌, ◌<◌, ◌≤◌, ◌==◌, ◌^◌, Bool, true, false, ◌||◌, List, [], ◌∷◌, ◌++◌, length, Option, Some, None, Result, Ok, Err, cond, refl, ap, ◌∙◌, arith, suc, nat_lt, nat_le, append_assoc, append-nil, length-append}
-use Rattle.std.proofs.lemmas.Bool.Decides.{nat_tests}
-use Rattle.std.specs.Prelude.{codes, find, is_some, not}
-use Rattle.std.specs.List.{list_any, AllByRecursion}
-use Rattle.std.proofs.lemmas.Bool.{or_from}
+use Rattle.bfd_spelling.proofs.Common.{◌≡◌, ℕ, ◌+◌, ◌<◌, ◌≤◌, ◌==◌, ◌^◌, Bool, true, false, ◌||◌, List, [], ◌∷◌, ◌++◌, length, Option, Some, None, Result, Ok, Err, cond, refl, ap, ◌∙◌, arith, suc, nat_lt, nat_le, append_assoc, append-nil, length-append, nat_tests, codes, find, is_some, not, list_any, AllByRecursion, or_from, SessionConfig, NoSuchSession, OutOfRange, SameAddresses, SameDiscr, SameKey, TooMany, Version, lines_of, ◌>>=◌, AreKeys, AreNext, IsEvent, IsKey, IsNext, IsReflector, IsRow, line, spaced, auth_fields, config_text, event_fields, events_text, has_second, is_new_line, is_new_row, key_fields, keys_text, list_text, more_text, pool_text, reflector_fields, row_fields, rows_text, spelling, version_field, version_of, each_more, each_to}
 use Rattle.bfd_script.proofs.Numbered.{none_any}
 use Rattle.bfd_packet.specs.KeyChain.{KeyChain, fits_kind, has_id}
 use Rattle.bfd_packet.specs.declared.keys.AuthType.{AuthType}
 use Rattle.bfd_packet.specs.declared.keys.Key.{Key}
 use Rattle.bfd_rules.specs.declared.config.Config.{Config}
-use Rattle.bfd_session.specs.declared.event.SessionConfig.{SessionConfig}
 use Rattle.bfd_session.specs.declared.event.SessionConfig.TheVariants.{Pair}
 use Rattle.bfd_sbfd.specs.Reflect as pools
 use Rattle.bfd_sbfd.specs.declared.reflecting.Reflector.{Reflector}
 use Rattle.bfd_session.specs.Kinds.{discr_of}
 use Rattle.bfd_fields.specs.declared.fault.LineFault.{LineFault}
-use Rattle.bfd_fields.specs.declared.fault.LineFault.TheVariants.{NoSuchSession, OutOfRange, SameAddresses, SameDiscr, SameKey, TooMany}
 use Rattle.bfd_line.specs.declared.entries.Line.{Line}
 use Rattle.bfd_line.specs.declared.words.Place.TheVariants as places
-use Rattle.bfd_line.specs.declared.words.Version.{Version}
 use Rattle.bfd_line.specs.declared.words.Version.TheVariants.{One, Two}
-use Rattle.bfd_fields.specs.Fields.{lines_of}
-use Rattle.bfd_fields.specs.Gives.{◌>>=◌}
 use Rattle.bfd_script.specs.Reading.{Lists, State, admitted, go_on, is_named, script_of, start, line_read, told_from, unless, with_config, with_event, with_key, with_keys, with_reflector}
 use Rattle.bfd_script.proofs.Rising.{inserted_last}
 use Rattle.bfd_script.specs.Rows.{changed, given, has_discr, has_keys, has_pair, has_place, has_reflector, inserted, is_pair, pooled, keyed_more, keyed_with, keys_in, keys_of}
 use Rattle.bfd_line.specs.Secrets.{key_fault, one_key}
 use Rattle.bfd_session.specs.Rows.{same_selector}
 use Rattle.bfd_session.specs.Step.{IsFit}
-use Rattle.bfd_line.specs.Ranges.{AreKeys, AreNext, IsEvent, IsKey, IsNext, IsReflector, IsRow}
 use Rattle.bfd_script.specs.Sound.{AreApart, AreNamed, IsScript}
-use Rattle.bfd_fields.specs.Spelling.{line, spaced}
-use Rattle.bfd_spelling.specs.Written.{auth_fields, config_text, event_fields, events_text, has_second, is_new_line, is_new_row, key_fields, keys_text, list_text, more_text, pool_text, reflector_fields, row_fields, rows_text, spelling, version_field, version_of}
 use Rattle.bfd_spelling.proofs.LinesAgain.{Speaks, auth_again, auth_fields_fit, event_again, event_fields_fit, key_again, key_fields_fit}
 use Rattle.bfd_spelling.proofs.RowsAgain.{bare, reflector_again, reflector_fields_fit, row_again, row_fields_fit}
-use Rattle.bfd_script.proofs.Elements.{each_more, each_to}
 use Rattle.bfd_spelling.proofs.Following.{Follows, Ready, ready}
 use Rattle.bfd_spelling.proofs.Splitting.{lines_again}
 

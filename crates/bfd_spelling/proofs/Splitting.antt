@@ -1,15 +1,7 @@
 -- Lines of fields, written and split again.
-use Rattle.std.proofs.Common.{◌≡◌, ℕ, ◌+◌, ◌≤◌, ◌==◌, Bool, true, false, List, [], ◌∷◌, ◌++◌, length, Ok, refl, ap, ◌∙◌, arith, nat_lt, append_assoc, append-nil, length-append}
-use Rattle.std.proofs.lemmas.Bool.Decides.{nat_tests}
-use Rattle.std.specs.List.{list_all, slice_split, AllByRecursion}
+use Rattle.bfd_spelling.proofs.Common.{◌≡◌, ℕ, ◌+◌, ◌≤◌, ◌==◌, Bool, true, false, List, [], ◌∷◌, ◌++◌, length, Ok, refl, ap, ◌∙◌, arith, nat_lt, append_assoc, append-nil, length-append, nat_tests, list_all, slice_split, AllByRecursion, Version, entry_in_line, placed, worded, split_fields, is_printable, lines_of, onto_line, line_text, ◌>>=◌, spaced, line, each_to}
 use Rattle.bfd_line.specs.declared.words.Place.{Place}
-use Rattle.bfd_line.specs.declared.words.Version.{Version}
-use Rattle.bfd_line.specs.Entries.{entry_in_line, placed, worded}
-use Rattle.bfd_fields.specs.Fields.{split_fields, is_printable, lines_of, onto_line, line_text}
-use Rattle.bfd_fields.specs.Gives.{◌>>=◌}
-use Rattle.bfd_fields.specs.Spelling.{spaced, line}
 use Rattle.bfd_line.specs.Words.{word_of}
-use Rattle.bfd_script.proofs.Elements.{each_to}
 use Rattle.bfd_spelling.proofs.Visible.{IsVisible, IsField}
 
 -- ---- splitting at a separator

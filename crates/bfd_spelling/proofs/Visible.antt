@@ -1,8 +1,5 @@
 -- The bytes that a field may have.
-use Rattle.std.proofs.Common.{◌≡◌, ℕ, ◌≤◌, Bool, true, ◌&&◌, List, [], ◌∷◌, arith, nat_lt}
-use Rattle.std.proofs.lemmas.Bool.Decides.{nat_tests}
-use Rattle.std.specs.List.{list_all, AllByRecursion}
-use Rattle.std.proofs.lemmas.Bool.{and_parts}
+use Rattle.bfd_spelling.proofs.Common.{◌≡◌, ℕ, ◌≤◌, Bool, true, ◌&&◌, List, [], ◌∷◌, arith, nat_lt, nat_tests, list_all, AllByRecursion, and_parts}
 
 -- a byte that a field may have
 pub record IsVisible (byte : ℕ) : Type 0 where

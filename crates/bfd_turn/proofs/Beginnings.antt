@@ -1,10 +1,6 @@
 -- Lists of notes that begin one another, and a caller's calls in them.
-use Rattle.std.proofs.Common.{◌≡◌, ◌≢◌, ℕ, ◌≤◌, Bool, true, false, cond, eqb, List, [], ◌∷◌, ◌++◌, length, sym, refl, ap, ◌∙◌, arith, length-append, append_assoc, ne_eqb}
-use Rattle.std.specs.Prelude.{nat_le}
-use Rattle.std.proofs.lemmas.List.{append-nil}
-use Rattle.std.proofs.lemmas.List.Elements.{filter-append}
+use Rattle.bfd_turn.proofs.Common.{◌≡◌, ◌≢◌, ℕ, ◌≤◌, Bool, true, false, cond, eqb, List, [], ◌∷◌, ◌++◌, length, sym, refl, ap, ◌∙◌, arith, length-append, append_assoc, ne_eqb, nat_le, append-nil, filter-append, Begins, longer, shorter, calls}
 use Rattle.std.proofs.lemmas.Bool.Decides.{nat_tests}
-use Rattle.bfd_turn.specs.Lists.{Begins, longer, shorter, calls}
 
 module _ {A : Type 0} where
   pub nothing_added : (xs ys : List A) → xs ++ ys ≡ xs → ys ≡ []

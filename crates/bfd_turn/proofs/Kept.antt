@@ -1,21 +1,7 @@
 -- What stays of the rule where a step changes other views.
-use Rattle.std.proofs.Common.{◌≡◌, ◌≢◌, ◌⊎◌, ℕ, ◌+◌, ◌*◌, ◌^◌, ◌<◌, ◌≤◌, List, [], ◌∷◌, ◌++◌, set, sym, refl, ap, ◌∙◌, subst, inl, inr, ⊎_elim, arith}
-use Rattle.std.specs.Prelude.{Option, Some, None}
-use mathlib.Core.Option.{some, none}
+use Rattle.bfd_turn.proofs.Common.{◌≡◌, ◌≢◌, ◌⊎◌, ℕ, ◌+◌, ◌*◌, ◌^◌, ◌<◌, ◌≤◌, List, [], ◌∷◌, ◌++◌, set, sym, refl, ap, ◌∙◌, subst, inl, inr, ⊎_elim, arith, Option, Some, None, some, none, dite, ℕ_discrete, get_elem?, State, at_set, set_here, set_else, View, Known, known, known_of, Idle, Holding, Joined, Begins, calls, AllKept, total_taken, Fits, AtHome, Out, Keeps}
 use mathlib.Core.Option as maybe
-use mathlib.Core.Logic.{dite}
-use native.Mathlib.Decide.{ℕ_discrete}
-use lib.ListN.{get_elem?}
-use Rattle.atomic_table.specs.Table.{State}
-use Rattle.atomic_table.proofs.Lists.{at_set, set_here, set_else}
-use Rattle.bfd_turn.specs.declared.view.View.{View}
-use Rattle.bfd_turn.specs.declared.view.Known.{Known}
-use Rattle.bfd_turn.specs.Views.{known, known_of}
 use Rattle.bfd_turn.specs.declared.view.Role.{Role}
-use Rattle.bfd_turn.specs.declared.view.Role.TheVariants.{Idle, Holding, Joined}
-use Rattle.bfd_turn.specs.Lists.{Begins, calls}
-use Rattle.bfd_turn.specs.Plays.{AllKept}
-use Rattle.bfd_turn.specs.Rule.{total_taken, Fits, AtHome, Out, Keeps}
 use Rattle.bfd_turn.proofs.Beginnings.{begins_through}
 use Rattle.bfd_turn.proofs.Seats.{at_below, at_same}
 

@@ -1,3 +1,4 @@
+mod Common
 pub mod Beginnings
 pub mod Seats
 pub mod Kept

@@ -1,14 +1,5 @@
 -- A new lock, and a load of its word.
-use Rattle.std.proofs.Common.{◌≡◌, ◌≢◌, ◌⊎◌, ℕ, zero, suc, ◌+◌, ◌*◌, ◌^◌, ◌<◌, ◌≤◌, List, [], ◌∷◌, ◌++◌, length, set, get_or, sym, refl, ap, ◌∙◌, subst, inl, inr, arith}
-use Rattle.std.specs.Prelude.{Option, Some, None}
-use mathlib.Core.Option.{some, none, some-injective, some-ne-none}
-use lib.ListN.{get_elem?}
-use Rattle.atomic_table.specs.Table.{State, step, keeps, Allows, opening}
-use Rattle.bfd_turn.specs.declared.view.View.{View}
-use Rattle.bfd_turn.specs.declared.view.Role.TheVariants.{Idle, Holding, Joined}
-use Rattle.bfd_turn.specs.Views.{newcomer, met}
-use Rattle.bfd_turn.specs.Plays.{Shows, looked, checked}
-use Rattle.bfd_turn.specs.Rule.{total_taken, Fits, Keeps}
+use Rattle.bfd_turn.proofs.Common.{◌≡◌, ◌≢◌, ◌⊎◌, ℕ, zero, suc, ◌+◌, ◌*◌, ◌^◌, ◌<◌, ◌≤◌, List, [], ◌∷◌, ◌++◌, length, set, get_or, sym, refl, ap, ◌∙◌, subst, inl, inr, arith, Option, Some, None, some, none, some-injective, some-ne-none, get_elem?, State, step, keeps, Allows, opening, View, Idle, Holding, Joined, newcomer, met, Shows, looked, checked, total_taken, Fits, Keeps}
 use Rattle.bfd_turn.proofs.Beginnings.{begins_begins}
 use Rattle.bfd_turn.proofs.Seats.{put, put_here, total_set}
 use Rattle.bfd_turn.proofs.Kept.{idle_holds_not, idle_lives, quiet_to, quiet_from, Place, place_moves, one_seat}

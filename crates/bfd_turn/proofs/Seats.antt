@@ -1,15 +1,6 @@
 -- Numbers in a list, a function changed at one number, and the views of a table.
-use Rattle.std.proofs.Common.{◌≡◌, ◌≢◌, ◌⊎◌, ℕ, zero, suc, ◌+◌, ◌<◌, Bool, true, false, cond, eqb, List, [], ◌∷◌, ◌++◌, length, set, get_or, sym, refl, ap, ◌∙◌, subst, inl, inr, ⊎_elim, arith, eq-eqb, ne_eqb, eqb-true}
-use Rattle.std.specs.Prelude.{◌||◌, Option, None, All}
+use Rattle.bfd_turn.proofs.Common.{◌≡◌, ◌≢◌, ◌⊎◌, ℕ, zero, suc, ◌+◌, ◌<◌, Bool, true, false, cond, eqb, List, [], ◌∷◌, ◌++◌, length, set, get_or, sym, refl, ap, ◌∙◌, subst, inl, inr, ⊎_elim, arith, eq-eqb, ne_eqb, eqb-true, ◌||◌, Option, None, All, All-tail, some, some-injective, some-ne-none, dite, ℕ_discrete, get_elem?, View, has, numbers_of, total_taken}
 use Rattle.std.proofs.lemmas.Bool.{false≢true}
-use Rattle.std.proofs.lemmas.List.Elements.{All-tail}
-use mathlib.Core.Option.{some, some-injective, some-ne-none}
-use mathlib.Core.Logic.{dite}
-use native.Mathlib.Decide.{ℕ_discrete}
-use lib.ListN.{get_elem?}
-use Rattle.bfd_turn.specs.declared.view.View.{View}
-use Rattle.bfd_turn.specs.Lists.{has, numbers_of}
-use Rattle.bfd_turn.specs.Rule.{total_taken}
 
 pub has_older : (k : ℕ) (ms : List ℕ) (n : ℕ) → has k ms ≡ true → has k (ms ++ n ∷ []) ≡ true
 has_older k [] n e = absurd cc

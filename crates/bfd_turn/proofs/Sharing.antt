@@ -1,24 +1,7 @@
 -- Caller 0 makes a pass, takes one in, and closes the lock.
-use Rattle.std.proofs.Common.{◌≡◌, ◌≢◌, ◌⊎◌, ℕ, zero, suc, ◌+◌, ◌*◌, ◌<◌, ◌≤◌, Bool, true, false, List, [], ◌∷◌, ◌++◌, length, set, sym, refl, ap, ◌∙◌, subst, inl, inr, ⊎_elim, arith}
-use Rattle.std.specs.Prelude.{Option, Some, None, All}
-use mathlib.Core.Option.{some, some-injective}
-use mathlib.Core.Logic.{dite}
-use native.Mathlib.Decide.{ℕ_discrete}
-use lib.ListN.{get_elem?}
+use Rattle.bfd_turn.proofs.Common.{◌≡◌, ◌≢◌, ◌⊎◌, ℕ, zero, suc, ◌+◌, ◌*◌, ◌<◌, ◌≤◌, Bool, true, false, List, [], ◌∷◌, ◌++◌, length, set, sym, refl, ap, ◌∙◌, subst, inl, inr, ⊎_elim, arith, Option, Some, None, All, some, some-injective, dite, ℕ_discrete, get_elem?, map-append, All-append, State, Splits, Joins, Final, Seen, at_set, set_here, set_else, at_longer, View, Known, Idle, Holding, Joined, Begins, longer, calls, has, numbers_of, known, parent, offspring, glued, joined_view, AllKept, IsNew, AllJoined, total_taken, Fits, AtHome}
 use Rattle.std.proofs.lemmas.Bool.{false_from_ne_true, true_from_ne_false}
-use Rattle.std.proofs.lemmas.List.{map-append}
-use Rattle.std.proofs.lemmas.List.Elements.{All-append}
-use Rattle.atomic_table.specs.Table.{State, Splits, Joins, Final, Seen}
-use Rattle.atomic_table.proofs.Lists.{at_set, set_here, set_else, at_longer}
-use Rattle.bfd_turn.specs.declared.view.View.{View}
-use Rattle.bfd_turn.specs.declared.view.Known.{Known}
 use Rattle.bfd_turn.specs.declared.view.Role.{Role}
-use Rattle.bfd_turn.specs.declared.view.Role.TheVariants.{Idle, Holding, Joined}
-use Rattle.bfd_turn.specs.Lists.{Begins, longer, calls, has, numbers_of}
-use Rattle.bfd_turn.specs.Views.{known, parent, offspring, glued, joined_view}
-use Rattle.bfd_turn.specs.Plays.{AllKept}
-use Rattle.bfd_turn.specs.Passes.{IsNew, AllJoined}
-use Rattle.bfd_turn.specs.Rule.{total_taken, Fits, AtHome}
 use Rattle.bfd_turn.proofs.Beginnings.{begins_itself, begins_begins, begins_whole, longer_begins, shorter_begins, longer_length, calls_front, calls_between}
 use Rattle.bfd_turn.proofs.Seats.{has_above, has_older, has_either, has_not, put, put_here, put_else, put_none, at_below, at_same, at_newest, total_set, total_newest, total_one}
 use Rattle.bfd_turn.proofs.Kept.{idle_holds_not, idle_lives, holding_lives, no_place, one_place, fits_moved, kept_of, quiet_to, quiet_from, place_moves}

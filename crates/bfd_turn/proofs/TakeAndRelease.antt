@@ -1,20 +1,6 @@
 -- The exchange that takes the turn, and the add that gives it back.
-use Rattle.std.proofs.Common.{◌≡◌, ◌≢◌, ◌⊎◌, ℕ, ◌+◌, ◌*◌, ◌%◌, ◌^◌, ◌<◌, ◌≤◌, List, [], ◌∷◌, ◌++◌, length, set, get_or, sym, refl, ap, ◌∙◌, subst, inl, inr, ⊎_elim, arith}
-use Rattle.std.specs.Prelude.{Option, Some, None}
-use mathlib.Core.Option.{some, none}
-use lib.ListN.{get_elem?}
+use Rattle.bfd_turn.proofs.Common.{◌≡◌, ◌≢◌, ◌⊎◌, ℕ, ◌+◌, ◌*◌, ◌%◌, ◌^◌, ◌<◌, ◌≤◌, List, [], ◌∷◌, ◌++◌, length, set, get_or, sym, refl, ap, ◌∙◌, subst, inl, inr, ⊎_elim, arith, Option, Some, None, some, none, get_elem?, append-nil, State, Me, Act, step, stepped, keeps, takes, gives, Allows, Valid, carried_after, at_set, set_here, exchanged, View, Known, Idle, Holding, Begins, calls, known, met, holding, idle_after, Lent, took, released, Grows, total_taken, Fits, AtHome, Out}
 use prog.Atomic.{either}
-use Rattle.std.proofs.lemmas.List.{append-nil}
-use Rattle.atomic_table.specs.Table.{State, Me, Act, step, stepped, keeps, takes, gives, Allows, Valid, carried_after}
-use Rattle.atomic_table.proofs.Lists.{at_set, set_here, exchanged}
-use Rattle.bfd_turn.specs.declared.view.View.{View}
-use Rattle.bfd_turn.specs.declared.view.Known.{Known}
-use Rattle.bfd_turn.specs.declared.view.Role.TheVariants.{Idle, Holding}
-use Rattle.bfd_turn.specs.Lists.{Begins, calls}
-use Rattle.bfd_turn.specs.Views.{known, met, holding, idle_after}
-use Rattle.bfd_turn.specs.Plays.{Lent, took, released}
-use Rattle.bfd_turn.specs.Passes.{Grows}
-use Rattle.bfd_turn.specs.Rule.{total_taken, Fits, AtHome, Out}
 use Rattle.bfd_turn.proofs.Beginnings.{begins_itself, begins_through, calls_added, calls_other}
 use Rattle.bfd_turn.proofs.Seats.{at_below, at_same, total_set, has_number}
 use Rattle.bfd_turn.proofs.Kept.{idle_holds_not, idle_lives, holding_lives, no_place, one_place, fits_moved, kept_of, one_seat}

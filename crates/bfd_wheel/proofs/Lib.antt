@@ -1,3 +1,4 @@
+mod Common
 pub mod Rings
 pub mod Wheels
 pub mod TakenIds

@@ -1,16 +1,12 @@
 -- Two ascending lists with the same numbers as often are equal.
-use Rattle.std.proofs.Common.{◌≡◌, ◌≢◌, inl, inr, ℕ, zero, suc, ◌+◌, ◌-◌, ◌<◌, ◌≤◌, Bool, true, false, cond, List, [], ◌∷◌, ◌++◌, map, length, get_or, take, drop, subst, refl, sym, ◌∙◌, ap, arith, nat_le, IsPermutation}
+use Rattle.bfd_wheel.proofs.Common.{◌≡◌, ◌≢◌, inl, inr, ℕ, zero, suc, ◌+◌, ◌-◌, ◌<◌, ◌≤◌, Bool, true, false, cond, List, [], ◌∷◌, ◌++◌, map, length, get_or, take, drop, subst, refl, sym, ◌∙◌, ap, arith, nat_le, IsPermutation, take-append-drop, take_all, length-drop, cases_eq, cases_lt, never, due_of, places, come, bit, times, counts_due, Took}
 use Rattle.std.specs.List.Sorted.{IsNonDecreasing}
 use Rattle.std.specs.List.{sum_by}
 use Rattle.std.proofs.lemmas.List.Sorted.{sum_by-IsPermutation}
 use Rattle.std.proofs.lemmas.List.Sums.{sum_by-cons}
-use Rattle.std.proofs.lemmas.List.{take-append-drop, take_all, length-drop}
 use Rattle.std.proofs.Math.Seq.{take-append_seam, drop-append_seam}
-use Rattle.std.proofs.lemmas.Bool.{cases_eq, cases_lt}
 use Rattle.bfd_num.specs.Due.{has_come}
-use Rattle.bfd_lanes.specs.Places.{never, due_of, places, come}
 use Rattle.bfd_lanes.proofs.Scanned.{come_of}
-use Rattle.bfd_wheel.specs.Taken.{bit, times, counts_due, Took}
 use Rattle.bfd_wheel.proofs.TakenIds.{bit_same, bit_other}
 use Rattle.bfd_wheel.proofs.Walk.{counted_not}
 

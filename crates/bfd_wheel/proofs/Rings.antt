@@ -1,8 +1,5 @@
 -- Taking a node out of its ring, putting one in behind a head, and naming the lists anew.
-use Rattle.std.proofs.Common.{◌≡◌, ◌≢◌, inl, inr, ℕ, ◌<◌, ◌≤◌, sym, ◌∙◌, ap, subst, arith}
-use Rattle.std.proofs.lemmas.Bool.{cases_eq, cases_lt}
-use Rattle.bfd_lanes.specs.Places.{never}
-use Rattle.bfd_wheel.specs.Rings.{IsOn, IsRing, Unlinks, Links}
+use Rattle.bfd_wheel.proofs.Common.{◌≡◌, ◌≢◌, inl, inr, ℕ, ◌<◌, ◌≤◌, sym, ◌∙◌, ap, subst, arith, cases_eq, cases_lt, never, IsOn, IsRing, Unlinks, Links}
 
 -- the id i leaves its list
 pub record TakesOut (i : ℕ) (due home next prev due2 home2 next2 prev2 : ℕ → ℕ) : Type 0 where

@@ -1,11 +1,5 @@
 -- All lists that can hold what has come by t are those of the ticks from now on up to t.
-use Rattle.std.proofs.Common.{◌≡◌, ◌≢◌, inl, inr, ℕ, ◌+◌, ◌%◌, ◌^◌, ◌<◌, ◌≤◌, Bool, true, cond, List, max, refl, sym, ◌∙◌, ap, subst, arith, nat_le, slice_index}
-use Rattle.std.proofs.lemmas.Bool.Decides.{nat_tests}
-use Rattle.std.proofs.lemmas.Bool.{cases_eq, cases_lt}
-use Rattle.bfd_lanes.specs.Places.{never}
-use Rattle.bfd_wheel.specs.declared.links.Node.{Node}
-use Rattle.bfd_wheel.specs.Wheel.{place, IsWheel}
-use Rattle.bfd_wheel.specs.Taken.{Took}
+use Rattle.bfd_wheel.proofs.Common.{◌≡◌, ◌≢◌, inl, inr, ℕ, ◌+◌, ◌%◌, ◌^◌, ◌<◌, ◌≤◌, Bool, true, cond, List, max, refl, sym, ◌∙◌, ap, subst, arith, nat_le, slice_index, nat_tests, cases_eq, cases_lt, never, Node, place, IsWheel, Took}
 use Rattle.bfd_wheel.proofs.Wheels.{moved}
 
 -- the lists of the ticks from now on, before tick, have nothing left

@@ -1,11 +1,6 @@
 -- What was taken, id by id.
-use Rattle.std.proofs.Common.{◌≡◌, ◌≢◌, ◌⊎◌, inl, inr, ℕ, zero, suc, ◌+◌, ◌^◌, ◌<◌, ◌≤◌, Bool, cond, List, [], ◌∷◌, ◌++◌, map, length, get_or, set, drop, add-one, drop-cons, refl, sym, ◌∙◌, ap, subst, arith, nat_le, append_assoc, length-append, slice_index, slice_set, None}
-use Rattle.std.proofs.lemmas.List.{get_or-set_same, get_or-set_other, length-set, get_or_past, get_or_default, append-nil, same_lists, get_or-map, length-map}
-use Rattle.std.proofs.lemmas.Bool.Decides.{nat_tests}
-use Rattle.std.proofs.lemmas.Bool.{cases_eq, cases_lt, le-leb, lt-leb}
-use Rattle.bfd_lanes.specs.Places.{never, due_of, without}
+use Rattle.bfd_wheel.proofs.Common.{◌≡◌, ◌≢◌, ◌⊎◌, inl, inr, ℕ, zero, suc, ◌+◌, ◌^◌, ◌<◌, ◌≤◌, Bool, cond, List, [], ◌∷◌, ◌++◌, map, length, get_or, set, drop, add-one, drop-cons, refl, sym, ◌∙◌, ap, subst, arith, nat_le, append_assoc, length-append, slice_index, slice_set, None, get_or-set_same, get_or-set_other, length-set, get_or_past, get_or_default, append-nil, same_lists, get_or-map, length-map, nat_tests, cases_eq, cases_lt, le-leb, lt-leb, never, due_of, without, bit, times, counts_due, waiting, Took}
 use Rattle.bfd_lanes.proofs.Scanned.{come_of}
-use Rattle.bfd_wheel.specs.Taken.{bit, times, counts_due, waiting, Took}
 use Rattle.bfd_wheel.proofs.Walk.{counted, counted_now, counted_not}
 
 pub bit_same : (x : ℕ) → bit x x ≡ 1

@@ -1,12 +1,7 @@
 -- From lists of numbers to lists of optional due ticks.
-use Rattle.std.proofs.Common.{◌≡◌, ◌≢◌, ℕ, zero, suc, ◌+◌, ◌^◌, ◌<◌, ◌≤◌, Bool, false, cond, List, ◌∷◌, ◌++◌, map, replicate, length, get_or, take, drop, refl, sym, ◌∙◌, ap, subst, arith, nat_eq, slice_index, slice_set, Option, None, Some}
-use Rattle.std.proofs.lemmas.List.{map-set, same_lists, get_or-map, length-map}
+use Rattle.bfd_wheel.proofs.Common.{◌≡◌, ◌≢◌, ℕ, zero, suc, ◌+◌, ◌^◌, ◌<◌, ◌≤◌, Bool, false, cond, List, ◌∷◌, ◌++◌, map, replicate, length, get_or, take, drop, refl, sym, ◌∙◌, ap, subst, arith, nat_eq, slice_index, slice_set, Option, None, Some, map-set, same_lists, get_or-map, length-map, nat_tests, never, due_of, without, Node, next_in, prev_in, IsWheel, IsLinked}
 use Rattle.std.proofs.lemmas.Simd.{length-replicate, get_or-replicate}
 use Rattle.std.proofs.lemmas.Grind.{common_steps}
-use Rattle.std.proofs.lemmas.Bool.Decides.{nat_tests}
-use Rattle.bfd_lanes.specs.Places.{never, due_of, without}
-use Rattle.bfd_wheel.specs.declared.links.Node.{Node}
-use Rattle.bfd_wheel.specs.Wheel.{next_in, prev_in, IsWheel, IsLinked}
 use Rattle.bfd_wheel.proofs.Wheels.{linked, start}
 
 pub due_of_below : (due : ℕ) → due < 2 ^ 60 → due_of due ≡ Some due

@@ -1,12 +1,5 @@
 -- A walk along one list, which takes off what has come.
-use Rattle.std.proofs.Common.{◌≡◌, ◌≢◌, ◌⊎◌, inl, inr, ℕ, zero, suc, ◌+◌, ◌<◌, ◌≤◌, cond, List, length, refl, sym, ◌∙◌, ap, subst, arith, nat_le, slice_index, slice_set}
-use Rattle.std.proofs.lemmas.List.{get_or-set_same, get_or-set_other, length-set}
-use Rattle.std.proofs.lemmas.Bool.Decides.{nat_tests}
-use Rattle.std.proofs.lemmas.Bool.{cases_eq, cases_lt}
-use Rattle.bfd_lanes.specs.Places.{never}
-use Rattle.bfd_wheel.specs.declared.links.Node.{Node}
-use Rattle.bfd_wheel.specs.Rings.{IsOn, Unlinks}
-use Rattle.bfd_wheel.specs.Wheel.{due_in, next_in, prev_in, place, home, IsWheel}
+use Rattle.bfd_wheel.proofs.Common.{◌≡◌, ◌≢◌, ◌⊎◌, inl, inr, ℕ, zero, suc, ◌+◌, ◌<◌, ◌≤◌, cond, List, length, refl, sym, ◌∙◌, ap, subst, arith, nat_le, slice_index, slice_set, get_or-set_same, get_or-set_other, length-set, nat_tests, cases_eq, cases_lt, never, Node, IsOn, Unlinks, due_in, next_in, prev_in, place, home, IsWheel}
 use Rattle.bfd_wheel.proofs.Rings.{ring_without}
 use Rattle.bfd_wheel.proofs.Wheels.{home_id, home_head, home_same, head_on, id_on, out_of}
 

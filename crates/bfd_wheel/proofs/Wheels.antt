@@ -1,12 +1,5 @@
 -- The wheel after a node is taken out, after one is put in, when its time moves, and at the start.
-use Rattle.std.proofs.Common.{◌≡◌, ◌≢◌, inl, inr, ℕ, suc, ◌+◌, ◌%◌, ◌^◌, ◌<◌, ◌≤◌, Bool, true, false, cond, List, length, get_or, sym, ◌∙◌, ap, subst, arith, nat_lt, nat_le, nat_eq, slice_index, slice_set}
-use Rattle.std.proofs.lemmas.List.{get_or-set_same, get_or-set_other, length-set, get_or_past}
-use Rattle.std.proofs.lemmas.Bool.Decides.{nat_tests}
-use Rattle.std.proofs.lemmas.Bool.{cases_eq, cases_lt, lt-ltb, le-ltb}
-use Rattle.bfd_lanes.specs.Places.{never}
-use Rattle.bfd_wheel.specs.declared.links.Node.{Node}
-use Rattle.bfd_wheel.specs.Rings.{IsOn, IsRing, IsRanked, Unlinks, Links}
-use Rattle.bfd_wheel.specs.Wheel.{due_in, next_in, prev_in, place, home, IsWheel, IsLinked}
+use Rattle.bfd_wheel.proofs.Common.{◌≡◌, ◌≢◌, inl, inr, ℕ, suc, ◌+◌, ◌%◌, ◌^◌, ◌<◌, ◌≤◌, Bool, true, false, cond, List, length, get_or, sym, ◌∙◌, ap, subst, arith, nat_lt, nat_le, nat_eq, slice_index, slice_set, get_or-set_same, get_or-set_other, length-set, get_or_past, nat_tests, cases_eq, cases_lt, lt-ltb, le-ltb, never, Node, IsOn, IsRing, IsRanked, Unlinks, Links, due_in, next_in, prev_in, place, home, IsWheel, IsLinked}
 use Rattle.bfd_wheel.proofs.Rings.{TakesOut, ring_without, ring_with, ring_moved}
 
 -- ---- the list of a node

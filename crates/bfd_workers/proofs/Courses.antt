@@ -1,17 +1,5 @@
 -- A worker on its way, through a queue and from shard to shard.
-use Rattle.std.proofs.Common.{◌≡◌, ◌≢◌, inl, inr, ◌<◌, ◌≤◌, ◌+◌, ◌++◌, ◌∙◌, ◌∷◌, ℕ, suc, [], List, length, map, sym, ap, subst, refl, append_assoc, append-nil, arith, length-append}
-use Rattle.std.specs.Prelude.{slice_index_or}
-use Rattle.std.proofs.lemmas.List.{length-map, get_or_append_left}
-use Rattle.std.proofs.Math.Seq.{get_or-append_seam}
-use Rattle.std.proofs.lemmas.Bool.{cases_lt}
-use mathlib.Core.Logic.{dite}
-use native.Mathlib.Decide.{ℕ_discrete}
-use Rattle.bfd_engine.specs.declared.fault.EngineFault.{EngineFault}
-use Rattle.bfd_engine.specs.Engines.{Shards, Knows, IsOf, AllThere}
-use Rattle.bfd_engine.specs.Calls.{seen_at, taken_at}
-use Rattle.bfd_gather.specs.declared.queue.Numbered.{Numbered}
-use Rattle.bfd_gather.specs.Pieces.{Piece}
-use Rattle.bfd_workers.specs.Working.{HasDoneEvents, HasDoneAt, HasFinished, HasLeft, HasStopped, HasTold, HasUsed, IsElsewhere, IsIdle, IsWorkerReady, IsTurnRefused, IsStopAt}
+use Rattle.bfd_workers.proofs.Common.{◌≡◌, ◌≢◌, inl, inr, ◌<◌, ◌≤◌, ◌+◌, ◌++◌, ◌∙◌, ◌∷◌, ℕ, suc, [], List, length, map, sym, ap, subst, refl, append_assoc, append-nil, arith, length-append, slice_index_or, length-map, get_or_append_left, get_or-append_seam, cases_lt, dite, ℕ_discrete, EngineFault, Shards, Knows, IsOf, AllThere, seen_at, taken_at, Numbered, Piece, HasDoneEvents, HasDoneAt, HasFinished, HasLeft, HasStopped, HasTold, HasUsed, IsElsewhere, IsIdle, IsWorkerReady, IsTurnRefused, IsStopAt}
 use Rattle.bfd_workers.proofs.Soles.{done_none, done_more, stopped_at}
 
 -- the events of the queue up to here were done on the shard, and these are left

@@ -1,30 +1,12 @@
 -- Once the engine is closed: each shard's journal has its own worker's entries alone, so each worker told what its queues give.
-use Rattle.std.proofs.Common.{◌≡◌, ◌≢◌, ◌<◌, ◌≤◌, ◌+◌, ◌%◌, ◌==◌, ◌||◌, ◌++◌, ◌∙◌, ◌∷◌, Bool, true, false, ℕ, zero, suc, [], List, length, map, get_or, sym, ap, subst, refl, arith, Some, Result, Ok, Err}
-use Rattle.std.specs.Prelude.{slice_get, slice_index_or, if◌then◌else◌}
+use Rattle.bfd_workers.proofs.Common.{◌≡◌, ◌≢◌, ◌<◌, ◌≤◌, ◌+◌, ◌%◌, ◌==◌, ◌||◌, ◌++◌, ◌∙◌, ◌∷◌, Bool, true, false, ℕ, zero, suc, [], List, length, map, get_or, sym, ap, subst, refl, arith, Some, Result, Ok, Err, slice_get, slice_index_or, if◌then◌else◌, length-map, get_or-map, slice_get-get_or, slice_get_within, get_or_from_slice_get, eq-eqb, dite, ℕ_discrete, started, Shard, calls, has, numbers_of, EngineFault, Shards, Knows, configs_at, seen_at, met_word, made_at, kept_at, mine, EachJoined, IsClosed, AreClosed, Numbered, Piece, shard_tells, AreMet, entries_by, events_in, IsWorkerReady, HasFinished, HasStopped, HasUsed, IsSole, IsStopAt, AllJobsJoined, AreJobs, AreOwn, HasEnded, HasWorkedOn, IsFreshAt, IsJoining, IsNewJob, Work, number_of, own_queue}
 use Rattle.std.proofs.lemmas.Bool.Decides.{nat_tests}
-use Rattle.std.proofs.lemmas.List.{length-map, get_or-map}
-use Rattle.std.proofs.lemmas.Option.{slice_get-get_or, slice_get_within, get_or_from_slice_get}
 use Rattle.std.proofs.Math.Nat.{mod-lt}
-use Rattle.std.proofs.lemmas.Bool.{eq-eqb}
-use mathlib.Core.Logic.{dite}
-use native.Mathlib.Decide.{ℕ_discrete}
-use Rattle.bfd_session.specs.Step.{started}
-use Rattle.bfd_shard.specs.Shard.{Shard}
 use Rattle.bfd_shard.specs.declared.entry.Entry.{Entry}
-use Rattle.bfd_turn.specs.Lists.{calls, has, numbers_of}
 use Rattle.bfd_turn.specs.Plays.{AllKept}
 use Rattle.bfd_turn.specs.Passes.{last_word}
-use Rattle.bfd_engine.specs.declared.fault.EngineFault.{EngineFault}
 use Rattle.bfd_engine.specs.declared.fault.EngineFault.TheVariants.{Memory, Full, Spent}
 use Rattle.bfd_engine.specs.Turned.{by}
-use Rattle.bfd_engine.specs.Engines.{Shards, Knows, configs_at}
-use Rattle.bfd_engine.specs.Calls.{seen_at, met_word, made_at, kept_at, mine}
-use Rattle.bfd_engine.specs.Passes.{EachJoined, IsClosed, AreClosed}
-use Rattle.bfd_gather.specs.declared.queue.Numbered.{Numbered}
-use Rattle.bfd_gather.specs.Pieces.{Piece}
-use Rattle.bfd_gather.specs.Happenings.{shard_tells}
-use Rattle.bfd_workers.specs.Working.{AreMet, entries_by, events_in, IsWorkerReady, HasFinished, HasStopped, HasUsed, IsSole, IsStopAt}
-use Rattle.bfd_workers.specs.Jobs.{AllJobsJoined, AreJobs, AreOwn, HasEnded, HasWorkedOn, IsFreshAt, IsJoining, IsNewJob, Work, number_of, own_queue}
 use Rattle.bfd_workers.specs.Ends.{AreStates, AreTold, IsDoneJob, IsFine, IsState, HasToldShards}
 use Rattle.bfd_workers.proofs.Soles.{all_calls, front_sole, sole_of}
 use Rattle.bfd_workers.proofs.Joining.{own_away}

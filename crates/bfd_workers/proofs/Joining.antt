@@ -1,20 +1,8 @@
 -- Passes that are made for the workers, and taken in again.
-use Rattle.std.proofs.Common.{◌≡◌, ◌≢◌, ◌<◌, ◌≤◌, ◌+◌, ◌*◌, ◌%◌, ◌++◌, ◌∙◌, ◌∷◌, ℕ, zero, suc, [], List, length, map, sym, ap, subst, refl, take, take_all, drop, append_assoc, append-nil, arith, length-append, Some}
-use Rattle.std.specs.Prelude.{slice_get, slice_index_or}
-use Rattle.std.proofs.lemmas.List.{drop_all, map-append}
-use Rattle.std.proofs.lemmas.Bool.{ne_eqb}
-use Rattle.std.proofs.lemmas.Option.{slice_get_within, same_Some}
-use mathlib.Core.Logic.{dite}
-use native.Mathlib.Decide.{ℕ_discrete}
-use Rattle.bfd_turn.specs.Lists.{Begins}
+use Rattle.bfd_workers.proofs.Common.{◌≡◌, ◌≢◌, ◌<◌, ◌≤◌, ◌+◌, ◌*◌, ◌%◌, ◌++◌, ◌∙◌, ◌∷◌, ℕ, zero, suc, [], List, length, map, sym, ap, subst, refl, take, take_all, drop, append_assoc, append-nil, arith, length-append, Some, slice_get, slice_index_or, drop_all, map-append, ne_eqb, slice_get_within, same_Some, dite, ℕ_discrete, Begins, Shards, Knows, IsOf, AllThere, seen_at, met_word, taken_at, kept_at, mine, Parted, Joined, Numbered, Work, AllJobsJoined, AreJobs, JobsAreJoined, AreOwn, IsJoining, IsNewJob, number_of, own_queue}
 use Rattle.bfd_turn.proofs.Beginnings.{begins_through}
-use Rattle.bfd_engine.specs.Engines.{Shards, Knows, IsOf, AllThere}
-use Rattle.bfd_engine.specs.Calls.{seen_at, met_word, taken_at, kept_at, mine}
 use Rattle.bfd_engine.specs.Opening.{IsNewPass}
-use Rattle.bfd_engine.specs.Passes.{Parted, Joined}
 use Rattle.bfd_engine.proofs.Places.{last_here, front_here}
-use Rattle.bfd_gather.specs.declared.queue.Numbered.{Numbered}
-use Rattle.bfd_workers.specs.Jobs.{Work, AllJobsJoined, AreJobs, JobsAreJoined, AreOwn, IsJoining, IsNewJob, number_of, own_queue}
 
 module _ {A : Type 0} where
   -- what is true of each, with one more

@@ -1,3 +1,4 @@
+mod Common
 pub mod Soles
 pub mod Courses
 pub mod Owning

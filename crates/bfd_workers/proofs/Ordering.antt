@@ -1,11 +1,6 @@
 -- Results, one more of which has parts; and parts in order.
-use Rattle.std.proofs.Common.{◌≡◌, ◌≢◌, ◌<◌, ◌≤◌, ◌+◌, ◌%◌, ◌++◌, ◌∙◌, ◌∷◌, ℕ, suc, [], List, length, map, get_or, set, get_or-set_same, get_or-set_other, refl, sym, ap, subst, arith, length-append, Some, Result, Ok}
-use Rattle.std.specs.Prelude.{slice_get, slice_index_or}
-use Rattle.std.proofs.lemmas.List.{get_or-map, map-append, map-set, length-map, length-set, get_or_append_left}
-use Rattle.std.proofs.Math.Seq.{get_or-append_seam}
+use Rattle.bfd_workers.proofs.Common.{◌≡◌, ◌≢◌, ◌<◌, ◌≤◌, ◌+◌, ◌%◌, ◌++◌, ◌∙◌, ◌∷◌, ℕ, suc, [], List, length, map, get_or, set, get_or-set_same, get_or-set_other, refl, sym, ap, subst, arith, length-append, Some, Result, Ok, slice_get, slice_index_or, get_or-map, map-append, map-set, length-map, length-set, get_or_append_left, get_or-append_seam, dite, ℕ_discrete}
 use Rattle.bfd_shard.proofs.Lists.{put_other}
-use mathlib.Core.Logic.{dite}
-use native.Mathlib.Decide.{ℕ_discrete}
 
 -- the next of the results that are left
 pub mapped_here : {A B : Type 0} (f : A → B) (xs ys zs : List A) (x : A) → xs ++ x ∷ ys ≡ zs → slice_get (map f zs) (length xs) ≡ Some (f x)

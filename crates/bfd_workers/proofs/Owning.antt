@@ -1,13 +1,5 @@
 -- A worker's own queues, taken out one by one.
-use Rattle.std.proofs.Common.{◌≡◌, ◌≢◌, ◌<◌, ◌≤◌, ◌+◌, ◌%◌, ◌==◌, ◌++◌, ◌∙◌, ◌∷◌, Bool, false, ℕ, [], List, length, sym, ap, refl, subst, arith, length-append}
-use Rattle.std.specs.Prelude.{slice_index_or, if◌then◌else◌}
-use Rattle.std.proofs.lemmas.Bool.{ne_eqb}
-use Rattle.std.proofs.Math.Seq.{get_or-append_seam}
-use Rattle.std.proofs.lemmas.List.{get_or_append_left}
-use mathlib.Core.Logic.{dite}
-use native.Mathlib.Decide.{ℕ_discrete}
-use Rattle.bfd_gather.specs.declared.queue.Numbered.{Numbered}
-use Rattle.bfd_workers.specs.Jobs.{AreOwn, own_queue}
+use Rattle.bfd_workers.proofs.Common.{◌≡◌, ◌≢◌, ◌<◌, ◌≤◌, ◌+◌, ◌%◌, ◌==◌, ◌++◌, ◌∙◌, ◌∷◌, Bool, false, ℕ, [], List, length, sym, ap, refl, subst, arith, length-append, slice_index_or, if◌then◌else◌, ne_eqb, get_or-append_seam, get_or_append_left, dite, ℕ_discrete, Numbered, AreOwn, own_queue}
 
 -- those of the shards up to here were taken, and these are left
 pub record InOwn (workers at shard : ℕ) (all left own : List (List Numbered)) : Type 0 where

@@ -1,25 +1,11 @@
 -- What a caller has seen, where it is the only one.
-use Rattle.std.proofs.Common.{◌≡◌, ◌≢◌, ◌<◌, ◌≤◌, ◌+◌, ◌++◌, ◌∙◌, ◌∷◌, ℕ, [], List, length, map, sym, ap, subst, refl, append-nil, arith, length-append}
-use Rattle.std.proofs.lemmas.List.{length-map, map-append}
-use Rattle.std.proofs.lemmas.Bool.{eq-eqb, ne_eqb}
-use mathlib.Core.Logic.{dite}
-use native.Mathlib.Decide.{ℕ_discrete}
-use Rattle.bfd_session.specs.declared.event.SessionConfig.{SessionConfig}
-use Rattle.bfd_session.specs.Step.{started}
+use Rattle.bfd_workers.proofs.Common.{◌≡◌, ◌≢◌, ◌<◌, ◌≤◌, ◌+◌, ◌++◌, ◌∙◌, ◌∷◌, ℕ, [], List, length, map, sym, ap, subst, refl, append-nil, arith, length-append, length-map, map-append, eq-eqb, ne_eqb, dite, ℕ_discrete, SessionConfig, started, calls, EngineFault, Shards, Knows, configs_at, seen_at, taken_at, Numbered, Piece, event_pieces, shard_tells, entries_by, events_in, IsSole, HasDoneEvents, HasTold, IsTurnRefused, IsStopAt}
 use Rattle.bfd_shard.specs.declared.entry.Entry.{Entry}
 use Rattle.bfd_shard.specs.declared.entry.ShardEvent.{ShardEvent}
 use Rattle.bfd_shard.specs.History.{events_of, last_tick, outcome_of, runs}
-use Rattle.bfd_turn.specs.Lists.{calls}
-use Rattle.bfd_engine.specs.declared.fault.EngineFault.{EngineFault}
 use Rattle.bfd_engine.specs.declared.fault.EngineFault.TheVariants.{Memory, Full, Spent}
 use Rattle.bfd_engine.specs.Turned.{by, entry_of, given_after}
-use Rattle.bfd_engine.specs.Engines.{Shards, Knows, configs_at}
-use Rattle.bfd_engine.specs.Calls.{seen_at, taken_at}
-use Rattle.bfd_gather.specs.declared.queue.Numbered.{Numbered}
-use Rattle.bfd_gather.specs.Pieces.{Piece, event_pieces}
-use Rattle.bfd_gather.specs.Happenings.{shard_tells}
 use Rattle.bfd_gather.proofs.Histories.{told_runs}
-use Rattle.bfd_workers.specs.Working.{entries_by, events_in, IsSole, HasDoneEvents, HasTold, IsTurnRefused, IsStopAt}
 
 pub front_sole : (w : ℕ) (xs ys : List Entry) → IsSole w (xs ++ ys) → IsSole w xs
 front_sole w [] ys h = tt

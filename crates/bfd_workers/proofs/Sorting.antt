@@ -1,7 +1,6 @@
 -- Sessions and reflectors that make a table stand in order.
-use Rattle.std.proofs.Common.{List}
+use Rattle.bfd_workers.proofs.Common.{List, SessionConfig}
 use Rattle.bfd_sbfd.specs.declared.reflecting.Reflector.{Reflector}
-use Rattle.bfd_session.specs.declared.event.SessionConfig.{SessionConfig}
 use Rattle.bfd_engine.specs.Opening.{IsSorted}
 use Rattle.bfd_engine.proofs.Ordered as ordered
 use Rattle.bfd_replay.specs.Stage.{IsTable}

@@ -1,14 +1,9 @@
 -- Sessions that are Up, counted by shards.
-use Rattle.std.proofs.Common.{◌≡◌, ◌<◌, ◌+◌, ◌-◌, ◌∙◌, Bool, true, false, ℕ, zero, suc, List, [], ◌∷◌, length, get_or, refl, sym, ap, subst, arith}
-use Rattle.std.specs.Prelude.{sum_by, if◌then◌else◌}
+use Rattle.bfd_workers.proofs.Common.{◌≡◌, ◌<◌, ◌+◌, ◌-◌, ◌∙◌, Bool, true, false, ℕ, zero, suc, List, [], ◌∷◌, length, get_or, refl, sym, ap, subst, arith, sum_by, if◌then◌else◌, dite, ℕ_discrete, Shard, IsShard, one_up, sum_to, ups}
 use Rattle.std.proofs.lemmas.List.Sums.{sum_by-cons}
 use Rattle.bfd_rules.specs.Quantities.{is_up}
 use Rattle.bfd_session.specs.Kinds.{Running}
-use mathlib.Core.Logic.{dite}
-use native.Mathlib.Decide.{ℕ_discrete}
 use Rattle.bfd_shard.specs.Dealing.{share}
-use Rattle.bfd_shard.specs.Shard.{Shard, IsShard}
-use Rattle.bfd_workers.specs.Counts.{one_up, sum_to, ups}
 
 one_more : (b : Bool) (s : Running) (ss : List Running) → is_up s.vars.state ≡ b → ups (s ∷ ss) ≡ (if b then 1 else 0) + ups ss
 one_more true s ss is = rw is (omega arith)

@@ -1,41 +1,26 @@
 -- A script on shards is the script on the whole table.
-use Rattle.std.proofs.Common.{◌≡◌, inl, inr, ◌<◌, ◌≤◌, ◌+◌, ◌-◌, ◌*◌, ◌/◌, ◌%◌, ◌==◌, ◌∙◌, ◌∷◌, Bool, true, false, ℕ, zero, suc, [], List, length, map, get_or, refl, sym, ap, subst, arith, Some, None, Option, add_comm}
-use Rattle.std.specs.Prelude.{slice_index_or, sum_by, if◌then◌else◌}
+use Rattle.bfd_workers.proofs.Common.{◌≡◌, inl, inr, ◌<◌, ◌≤◌, ◌+◌, ◌-◌, ◌*◌, ◌/◌, ◌%◌, ◌==◌, ◌∙◌, ◌∷◌, Bool, true, false, ℕ, zero, suc, [], List, length, map, get_or, refl, sym, ap, subst, arith, Some, None, Option, add_comm, slice_index_or, sum_by, if◌then◌else◌, length-map, slice_get-get_or, slice_get_within, eqb-true, cases_lt, SessionConfig, started, Shard, CanHappen, IsShard, Shards, configs_at, Numbered, Piece, Happening, Apart, Among, AreParts, in_shard, numbered, queue, shard_tells, told_apart, AreQueues, IsMet, events_of_table, happening, happenings, AreMet, entries_by, events_in, one_up, sum_to, ups, left_is, world_is}
 use Rattle.std.specs.List.{AllByRecursion, cons_option}
-use Rattle.std.proofs.lemmas.List.{length-map}
-use Rattle.std.proofs.lemmas.Option.{slice_get-get_or, slice_get_within}
-use Rattle.std.proofs.lemmas.Bool.{eqb-true, cases_lt}
 use Rattle.bfd_session.specs.declared.event.Event.{Event}
-use Rattle.bfd_session.specs.declared.event.SessionConfig.{SessionConfig}
 use Rattle.bfd_session.specs.Kinds.{Running, configs_of}
 use Rattle.bfd_session.specs.Rows.{Ascends}
-use Rattle.bfd_session.specs.Step.{started}
 use Rattle.bfd_session.proofs.Starting.{started_configs}
 use Rattle.bfd_shard.specs.declared.entry.ShardEvent.TheVariants.{Own, Tick}
 use Rattle.bfd_shard.specs.Dealing.{history_of, share}
 use Rattle.bfd_shard.proofs.Sharing.{few_share}
 use Rattle.bfd_shard.specs.History.{events_of, later, moved, runs}
-use Rattle.bfd_shard.specs.Shard.{Shard, CanHappen, IsShard}
 use Rattle.bfd_sbfd.specs.declared.reflecting.Reflector.{Reflector}
 use Rattle.bfd_line.specs.declared.entries.Line.{Line}
 use Rattle.bfd_script.specs.Reading.{Lists}
-use Rattle.bfd_engine.specs.Engines.{Shards, configs_at}
 use Rattle.bfd_engine.proofs.Reaching.{dealt_event}
-use Rattle.bfd_gather.specs.declared.queue.Numbered.{Numbered}
-use Rattle.bfd_gather.specs.Pieces.{Piece}
-use Rattle.bfd_gather.specs.Happenings.{Happening, Apart, Among, AreParts, in_shard, numbered, queue, shard_tells, told_apart}
 use Rattle.bfd_gather.specs.Happenings as gather
 use Rattle.bfd_shard.proofs.Sharing.{share_map}
 use Rattle.bfd_gather.proofs.Histories.{queue_events, runs_share}
 use Rattle.bfd_replay.specs.World.{totals}
-use Rattle.bfd_plan.specs.Planned.{AreQueues, IsMet, events_of_table, happening, happenings}
-use Rattle.bfd_workers.specs.Working.{AreMet, entries_by, events_in}
 use Rattle.bfd_workers.specs.Ends.{AreStates, AreTold}
 use Rattle.bfd_workers.specs.Replayed.{HaveReplayed}
-use Rattle.bfd_workers.specs.Counts.{one_up, sum_to, ups}
 use Rattle.bfd_workers.proofs.Soles.{events_entries}
 use Rattle.bfd_workers.proofs.Summing.{sum_same, ups_are as counted, ups_shared}
-use Rattle.bfd_plan.proofs.Worlds.{left_is, world_is}
 
 pub room_enough : (engine : Shards) (s room : ℕ) (configs : List SessionConfig) → engine.configs ≡ configs → room ≡ 5 * length configs + 5 → 5 * length (configs_at engine s) + 5 ≤ room
 room_enough engine s room configs is enough = let a = few_share (length engine.locks) s engine.configs in let b = ap length is in omega (arith, a, b, enough)

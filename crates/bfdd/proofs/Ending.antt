@@ -1,17 +1,10 @@
 -- How a job may end.
-use Rattle.std.proofs.Common.{◌≡◌, ◌≢◌, ◌⊎◌, ℕ, true, false, List, Option, Some, inl, inr, refl, sym, subst}
+use Rattle.bfdd.proofs.Common.{◌≡◌, ◌≢◌, ◌⊎◌, ℕ, true, false, List, Option, Some, inl, inr, refl, sym, subst, Job, Status, Done, Usage, BadLine, ReadFault, WriteFault, TooLarge, Memory, NoMember, Comes, Edges, IsFaulty, IsOverlong, status_of, IsDecided, IsEndOf, WhereUnopened, Wanted, reads, serves}
 use Rattle.bfd_serving.specs.declared.finish.Finish.{Finish}
 use Rattle.bfd_serving.specs.declared.finish.Finish.TheVariants as finish
 use Rattle.bfd_script.specs.Reading.{Lists}
-use Rattle.bfd_words.specs.declared.job.Job.{Job}
 use Rattle.bfd_words.specs.declared.job.Job.TheVariants.{Replay, Serve, Load, Pair, Watch}
-use Rattle.bfd_jobs.specs.declared.status.Status.{Status}
-use Rattle.bfd_jobs.specs.declared.status.Status.TheVariants.{Done, Usage, BadLine, ReadFault, WriteFault, TooLarge, Memory, NoMember}
-use Rattle.bfd_jobs.specs.Serving.{Comes, Edges, IsFaulty, IsOverlong, status_of}
-use Rattle.bfdd.specs.Status.{IsDecided, IsEndOf, WhereUnopened}
 use Rattle.bfd_jobs.specs.Telling.{Tells, TellsBytes}
-use Rattle.bfd_jobs.specs.Text.{Wanted}
-use Rattle.bfd_jobs.specs.Words.{reads, serves}
 use Rattle.bfd_jobs.proofs.Answering.{each_answer}
 
 -- what the bytes alone decide

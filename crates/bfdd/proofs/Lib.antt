@@ -1,3 +1,4 @@
+mod Common
 pub mod Ending
 pub mod Served
 pub mod Wanting

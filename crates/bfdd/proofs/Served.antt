@@ -1,17 +1,9 @@
 -- The status that comes of what `serve` has to tell.
-use Rattle.std.proofs.Common.{◌≡◌, ◌⊎◌, ◌≤◌, ℕ, true, List, length, Option, Some, None, Ok, inl, inr, refl, sym, subst, arith}
+use Rattle.bfdd.proofs.Common.{◌≡◌, ◌⊎◌, ◌≤◌, ℕ, true, List, length, Option, Some, None, Ok, inl, inr, refl, sym, subst, arith, ◌+◌, ◌-◌, ◌^◌, min, IfSome, Rose, risen, Status, Memory, Comes, Edges, HasNoScript, HasServedScript, IsFaulty, IsServedToFinish, IsOverlong, IsServed, Wanted, most_bytes, OfServing, serves, Job}
 use Rattle.std.proofs.Math.Nat.{le-max_right}
-use Rattle.std.specs.Prelude.{◌+◌, ◌-◌, ◌^◌, min, IfSome}
-use Rattle.bfd_edge.specs.Faults.{Rose, risen}
 use Rattle.bfd_jobs.proofs.Served.{read_whole}
-use Rattle.bfd_jobs.specs.declared.status.Status.{Status}
-use Rattle.bfd_jobs.specs.declared.status.Status.TheVariants.{Memory}
-use Rattle.bfd_jobs.specs.Serving.{Comes, Edges, HasNoScript, HasServedScript, IsFaulty, IsServedToFinish, IsOverlong, IsServed}
 use Rattle.bfd_jobs.specs.Telling.{Tells}
-use Rattle.bfd_jobs.specs.Text.{Wanted, most_bytes}
-use Rattle.bfd_jobs.specs.Words.{OfServing, serves}
 use Rattle.bfd_script.specs.Reading.{Lists, script_of}
-use Rattle.bfd_words.specs.declared.job.Job.{Job}
 use Rattle.bfd_words.specs.declared.job.Job.TheVariants.{Serve}
 
 -- a fact about a job, where it serves

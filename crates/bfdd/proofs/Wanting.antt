@@ -1,11 +1,5 @@
 -- What is true of what is wanted.
-use Rattle.std.proofs.Common.{◌≡◌, ◌⊎◌, ℕ, List, Option, Some, None, inl, inr, refl, sym, subst}
-use Rattle.std.specs.Prelude.{IfSome}
-use Rattle.bfd_words.specs.declared.job.Job.{Job}
-use Rattle.bfd_jobs.specs.declared.status.Status.{Status}
-use Rattle.bfd_jobs.specs.declared.status.Status.TheVariants.{Done, ReadFault, WriteFault, Memory}
-use Rattle.bfdd.specs.Status.{IsDecided}
-use Rattle.bfd_jobs.specs.Text.{Wanted, wanted, wanted_of}
+use Rattle.bfdd.proofs.Common.{◌≡◌, ◌⊎◌, ℕ, List, Option, Some, None, inl, inr, refl, sym, subst, IfSome, Job, Status, Done, ReadFault, WriteFault, Memory, IsDecided, Wanted, wanted, wanted_of}
 
 -- what is true of whatever may be wanted
 pub of_all : (known : Option Wanted) (P : Wanted → Type 0) → ((w : Wanted) → P w) → IfSome known P

@@ -1,15 +1,10 @@
 -- What comes of writing an answer, clause by clause of a run.
-use Rattle.std.proofs.Common.{◌≡◌, ◌≢◌, ◌⊎◌, ℕ, List, [], Option, inl, inr, refl, sym, ◌∙◌, subst, append-nil}
+use Rattle.bfdd.proofs.Common.{◌≡◌, ◌≢◌, ◌⊎◌, ℕ, List, [], Option, inl, inr, refl, sym, ◌∙◌, subst, append-nil, Rose, Status, Done, Usage, BadLine, ReadFault, WriteFault, PortFault, LinkFault, TooLarge, JournalFull, Turns, ClockFault, Memory, NoMember, IsDecided, IsWrittenBy, OnBadLine, UnlessWriting, WhereUnwritten, Wanted, complaint_line}
 use Rattle.std.specs.Io.KnownBytes.{Appends}
 use Rattle.std.proofs.KnownBytes.{Appends-nil}
-use Rattle.bfd_edge.specs.Faults.{Rose}
 use Rattle.bfd_fields.specs.declared.fault.BadLine.{BadLine as FaultyLine}
-use Rattle.bfd_jobs.specs.declared.status.Status.{Status}
-use Rattle.bfd_jobs.specs.declared.status.Status.TheVariants.{Done, Usage, BadLine, ReadFault, WriteFault, PortFault, LinkFault, TooLarge, JournalFull, Turns, ClockFault, Memory, NoMember}
 use Rattle.bfd_jobs.specs.Answers.{HasText, IsAnswer}
 use Rattle.bfd_alone.specs.Written.{TookFront}
-use Rattle.bfdd.specs.Status.{IsDecided, IsWrittenBy, OnBadLine, UnlessWriting, WhereUnwritten}
-use Rattle.bfd_jobs.specs.Text.{Wanted, complaint_line}
 use Rattle.bfdd.specs.Writing.{Writes, broken_off}
 use Rattle.bfd_alone.proofs.Written.{took_nothing}
 

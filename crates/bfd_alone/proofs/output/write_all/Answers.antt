@@ -1,4 +1,4 @@
-use Rattle.std.proofs.Common.{arith, inl, ◌∙◌}
+use Rattle.bfd_alone.proofs.Common.{arith, inl, ◌∙◌}
 use Rattle.bfd_alone.proofs.Written.{took_more}
 use Rattle.bfd_alone.proofs.output.write_all.Goals as goal
 

@@ -1,5 +1,4 @@
-use Rattle.std.proofs.Common.{◌≡◌, length}
-use Rattle.bfd_alone.specs.Written.{TookUpTo}
+use Rattle.bfd_alone.proofs.Common.{◌≡◌, length, TookUpTo}
 use Rattle.bfd_alone.proofs.output.write_all.Given as goal
 
 -- a front of the text was taken, the rest is still to be written, and no write failed

@@ -1,17 +1,11 @@
 -- What the events give is what the script's lines give.
-use Rattle.std.proofs.Common.{◌≡◌, List, map, ap, subst, ◌∙◌}
-use Rattle.std.specs.Io.KnownBytes.{Appends}
+use Rattle.bfd_alone.proofs.Common.{◌≡◌, List, map, ap, subst, ◌∙◌, Appends, SessionConfig, report, Happening, happening_outcomes, happenings, route_is, script_with, TookFront}
 use Rattle.bfd_session.specs.Step.{started}
-use Rattle.bfd_session.specs.declared.event.SessionConfig.{SessionConfig}
 use Rattle.bfd_sbfd.specs.declared.reflecting.Reflector.{Reflector}
 use Rattle.bfd_line.specs.declared.entries.Line.{Line}
 use Rattle.bfd_script.specs.Reading.{Lists}
-use Rattle.bfd_script.specs.Report.{report}
-use Rattle.bfd_gather.specs.Happenings.{Happening, happening_outcomes}
 use Rattle.bfd_replay.specs.World.{replayed}
-use Rattle.bfd_plan.specs.Planned.{happenings, route_is, script_with}
 use Rattle.bfd_plan.proofs.Worlds.{world_is}
-use Rattle.bfd_alone.specs.Written.{TookFront}
 use Rattle.bfd_alone.proofs.Written.{took_nothing, when_ok}
 use Rattle.bfd_alone.proofs.reporting.report_to.Goals as goal
 

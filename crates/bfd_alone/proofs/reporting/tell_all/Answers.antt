@@ -1,17 +1,7 @@
 -- The lines and the last line are the report.
-use Rattle.std.proofs.Common.{◌≡◌, ℕ, List, map, ap, subst, sym, ◌∙◌}
-use Rattle.std.specs.Io.KnownBytes.{Appends}
-use Rattle.std.specs.List.{AllByRecursion}
-use Rattle.bfd_session.specs.Alone.{Outcome}
-use Rattle.bfd_session.specs.Kinds.{Running, configs_of}
+use Rattle.bfd_alone.proofs.Common.{◌≡◌, ℕ, List, map, ap, subst, sym, ◌∙◌, Appends, AllByRecursion, Outcome, Running, configs_of, SessionConfig, report, Happening, happening_outcomes, IsMet, route_is, Telling, TookFront}
 use Rattle.bfd_session.specs.Step.{started}
-use Rattle.bfd_session.specs.declared.event.SessionConfig.{SessionConfig}
 use Rattle.bfd_session.proofs.Starting.{started_configs}
-use Rattle.bfd_script.specs.Report.{report}
-use Rattle.bfd_gather.specs.Happenings.{Happening, happening_outcomes}
-use Rattle.bfd_plan.specs.Planned.{IsMet, route_is}
-use Rattle.bfd_alone.specs.Telling.{Telling}
-use Rattle.bfd_alone.specs.Written.{TookFront}
 use Rattle.bfd_alone.proofs.Written.{took_nothing, when_ok}
 use Rattle.bfd_alone.proofs.Events.{lines_front, report_front, report_whole}
 use Rattle.bfd_alone.proofs.reporting.tell_all.Goals as goal

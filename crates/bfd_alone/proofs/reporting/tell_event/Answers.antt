@@ -1,9 +1,5 @@
 -- The event's lines are told, and nothing was taken where it came to none.
-use Rattle.std.proofs.Common.{◌+◌, ◌++◌, ◌∷◌}
-use Rattle.bfd_session.specs.Alone.{Outcome}
-use Rattle.bfd_script.specs.Report.{lines_from}
-use Rattle.bfd_gather.specs.Happenings.{happening_outcomes}
-use Rattle.bfd_plan.specs.Planned.{route_is}
+use Rattle.bfd_alone.proofs.Common.{◌+◌, ◌++◌, ◌∷◌, Outcome, lines_from, happening_outcomes, route_is}
 use Rattle.bfd_alone.proofs.Written.{took_nothing}
 use Rattle.bfd_alone.proofs.Events.{event_front}
 use Rattle.bfd_alone.proofs.reporting.tell_event.Goals as goal

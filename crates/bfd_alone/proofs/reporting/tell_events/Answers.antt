@@ -1,14 +1,5 @@
 -- One event more is told.
-use Rattle.std.proofs.Common.{◌≡◌, ◌+◌, ◌++◌, ◌∷◌, List, length, map, reverse, ap, subst, sym, ◌∙◌, arith}
-use Rattle.std.specs.List.{AllByRecursion}
-use Rattle.bfd_session.specs.Alone.{Outcome}
-use Rattle.bfd_session.specs.Kinds.{configs_of}
-use Rattle.bfd_session.specs.declared.event.SessionConfig.{SessionConfig}
-use Rattle.bfd_script.specs.Report.{lines_from}
-use Rattle.bfd_gather.specs.Happenings.{Happening, happening_outcomes}
-use Rattle.bfd_plan.specs.Planned.{IsMet, route_is}
-use Rattle.bfd_alone.specs.Telling.{ToldUpTo}
-use Rattle.bfd_alone.specs.Written.{TookFront}
+use Rattle.bfd_alone.proofs.Common.{◌≡◌, ◌+◌, ◌++◌, ◌∷◌, List, length, map, reverse, ap, subst, sym, ◌∙◌, arith, AllByRecursion, Outcome, configs_of, SessionConfig, lines_from, Happening, happening_outcomes, IsMet, route_is, ToldUpTo, TookFront}
 use Rattle.bfd_alone.proofs.Written.{took_front}
 use Rattle.bfd_alone.proofs.Events.{told_on}
 use Rattle.bfd_alone.proofs.reporting.tell_events.Goals as goal

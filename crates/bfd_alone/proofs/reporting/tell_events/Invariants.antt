@@ -1,10 +1,5 @@
 -- The events so far were told; those that are left stand in reverse.
-use Rattle.std.proofs.Common.{◌≡◌, ◌≤◌, ◌+◌, ◌*◌, length, map, reverse}
-use Rattle.std.specs.List.{AllByRecursion}
-use Rattle.bfd_session.specs.Kinds.{configs_of}
-use Rattle.bfd_gather.specs.Happenings.{happening_outcomes}
-use Rattle.bfd_plan.specs.Planned.{IsMet, route_is}
-use Rattle.bfd_alone.specs.Telling.{ToldUpTo}
+use Rattle.bfd_alone.proofs.Common.{◌≡◌, ◌≤◌, ◌+◌, ◌*◌, length, map, reverse, AllByRecursion, configs_of, happening_outcomes, IsMet, route_is, ToldUpTo}
 use Rattle.bfd_alone.proofs.reporting.tell_events.Given as goal
 
 abbrev pub invariant-events : goal.invariant-events

@@ -1,5 +1,5 @@
 -- What the lines so far are; those that are left stand in reverse.
-use Rattle.std.proofs.Common.{length, reverse}
+use Rattle.bfd_alone.proofs.Common.{length, reverse}
 use Rattle.bfd_alone.proofs.Routing.{IsFound}
 use Rattle.bfd_alone.proofs.routes.found.Given as goal
 

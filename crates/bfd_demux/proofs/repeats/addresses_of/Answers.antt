@@ -1,7 +1,6 @@
-use Rattle.std.proofs.Common.{rules, tests}
+use Rattle.bfd_demux.proofs.Common.{rules, tests, has_addresses}
 use Rattle.std.proofs.lemmas.Iterator.{YieldsList-from_slice, YieldsList-from_map, items_from_collect}
 use Rattle.std.proofs.lemmas.Iterator.Consumers.{YieldsList-at, YieldsList-from_filter}
-use Rattle.bfd_demux.specs.Rows.{has_addresses}
 use Rattle.bfd_demux.proofs.repeats.addresses_of.Goals as goal
 
 pub returns : goal.returns

@@ -1,7 +1,5 @@
-use Rattle.std.proofs.Common.{arith, sym, ◌∙◌, ap}
-use Rattle.std.specs.BTreeMap.{get}
+use Rattle.bfd_demux.proofs.Common.{arith, sym, ◌∙◌, ap, get, same_addresses}
 use Rattle.bfd_demux.specs.contracts.row.RowKindOrd.TheImpl as kinds
-use Rattle.bfd_demux.specs.Rows.{same_addresses}
 use Rattle.bfd_demux.proofs.AlikeRows.{repeated_here, repeated_later, kinds_more, kinds_same, unaddressed, position_from-none}
 use Rattle.bfd_demux.proofs.repeats.search_addresses.Goals as goal
 use Rattle.bfd_demux.proofs.repeats.search_addresses.Goals.{then-has_addresses+in_default+in_ok-insert, else-has_addresses}

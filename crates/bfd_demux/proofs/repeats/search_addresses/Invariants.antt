@@ -1,9 +1,5 @@
-use Rattle.std.proofs.Common.{◌≡◌, true, take, drop}
-use Rattle.std.specs.BTreeMap.{get}
-use Rattle.std.specs.List.{position_from}
-use Rattle.bfd_demux.specs.declared.row.RowKind.{RowKind}
+use Rattle.bfd_demux.proofs.Common.{◌≡◌, true, take, drop, get, position_from, RowKind, first_repeat, repeat_after, same_addresses, same_selector, has_addresses}
 use Rattle.bfd_demux.specs.contracts.row.RowKindOrd.TheImpl as kinds
-use Rattle.bfd_demux.specs.Rows.{first_repeat, repeat_after, same_addresses, same_selector, has_addresses}
 use Rattle.bfd_demux.proofs.repeats.search_addresses.Given as goal
 
 abbrev pub invariant-loop-place : goal.invariant-loop-place

@@ -1,7 +1,4 @@
-use Rattle.std.proofs.Common.{arith, sym, ◌∙◌}
-use Rattle.std.specs.Ordering.{nat_cmp}
-use Rattle.std.specs.BTreeMap.{get}
-use Rattle.bfd_demux.specs.Rows.{same_discr}
+use Rattle.bfd_demux.proofs.Common.{arith, sym, ◌∙◌, nat_cmp, get, same_discr}
 use Rattle.bfd_demux.proofs.AlikeRows.{repeated_here, repeated_later, discrs_more}
 use Rattle.bfd_demux.proofs.repeats.search_discrs.Goals as goal
 

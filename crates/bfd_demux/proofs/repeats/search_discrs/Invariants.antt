@@ -1,8 +1,4 @@
-use Rattle.std.proofs.Common.{◌≡◌, ℕ, ◌==◌, take, drop}
-use Rattle.std.specs.Ordering.{nat_cmp}
-use Rattle.std.specs.BTreeMap.{get}
-use Rattle.std.specs.List.{position_from}
-use Rattle.bfd_demux.specs.Rows.{first_repeat, repeat_after, same_discr}
+use Rattle.bfd_demux.proofs.Common.{◌≡◌, ℕ, ◌==◌, take, drop, nat_cmp, get, position_from, first_repeat, repeat_after, same_discr}
 use Rattle.bfd_demux.proofs.repeats.search_discrs.Given as goal
 
 abbrev pub invariant-loop-place : goal.invariant-loop-place

@@ -1,6 +1,4 @@
-use Rattle.std.proofs.Common.{arith, sym, ap, ◌∙◌, ◌≡◌, ◌<◌, ◌-◌, true, length, get_or}
-use Rattle.std.proofs.lemmas.List.{get_or_read}
-use Rattle.std.specs.Ordering.{is_lt}
+use Rattle.bfd_demux.proofs.Common.{arith, sym, ap, ◌∙◌, ◌≡◌, ◌<◌, ◌-◌, true, length, get_or, get_or_read, is_lt}
 use Rattle.bfd_demux.proofs.Ascending.{one_longer}
 use Rattle.bfd_demux.proofs.table.is_ascending.Goals as goal
 

@@ -1,5 +1,4 @@
-use Rattle.std.proofs.Common.{◌≡◌, ◌<◌, ℕ, get_or}
-use Rattle.std.specs.declared.cmp.Ordering.TheVariants.{Less}
+use Rattle.bfd_demux.proofs.Common.{◌≡◌, ◌<◌, ℕ, get_or, Less}
 use Rattle.bfd_demux.proofs.table.is_ascending.Given as goal
 
 abbrev pub invariant-loop-place : goal.invariant-loop-place

@@ -1,5 +1,4 @@
-use Rattle.std.proofs.Common.{◌≡◌, ◌+◌, ◌-◌, ◌/◌, ◌<◌, arith, sym, ap, ◌∙◌, length}
-use Rattle.std.proofs.lemmas.List.{get_or_read}
+use Rattle.bfd_demux.proofs.Common.{◌≡◌, ◌+◌, ◌-◌, ◌/◌, ◌<◌, arith, sym, ap, ◌∙◌, length, get_or_read}
 use Rattle.bfd_demux.proofs.Ascending.{lower_up_to, higher_from, place_found, place_missing, halves, few_steps}
 use Rattle.bfd_demux.proofs.table.search.Goals as goal
 

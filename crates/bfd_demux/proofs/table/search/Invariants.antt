@@ -1,5 +1,4 @@
-use Rattle.std.proofs.Common.{◌-◌, ◌≡◌, ◌+◌, ◌<◌, ◌≤◌, ℕ, ◌*◌, ◌^◌, length, get_or}
-use Rattle.std.specs.declared.cmp.Ordering.TheVariants.{Less, Greater}
+use Rattle.bfd_demux.proofs.Common.{◌-◌, ◌≡◌, ◌+◌, ◌<◌, ◌≤◌, ℕ, ◌*◌, ◌^◌, length, get_or, Less, Greater}
 use Rattle.bfd_demux.proofs.table.search.Given as goal
 
 abbrev pub invariant-loop-low : goal.invariant-loop-low

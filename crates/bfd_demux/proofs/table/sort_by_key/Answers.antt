@@ -1,5 +1,4 @@
-use Rattle.std.proofs.Common.{rules}
-use Rattle.std.proofs.lemmas.List.Sorted.{answers_always}
+use Rattle.bfd_demux.proofs.Common.{rules, answers_always}
 use Rattle.bfd_demux.proofs.Ascending.{ascending_from_sorted, keys_once-IsPermutation, keys_once-IsPermutation_back, once_ascending}
 use Rattle.bfd_demux.proofs.table.sort_by_key.Goals as goal
 

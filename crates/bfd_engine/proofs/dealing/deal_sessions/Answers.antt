@@ -1,9 +1,5 @@
 -- One session more is dealt out.
-use Rattle.std.proofs.Common.{rules, ◌≡◌, ◌∷◌, ◌++◌, [], sym, arith, map, get_or, subst, ◌∙◌}
-use Rattle.std.proofs.lemmas.List.{nil_from_length}
-use Rattle.std.proofs.lemmas.Bool.Decides.{nat_tests}
-use mathlib.Core.Logic.{dite}
-use native.Mathlib.Decide.{ℕ_discrete}
+use Rattle.bfd_engine.proofs.Common.{rules, ◌≡◌, ◌∷◌, ◌++◌, [], sym, arith, map, get_or, subst, ◌∙◌, nil_from_length, nat_tests, dite, ℕ_discrete}
 use Rattle.bfd_engine.proofs.Sharing.{shares_none, shares_own, shares_other, shares_all}
 use Rattle.bfd_engine.proofs.dealing.deal_sessions.Goals as goal
 

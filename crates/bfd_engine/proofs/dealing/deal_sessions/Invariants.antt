@@ -1,4 +1,4 @@
-use Rattle.std.proofs.Common.{◌≡◌, ◌<◌, ℕ, [], length, map, get_or}
+use Rattle.bfd_engine.proofs.Common.{◌≡◌, ◌<◌, ℕ, [], length, map, get_or}
 use Rattle.bfd_engine.proofs.Sharing.{Shares}
 use Rattle.bfd_engine.proofs.dealing.deal_sessions.Given as goal
 

@@ -1,4 +1,4 @@
-use Rattle.std.proofs.Common.{◌≡◌, ℕ, [], length, map, get_or}
+use Rattle.bfd_engine.proofs.Common.{◌≡◌, ℕ, [], length, map, get_or}
 use Rattle.bfd_engine.proofs.dealing.empty_parts.Given as goal
 
 abbrev pub invariant-loop : goal.invariant-loop

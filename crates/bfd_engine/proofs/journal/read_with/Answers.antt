@@ -1,8 +1,5 @@
 -- What was copied is what the shard's history has from there on.
-use Rattle.std.proofs.Common.{◌≡◌, ◌∙◌, List, drop, ap}
-use Rattle.bfd_session.specs.Kinds.{configs_of}
-use Rattle.bfd_shard.specs.declared.entry.Entry.{Entry}
-use Rattle.bfd_engine.specs.Turned.{configs_in}
+use Rattle.bfd_engine.proofs.Common.{◌≡◌, ◌∙◌, List, drop, ap, configs_of, Entry, configs_in}
 use Rattle.bfd_engine.proofs.Copies.{given_from}
 use Rattle.bfd_engine.proofs.journal.read_with.Goals as goal
 

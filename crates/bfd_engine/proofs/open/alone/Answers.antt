@@ -1,5 +1,5 @@
 -- The shards are those of the shares.
-use Rattle.std.proofs.Common.{map}
+use Rattle.bfd_engine.proofs.Common.{map}
 use Rattle.bfd_engine.proofs.Opening.{may_open}
 use Rattle.bfd_engine.proofs.open.alone.Goals as goal
 

@@ -1,6 +1,5 @@
 -- One shard more.
-use Rattle.std.proofs.Common.{◌∷◌, map, ap, sym, ◌∙◌}
-use Rattle.std.proofs.lemmas.List.{nil_from_length}
+use Rattle.bfd_engine.proofs.Common.{◌∷◌, map, ap, sym, ◌∙◌, nil_from_length}
 use Rattle.bfd_engine.proofs.Making.{apart_more, apart_all}
 use Rattle.bfd_engine.proofs.open.apart.Goals as goal
 

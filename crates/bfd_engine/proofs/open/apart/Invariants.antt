@@ -1,4 +1,4 @@
-use Rattle.std.proofs.Common.{map}
+use Rattle.bfd_engine.proofs.Common.{map}
 use Rattle.bfd_engine.proofs.Making.{Apart}
 use Rattle.bfd_engine.proofs.open.apart.Given as goal
 

@@ -1,6 +1,5 @@
 -- The parts are the shares.
-use Rattle.std.proofs.Common.{◌∙◌, map}
-use Rattle.std.proofs.lemmas.List.{length-map}
+use Rattle.bfd_engine.proofs.Common.{◌∙◌, map, length-map}
 use Rattle.bfd_engine.proofs.Opening.{are_shares}
 use Rattle.bfd_engine.proofs.open.deal_all.Goals as goal
 

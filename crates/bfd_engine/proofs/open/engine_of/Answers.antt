@@ -1,5 +1,5 @@
 -- The shards are those of the shares.
-use Rattle.std.proofs.Common.{refl}
+use Rattle.bfd_engine.proofs.Common.{refl}
 use Rattle.bfd_engine.proofs.Opening.{numbers, engine_is, pass_is}
 use Rattle.bfd_engine.proofs.open.engine_of.Goals as goal
 

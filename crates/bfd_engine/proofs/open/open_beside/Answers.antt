@@ -1,6 +1,5 @@
 -- What each thread is given, and what it makes of it.
-use Rattle.std.proofs.Common.{rules, ◌≡◌, length, map, get_or, IfOk, ap, sym, subst, ◌∙◌}
-use Rattle.bfd_engine.specs.Opening.{IsMade, AreMade}
+use Rattle.bfd_engine.proofs.Common.{rules, ◌≡◌, length, map, get_or, IfOk, ap, sym, subst, ◌∙◌, IsMade, AreMade}
 use Rattle.bfd_engine.proofs.Making.{made_each, passed_at}
 use Rattle.bfd_engine.proofs.open.open_beside.Goals as goal
 

@@ -1,6 +1,5 @@
 -- One shard more.
-use Rattle.std.proofs.Common.{◌∷◌, ◌++◌, [], map, ap, sym, subst, ◌∙◌, append_assoc}
-use Rattle.bfd_engine.specs.Opening.{ArePassed}
+use Rattle.bfd_engine.proofs.Common.{◌∷◌, ◌++◌, [], map, ap, sym, subst, ◌∙◌, append_assoc, ArePassed}
 use Rattle.bfd_engine.proofs.Making.{parts_more}
 use Rattle.bfd_engine.proofs.open.open_shards.Goals as goal
 

@@ -1,5 +1,4 @@
-use Rattle.std.proofs.Common.{◌≡◌, ◌++◌, map}
-use Rattle.bfd_engine.specs.Opening.{ArePassed, AreMade}
+use Rattle.bfd_engine.proofs.Common.{◌≡◌, ◌++◌, map, ArePassed, AreMade}
 use Rattle.bfd_engine.proofs.open.open_shards.Given as goal
 
 abbrev pub invariant-loop-part : goal.invariant-loop-part

@@ -1,9 +1,6 @@
 -- The room for the outputs, and what the entry tells.
-use Rattle.std.proofs.Common.{rules, sym, length, ◌<◌, ◌≡◌, ◌∙◌, ◌++◌, ◌∷◌, [], ap, arith}
-use Rattle.bfd_session.specs.Kinds.{configs_of}
+use Rattle.bfd_engine.proofs.Common.{rules, sym, length, ◌<◌, ◌≡◌, ◌∙◌, ◌++◌, ◌∷◌, [], ap, arith, configs_of, configs_in, entry_of, limit_in, room_in, room_for}
 use Rattle.bfd_engine.proofs.Timing.{timely, turned_here}
-use Rattle.bfd_engine.specs.Turned.{configs_in, entry_of, limit_in, room_in}
-use Rattle.bfd_shard.specs.Shard.{room_for}
 use Rattle.bfd_engine.proofs.Rooms.{room_by}
 use Rattle.bfd_engine.proofs.turn.turn_with.Goals as goal
 

@@ -1,4 +1,4 @@
-use Rattle.std.proofs.Common.{arith}
+use Rattle.bfd_fields.proofs.Common.{arith}
 use Rattle.bfd_fields.proofs.Nibbles.{run_decoded}
 use Rattle.bfd_fields.proofs.digits.bytes_of_run.Goals as goal
 

@@ -1,4 +1,4 @@
-use Rattle.std.proofs.Common.{arith}
+use Rattle.bfd_fields.proofs.Common.{arith}
 use Rattle.bfd_fields.proofs.Nibbles.{rest_more, run_more}
 use Rattle.bfd_fields.proofs.digits.decode_runs.Goals as goal
 

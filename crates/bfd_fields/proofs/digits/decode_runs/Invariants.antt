@@ -1,5 +1,4 @@
-use Rattle.std.proofs.Common.{◌≡◌, ◌+◌, ◌*◌, ◌++◌, ℕ, List, Ok, length, take}
-use Rattle.hex.specs.Hex.{decode_pairs}
+use Rattle.bfd_fields.proofs.Common.{◌≡◌, ◌+◌, ◌*◌, ◌++◌, ℕ, List, Ok, length, take, decode_pairs}
 use Rattle.bfd_fields.proofs.digits.decode_runs.Given as goal
 
 -- the bytes so far, and then those of the digits that are left, are those of all digits

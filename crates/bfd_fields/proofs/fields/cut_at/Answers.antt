@@ -1,4 +1,4 @@
-use Rattle.std.proofs.Common.{arith}
+use Rattle.bfd_fields.proofs.Common.{arith}
 use Rattle.bfd_fields.proofs.Cuts.{one_part, two_parts}
 use Rattle.bfd_fields.proofs.fields.cut_at.Goals as goal
 

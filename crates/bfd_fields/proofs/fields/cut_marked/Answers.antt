@@ -1,6 +1,4 @@
-use Rattle.std.proofs.Common.{ℕ, ◌+◌, ◌-◌, ◌==◌, ◌∙◌, ap, arith, map, sym, take, ◌/◌, ◌^◌}
-use Rattle.std.specs.Simd.Lanes.{mask_l}
-use lib.Count.{count_trailing_zeros}
+use Rattle.bfd_fields.proofs.Common.{ℕ, ◌+◌, ◌-◌, ◌==◌, ◌∙◌, ap, arith, map, sym, take, ◌/◌, ◌^◌, mask_l, count_trailing_zeros}
 use Rattle.bfd_fields.proofs.Cuts.{two_parts}
 use Rattle.bfd_fields.proofs.Marks.{later, placed}
 use Rattle.bfd_fields.proofs.fields.cut_marked.Goals as goal

@@ -1,4 +1,4 @@
-use Rattle.std.proofs.Common.{◌∙◌, arith, sym}
+use Rattle.bfd_fields.proofs.Common.{◌∙◌, arith, sym}
 use Rattle.bfd_fields.proofs.SideBySide.{end_passed, left_more, run_passed}
 use Rattle.bfd_fields.proofs.fields.is_all_printable.Goals as goal
 

@@ -1,6 +1,4 @@
-use Rattle.std.proofs.Common.{◌≡◌, ◌≤◌, ◌-◌, drop, length}
-use Rattle.std.specs.List.{list_all}
-use Rattle.bfd_fields.specs.Fields.{is_printable}
+use Rattle.bfd_fields.proofs.Common.{◌≡◌, ◌≤◌, ◌-◌, drop, length, list_all, is_printable}
 use Rattle.bfd_fields.proofs.fields.is_all_printable.Given as goal
 
 -- the runs so far may stand in a line, so it depends on what is left, the end of the line

@@ -1,6 +1,4 @@
-use Rattle.std.proofs.Common.{◌≡◌, ◌&&◌, length}
-use Rattle.std.specs.List.{list_all}
-use Rattle.bfd_fields.specs.Fields.{is_printable}
+use Rattle.bfd_fields.proofs.Common.{◌≡◌, ◌&&◌, length, list_all, is_printable}
 use Rattle.bfd_fields.proofs.fields.is_rest_printable.Given as goal
 
 -- what was seen and what is left are the line

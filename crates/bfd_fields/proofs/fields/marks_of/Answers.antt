@@ -1,5 +1,4 @@
-use Rattle.std.proofs.Common.{eqb, arith, w8}
-use Rattle.std.proofs.lemmas.Simd.{bitmask_splat}
+use Rattle.bfd_fields.proofs.Common.{eqb, arith, w8, bitmask_splat}
 use Rattle.bfd_fields.proofs.fields.marks_of.Goals as goal
 
 pub returns : goal.returns

@@ -1,6 +1,4 @@
-use Rattle.std.proofs.Common.{eqb, sym, ap, ◌∙◌, arith, w8}
-use Rattle.std.proofs.lemmas.Simd.{bitmask_splat, leading_from_mask_l, trailing_mask_l}
-use lib.Count.{count_trailing_zeros}
+use Rattle.bfd_fields.proofs.Common.{eqb, sym, ap, ◌∙◌, arith, w8, bitmask_splat, leading_from_mask_l, trailing_mask_l, count_trailing_zeros}
 use Rattle.bfd_fields.proofs.fields.place_in_run.Goals as goal
 
 -- no lane is marked

@@ -1,4 +1,4 @@
-use Rattle.std.proofs.Common.{arith}
+use Rattle.bfd_fields.proofs.Common.{arith}
 use Rattle.bfd_fields.proofs.Cuts.{near}
 use Rattle.bfd_fields.proofs.fields.place_of.Goals as goal
 

@@ -1,7 +1,4 @@
-use Rattle.std.proofs.Common.{◌≡◌, length}
-use Rattle.std.specs.Char.{is_ascii_digit}
-use Rattle.std.specs.List.{list_all}
-use Rattle.std.specs.Str.Parse.{digits_value, digits_value_after}
+use Rattle.bfd_fields.proofs.Common.{◌≡◌, length, is_ascii_digit, list_all, digits_value, digits_value_after}
 use Rattle.bfd_fields.proofs.fields.small_number.Given as goal
 
 -- the digits so far, and then those that are left, write the number

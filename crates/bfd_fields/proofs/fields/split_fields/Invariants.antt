@@ -1,6 +1,4 @@
-use Rattle.std.proofs.Common.{◌≡◌, ◌==◌, ◌++◌, length, map}
-use Rattle.std.specs.List.{slice_split}
-use Rattle.bfd_fields.specs.Fields.{split_fields}
+use Rattle.bfd_fields.proofs.Common.{◌≡◌, ◌==◌, ◌++◌, length, map, slice_split, split_fields}
 use Rattle.bfd_fields.proofs.fields.split_fields.Given as goal
 
 -- the fields so far, and then those that are left, are those of the line

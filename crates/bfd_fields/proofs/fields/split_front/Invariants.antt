@@ -1,6 +1,4 @@
-use Rattle.std.proofs.Common.{◌≡◌, ◌≤◌, ◌+◌, ◌==◌, ◌++◌, length, map, take}
-use Rattle.std.specs.List.{slice_split}
-use Rattle.std.specs.Simd.Lanes.{mask_l}
+use Rattle.bfd_fields.proofs.Common.{◌≡◌, ◌≤◌, ◌+◌, ◌==◌, ◌++◌, length, map, take, slice_split, mask_l}
 use Rattle.bfd_fields.proofs.fields.split_front.Given as goal
 
 -- the fields so far, and then those that are left, are those of the line; the marks are those of what is left; and there is room for a

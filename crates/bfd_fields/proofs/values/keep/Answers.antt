@@ -1,4 +1,4 @@
-use Rattle.std.proofs.Common.{arith}
+use Rattle.bfd_fields.proofs.Common.{arith}
 use Rattle.bfd_fields.proofs.Kept.{bytes_front}
 use Rattle.bfd_fields.proofs.values.keep.Goals as goal
 

@@ -1,4 +1,4 @@
-use Rattle.std.proofs.Common.{arith, refl}
+use Rattle.bfd_fields.proofs.Common.{arith, refl}
 use Rattle.bfd_fields.proofs.Octets.{part_2}
 use Rattle.bfd_fields.proofs.values.part_of_two.Goals as goal
 

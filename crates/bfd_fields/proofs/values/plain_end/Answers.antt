@@ -1,4 +1,4 @@
-use Rattle.std.proofs.Common.{arith}
+use Rattle.bfd_fields.proofs.Common.{arith}
 use Rattle.bfd_fields.proofs.Octets.{end_1, end_2, end_3}
 use Rattle.bfd_fields.proofs.values.plain_end.Goals as goal
 

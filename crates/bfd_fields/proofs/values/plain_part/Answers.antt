@@ -1,4 +1,4 @@
-use Rattle.std.proofs.Common.{arith, refl}
+use Rattle.bfd_fields.proofs.Common.{arith, refl}
 use Rattle.bfd_fields.proofs.Octets.{part_1}
 use Rattle.bfd_fields.proofs.values.plain_part.Goals as goal
 

@@ -1,7 +1,6 @@
 -- The outputs so far are counted.
-use Rattle.std.proofs.Common.{◌≡◌, ◌≤◌, take}
+use Rattle.bfd_gather.proofs.Common.{◌≡◌, ◌≤◌, take, packets_sent_by}
 use Rattle.std.specs.Prelude.{sum_by}
-use Rattle.bfd_script.specs.Report.{packets_sent_by}
 use Rattle.bfd_gather.proofs.counts.sent.Given as goal
 
 abbrev pub invariant-loop-out : goal.invariant-loop-out

@@ -1,7 +1,5 @@
 -- One part more is looked at.
-use Rattle.std.proofs.Common.{◌∙◌, sym, ap, []}
-use Rattle.std.proofs.lemmas.List.{get_or_default}
-use Rattle.bfd_gather.specs.Inside.{first_key}
+use Rattle.bfd_gather.proofs.Common.{◌∙◌, sym, ap, [], get_or_default, first_key}
 use Rattle.bfd_gather.proofs.Scan.{step}
 use Rattle.bfd_gather.proofs.gathering.best_of.Goals as goal
 

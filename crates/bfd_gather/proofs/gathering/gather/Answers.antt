@@ -1,8 +1,5 @@
 -- One piece more is taken, and at the end all are.
-use Rattle.std.proofs.Common.{◌≡◌, ◌∙◌, ◌<◌, ◌++◌, ℕ, [], List, length, drop, set, get_or, ap, subst, arith, None}
-use Rattle.std.proofs.lemmas.List.{get_or_default}
-use Rattle.bfd_gather.specs.Pieces.{Piece}
-use Rattle.bfd_gather.specs.Inside.{IsLeast, first_key, first_text, first_txs, first_drops}
+use Rattle.bfd_gather.proofs.Common.{◌≡◌, ◌∙◌, ◌<◌, ◌++◌, ℕ, [], List, length, drop, set, get_or, ap, subst, arith, None, get_or_default, Piece, IsLeast, first_key, first_text, first_txs, first_drops}
 use Rattle.bfd_gather.proofs.Taking.{go, gone}
 use Rattle.bfd_gather.proofs.gathering.gather.Goals as goal
 

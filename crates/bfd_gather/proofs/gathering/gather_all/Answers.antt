@@ -1,8 +1,6 @@
 -- What the one part has is what was dealt.
-use Rattle.std.proofs.Common.{◌≡◌, ◌∙◌, ◌++◌, List, ap, subst, IfOk, OnOk}
+use Rattle.bfd_gather.proofs.Common.{◌≡◌, ◌∙◌, ◌++◌, List, ap, subst, IfOk, OnOk, Piece, texts, HasAll}
 use Rattle.std.specs.List.{sum_by}
-use Rattle.bfd_gather.specs.Pieces.{Piece, texts}
-use Rattle.bfd_gather.specs.Inside.{HasAll}
 use Rattle.bfd_gather.proofs.Alone.{whole, texts_dealt, txs_dealt, drops_dealt}
 use Rattle.bfd_gather.proofs.gathering.gather_all.Goals as goal
 

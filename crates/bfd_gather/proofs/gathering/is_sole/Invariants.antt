@@ -1,6 +1,5 @@
 -- Of the parts so far no other one has a piece.
-use Rattle.std.proofs.Common.{◌≡◌, ◌≢◌, ◌<◌, ℕ, [], get_or, None}
-use Rattle.bfd_gather.specs.Inside.{first_key}
+use Rattle.bfd_gather.proofs.Common.{◌≡◌, ◌≢◌, ◌<◌, ℕ, [], get_or, None, first_key}
 use Rattle.bfd_gather.proofs.gathering.is_sole.Given as goal
 
 abbrev pub invariant-loop-r : goal.invariant-loop-r

@@ -1,5 +1,5 @@
 -- One output more has its mark and its text.
-use Rattle.std.proofs.Common.{arith, ◌+◌, ◌-◌}
+use Rattle.bfd_gather.proofs.Common.{arith, ◌+◌, ◌-◌}
 use Rattle.bfd_gather.proofs.Marks.{texts_next, marks_next}
 use Rattle.bfd_gather.proofs.part.append_items.Goals as goal
 

@@ -1,7 +1,5 @@
 -- The outputs so far have their marks and their text.
-use Rattle.std.proofs.Common.{◌≡◌, ◌++◌, map, take}
-use Rattle.bfd_gather.specs.Pieces.{texts, item_piece}
-use Rattle.bfd_gather.specs.Inside.{mark_of}
+use Rattle.bfd_gather.proofs.Common.{◌≡◌, ◌++◌, map, take, texts, item_piece, mark_of}
 use Rattle.bfd_gather.proofs.part.append_items.Given as goal
 
 abbrev pub invariant-loop-at : goal.invariant-loop-at

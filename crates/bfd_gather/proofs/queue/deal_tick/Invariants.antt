@@ -1,6 +1,5 @@
 -- The first queues have the tick.
-use Rattle.std.proofs.Common.{ℕ, ◌≡◌, ◌<◌, ◌≤◌, ◌++◌, ◌∷◌, [], length, map, get_or}
-use Rattle.bfd_shard.specs.declared.entry.ShardEvent.TheVariants.{Tick}
+use Rattle.bfd_gather.proofs.Common.{ℕ, ◌≡◌, ◌<◌, ◌≤◌, ◌++◌, ◌∷◌, [], length, map, get_or, Tick}
 use Rattle.bfd_gather.proofs.queue.deal_tick.Given as goal
 
 abbrev pub invariant-loop-shard : goal.invariant-loop-shard

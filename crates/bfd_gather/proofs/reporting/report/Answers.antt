@@ -1,6 +1,5 @@
 -- The parts' text is that of the whole replay.
-use Rattle.std.proofs.Common.{◌∙◌, ◌++◌, ap}
-use Rattle.bfd_gather.specs.Spread.{dealt_text}
+use Rattle.bfd_gather.proofs.Common.{◌∙◌, ◌++◌, ap, dealt_text}
 use Rattle.bfd_gather.proofs.Telling.{deal_all}
 use Rattle.bfd_gather.proofs.Whole.{all_drops, all_txs, parts_spread, whole_report}
 use Rattle.bfd_gather.proofs.reporting.report.Goals as goal

@@ -1,6 +1,4 @@
-use Rattle.std.proofs.Common.{length, ap, arith}
-use Rattle.bfd_wheel.proofs.TakenIds.{waiting-le, none_waits, left_is}
-use Rattle.bfd_wheel.proofs.Order.{ordered}
+use Rattle.bfd_levels.proofs.Common.{length, ap, arith, waiting-le, none_waits, left_is, ordered}
 use Rattle.bfd_levels.proofs.advance.take_near.Goals as goal
 
 pub forward-requires-clause-room : goal.forward-requires-clause-room

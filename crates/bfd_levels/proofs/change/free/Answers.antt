@@ -1,5 +1,4 @@
-use Rattle.std.proofs.Common.{List, ℕ, subst, sym}
-use Rattle.bfd_levels.specs.Lists.{IsLevels}
+use Rattle.bfd_levels.proofs.Common.{List, ℕ, subst, sym, IsLevels}
 use Rattle.bfd_levels.proofs.Views.{levels_freed}
 use Rattle.bfd_levels.proofs.change.free.Goals as goal
 

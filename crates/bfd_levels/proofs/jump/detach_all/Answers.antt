@@ -1,7 +1,4 @@
-use Rattle.std.proofs.Common.{◌≢◌, length, get_or, refl, slice_index, arith}
-use Rattle.bfd_lanes.specs.Places.{never}
-use Rattle.bfd_wheel.proofs.TakenIds.{ids_first, ids_rest, same_or_gone_on}
-use Rattle.bfd_levels.specs.Lists.{at_tick}
+use Rattle.bfd_levels.proofs.Common.{◌≢◌, length, get_or, refl, slice_index, arith, never, ids_first, ids_rest, same_or_gone_on, at_tick}
 use Rattle.bfd_levels.proofs.Placing.{linked}
 use Rattle.bfd_levels.proofs.Jumps.{paid_gone}
 use Rattle.bfd_levels.proofs.jump.detach_all.Goals as goal

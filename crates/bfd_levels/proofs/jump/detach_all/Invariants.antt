@@ -1,7 +1,4 @@
-use Rattle.std.proofs.Common.{◌≡◌, ◌⊎◌, ◌≤◌, ◌+◌, ℕ, length, drop, slice_index}
-use Rattle.bfd_lanes.specs.Places.{never}
-use Rattle.bfd_wheel.specs.Taken.{times, counts_due}
-use Rattle.bfd_levels.specs.Lists.{at_tick, loads}
+use Rattle.bfd_levels.proofs.Common.{◌≡◌, ◌⊎◌, ◌≤◌, ◌+◌, ℕ, length, drop, slice_index, never, times, counts_due, at_tick, loads}
 use Rattle.bfd_levels.proofs.Paid.{IsPaid}
 use Rattle.bfd_levels.proofs.jump.detach_all.Given as goal
 

@@ -1,8 +1,4 @@
-use Rattle.std.proofs.Common.{length, map, refl, ap, ◌∙◌, arith}
-use Rattle.bfd_lanes.specs.Places.{due_of, come}
-use Rattle.bfd_wheel.specs.Taken.{times}
-use Rattle.bfd_wheel.proofs.TakenIds.{above_all, left_is}
-use Rattle.bfd_wheel.proofs.Order.{times_come, appended_from}
+use Rattle.bfd_levels.proofs.Common.{length, map, refl, ap, ◌∙◌, arith, due_of, come, times, above_all, left_is, times_come, appended_from}
 use Rattle.bfd_levels.proofs.jump.jump.Goals as goal
 
 pub detach_all-requires-clause-ids : goal.detach_all-requires-clause-ids

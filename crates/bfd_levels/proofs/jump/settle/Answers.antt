@@ -1,6 +1,4 @@
-use Rattle.std.proofs.Common.{ℕ, length, subst, arith}
-use Rattle.bfd_wheel.specs.Wheel.{next_in, prev_in}
-use Rattle.bfd_levels.specs.Moves.{Relinks}
+use Rattle.bfd_levels.proofs.Common.{ℕ, length, subst, arith, next_in, prev_in, Relinks}
 use Rattle.bfd_levels.proofs.Jumps.{jump_moves, jump_passes, jump_loads}
 use Rattle.bfd_levels.proofs.jump.settle.Goals as goal
 

@@ -1,5 +1,4 @@
-use Rattle.std.proofs.Common.{◌+◌, ◌*◌, length, arith}
-use Rattle.bfd_levels.specs.Lists.{at_tick, at_jump, loads}
+use Rattle.bfd_levels.proofs.Common.{◌+◌, ◌*◌, length, arith, at_tick, at_jump, loads}
 use Rattle.bfd_levels.proofs.Jumps.{jump_begins, jump_ends}
 use Rattle.bfd_levels.proofs.Paid.{paid_renamed}
 use Rattle.bfd_levels.proofs.jump.settle_all.Goals as goal

@@ -1,5 +1,4 @@
-use Rattle.std.proofs.Common.{◌+◌, ◌*◌, length}
-use Rattle.bfd_levels.specs.Lists.{at_tick, at_jump, loads}
+use Rattle.bfd_levels.proofs.Common.{◌+◌, ◌*◌, length, at_tick, at_jump, loads}
 use Rattle.bfd_levels.proofs.Paid.{IsPaid}
 use Rattle.bfd_levels.proofs.jump.settle_all.Given as goal
 

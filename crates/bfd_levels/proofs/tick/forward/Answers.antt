@@ -1,6 +1,4 @@
-use Rattle.std.proofs.Common.{◌≡◌, ◌+◌, ℕ, length, ap, refl, ◌∙◌, arith}
-use Rattle.bfd_wheel.proofs.TakenIds.{took_none, took_then}
-use Rattle.bfd_levels.specs.Lists.{reach, at_tick, loads}
+use Rattle.bfd_levels.proofs.Common.{◌≡◌, ◌+◌, ℕ, length, ap, refl, ◌∙◌, arith, took_none, took_then, reach, at_tick, loads}
 use Rattle.bfd_levels.proofs.Paid.{paid_more}
 use Rattle.bfd_levels.proofs.Ticks.{reached_till, reached_more, reached_few}
 use Rattle.bfd_levels.proofs.tick.forward.Goals as goal

@@ -1,4 +1,4 @@
-use Rattle.std.proofs.Common.{length, arith}
+use Rattle.bfd_levels.proofs.Common.{length, arith}
 use Rattle.bfd_levels.proofs.Midway.{still_down}
 use Rattle.bfd_levels.proofs.Ticks.{overdue_left}
 use Rattle.bfd_levels.proofs.Turns.{still_begins, still_ends, still_loads}

@@ -1,7 +1,4 @@
-use Rattle.std.proofs.Common.{◌≡◌, ◌+◌, ℕ, length, refl, sym, ◌∙◌, subst, arith}
-use Rattle.bfd_wheel.proofs.TakenIds.{took_none, took_then}
-use Rattle.bfd_levels.specs.Lists.{reach, at_tick, at_midway, loads}
-use Rattle.bfd_levels.specs.Rings.{IsPlaced}
+use Rattle.bfd_levels.proofs.Common.{◌≡◌, ◌+◌, ℕ, length, refl, sym, ◌∙◌, subst, arith, took_none, took_then, reach, at_tick, at_midway, loads, IsPlaced}
 use Rattle.bfd_levels.proofs.Midway.{midway_down}
 use Rattle.bfd_levels.proofs.Paid.{paid_more}
 use Rattle.bfd_levels.proofs.Turns.{turn_begins, turn_ends}

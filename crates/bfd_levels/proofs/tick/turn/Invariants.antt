@@ -1,7 +1,4 @@
-use Rattle.std.proofs.Common.{◌≡◌, ◌≤◌, ◌+◌, length}
-use Rattle.bfd_lanes.specs.Held.{room_of}
-use Rattle.bfd_wheel.specs.Taken.{Took, waiting}
-use Rattle.bfd_levels.specs.Lists.{at_tick, at_midway, loads}
+use Rattle.bfd_levels.proofs.Common.{◌≡◌, ◌≤◌, ◌+◌, length, room_of, Took, waiting, at_tick, at_midway, loads}
 use Rattle.bfd_levels.proofs.Paid.{IsPaid}
 use Rattle.bfd_levels.proofs.tick.turn.Given as goal
 

@@ -1,6 +1,4 @@
-use Rattle.std.proofs.Common.{ℕ, List, arith, ap}
-use Rattle.bfd_wheel.specs.Taken.{waiting}
-use Rattle.bfd_wheel.proofs.TakenIds.{took_id, waiting_one, waiting-set}
+use Rattle.bfd_levels.proofs.Common.{ℕ, List, arith, ap, waiting, took_id, waiting_one, waiting-set}
 use Rattle.bfd_levels.proofs.walk.visit.Goals as goal
 
 pub push-requires : goal.push-requires

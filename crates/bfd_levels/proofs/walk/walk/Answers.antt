@@ -1,8 +1,5 @@
 -- The walk begins behind the head, goes on by each visit, and ends at the head or after as many nodes as there are ids.
-use Rattle.std.proofs.Common.{length, refl, ◌∙◌, ◌+◌, inl, inr, arith}
-use Rattle.bfd_wheel.specs.Wheel.{next_in}
-use Rattle.bfd_wheel.proofs.TakenIds.{took_none, took_then}
-use Rattle.bfd_levels.specs.Lists.{place, midway, at_midway, loads}
+use Rattle.bfd_levels.proofs.Common.{length, refl, ◌∙◌, ◌+◌, inl, inr, arith, next_in, took_none, took_then, place, midway, at_midway, loads}
 use Rattle.bfd_levels.proofs.Walks.{walk_begins, walk_id}
 use Rattle.bfd_levels.proofs.Visits.{visit_rises, walk_can_move, walk_visits, level_placed, level_spent, level_left}
 use Rattle.bfd_levels.proofs.walk.walk.Goals as goal

@@ -1,7 +1,5 @@
 -- A command that isn't refused keeps the variables sound.
-use Rattle.std.proofs.Common.{sym, subst}
-use Rattle.bfd_rules.specs.declared.variables.Vars.{Vars}
-use Rattle.bfd_mp.specs.Sound.{IsTailSound}
+use Rattle.bfd_mp.proofs.Common.{sym, subst, Vars, IsTailSound}
 use Rattle.bfd_mp.proofs.commanding.commands_tail.Goals as goal
 
 pub returns-clause-sound : goal.returns-clause-sound

@@ -1,7 +1,5 @@
 -- Detection keeps the variables sound.
-use Rattle.std.proofs.Common.{sym, subst}
-use Rattle.bfd_rules.specs.declared.variables.Vars.{Vars}
-use Rattle.bfd_mp.specs.Sound.{IsTailSound}
+use Rattle.bfd_mp.proofs.Common.{sym, subst, Vars, IsTailSound}
 use Rattle.bfd_mp.proofs.detecting.settle.Goals as goal
 
 pub returns-then-has_come-clause-sound : goal.returns-then-has_come-clause-sound

@@ -1,7 +1,5 @@
 -- The due tick that is drawn keeps the variables sound.
-use Rattle.std.proofs.Common.{sym, subst}
-use Rattle.bfd_rules.specs.declared.variables.Vars.{Vars}
-use Rattle.bfd_mp.specs.Sound.{IsHeadSound}
+use Rattle.bfd_mp.proofs.Common.{sym, subst, Vars, IsHeadSound}
 use Rattle.bfd_mp.proofs.Drawing.{drawn_sound}
 use Rattle.bfd_mp.proofs.finishing.drawn_anew.Goals as goal
 

@@ -1,7 +1,5 @@
 -- The state machine keeps the variables sound.
-use Rattle.std.proofs.Common.{sym, subst}
-use Rattle.bfd_rules.specs.declared.variables.Vars.{Vars}
-use Rattle.bfd_mp.specs.Sound.{IsTailSound}
+use Rattle.bfd_mp.proofs.Common.{sym, subst, Vars, IsTailSound}
 use Rattle.bfd_mp.proofs.receiving.moves_state.Goals as goal
 
 pub returns-clause-sound : goal.returns-clause-sound

@@ -1,7 +1,5 @@
 -- What is kept so far and what is still to be kept make up the whole, and there is room for it.
-use Rattle.std.proofs.Common.{◌≡◌, ◌≤◌, ◌+◌, ◌++◌, length, drop}
-use Rattle.std.specs.Prelude.{vec_len, vec_capacity}
-use Rattle.bfd_pair.specs.Run.{packets_among}
+use Rattle.bfd_pair.proofs.Common.{◌≡◌, ◌≤◌, ◌+◌, ◌++◌, length, drop, vec_len, vec_capacity, packets_among}
 use Rattle.bfd_pair.proofs.peer.keep.Given as goal
 
 abbrev pub invariant-loop-item : goal.invariant-loop-item

@@ -1,5 +1,4 @@
-use Rattle.std.proofs.Common.{◌≡◌, ℕ, [], length, get_or}
-use Rattle.bfd_plan.specs.Planned.{columns_are}
+use Rattle.bfd_plan.proofs.Common.{◌≡◌, ℕ, [], length, get_or, columns_are}
 use Rattle.bfd_plan.proofs.columns.empty_columns.Given as goal
 
 abbrev pub invariant-loop : goal.invariant-loop

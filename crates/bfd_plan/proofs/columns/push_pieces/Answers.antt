@@ -1,5 +1,5 @@
 -- A queue more behind one shard's pieces.
-use Rattle.std.proofs.Common.{ap, arith, length, reverse}
+use Rattle.bfd_plan.proofs.Common.{ap, arith, length, reverse}
 use Rattle.bfd_plan.proofs.Parting.{behind_next}
 use Rattle.bfd_plan.proofs.columns.push_pieces.Goals as goal
 

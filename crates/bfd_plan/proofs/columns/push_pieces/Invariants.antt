@@ -1,6 +1,5 @@
 -- The columns so far, and those that are left, which stand in reverse.
-use Rattle.std.proofs.Common.{◌≡◌, ◌++◌, length, map, reverse}
-use Rattle.bfd_plan.specs.Planned.{behind, columns_are}
+use Rattle.bfd_plan.proofs.Common.{◌≡◌, ◌++◌, length, map, reverse, behind, columns_are}
 use Rattle.bfd_plan.proofs.columns.push_pieces.Given as goal
 
 abbrev pub invariant-columns : goal.invariant-columns

@@ -1,6 +1,5 @@
 -- The pieces so far, and those that are left, which stand in reverse.
-use Rattle.std.proofs.Common.{◌≡◌, ◌++◌, length, reverse}
-use Rattle.std.specs.List.{flat_map}
+use Rattle.bfd_plan.proofs.Common.{◌≡◌, ◌++◌, length, reverse, flat_map}
 use Rattle.bfd_plan.proofs.columns.whole.Given as goal
 
 abbrev pub invariant-pieces : goal.invariant-pieces

@@ -1,6 +1,5 @@
 -- Each thread's queue is its shard's.
-use Rattle.std.proofs.Common.{rules, ◌≡◌, ◌<◌, ◌∙◌, ap, arith, length, vec_len, subst, sym, Ok, IfOk}
-use Rattle.std.specs.List.{flat_map}
+use Rattle.bfd_plan.proofs.Common.{rules, ◌≡◌, ◌<◌, ◌∙◌, ap, arith, length, vec_len, subst, sym, Ok, IfOk, flat_map}
 use Rattle.bfd_plan.proofs.Parting.{all_there, same_maps, there_at}
 use Rattle.bfd_plan.proofs.columns.whole_each.Goals as goal
 

@@ -1,4 +1,4 @@
-use Rattle.std.proofs.Common.{◌≡◌, ℕ, [], length, map, get_or}
+use Rattle.bfd_plan.proofs.Common.{◌≡◌, ℕ, [], length, map, get_or}
 use Rattle.bfd_plan.proofs.plan.empty_queues.Given as goal
 
 abbrev pub invariant-loop : goal.invariant-loop

@@ -1,6 +1,5 @@
 -- One queue more is no longer.
-use Rattle.std.proofs.Common.{rules, ◌≡◌, ◌<◌, ◌≤◌, ◌∙◌, [], length, map, get_or, sym, ap, arith}
-use Rattle.std.proofs.lemmas.List.{get_or-map}
+use Rattle.bfd_plan.proofs.Common.{rules, ◌≡◌, ◌<◌, ◌≤◌, ◌∙◌, [], length, map, get_or, sym, ap, arith, get_or-map}
 use Rattle.bfd_plan.proofs.Planning.{bound_more}
 use Rattle.bfd_plan.proofs.plan.longest.Goals as goal
 

@@ -1,5 +1,5 @@
 -- No queue so far is longer, and no less would do.
-use Rattle.std.proofs.Common.{◌≤◌, ◌<◌, ℕ, [], length, map, get_or}
+use Rattle.bfd_plan.proofs.Common.{◌≤◌, ◌<◌, ℕ, [], length, map, get_or}
 use Rattle.bfd_plan.proofs.plan.longest.Given as goal
 
 abbrev pub invariant-loop-shard : goal.invariant-loop-shard

@@ -1,8 +1,5 @@
 -- A run more is put behind those before it.
-use Rattle.std.proofs.Common.{rules, ◌∙◌, ap, arith, map, reverse}
-use Rattle.std.proofs.lemmas.List.{length-map, reverse-reverse}
-use Rattle.std.specs.List.{flat_map}
-use Rattle.bfd_plan.specs.Planned.{columns_are}
+use Rattle.bfd_plan.proofs.Common.{rules, ◌∙◌, ap, arith, map, reverse, length-map, reverse-reverse, flat_map, columns_are}
 use Rattle.bfd_plan.proofs.Parting.{put_start, put_more, put_end, put_wide}
 use Rattle.bfd_plan.proofs.plan.plan.Goals as goal
 

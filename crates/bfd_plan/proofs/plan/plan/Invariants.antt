@@ -1,6 +1,5 @@
 -- What was put together so far; the plans that are left stand in reverse.
-use Rattle.std.proofs.Common.{length, reverse}
-use Rattle.bfd_plan.specs.Planned.{columns_are}
+use Rattle.bfd_plan.proofs.Common.{length, reverse, columns_are}
 use Rattle.bfd_plan.proofs.Parting.{IsPut}
 use Rattle.bfd_plan.proofs.plan.plan.Given as goal
 

@@ -1,6 +1,5 @@
 -- What each thread planned is what its run is.
-use Rattle.std.proofs.Common.{rules, ◌≡◌, ◌<◌, arith, length, subst, sym, vec_len, get_or, Ok, IfOk}
-use Rattle.bfd_plan.specs.Planned.{IsPlanOf}
+use Rattle.bfd_plan.proofs.Common.{rules, ◌≡◌, ◌<◌, arith, length, subst, sym, vec_len, get_or, Ok, IfOk, IsPlanOf}
 use Rattle.bfd_plan.proofs.Parting.{all_there, there_at}
 use Rattle.bfd_plan.proofs.plan.plan_each.Goals as goal
 

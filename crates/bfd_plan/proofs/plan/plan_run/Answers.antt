@@ -1,7 +1,5 @@
 -- One line more is planned.
-use Rattle.std.proofs.Common.{◌∙◌, map, reverse, sym}
-use Rattle.std.proofs.lemmas.List.{length-map}
-use Rattle.bfd_plan.specs.Planned.{route_is}
+use Rattle.bfd_plan.proofs.Common.{◌∙◌, map, reverse, sym, length-map, route_is}
 use Rattle.bfd_plan.proofs.Planning.{plan_more}
 use Rattle.bfd_plan.proofs.plan.plan_run.Goals as goal
 

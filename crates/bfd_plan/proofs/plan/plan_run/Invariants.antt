@@ -1,5 +1,5 @@
 -- What was planned so far; the lines that are left stand in reverse.
-use Rattle.std.proofs.Common.{length, map, reverse}
+use Rattle.bfd_plan.proofs.Common.{length, map, reverse}
 use Rattle.bfd_plan.proofs.Planning.{IsOnPlan}
 use Rattle.bfd_plan.proofs.plan.plan_run.Given as goal
 

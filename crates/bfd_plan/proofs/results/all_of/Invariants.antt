@@ -1,5 +1,5 @@
 -- The values so far, and the results that are left, which stand in reverse.
-use Rattle.std.proofs.Common.{◌≡◌, ◌++◌, Ok, length, map, reverse}
+use Rattle.bfd_plan.proofs.Common.{◌≡◌, ◌++◌, Ok, length, map, reverse}
 use Rattle.bfd_plan.proofs.results.all_of.Given as goal
 
 abbrev pub invariant-results : goal.invariant-results

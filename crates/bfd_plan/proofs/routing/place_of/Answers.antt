@@ -1,10 +1,8 @@
 -- The search's clause, at the discriminators that the closure gives.
-use Rattle.std.proofs.Common.{◌∙◌, ap, subst, sym, rules}
-use Rattle.std.proofs.lemmas.List.{map-id}
+use Rattle.bfd_plan.proofs.Common.{◌∙◌, ap, subst, sym, rules, map-id, SessionConfig}
 use Rattle.std.proofs.lemmas.List.Sorted.{answers_always}
 use Rattle.bfd_session.specs.Kinds.{discr_of}
 use Rattle.bfd_session.specs.Rows.{Ascends, place_of}
-use Rattle.bfd_session.specs.declared.event.SessionConfig.{SessionConfig}
 use Rattle.bfd_session.proofs.Searches.{searched}
 use Rattle.bfd_plan.proofs.routing.place_of.Goals as goal
 

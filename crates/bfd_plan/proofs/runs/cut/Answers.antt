@@ -1,7 +1,5 @@
 -- A run more was cut.
-use Rattle.std.proofs.Common.{rules, ◌∙◌, [], ap, reverse, refl, sym, subst}
-use Rattle.std.proofs.lemmas.List.{reverse-append}
-use Rattle.bfd_plan.specs.Planned.{AreRuns}
+use Rattle.bfd_plan.proofs.Common.{rules, ◌∙◌, [], ap, reverse, refl, sym, subst, reverse-append, AreRuns}
 use Rattle.bfd_plan.proofs.Parting.{cut_apart, cut_more, cut_end}
 use Rattle.bfd_plan.proofs.runs.cut.Goals as goal
 

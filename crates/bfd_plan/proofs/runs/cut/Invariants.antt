@@ -1,5 +1,5 @@
 -- The lines that are not cut yet; the runs stand in reverse.
-use Rattle.std.proofs.Common.{length, reverse}
+use Rattle.bfd_plan.proofs.Common.{length, reverse}
 use Rattle.bfd_plan.proofs.Parting.{IsCut}
 use Rattle.bfd_plan.proofs.runs.cut.Given as goal
 

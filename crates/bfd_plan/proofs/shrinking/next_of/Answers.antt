@@ -1,6 +1,5 @@
 -- The last element of a reversed list, and the others.
-use Rattle.std.proofs.Common.{List, reverse, length, ◌≡◌, ◌<◌, ◌++◌, ◌∷◌, [], ◌∙◌, ap, sym, arith, length-append}
-use Rattle.std.proofs.lemmas.List.{reverse-append}
+use Rattle.bfd_plan.proofs.Common.{List, reverse, length, ◌≡◌, ◌<◌, ◌++◌, ◌∷◌, [], ◌∙◌, ap, sym, arith, length-append, reverse-append}
 use Rattle.bfd_plan.proofs.shrinking.next_of.Goals as goal
 
 last_of : {X : Type 0} (xs rest others : List X) (x : X) → xs ≡ rest ++ x ∷ [] → others ≡ rest → reverse xs ≡ x ∷ reverse others

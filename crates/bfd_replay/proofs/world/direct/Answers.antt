@@ -1,9 +1,8 @@
 -- A reflector's answer is what a packet for it comes to.
-use Rattle.std.proofs.Common.{◌∙◌, refl, sym, ap, Some}
+use Rattle.bfd_replay.proofs.Common.{◌∙◌, refl, sym, ap, Some, World, carried_out, world_of}
 use Rattle.bfd_demux.specs.declared.target.Target.{Target}
 use Rattle.bfd_session.specs.Arrivals.{coming_to}
 use Rattle.bfd_script.specs.Doing.{arriving}
-use Rattle.bfd_replay.specs.World.{World, carried_out, world_of}
 use Rattle.bfd_replay.proofs.world.direct.Goals as goal
 
 pub returns-in-Reflector-clause-turn : goal.returns-in-Reflector-clause-turn

@@ -1,7 +1,5 @@
 -- The due tick that is drawn keeps the variables of the start sound.
-use Rattle.std.proofs.Common.{sym, subst}
-use Rattle.bfd_rules.specs.declared.variables.Vars.{Vars}
-use Rattle.bfd_sbfd.specs.Sound.{IsSeekSound}
+use Rattle.bfd_sbfd.proofs.Common.{sym, subst, Vars, IsSeekSound}
 use Rattle.bfd_sbfd.proofs.Drawing.{drawn_sound}
 use Rattle.bfd_sbfd.proofs.initiator.made.Goals as goal
 

@@ -1,5 +1,5 @@
 -- The search's clause, at the discriminators that the closure gives.
-use Rattle.std.proofs.Common.{rules}
+use Rattle.bfd_sbfd.proofs.Common.{rules}
 use Rattle.std.proofs.lemmas.List.Sorted.{answers_always}
 use Rattle.bfd_sbfd.specs.declared.reflecting.Reflector.{Reflector}
 use Rattle.bfd_sbfd.proofs.Searching.{named_found, named_missing}

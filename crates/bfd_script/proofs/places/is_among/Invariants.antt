@@ -1,5 +1,4 @@
-use Rattle.std.proofs.Common.{◌≡◌, length}
-use Rattle.bfd_script.specs.Tables.{among}
+use Rattle.bfd_script.proofs.Common.{◌≡◌, length, among}
 use Rattle.bfd_script.proofs.places.is_among.Given as goal
 
 abbrev pub invariant-loop-rest : goal.invariant-loop-rest

@@ -1,8 +1,6 @@
-use Rattle.std.proofs.Common.{◌≡◌, ◌||◌, length}
+use Rattle.bfd_script.proofs.Common.{◌≡◌, ◌||◌, length, RowKind, among}
 use Rattle.std.specs.BTreeSet.{contains}
-use Rattle.bfd_demux.specs.declared.row.RowKind.{RowKind}
 use Rattle.bfd_demux.specs.contracts.row.RowKindOrd.TheImpl as order
-use Rattle.bfd_script.specs.Tables.{among}
 use Rattle.bfd_script.proofs.places.with_all.Given as goal
 
 -- what is left to put in, and what the set has, are all

@@ -1,6 +1,5 @@
-use Rattle.std.proofs.Common.{arith, sym, ap, ◌++◌, ◌∙◌}
-use Rattle.std.proofs.lemmas.Bool.Decides.{nat_tests}
-use Rattle.std.proofs.lemmas.List.{append-nil, nil_from_length}
+use Rattle.bfd_script.proofs.Common.{arith, sym, ap, ◌++◌, ◌∙◌, nat_tests, nil_from_length}
+use Rattle.std.proofs.lemmas.List.{append-nil}
 use Rattle.hex.specs.Hex.{encode_lower, encode_with}
 use Rattle.bfd_script.proofs.report.put_few.Goals as goal
 

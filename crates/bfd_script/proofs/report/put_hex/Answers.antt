@@ -1,5 +1,4 @@
-use Rattle.std.proofs.Common.{arith, ap, ◌++◌, ◌∙◌}
-use Rattle.std.proofs.lemmas.Bool.Decides.{nat_tests}
+use Rattle.bfd_script.proofs.Common.{arith, ap, ◌++◌, ◌∙◌, nat_tests}
 use Rattle.bfd_fields.proofs.Nibbles.{encode_more, some_hex}
 use Rattle.bfd_script.proofs.report.put_hex.Goals as goal
 

@@ -1,5 +1,4 @@
-use Rattle.std.proofs.Common.{◌∙◌, ap, sym}
-use Rattle.std.specs.Option.{option_copied}
+use Rattle.bfd_script.proofs.Common.{◌∙◌, ap, sym, option_copied}
 use Rattle.bfd_script.proofs.Rising.{below_last}
 use Rattle.bfd_script.proofs.rows.are_below.Goals as goal
 

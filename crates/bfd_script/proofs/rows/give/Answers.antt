@@ -1,6 +1,4 @@
-use Rattle.std.proofs.Common.{sym, ap, ◌∙◌}
-use Rattle.std.specs.Option.{option_copied_mut}
-use Rattle.bfd_script.specs.Rows.{keyed_with}
+use Rattle.bfd_script.proofs.Common.{sym, ap, ◌∙◌, option_copied_mut, keyed_with}
 use Rattle.bfd_script.proofs.Giving.{entries_changed, entries_kept, with_keeps}
 use Rattle.bfd_script.proofs.rows.give.Goals as goal
 

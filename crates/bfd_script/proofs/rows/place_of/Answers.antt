@@ -1,10 +1,7 @@
 -- The search's clause, at the discriminators that the closure gives.
-use Rattle.std.proofs.Common.{◌∙◌, ap, subst, sym, rules}
-use Rattle.std.proofs.lemmas.List.{map-id}
+use Rattle.bfd_script.proofs.Common.{◌∙◌, ap, subst, sym, rules, map-id, discr_of, place_of, SessionConfig}
 use Rattle.std.proofs.lemmas.List.Sorted.{answers_always}
-use Rattle.bfd_session.specs.Kinds.{discr_of}
-use Rattle.bfd_session.specs.Rows.{Ascends, place_of}
-use Rattle.bfd_session.specs.declared.event.SessionConfig.{SessionConfig}
+use Rattle.bfd_session.specs.Rows.{Ascends}
 use Rattle.bfd_session.proofs.Searches.{searched}
 use Rattle.bfd_script.proofs.Rising.{above_place}
 use Rattle.bfd_script.proofs.rows.place_of.Goals as goal

@@ -1,5 +1,4 @@
-use Rattle.std.proofs.Common.{◌∙◌, ◌++◌, ap}
-use Rattle.std.specs.Option.{option_to_list}
+use Rattle.bfd_script.proofs.Common.{◌∙◌, ◌++◌, ap, option_to_list}
 use Rattle.bfd_script.proofs.Rising.{popped}
 use Rattle.bfd_script.proofs.rows.with_all.Goals as goal
 

@@ -1,6 +1,4 @@
-use Rattle.std.proofs.Common.{◌≡◌, ◌++◌}
-use Rattle.bfd_script.specs.Rows.{by_discr}
-use Rattle.bfd_script.specs.Tables.{AreRows}
+use Rattle.bfd_script.proofs.Common.{◌≡◌, ◌++◌, by_discr, AreRows}
 use Rattle.bfd_script.proofs.rows.with_all.Given as goal
 
 -- what is in both, and its order

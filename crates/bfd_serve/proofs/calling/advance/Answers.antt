@@ -1,7 +1,6 @@
 -- The one act is a tick of the shard.
-use Rattle.std.proofs.Common.{rules}
+use Rattle.bfd_serve.proofs.Common.{rules, Turns}
 use Rattle.bfd_shard.specs.declared.entry.ShardEvent.TheVariants.{Tick as TickEvent}
-use Rattle.bfd_engine.specs.Calls.{Turns}
 use Rattle.bfd_serve.proofs.Doing.{done_one}
 use Rattle.bfd_serve.proofs.calling.advance.Goals as goal
 

@@ -1,7 +1,6 @@
 -- One pass more is taken in.
-use Rattle.std.proofs.Common.{◌≡◌, ◌++◌, ◌∷◌, [], sym, ap, ◌∙◌, subst, append_assoc, append-nil}
-use Rattle.std.proofs.lemmas.List.{nil_from_length}
-use Rattle.bfd_serve.specs.Joins.{IsOther, AreJoined}
+use Rattle.bfd_serve.proofs.Common.{◌≡◌, ◌++◌, sym, ap, ◌∙◌, subst, append_assoc, append-nil, nil_from_length, IsOther, AreJoined}
+use Rattle.std.proofs.Common.{◌∷◌, []}
 use Rattle.bfd_shard.proofs.Lists.{all_next}
 use Rattle.bfd_serve.proofs.Joins.{taken_in_none, taken_in_more}
 use Rattle.bfd_serve.proofs.passes.join_all.Goals as goal

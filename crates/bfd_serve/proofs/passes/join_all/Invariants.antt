@@ -1,5 +1,5 @@
 -- The passes so far are taken in.
-use Rattle.std.proofs.Common.{◌≡◌, ◌++◌}
+use Rattle.bfd_serve.proofs.Common.{◌≡◌, ◌++◌}
 use Rattle.bfd_serve.proofs.Joins.{AreTakenIn}
 use Rattle.bfd_serve.proofs.passes.join_all.Given as goal
 

@@ -1,6 +1,5 @@
 -- One pass more is split off; or those that were made are joined again.
-use Rattle.std.proofs.Common.{rules, ◌+◌, subst, sym, ap, ◌∙◌, arith}
-use Rattle.bfd_serve.specs.Joins.{HasSplit}
+use Rattle.bfd_serve.proofs.Common.{rules, ◌+◌, subst, sym, ap, ◌∙◌, arith, HasSplit}
 use Rattle.bfd_serve.proofs.Splits.{split_none, split_more, split_refused, others_of, unserved}
 use Rattle.bfd_serve.proofs.passes.split_all.Goals as goal
 

@@ -1,6 +1,5 @@
 -- The passes so far were split off.
-use Rattle.std.proofs.Common.{◌≡◌, ◌≤◌, vec_capacity}
-use Rattle.bfd_serve.specs.Joins.{HasSplit}
+use Rattle.bfd_serve.proofs.Common.{◌≡◌, ◌≤◌, vec_capacity, HasSplit}
 use Rattle.bfd_serve.proofs.passes.split_all.Given as goal
 
 abbrev pub invariant-loop : goal.invariant-loop

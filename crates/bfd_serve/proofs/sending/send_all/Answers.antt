@@ -1,8 +1,6 @@
 -- One output more, or the outputs up to one for which there was no memory.
-use Rattle.std.proofs.Common.{rules, ◌≡◌, [], ◌∷◌, drop, slice_index_or, ℕ, subst, sym, arith}
-use Rattle.bfd_edge.specs.Links.{LinkTold}
-use Rattle.bfd_serve.specs.Calls.{datagrams}
-use Rattle.bfd_serve.specs.Works.{HasSent}
+use Rattle.bfd_serve.proofs.Common.{rules, ◌≡◌, drop, slice_index_or, subst, sym, arith, LinkTold, datagrams, HasSent}
+use Rattle.std.proofs.Common.{[], ◌∷◌, ℕ}
 use Rattle.bfd_serve.proofs.Packets.{sent_none, sent_upto, sent_cut, sent_whole}
 use Rattle.bfd_serve.proofs.sending.send_all.Goals as goal
 

@@ -1,6 +1,5 @@
-use Rattle.std.proofs.Common.{[], take}
-use Rattle.bfd_serve.specs.Calls.{datagrams}
-use Rattle.bfd_serve.specs.Works.{HasSent}
+use Rattle.bfd_serve.proofs.Common.{take, datagrams, HasSent}
+use Rattle.std.proofs.Common.{[]}
 use Rattle.bfd_serve.proofs.sending.send_all.Given as goal
 
 abbrev pub invariant-loop-out : goal.invariant-loop-out

@@ -1,9 +1,7 @@
 -- One job more.
-use Rattle.std.proofs.Common.{◌<◌, ◌++◌, ◌∷◌, [], length, map, ap, sym, ◌∙◌, append_assoc, length-append, arith}
-use Rattle.std.proofs.lemmas.List.{map-append, length-map}
+use Rattle.bfd_serve.proofs.Common.{◌<◌, ◌++◌, length, map, ap, sym, ◌∙◌, append_assoc, length-append, arith, map-append, length-map, Memory, pass_of, link_of}
+use Rattle.std.proofs.Common.{◌∷◌, []}
 use Rattle.bfd_serve.specs.declared.jobs.Job.{Job}
-use Rattle.bfd_serve.specs.declared.ending.End.TheVariants.{Memory}
-use Rattle.bfd_serve.specs.Jobs.{pass_of, link_of}
 use Rattle.bfd_serve.proofs.Moves.{first_over}
 use Rattle.bfd_serve.proofs.serving.pair_up.Goals as goal
 

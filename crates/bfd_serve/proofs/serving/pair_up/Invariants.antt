@@ -1,6 +1,5 @@
 -- The links and passes so far are in jobs.
-use Rattle.std.proofs.Common.{◌≡◌, ◌≤◌, ◌++◌, length, map, vec_capacity}
-use Rattle.bfd_serve.specs.Jobs.{pass_of, link_of}
+use Rattle.bfd_serve.proofs.Common.{◌≡◌, ◌≤◌, ◌++◌, length, map, vec_capacity, pass_of, link_of}
 use Rattle.bfd_serve.proofs.serving.pair_up.Given as goal
 
 abbrev pub invariant-loop-link : goal.invariant-loop-link

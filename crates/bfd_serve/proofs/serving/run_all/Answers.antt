@@ -1,10 +1,6 @@
 -- The jobs before and after the work, and the passes that are joined.
-use Rattle.std.proofs.Common.{◌≡◌, ◌++◌, ◌∷◌, [], ℕ, List, length, map, sym, subst, ap, ap₂, ◌∙◌}
-use Rattle.std.specs.List.{All, sum}
-use Rattle.bfd_edge.specs.Faults.{risen}
-use Rattle.bfd_serve.specs.declared.ending.End.{End}
-use Rattle.bfd_serve.specs.Jobs.{pass_of, link_of, end_of_job, lost_of, IsOpen}
-use Rattle.bfd_serve.specs.Joins.{IsOther, IsFresh, HasSplit, AreJoined}
+use Rattle.bfd_serve.proofs.Common.{◌≡◌, ◌++◌, length, map, sym, subst, ap, ap₂, ◌∙◌, All, sum, risen, End, pass_of, link_of, end_of_job, lost_of, IsOpen, IsOther, IsFresh, HasSplit, AreJoined}
+use Rattle.std.proofs.Common.{◌∷◌, [], ℕ, List}
 use Rattle.bfd_serve.specs.Serves.{HasServed}
 use Rattle.bfd_shard.proofs.Lists.{whole_back}
 use Rattle.bfd_serve.proofs.Summing.{served, others_after, all_ready}

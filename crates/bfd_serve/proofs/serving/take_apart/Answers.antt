@@ -1,9 +1,6 @@
 -- One job more is taken apart.
-use Rattle.std.proofs.Common.{◌++◌, ◌∷◌, [], ℕ, map, ap, sym, ◌∙◌, append_assoc, append-nil, arith}
-use Rattle.std.specs.List.{sum}
-use Rattle.std.proofs.lemmas.List.{map-append}
-use Rattle.std.proofs.lemmas.List.Sums.{sum_by_push}
-use Rattle.bfd_serve.specs.Jobs.{pass_of, link_of, end_of_job, lost_of}
+use Rattle.bfd_serve.proofs.Common.{◌++◌, map, ap, sym, ◌∙◌, append_assoc, append-nil, arith, sum, map-append, sum_by_push, pass_of, link_of, end_of_job, lost_of}
+use Rattle.std.proofs.Common.{◌∷◌, [], ℕ}
 use Rattle.bfd_serve.proofs.serving.take_apart.Goals as goal
 
 pub loop-job-init : goal.loop-job-init

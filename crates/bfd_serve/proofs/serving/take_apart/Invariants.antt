@@ -1,8 +1,5 @@
 -- The jobs so far are taken apart.
-use Rattle.std.proofs.Common.{◌≡◌, ◌≤◌, ◌+◌, ◌++◌, length, map, vec_capacity}
-use Rattle.std.specs.List.{sum}
-use Rattle.bfd_edge.specs.Faults.{risen}
-use Rattle.bfd_serve.specs.Jobs.{pass_of, link_of, end_of_job, lost_of}
+use Rattle.bfd_serve.proofs.Common.{◌≡◌, ◌≤◌, ◌+◌, ◌++◌, length, map, vec_capacity, sum, risen, pass_of, link_of, end_of_job, lost_of}
 use Rattle.bfd_serve.proofs.serving.take_apart.Given as goal
 
 abbrev pub invariant-loop-job : goal.invariant-loop-job

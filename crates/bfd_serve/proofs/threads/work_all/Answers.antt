@@ -1,7 +1,5 @@
 -- Each job is worked on by one thread.
-use Rattle.std.proofs.Common.{slice_index_or, sym, subst}
-use Rattle.std.proofs.lemmas.List.Elements.{All-get_or}
-use Rattle.bfd_serve.specs.Jobs.{IsReady, IsWorked}
+use Rattle.bfd_serve.proofs.Common.{slice_index_or, sym, subst, All-get_or, IsReady, IsWorked}
 use denote.Builtin.{u64}
 use denote.Param.{param}
 use denote.Param.Send.{sendable, IsSync}

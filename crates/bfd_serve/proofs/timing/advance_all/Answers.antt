@@ -1,9 +1,7 @@
 -- One shard more, or the shards up to one that stopped.
-use Rattle.std.proofs.Common.{◌≡◌, ◌+◌, ◌-◌, ◌∷◌, [], ℕ, length, sym, subst, ap, refl, ◌∙◌, arith}
+use Rattle.bfd_serve.proofs.Common.{◌≡◌, ◌+◌, ◌-◌, length, sym, subst, ap, refl, ◌∙◌, arith, Turns, advances, IsWhole, IsStopped}
+use Rattle.std.proofs.Common.{◌∷◌, [], ℕ}
 use Rattle.bfd_shard.specs.declared.entry.ShardEvent.TheVariants.{Tick as TickEvent}
-use Rattle.bfd_engine.specs.Calls.{Turns}
-use Rattle.bfd_serve.specs.Orders.{advances}
-use Rattle.bfd_serve.specs.Works.{IsWhole, IsStopped}
 use Rattle.bfd_serve.proofs.Doing.{whole_none, whole_then, stopped_then, stopped_less}
 use Rattle.bfd_serve.proofs.Ordering.{advances_next, advances_rest}
 use Rattle.bfd_serve.proofs.timing.advance_all.Goals as goal

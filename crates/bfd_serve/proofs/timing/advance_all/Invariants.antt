@@ -1,7 +1,4 @@
-use Rattle.std.proofs.Common.{◌≡◌}
-use Rattle.bfd_engine.specs.Engines.{IsOf, AllThere}
-use Rattle.bfd_serve.specs.Orders.{advances}
-use Rattle.bfd_serve.specs.Works.{IsWhole}
+use Rattle.bfd_serve.proofs.Common.{◌≡◌, IsOf, AllThere, advances, IsWhole}
 use Rattle.bfd_serve.proofs.timing.advance_all.Given as goal
 
 abbrev pub invariant-loop-shard : goal.invariant-loop-shard

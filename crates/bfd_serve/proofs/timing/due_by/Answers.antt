@@ -1,5 +1,5 @@
 -- One order more is due, or none.
-use Rattle.std.proofs.Common.{rules, sym, ◌∙◌, arith}
+use Rattle.bfd_serve.proofs.Common.{rules, sym, ◌∙◌, arith}
 use Rattle.bfd_serve.proofs.Ordering.{due_next, due_stop, due_none}
 use Rattle.bfd_serve.proofs.timing.due_by.Goals as goal
 

@@ -1,5 +1,4 @@
-use Rattle.std.proofs.Common.{◌≡◌, ◌+◌, drop}
-use Rattle.bfd_serve.specs.Orders.{orders_due}
+use Rattle.bfd_serve.proofs.Common.{◌≡◌, ◌+◌, drop, orders_due}
 use Rattle.bfd_serve.proofs.timing.due_by.Given as goal
 
 abbrev pub invariant-loop-at : goal.invariant-loop-at

@@ -1,7 +1,6 @@
 -- One order more, or the orders up to one that stopped.
-use Rattle.std.proofs.Common.{rules, ◌+◌, ◌∷◌, [], take, drop, sym, subst, ◌∙◌}
-use Rattle.bfd_serve.specs.Orders.{order_act, orders_acts}
-use Rattle.bfd_serve.specs.Works.{IsWhole, IsStopped}
+use Rattle.bfd_serve.proofs.Common.{rules, ◌+◌, take, drop, sym, subst, ◌∙◌, order_act, orders_acts, IsWhole, IsStopped}
+use Rattle.std.proofs.Common.{◌∷◌, []}
 use Rattle.bfd_serve.proofs.Doing.{whole_then, stopped_then, stopped_less}
 use Rattle.bfd_serve.proofs.Ordering.{orders_next, orders_rest}
 use Rattle.bfd_serve.proofs.timing.give_all.Goals as goal

@@ -1,7 +1,4 @@
-use Rattle.std.proofs.Common.{◌≡◌, take}
-use Rattle.bfd_engine.specs.Engines.{IsOf, AllThere}
-use Rattle.bfd_serve.specs.Orders.{orders_acts}
-use Rattle.bfd_serve.specs.Works.{IsWhole}
+use Rattle.bfd_serve.proofs.Common.{◌≡◌, take, IsOf, AllThere, orders_acts, IsWhole}
 use Rattle.bfd_serve.proofs.timing.give_all.Given as goal
 
 abbrev pub invariant-loop-at : goal.invariant-loop-at

@@ -1,7 +1,5 @@
 -- The orders that are due, and then the shards.
-use Rattle.std.proofs.Common.{◌++◌, take, length, subst}
-use Rattle.bfd_serve.specs.Orders.{advances, orders_acts}
-use Rattle.bfd_serve.specs.Works.{IsStopped, AreDone}
+use Rattle.bfd_serve.proofs.Common.{◌++◌, take, length, subst, advances, orders_acts, IsStopped, AreDone}
 use Rattle.bfd_serve.proofs.Doing.{done_then, stopped_less}
 use Rattle.bfd_serve.proofs.timing.on_tick.Goals as goal
 

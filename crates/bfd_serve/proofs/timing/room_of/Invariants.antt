@@ -1,5 +1,5 @@
-use Rattle.std.proofs.Common.{ℕ, ◌≡◌, ◌⊎◌, ◌<◌, ◌≤◌, length}
-use Rattle.bfd_engine.specs.Engines.{configs_at}
+use Rattle.bfd_serve.proofs.Common.{◌≡◌, ◌⊎◌, ◌<◌, ◌≤◌, length, configs_at}
+use Rattle.std.proofs.Common.{ℕ}
 use Rattle.bfd_serve.proofs.timing.room_of.Given as goal
 
 abbrev pub invariant-loop-shard : goal.invariant-loop-shard

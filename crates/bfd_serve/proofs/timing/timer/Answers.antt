@@ -1,7 +1,5 @@
 -- The timer's ticks: each leaves what was done so far, or ends it by its cause.
-use Rattle.std.proofs.Common.{rules, drop, ◌≡◌, sym, subst, ap, refl, inl, inr, ◌∙◌, arith}
-use Rattle.bfd_edge.specs.Tickers.{TickerTold}
-use Rattle.bfd_serve.specs.Works.{HasRoom}
+use Rattle.bfd_serve.proofs.Common.{rules, drop, ◌≡◌, sym, subst, ap, refl, inl, inr, ◌∙◌, arith, TickerTold, HasRoom}
 use Rattle.bfd_serve.proofs.Ticking.{ticking_start, ticking_more, timed_cut, timed_fault, timed_finish, timed_without}
 use Rattle.bfd_serve.proofs.timing.timer.Goals as goal
 

@@ -1,6 +1,4 @@
-use Rattle.bfd_engine.specs.Engines.{IsOf, AllThere}
-use Rattle.bfd_serve.specs.Works.{HasRoom}
-use Rattle.bfd_serve.specs.Ticks.{IsTicking}
+use Rattle.bfd_serve.proofs.Common.{IsOf, AllThere, HasRoom, IsTicking}
 use Rattle.bfd_serve.proofs.timing.timer.Given as goal
 
 abbrev pub invariant-loop-count : goal.invariant-loop-count

@@ -1,5 +1,5 @@
 -- A worker's turns: each leaves what was done so far, or ends the worker by its cause.
-use Rattle.std.proofs.Common.{rules, arith, ◌≤◌, sym, subst}
+use Rattle.bfd_serve.proofs.Common.{rules, arith, ◌≤◌, sym, subst}
 use Rattle.bfd_serve.proofs.Turning.{working_start, working_quiet, working_got, worked_without, working_over, working_fault, working_memory, working_turns}
 use Rattle.bfd_serve.proofs.working.worker.Goals as goal
 use Rattle.bfd_serve.proofs.working.worker.Goals.{in-Quiet, in-Got+in_default-handled}

@@ -1,6 +1,4 @@
-use Rattle.std.proofs.Common.{◌≤◌}
-use Rattle.bfd_engine.specs.Engines.{IsOf, AllThere}
-use Rattle.bfd_serve.specs.Works.{IsWorking}
+use Rattle.bfd_serve.proofs.Common.{◌≤◌, IsOf, AllThere, IsWorking}
 use Rattle.bfd_serve.proofs.working.worker.Given as goal
 
 abbrev pub invariant-loop-turn : goal.invariant-loop-turn

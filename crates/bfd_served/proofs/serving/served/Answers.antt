@@ -1,7 +1,5 @@
 -- One shard more, and at the end all.
-use Rattle.std.proofs.Common.{rules, ◌≡◌, ◌∙◌, ◌∷◌, [], length, map, drop, sym, ap, arith}
-use Rattle.std.proofs.lemmas.List.{nil_from_length}
-use Rattle.bfd_served.specs.Served.{shard_sent}
+use Rattle.bfd_served.proofs.Common.{rules, ◌≡◌, ◌∙◌, ◌∷◌, [], length, map, drop, sym, ap, arith, nil_from_length, shard_sent}
 use Rattle.bfd_served.proofs.Shards.{made_with, next_made, next_fit, none_made, some_left, other_parts, text_next, sum_next, whole}
 use Rattle.bfd_served.proofs.serving.served.Goals as goal
 

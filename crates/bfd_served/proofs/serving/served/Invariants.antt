@@ -1,10 +1,6 @@
 -- With the shards that are left, the text and the counts are the whole.
-use Rattle.std.proofs.Common.{◌≡◌, ◌≤◌, ◌+◌, ◌++◌, length, map, drop}
-use Rattle.std.specs.Prelude.{sum_by}
-use Rattle.std.specs.List.{AllByRecursion}
-use Rattle.bfd_session.specs.Kinds.{configs_of}
+use Rattle.bfd_served.proofs.Common.{◌≡◌, ◌≤◌, ◌+◌, ◌++◌, length, map, drop, sum_by, AllByRecursion, configs_of, shard_history, shard_sent, shards_text}
 use Rattle.bfd_session.specs.Rows.{AreFit}
-use Rattle.bfd_served.specs.Served.{shard_history, shard_sent, shards_text}
 use Rattle.bfd_served.proofs.serving.served.Given as goal
 
 abbrev pub invariant-loop-configs : goal.invariant-loop-configs

@@ -1,9 +1,5 @@
 -- The shard is made anew of the configurations that the other was made with.
-use Rattle.std.proofs.Common.{rules, ◌≡◌, ◌∙◌, List, [], ap}
-use Rattle.bfd_session.specs.declared.event.SessionConfig.{SessionConfig}
-use Rattle.bfd_session.specs.Kinds.{configs_of}
-use Rattle.bfd_shard.specs.declared.entry.Entry.{Entry}
-use Rattle.bfd_served.specs.Served.{entries_sent}
+use Rattle.bfd_served.proofs.Common.{rules, ◌≡◌, ◌∙◌, List, [], ap, SessionConfig, configs_of, Entry, entries_sent}
 use Rattle.bfd_session.proofs.Starting.{started_configs}
 use Rattle.bfd_served.proofs.Starting.{history_same, shard_told}
 use Rattle.bfd_served.proofs.serving.tell_shard.Goals as goal

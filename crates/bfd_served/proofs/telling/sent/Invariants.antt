@@ -1,7 +1,5 @@
 -- The outputs so far are counted.
-use Rattle.std.proofs.Common.{◌≡◌, ◌≤◌, take}
-use Rattle.std.specs.Prelude.{sum_by}
-use Rattle.bfd_script.specs.Report.{packets_sent_by}
+use Rattle.bfd_served.proofs.Common.{◌≡◌, ◌≤◌, take, sum_by, packets_sent_by}
 use Rattle.bfd_served.proofs.telling.sent.Given as goal
 
 abbrev pub invariant-loop-out : goal.invariant-loop-out

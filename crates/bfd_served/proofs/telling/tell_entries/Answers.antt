@@ -1,7 +1,5 @@
 -- One entry more, and at the end all.
-use Rattle.std.proofs.Common.{rules, ◌≡◌, ◌∙◌, [], take, drop, length-drop, arith}
-use Rattle.std.proofs.lemmas.List.{nil_from_length}
-use Rattle.bfd_session.specs.Kinds.{configs_of}
+use Rattle.bfd_served.proofs.Common.{rules, ◌≡◌, ◌∙◌, [], take, drop, length-drop, arith, nil_from_length, configs_of}
 use Rattle.bfd_served.proofs.Entries.{IsNext, can_next, taken_more, text_next, sent_next, text_over, sent_over}
 use Rattle.bfd_served.proofs.telling.tell_entries.Goals as goal
 

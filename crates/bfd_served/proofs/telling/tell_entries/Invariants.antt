@@ -1,7 +1,5 @@
 -- The shard took the entries so far; with those that are left, the text and the count are the whole.
-use Rattle.std.proofs.Common.{◌≡◌, ◌≤◌, ◌+◌, ◌++◌, [], length, take, drop}
-use Rattle.bfd_session.specs.Kinds.{configs_of}
-use Rattle.bfd_served.specs.Served.{entries_text, entries_sent}
+use Rattle.bfd_served.proofs.Common.{◌≡◌, ◌≤◌, ◌+◌, ◌++◌, [], length, take, drop, configs_of, entries_text, entries_sent}
 use Rattle.bfd_served.proofs.telling.tell_entries.Given as goal
 
 abbrev pub invariant-loop-entry : goal.invariant-loop-entry

@@ -1,6 +1,5 @@
 -- The turn, and then what the entry gave.
-use Rattle.std.proofs.Common.{rules, ◌+◌, length}
-use Rattle.bfd_session.specs.Kinds.{configs_of}
+use Rattle.bfd_served.proofs.Common.{rules, ◌+◌, length, configs_of}
 use Rattle.bfd_served.proofs.Entries.{entry_told, entry_long}
 use Rattle.bfd_served.proofs.telling.tell_entry.Goals as goal
 

@@ -1,9 +1,6 @@
 -- The session at a place has the discriminator of the configuration at that place.
-use Rattle.std.proofs.Common.{◌≡◌, ℕ, zero, suc, List, [], ◌∷◌, length, get_or, true, false, refl, sym, ◌∙◌, ap, arith}
-use Rattle.std.specs.Prelude.{nat_lt, slice_get}
+use Rattle.bfd_served.proofs.Common.{◌≡◌, ℕ, zero, suc, List, [], ◌∷◌, length, get_or, true, false, refl, sym, ◌∙◌, ap, arith, nat_lt, slice_get, Running, configs_of, discr_of, discr_at}
 use Rattle.std.proofs.lemmas.Bool.Decides.{nat_tests}
-use Rattle.bfd_session.specs.Kinds.{Running, configs_of, discr_of}
-use Rattle.bfd_served.specs.Served.{discr_at}
 use Rattle.bfd_served.proofs.turn_lines.discr_at.Goals as goal
 
 found : (ss : List Running) (k : ℕ) (s : Running) → true ≡ nat_lt k (length ss) → s ≡ get_or ss k s

@@ -1,5 +1,5 @@
 -- The keys so far are copied.
-use Rattle.std.proofs.Common.{◌≡◌, take}
+use Rattle.bfd_serving.proofs.Common.{◌≡◌, take}
 use Rattle.bfd_serving.proofs.copying.copied_keys.Given as goal
 
 abbrev pub invariant-loop-at : goal.invariant-loop-at

@@ -1,6 +1,5 @@
 -- The parts so far.
-use Rattle.std.proofs.Common.{map}
-use Rattle.bfd_serving.specs.Runs.{AreDealt}
+use Rattle.bfd_serving.proofs.Common.{map, AreDealt}
 use Rattle.bfd_serving.proofs.copying.dealt.Given as goal
 
 abbrev pub invariant-loop-shard : goal.invariant-loop-shard

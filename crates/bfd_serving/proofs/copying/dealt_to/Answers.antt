@@ -1,6 +1,5 @@
 -- One session more, and at the end all.
-use Rattle.std.proofs.Common.{◌+◌, ◌++◌, ◌∷◌, [], drop, refl, ap, ◌∙◌, arith}
-use Rattle.bfd_shard.specs.Dealing.{share}
+use Rattle.bfd_serving.proofs.Common.{◌+◌, ◌++◌, ◌∷◌, [], drop, refl, ap, ◌∙◌, arith, share}
 use Rattle.bfd_serving.proofs.Dealing.{share_more, share_over, share_from}
 use Rattle.bfd_serving.proofs.copying.dealt_to.Goals as goal
 

@@ -1,6 +1,5 @@
 -- With what is left, the part is the shard's share.
-use Rattle.std.proofs.Common.{◌≡◌, ◌≤◌, ◌+◌, ◌-◌, ◌++◌, length, drop}
-use Rattle.bfd_shard.specs.Dealing.{share}
+use Rattle.bfd_serving.proofs.Common.{◌≡◌, ◌≤◌, ◌+◌, ◌-◌, ◌++◌, length, drop, share}
 use Rattle.bfd_serving.proofs.copying.dealt_to.Given as goal
 
 abbrev pub invariant-loop-at : goal.invariant-loop-at

@@ -1,7 +1,5 @@
 -- The ends from a place on are told.
-use Rattle.std.proofs.Common.{◌≡◌, ◌≤◌, length, drop}
-use Rattle.std.specs.List.{All}
-use Rattle.bfd_serving.specs.Finishes.{finish_from, HadMemory}
+use Rattle.bfd_serving.proofs.Common.{◌≡◌, ◌≤◌, length, drop, All, finish_from, HadMemory}
 use Rattle.bfd_serving.proofs.finish.finish_of.Given as goal
 
 abbrev pub invariant-loop-left : goal.invariant-loop-left

@@ -1,5 +1,5 @@
 -- One link more is open, or one can't be.
-use Rattle.std.proofs.Common.{◌+◌}
+use Rattle.bfd_serving.proofs.Common.{◌+◌}
 use Rattle.bfd_serving.proofs.Shuts.{next_unopened}
 use Rattle.bfd_serving.proofs.linking.open_all.Goals as goal
 

@@ -1,8 +1,5 @@
 -- The links so far are open.
-use Rattle.std.proofs.Common.{◌≡◌, ◌≤◌, length, vec_capacity}
-use Rattle.std.specs.List.{All}
-use Rattle.bfd_edge.specs.Links.{IsNewLink}
-use Rattle.bfd_serving.specs.Linking.{IsUncalled, IsOpenTo}
+use Rattle.bfd_serving.proofs.Common.{◌≡◌, ◌≤◌, length, vec_capacity, All, IsNewLink, IsUncalled, IsOpenTo}
 use Rattle.bfd_serving.proofs.linking.open_all.Given as goal
 
 abbrev pub invariant-loop-at : goal.invariant-loop-at

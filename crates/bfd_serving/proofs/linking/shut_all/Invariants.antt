@@ -1,5 +1,5 @@
 -- The links so far are shut.
-use Rattle.std.proofs.Common.{◌≡◌, ◌≤◌, ◌+◌, ◌++◌, ◌∷◌, ℕ, length, Some, slice_index_or}
+use Rattle.bfd_serving.proofs.Common.{◌≡◌, ◌≤◌, ◌+◌, ◌++◌, ◌∷◌, ℕ, length, Some, slice_index_or}
 use Rattle.bfd_serving.proofs.linking.shut_all.Given as goal
 
 abbrev pub invariant-loop-link : goal.invariant-loop-link

@@ -1,5 +1,5 @@
 -- One shard more.
-use Rattle.bfd_shard.specs.Shard.{IsShard}
+use Rattle.bfd_serving.proofs.Common.{IsShard}
 use Rattle.bfd_serving.proofs.Closings.{one_more}
 use Rattle.bfd_serving.proofs.running.keep.Goals as goal
 

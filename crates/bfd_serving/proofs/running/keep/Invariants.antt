@@ -1,6 +1,5 @@
 -- The shards so far.
-use Rattle.std.proofs.Common.{ℕ, ◌<◌, slice_index_or}
-use Rattle.bfd_shard.specs.Shard.{Shard, IsShard}
+use Rattle.bfd_serving.proofs.Common.{ℕ, ◌<◌, slice_index_or, Shard, IsShard}
 use Rattle.bfd_serving.proofs.running.keep.Given as goal
 
 abbrev pub invariant-loop-at : goal.invariant-loop-at

@@ -1,13 +1,7 @@
 -- A whole run, put together.
-use Rattle.std.proofs.Common.{length, map, IfOk, Ok, ap, sym, ◌∙◌, subst}
-use Rattle.std.specs.List.{All}
-use Rattle.bfd_session.specs.Kinds.{configs_of}
-use Rattle.bfd_session.specs.Rows.{AreFit}
+use Rattle.bfd_serving.proofs.Common.{length, map, IfOk, Ok, ap, sym, ◌∙◌, subst, All, configs_of, AreFit, Shard, IsUnspent, HadMemory, finish_from, script_with, history_at, told_on_link, HaveRun, AreClosedShards}
 use Rattle.bfd_script.specs.Reading.{Lists}
-use Rattle.bfd_shard.specs.Shard.{Shard}
 use Rattle.bfd_served.specs.Served.{shard_history, served}
-use Rattle.bfd_serving.specs.Finishes.{IsUnspent, HadMemory, finish_from}
-use Rattle.bfd_serving.specs.Runs.{script_with, history_at, told_on_link, HaveRun, AreClosedShards}
 use Rattle.bfd_serving.proofs.Dealing.{parts_are, parts_fit}
 use Rattle.bfd_serving.proofs.Wholes.{all_shut, still_open, whole_run}
 use Rattle.bfd_serving.proofs.serving.serve_script.Goals as goal

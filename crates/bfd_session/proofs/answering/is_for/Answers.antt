@@ -1,14 +1,6 @@
 -- What was read is what the payload holds, so M is set in both or in neither.
-use Rattle.std.proofs.Common.{rules, ◌≡◌, List, ℕ, Bool, true, false, refl, sym, ◌∙◌, subst, Option, None, Some, IsTrue, ◌↔◌}
-use Rattle.std.specs.Prelude.{Ok}
+use Rattle.bfd_session.proofs.Common.{rules, ◌≡◌, List, ℕ, Bool, true, false, refl, sym, ◌∙◌, subst, Option, None, Some, IsTrue, ◌↔◌, Ok, Arrival, Port, Control, Test, fields_of, first_failing, read_of, unless, IsFor}
 use mathlib.Core.Bool.{beq}
-use Rattle.bfd_packet.specs.declared.arrival.Arrival.{Arrival}
-use Rattle.bfd_packet.specs.declared.arrival.Port.{Port}
-use Rattle.bfd_packet.specs.declared.control.Control.{Control}
-use Rattle.bfd_packet.specs.declared.discard.Test.{Test}
-use Rattle.bfd_packet.specs.Layout.{fields_of}
-use Rattle.bfd_packet.specs.HeaderTests.{first_failing, read_of, unless}
-use Rattle.bfd_session.specs.Step.{IsFor}
 use Rattle.bfd_session.proofs.answering.is_for.Goals as goal
 
 -- what was read failed no test, and has these fields

@@ -1,17 +1,6 @@
 -- An Echo function that nothing is due of, or that fails, is left as it is; and after a failure the session isn't Up.
-use Rattle.std.proofs.Common.{rules, ◌≡◌, ℕ, Bool, true, false, List, refl, sym, ap, ◌∙◌, subst, Option, Some, if◌then◌else◌}
-use Rattle.bfd_packet.specs.declared.control.State.TheVariants.{Down}
-use Rattle.bfd_rules.specs.declared.config.Config.{Config}
-use Rattle.bfd_rules.specs.declared.variables.Vars.{Vars}
-use Rattle.bfd_rules.specs.EventFrame.{Course, course, changes}
-use Rattle.bfd_p2p.specs.Frame.{moves}
-use Rattle.bfd_p2p.specs.Machine.{failed}
-use Rattle.bfd_echo.specs.declared.echo.Echo.{Echo}
-use Rattle.bfd_echo.specs.declared.echo.EchoResult.{EchoResult}
-use Rattle.bfd_echo.specs.Rules.{outcome, settled}
-use Rattle.bfd_echo.specs.Timing.{has_failed, is_sending}
-use Rattle.bfd_session.specs.Echoing.{IsEchoOver, should_echo, interval_of, settles_echo}
-use Rattle.bfd_session.specs.Kinds.{flow}
+use Rattle.bfd_session.proofs.Common.{rules, ◌≡◌, ℕ, Bool, true, false, List, refl, sym, ap, ◌∙◌, subst, Option, Some, if◌then◌else◌, Down, Config, Vars, Course, course, changes, moves, failed, Echo, EchoResult, outcome, has_failed, is_sending, IsEchoOver, should_echo, interval_of, settles_echo, flow}
+use Rattle.bfd_echo.specs.Rules.{settled}
 use Rattle.bfd_session.proofs.Renewing.{renewed_state}
 use Rattle.bfd_session.proofs.Starting.{down_silent}
 use Rattle.bfd_session.proofs.echoing.settles_echo.Goals as goal

@@ -1,7 +1,5 @@
 -- What the event's parts give, from outputs before it, is the event; the answer is made of the flow after settling.
-use Rattle.std.proofs.Common.{◌∙◌}
-use Rattle.bfd_session.specs.Inside.{head_of}
-use Rattle.bfd_session.specs.Step.{stepped_flow}
+use Rattle.bfd_session.proofs.Common.{◌∙◌, head_of, stepped_flow}
 use Rattle.bfd_session.proofs.Front.{step_vars, step_outs, plain_step, reply_law}
 use Rattle.bfd_session.proofs.Machines.{head_with}
 use Rattle.bfd_session.proofs.head.steps.Goals as goal

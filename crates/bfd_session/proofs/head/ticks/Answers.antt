@@ -1,7 +1,5 @@
 -- What the tick's parts give, from outputs before it, is the tick.
-use Rattle.std.proofs.Common.{◌∙◌}
-use Rattle.bfd_session.specs.Inside.{head_of}
-use Rattle.bfd_session.specs.Step.{ticked_flow}
+use Rattle.bfd_session.proofs.Common.{◌∙◌, head_of, ticked_flow}
 use Rattle.bfd_session.proofs.DueTick.{head_over}
 use Rattle.bfd_session.proofs.Front.{tick_vars, tick_outs, plain_tick}
 use Rattle.bfd_session.proofs.Machines.{head_with}

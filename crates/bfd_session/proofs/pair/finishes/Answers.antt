@@ -1,10 +1,6 @@
 -- The end of an event leaves what the Echo function runs by.
-use Rattle.std.proofs.Common.{sym, subst}
-use Rattle.bfd_rules.specs.declared.config.Config.{Config}
-use Rattle.bfd_rules.specs.declared.variables.Vars.{Vars}
-use Rattle.bfd_rules.specs.EventFrame.{Course, course}
+use Rattle.bfd_session.proofs.Common.{sym, subst, Config, Vars, Course, course, IsEchoOver}
 use Rattle.bfd_p2p.specs.Finish.{finish}
-use Rattle.bfd_session.specs.Echoing.{IsEchoOver}
 use Rattle.bfd_session.proofs.EchoKept.{finish_keeps_echo}
 use Rattle.bfd_session.proofs.pair.finishes.Goals as goal
 

@@ -1,5 +1,5 @@
 -- Where a packet with F tells the state, nothing more is told.
-use Rattle.std.proofs.Common.{◌≡◌, ◌≤◌, ◌+◌, ℕ, Bool, true, false, refl, arith}
+use Rattle.bfd_session.proofs.Common.{◌≡◌, ◌≤◌, ◌+◌, ℕ, Bool, true, false, refl, arith}
 use Rattle.bfd_session.proofs.pair.runs.Goals as goal
 
 within : (answered : Bool) (old settled acted finished : ℕ) → old ≤ settled + 3 → (answered ≡ false → settled ≤ acted + 1)

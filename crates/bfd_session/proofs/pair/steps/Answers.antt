@@ -1,8 +1,5 @@
 -- What the event's parts give, from outputs before it, is the event; the answer is made of the flow after settling.
-use Rattle.std.proofs.Common.{◌∙◌}
-use Rattle.bfd_session.specs.Inside.{pair_of}
-use Rattle.bfd_session.specs.Kinds.{Running}
-use Rattle.bfd_session.specs.Step.{stepped_flow}
+use Rattle.bfd_session.proofs.Common.{◌∙◌, pair_of, Running, stepped_flow}
 use Rattle.bfd_session.proofs.Front.{step_vars, step_echo, step_number, step_outs, reply_law}
 use Rattle.bfd_session.proofs.Machines.{pair_with}
 use Rattle.bfd_session.proofs.pair.steps.Goals as goal

@@ -1,8 +1,5 @@
 -- What the tick's parts give, from outputs before it, is the tick.
-use Rattle.std.proofs.Common.{◌∙◌}
-use Rattle.bfd_session.specs.Inside.{pair_of}
-use Rattle.bfd_session.specs.Kinds.{Running}
-use Rattle.bfd_session.specs.Step.{ticked_flow}
+use Rattle.bfd_session.proofs.Common.{◌∙◌, pair_of, Running, ticked_flow}
 use Rattle.bfd_session.proofs.DueTick.{pair_over}
 use Rattle.bfd_session.proofs.Front.{tick_vars, tick_echo, tick_number, tick_outs}
 use Rattle.bfd_session.proofs.Machines.{pair_with}

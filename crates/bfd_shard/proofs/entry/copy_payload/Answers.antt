@@ -1,5 +1,5 @@
 -- All of a payload fits a payload.
-use Rattle.std.proofs.Common.{◌∙◌, ap, take, take_all}
+use Rattle.bfd_shard.proofs.Common.{◌∙◌, ap, take, take_all}
 use Rattle.bfd_shard.proofs.entry.copy_payload.Goals as goal
 
 pub returns : goal.returns

@@ -1,8 +1,5 @@
 -- The session at the place takes the event.
-use Rattle.std.proofs.Common.{sym, ap, subst}
-use Rattle.bfd_session.specs.declared.event.SessionConfig.{SessionConfig}
-use Rattle.bfd_session.specs.Kinds.{Running}
-use Rattle.bfd_session.specs.Step.{CanTake}
+use Rattle.bfd_shard.proofs.Common.{sym, ap, subst, SessionConfig, Running, CanTake}
 use Rattle.bfd_shard.proofs.own.step_at.Goals as goal
 
 pub step_one-answer-requires-clause-takes : goal.step_one-answer-requires-clause-takes

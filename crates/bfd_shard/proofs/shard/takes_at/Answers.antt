@@ -1,13 +1,7 @@
 -- The session at a place takes the event exactly where its configuration says so.
-use Rattle.std.proofs.Common.{◌≡◌, ◌<◌, ℕ, zero, suc, length, get_or, [], ◌∷◌, arith, Bool, true, false, List, ap, sym, ◌∙◌, subst, Option, None, Some, IsTrue, ◌↔◌}
-use Rattle.std.specs.Prelude.{slice_get, nat_lt, unwrap_or, option_map}
+use Rattle.bfd_shard.proofs.Common.{◌≡◌, ◌<◌, ℕ, zero, suc, length, get_or, [], ◌∷◌, arith, Bool, true, false, List, ap, sym, ◌∙◌, subst, Option, None, Some, IsTrue, ◌↔◌, slice_get, nat_lt, unwrap_or, option_map, SessionConfig, Event, Running, configs_of, CanTake, IsTaken}
 use Rattle.std.proofs.lemmas.Bool.Decides.{nat_tests}
 use Rattle.std.proofs.lemmas.Option.{slice_get-map, slice_get_past}
-use Rattle.bfd_session.specs.declared.event.SessionConfig.{SessionConfig}
-use Rattle.bfd_session.specs.declared.event.Event.{Event}
-use Rattle.bfd_session.specs.Kinds.{Running, configs_of}
-use Rattle.bfd_session.specs.Step.{CanTake}
-use Rattle.bfd_shard.specs.Shard.{IsTaken}
 use Rattle.bfd_shard.proofs.shard.takes_at.Goals as goal
 
 -- the configuration at a session's place is the session's

@@ -1,6 +1,5 @@
 -- One due tick more is kept.
-use Rattle.std.proofs.Common.{◌∙◌, ap, arith, set, length, length-set}
-use Rattle.bfd_session.specs.Due.{due}
+use Rattle.bfd_shard.proofs.Common.{◌∙◌, ap, arith, set, length, length-set, due}
 use Rattle.bfd_shard.proofs.Setting.{due_more}
 use Rattle.bfd_shard.proofs.start.keep_all.Goals as goal
 

@@ -1,6 +1,5 @@
 -- The due ticks so far are kept.
-use Rattle.std.proofs.Common.{◌≡◌, ◌++◌, map, take, drop, length}
-use Rattle.bfd_session.specs.Due.{due}
+use Rattle.bfd_shard.proofs.Common.{◌≡◌, ◌++◌, map, take, drop, length, due}
 use Rattle.bfd_shard.proofs.start.keep_all.Given as goal
 
 abbrev pub invariant-loop-place : goal.invariant-loop-place

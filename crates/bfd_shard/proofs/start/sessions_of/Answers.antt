@@ -1,5 +1,5 @@
 -- One session more.
-use Rattle.std.proofs.Common.{◌≡◌, ◌∙◌, ◌++◌, ◌∷◌, [], ap, sym, rules, append_assoc, subst}
+use Rattle.bfd_shard.proofs.Common.{◌≡◌, ◌∙◌, ◌++◌, ◌∷◌, [], ap, sym, rules, append_assoc, subst}
 use Rattle.bfd_session.specs.Rows.{AreFit}
 use Rattle.bfd_shard.proofs.Setting.{sound_more, start_more}
 use Rattle.bfd_shard.proofs.start.sessions_of.Goals as goal

@@ -1,8 +1,6 @@
 -- The sessions so far stand at the start, and the configurations that are left are within their ranges.
-use Rattle.std.proofs.Common.{◌≡◌, ◌++◌, map}
-use Rattle.std.specs.List.{AllByRecursion}
+use Rattle.bfd_shard.proofs.Common.{◌≡◌, ◌++◌, map, AllByRecursion, IsSound, started}
 use Rattle.bfd_session.specs.Rows.{AreFit}
-use Rattle.bfd_session.specs.Step.{IsSound, started}
 use Rattle.bfd_shard.proofs.start.sessions_of.Given as goal
 
 abbrev pub invariant-loop-config : goal.invariant-loop-config

@@ -1,14 +1,5 @@
 -- The ids that the timers give are the places of the sessions that are due, and ticking these is ticking all.
-use Rattle.std.proofs.Common.{◌≡◌, ℕ, ◌<◌, ◌≤◌, ◌++◌, refl, sym, ◌∙◌, ap, [], length, get_or, map, arith, List, Option, subst, length-set}
-use Rattle.std.proofs.lemmas.List.{length-map}
-use Rattle.std.specs.List.{flat_map, AllByRecursion}
-use Rattle.bfd_num.specs.Due.{has_come}
-use Rattle.bfd_lanes.specs.Held.{HeldIds}
-use Rattle.bfd_lanes.specs.Places.{places, come, without}
-use Rattle.bfd_session.specs.Alone.{ticked, tick_items}
-use Rattle.bfd_session.specs.Due.{due}
-use Rattle.bfd_session.specs.Kinds.{Running}
-use Rattle.bfd_session.specs.Step.{IsSound}
+use Rattle.bfd_shard.proofs.Common.{◌≡◌, ℕ, ◌<◌, ◌≤◌, ◌++◌, refl, sym, ◌∙◌, ap, [], length, get_or, map, arith, List, Option, subst, length-set, length-map, flat_map, AllByRecursion, has_come, HeldIds, places, come, without, ticked, tick_items, due, Running, IsSound}
 use Rattle.bfd_shard.proofs.Ticks.{nobody, Tour, tour, visits_more, visits_done, quiet_first, quiet_more, quiet_all, in_range, no_more, all_sound}
 use Rattle.bfd_shard.proofs.ticking.tick_all.Goals as goal
 use Rattle.bfd_shard.proofs.ticking.tick_all.Given.{Over}

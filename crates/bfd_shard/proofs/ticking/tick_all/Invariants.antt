@@ -1,6 +1,5 @@
 -- Visiting the ids that are left gives what visiting all of them gives, and away from them nothing is due.
-use Rattle.std.proofs.Common.{◌≡◌, ◌+◌, ◌*◌, ◌≤◌, drop, length}
-use Rattle.bfd_session.specs.Kinds.{Running}
+use Rattle.bfd_shard.proofs.Common.{◌≡◌, ◌+◌, ◌*◌, ◌≤◌, drop, length, Running}
 use Rattle.bfd_shard.proofs.Ticks.{tour, visits, QuietFrom}
 use Rattle.bfd_shard.proofs.ticking.tick_all.Given as goal
 

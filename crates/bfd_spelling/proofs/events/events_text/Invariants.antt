@@ -1,6 +1,4 @@
-use Rattle.std.proofs.Common.{◌≡◌, take}
-use Rattle.std.specs.String.{string_bytes}
-use Rattle.bfd_spelling.specs.Written.{events_text}
+use Rattle.bfd_spelling.proofs.Common.{◌≡◌, take, string_bytes, events_text}
 use Rattle.bfd_spelling.proofs.events.events_text.Given as goal
 
 abbrev pub invariant-loop-event : goal.invariant-loop-event

@@ -1,6 +1,4 @@
-use Rattle.std.proofs.Common.{◌≡◌, take}
-use Rattle.std.specs.String.{string_bytes}
-use Rattle.bfd_spelling.specs.Written.{rows_text}
+use Rattle.bfd_spelling.proofs.Common.{◌≡◌, take, string_bytes, rows_text}
 use Rattle.bfd_spelling.proofs.table.rows_text.Given as goal
 
 abbrev pub invariant-loop-config : goal.invariant-loop-config

@@ -1,6 +1,4 @@
-use Rattle.std.proofs.Common.{length, slice_set, ◌∙◌, ap, List, ℕ}
-use Rattle.std.proofs.lemmas.List.{set-set}
-use Rattle.bfd_lanes.specs.Places.{never}
+use Rattle.bfd_wheel.proofs.Common.{length, slice_set, ◌∙◌, ap, List, ℕ, set-set, never}
 use Rattle.bfd_wheel.proofs.Wheels.{linked}
 use Rattle.bfd_wheel.proofs.change.change.Goals as goal
 

@@ -1,4 +1,4 @@
-use Rattle.std.proofs.Common.{◌<◌, arith}
+use Rattle.bfd_wheel.proofs.Common.{◌<◌, arith}
 use Rattle.bfd_wheel.proofs.Wheels.{freed}
 use Rattle.bfd_wheel.proofs.change.detach.Goals as goal
 

@@ -1,6 +1,4 @@
-use Rattle.std.proofs.Common.{ℕ, length, subst, arith}
-use Rattle.bfd_wheel.specs.Rings.{Links}
-use Rattle.bfd_wheel.specs.Wheel.{next_in, prev_in}
+use Rattle.bfd_wheel.proofs.Common.{ℕ, length, subst, arith, Links, next_in, prev_in}
 use Rattle.bfd_wheel.proofs.Wheels.{filled, first_linked}
 use Rattle.bfd_wheel.proofs.change.put.Goals as goal
 

@@ -1,5 +1,4 @@
-use Rattle.std.proofs.Common.{◌≡◌, ◌<◌, ℕ, length}
-use Rattle.bfd_wheel.specs.Wheel.{next_in, prev_in}
+use Rattle.bfd_wheel.proofs.Common.{◌≡◌, ◌<◌, ℕ, length, next_in, prev_in}
 use Rattle.bfd_wheel.proofs.links.loops.Given as goal
 
 abbrev pub invariant-loop-at : goal.invariant-loop-at

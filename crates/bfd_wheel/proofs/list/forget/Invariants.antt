@@ -1,5 +1,4 @@
-use Rattle.std.proofs.Common.{◌≡◌, ◌<◌, ◌≤◌, ℕ, get_or}
-use Rattle.bfd_lanes.specs.Places.{due_of, without}
+use Rattle.bfd_wheel.proofs.Common.{◌≡◌, ◌<◌, ◌≤◌, ℕ, get_or, due_of, without}
 use Rattle.bfd_wheel.proofs.list.forget.Given as goal
 
 abbrev pub invariant-loop-due : goal.invariant-loop-due

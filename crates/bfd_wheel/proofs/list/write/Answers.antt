@@ -1,5 +1,4 @@
-use Rattle.std.proofs.lemmas.List.{map-set}
-use Rattle.bfd_lanes.specs.Places.{due_of}
+use Rattle.bfd_wheel.proofs.Common.{map-set, due_of}
 use Rattle.bfd_wheel.proofs.list.write.Goals as goal
 
 pub returns : goal.returns

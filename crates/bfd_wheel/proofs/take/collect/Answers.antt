@@ -1,6 +1,5 @@
 -- The walk begins behind the head, goes on by each visit, and ends at the head or after as many steps as there are ids.
-use Rattle.std.proofs.Common.{length, refl, sym, ◌∙◌, inl, inr, arith}
-use Rattle.bfd_wheel.specs.Wheel.{next_in}
+use Rattle.bfd_wheel.proofs.Common.{length, refl, sym, ◌∙◌, inl, inr, arith, next_in}
 use Rattle.bfd_wheel.proofs.TakenIds.{took_none, took_then}
 use Rattle.bfd_wheel.proofs.Wheels.{linked}
 use Rattle.bfd_wheel.proofs.Walk.{walk_begins, walk_id, walk_on, walk_ends}

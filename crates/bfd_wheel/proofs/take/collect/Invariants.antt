@@ -1,6 +1,5 @@
-use Rattle.std.proofs.Common.{◌≡◌, ◌≤◌, length}
+use Rattle.bfd_wheel.proofs.Common.{◌≡◌, ◌≤◌, length, Took, waiting}
 use Rattle.bfd_lanes.specs.Held.{room_of}
-use Rattle.bfd_wheel.specs.Taken.{Took, waiting}
 use Rattle.bfd_wheel.proofs.Walk.{IsWalk}
 use Rattle.bfd_wheel.proofs.take.collect.Given as goal
 

@@ -1,5 +1,4 @@
-use Rattle.std.proofs.Common.{◌≢◌, length, get_or, refl, slice_index, arith}
-use Rattle.bfd_lanes.specs.Places.{never}
+use Rattle.bfd_wheel.proofs.Common.{◌≢◌, length, get_or, refl, slice_index, arith, never}
 use Rattle.bfd_wheel.proofs.TakenIds.{ids_first, ids_rest, same_or_gone_on}
 use Rattle.bfd_wheel.proofs.Wheels.{linked}
 use Rattle.bfd_wheel.proofs.take.detach_all.Goals as goal

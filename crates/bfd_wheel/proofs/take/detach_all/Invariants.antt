@@ -1,7 +1,4 @@
-use Rattle.std.proofs.Common.{◌≡◌, ◌⊎◌, ◌≤◌, ℕ, length, drop, slice_index}
-use Rattle.bfd_lanes.specs.Places.{never}
-use Rattle.bfd_wheel.specs.Taken.{times, counts_due}
-use Rattle.bfd_wheel.specs.Wheel.{IsWheel}
+use Rattle.bfd_wheel.proofs.Common.{◌≡◌, ◌⊎◌, ◌≤◌, ℕ, length, drop, slice_index, never, times, counts_due, IsWheel}
 use Rattle.bfd_wheel.proofs.take.detach_all.Given as goal
 
 -- the ids that are left are those that wait

@@ -1,5 +1,4 @@
-use Rattle.std.proofs.Common.{ℕ, length, ap, subst, sym, arith}
-use Rattle.bfd_wheel.specs.Wheel.{IsWheel}
+use Rattle.bfd_wheel.proofs.Common.{ℕ, length, ap, subst, sym, arith, IsWheel}
 use Rattle.bfd_wheel.proofs.TakenIds.{waiting-le, none_waits, left_is}
 use Rattle.bfd_wheel.proofs.Order.{ordered}
 use Rattle.bfd_wheel.proofs.Swept.{moved_on}

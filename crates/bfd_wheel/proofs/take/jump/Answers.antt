@@ -1,6 +1,4 @@
-use Rattle.std.proofs.Common.{length, map, ap, ◌∙◌, arith}
-use Rattle.bfd_lanes.specs.Places.{due_of, come}
-use Rattle.bfd_wheel.specs.Taken.{times}
+use Rattle.bfd_wheel.proofs.Common.{length, map, ap, ◌∙◌, arith, due_of, come, times}
 use Rattle.bfd_wheel.proofs.TakenIds.{above_all, left_is}
 use Rattle.bfd_wheel.proofs.Order.{times_come, appended_from}
 use Rattle.bfd_wheel.proofs.Wheels.{moved}

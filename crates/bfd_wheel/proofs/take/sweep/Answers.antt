@@ -1,5 +1,4 @@
-use Rattle.std.proofs.Common.{ℕ, length, subst, refl, ◌∙◌, arith}
-use Rattle.bfd_wheel.specs.Wheel.{IsWheel}
+use Rattle.bfd_wheel.proofs.Common.{ℕ, length, subst, refl, ◌∙◌, arith, IsWheel}
 use Rattle.bfd_wheel.proofs.TakenIds.{took_none, took_then}
 use Rattle.bfd_wheel.proofs.Swept.{left_none, left_more, left_all}
 use Rattle.bfd_wheel.proofs.take.sweep.Goals as goal

@@ -1,7 +1,5 @@
-use Rattle.std.proofs.Common.{◌≡◌, ◌≤◌, length}
+use Rattle.bfd_wheel.proofs.Common.{◌≡◌, ◌≤◌, length, Took, waiting, IsWheel}
 use Rattle.bfd_lanes.specs.Held.{room_of}
-use Rattle.bfd_wheel.specs.Taken.{Took, waiting}
-use Rattle.bfd_wheel.specs.Wheel.{IsWheel}
 use Rattle.bfd_wheel.proofs.Swept.{Left}
 use Rattle.bfd_wheel.proofs.take.sweep.Given as goal
 

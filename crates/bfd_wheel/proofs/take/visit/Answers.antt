@@ -1,5 +1,4 @@
-use Rattle.std.proofs.Common.{ℕ, List, arith, ap}
-use Rattle.bfd_wheel.specs.Taken.{waiting}
+use Rattle.bfd_wheel.proofs.Common.{ℕ, List, arith, ap, waiting}
 use Rattle.bfd_wheel.proofs.TakenIds.{took_id, waiting_one, waiting-set}
 use Rattle.bfd_wheel.proofs.take.visit.Goals as goal
 

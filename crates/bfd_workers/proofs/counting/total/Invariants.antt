@@ -1,7 +1,5 @@
 -- The counts so far are added up.
-use Rattle.std.proofs.Common.{◌≡◌, ◌≤◌, ◌*◌}
-use Rattle.std.specs.Prelude.{slice_index_or}
-use Rattle.bfd_workers.specs.Counts.{sum_to}
+use Rattle.bfd_workers.proofs.Common.{◌≡◌, ◌≤◌, ◌*◌, slice_index_or, sum_to}
 use Rattle.bfd_workers.proofs.counting.total.Given as goal
 
 abbrev pub invariant-loop-k : goal.invariant-loop-k

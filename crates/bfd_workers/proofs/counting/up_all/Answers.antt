@@ -1,8 +1,5 @@
 -- One shard more is counted.
-use Rattle.std.proofs.Common.{rules, ◌≡◌, ◌<◌, ◌∙◌, ap, arith, length}
-use Rattle.std.specs.Prelude.{slice_index_or, sum_by}
-use Rattle.bfd_shard.specs.Shard.{Shard}
-use Rattle.bfd_workers.specs.Counts.{one_up, sum_to}
+use Rattle.bfd_workers.proofs.Common.{rules, ◌≡◌, ◌<◌, ◌∙◌, ap, arith, length, slice_index_or, sum_by, Shard, one_up, sum_to}
 use Rattle.bfd_workers.proofs.Summing.{any, kept_more, sum_step}
 use Rattle.bfd_workers.proofs.counting.up_all.Goals as goal
 

@@ -1,8 +1,5 @@
 -- The shards so far are counted.
-use Rattle.std.proofs.Common.{◌≡◌, ◌≤◌, ◌<◌, ◌*◌, ℕ}
-use Rattle.std.specs.Prelude.{slice_index_or, sum_by}
-use Rattle.bfd_shard.specs.Shard.{Shard, IsShard}
-use Rattle.bfd_workers.specs.Counts.{one_up, sum_to}
+use Rattle.bfd_workers.proofs.Common.{◌≡◌, ◌≤◌, ◌<◌, ◌*◌, ℕ, slice_index_or, sum_by, Shard, IsShard, one_up, sum_to}
 use Rattle.bfd_workers.proofs.counting.up_all.Given as goal
 
 abbrev pub invariant-loop-k : goal.invariant-loop-k

@@ -1,8 +1,5 @@
 -- Each count is that of the shard at its place.
-use Rattle.std.proofs.Common.{rules, ◌≡◌, ◌∙◌, ap, sym, subst, length}
-use Rattle.std.specs.Prelude.{slice_index_or, sum_by}
-use Rattle.bfd_shard.specs.Shard.{Shard, IsShard}
-use Rattle.bfd_workers.specs.Counts.{one_up, sum_to}
+use Rattle.bfd_workers.proofs.Common.{rules, ◌≡◌, ◌∙◌, ap, sym, subst, length, slice_index_or, sum_by, Shard, IsShard, one_up, sum_to}
 use Rattle.bfd_workers.proofs.Summing.{sum_same}
 use Rattle.bfd_workers.proofs.counting.up_at_last.Goals as goal
 

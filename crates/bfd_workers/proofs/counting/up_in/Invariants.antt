@@ -1,7 +1,5 @@
 -- The sessions so far are counted.
-use Rattle.std.proofs.Common.{◌≡◌, ◌≤◌, take}
-use Rattle.std.specs.Prelude.{sum_by}
-use Rattle.bfd_workers.specs.Counts.{one_up}
+use Rattle.bfd_workers.proofs.Common.{◌≡◌, ◌≤◌, take, sum_by, one_up}
 use Rattle.bfd_workers.proofs.counting.up_in.Given as goal
 
 abbrev pub invariant-loop-session : goal.invariant-loop-session

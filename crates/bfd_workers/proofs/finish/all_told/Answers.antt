@@ -1,7 +1,5 @@
 -- One worker more ended with parts.
-use Rattle.std.proofs.Common.{◌≡◌, ◌++◌, ◌∷◌, ◌∙◌, [], length, map, ap, sym, append_assoc, append-nil, Ok}
-use Rattle.std.proofs.lemmas.List.{nil_from_length}
-use Rattle.bfd_workers.specs.Jobs.{seen_as}
+use Rattle.bfd_workers.proofs.Common.{◌≡◌, ◌++◌, ◌∷◌, ◌∙◌, [], length, map, ap, sym, append_assoc, append-nil, Ok, nil_from_length, seen_as}
 use Rattle.bfd_workers.proofs.Ordering.{mapped_here, ok_more}
 use Rattle.bfd_workers.proofs.finish.all_told.Goals as goal
 

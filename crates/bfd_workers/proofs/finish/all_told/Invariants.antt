@@ -1,6 +1,5 @@
 -- Those so far ended with parts.
-use Rattle.std.proofs.Common.{◌≡◌, ◌++◌, Ok, map}
-use Rattle.bfd_workers.specs.Jobs.{seen_as}
+use Rattle.bfd_workers.proofs.Common.{◌≡◌, ◌++◌, Ok, map, seen_as}
 use Rattle.bfd_workers.proofs.finish.all_told.Given as goal
 
 abbrev pub invariant-loop-told : goal.invariant-loop-told

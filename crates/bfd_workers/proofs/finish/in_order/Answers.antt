@@ -1,7 +1,5 @@
 -- One part more.
-use Rattle.std.proofs.Common.{◌≡◌, ◌%◌, ◌∙◌, ◌∷◌, [], ℕ, rules, length, map, arith, ap, subst, length-append}
-use Rattle.std.specs.Prelude.{slice_index_or}
-use Rattle.std.proofs.lemmas.List.{length-map}
+use Rattle.bfd_workers.proofs.Common.{◌≡◌, ◌%◌, ◌∙◌, ◌∷◌, [], ℕ, rules, length, map, arith, ap, subst, length-append, slice_index_or, length-map}
 use Rattle.bfd_workers.proofs.Ordering.{order_none, order_more, order_end, order_last}
 use Rattle.bfd_workers.proofs.finish.in_order.Goals as goal
 

@@ -1,5 +1,5 @@
 -- The parts of the shards so far, and those that are left.
-use Rattle.std.proofs.Common.{length, map}
+use Rattle.bfd_workers.proofs.Common.{length, map}
 use Rattle.bfd_workers.proofs.Ordering.{InOrder}
 use Rattle.bfd_workers.proofs.finish.in_order.Given as goal
 

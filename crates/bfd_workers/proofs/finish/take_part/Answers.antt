@@ -1,5 +1,5 @@
 -- The other parts stay.
-use Rattle.std.proofs.Common.{refl}
+use Rattle.bfd_workers.proofs.Common.{refl}
 use Rattle.bfd_workers.proofs.Ordering.{take_wide, take_others}
 use Rattle.bfd_workers.proofs.finish.take_part.Goals as goal
 

@@ -1,6 +1,5 @@
 -- One queue more.
-use Rattle.std.proofs.Common.{rules, ◌∷◌, ◌∙◌, [], map, ap, sym}
-use Rattle.std.proofs.lemmas.List.{map-append, length-map}
+use Rattle.bfd_workers.proofs.Common.{rules, ◌∷◌, ◌∙◌, [], map, ap, sym, map-append, length-map}
 use Rattle.bfd_workers.proofs.Owning.{own_none, own_more}
 use Rattle.bfd_workers.proofs.jobs.own_queues.Goals as goal
 

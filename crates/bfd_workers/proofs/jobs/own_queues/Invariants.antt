@@ -1,5 +1,5 @@
 -- The queues up to here are taken out where they are the worker's own.
-use Rattle.std.proofs.Common.{map}
+use Rattle.bfd_workers.proofs.Common.{map}
 use Rattle.bfd_workers.proofs.Owning.{InOwn}
 use Rattle.bfd_workers.proofs.jobs.own_queues.Given as goal
 

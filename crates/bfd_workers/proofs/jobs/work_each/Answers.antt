@@ -2,11 +2,9 @@
 use denote.Param.{param}
 use denote.Param.Send.{sendable, IsSync}
 use denote.Plain.{UInt}
-use Rattle.std.proofs.Common.{slice_index_or, w64, sym, subst}
+use Rattle.bfd_workers.proofs.Common.{slice_index_or, w64, sym, subst, HasWorkedOn, Work, IsWorkerReady}
 use Rattle.std.proofs.Crossing.{sync}
 use Rattle.std.proofs.lemmas.List.Elements.{All-get_or}
-use Rattle.bfd_workers.specs.Jobs.{HasWorkedOn, Work}
-use Rattle.bfd_workers.specs.Working.{IsWorkerReady}
 use Rattle.bfd_engine.proofs.Crossing.{engine_sync}
 use Rattle.bfd_workers.proofs.jobs.work_each.Goals as goal
 

@@ -1,6 +1,5 @@
 -- One worker's job more.
-use Rattle.std.proofs.Common.{map, sym, ◌∙◌, arith, refl}
-use Rattle.std.proofs.lemmas.List.{length-map}
+use Rattle.bfd_workers.proofs.Common.{map, sym, ◌∙◌, arith, refl, length-map}
 use Rattle.bfd_workers.proofs.Joining.{jobs_none, jobs_more, own_of_left}
 use Rattle.bfd_workers.proofs.passes.deal_jobs.Goals as goal
 

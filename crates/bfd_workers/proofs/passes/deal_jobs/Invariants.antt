@@ -1,7 +1,5 @@
 -- The jobs so far, and the queues that are left for the others.
-use Rattle.std.proofs.Common.{◌≡◌, ◌≤◌, ◌%◌, ℕ, [], length, map}
-use Rattle.std.specs.Prelude.{slice_index_or}
-use Rattle.bfd_workers.specs.Jobs.{AreJobs}
+use Rattle.bfd_workers.proofs.Common.{◌≡◌, ◌≤◌, ◌%◌, ℕ, [], length, map, slice_index_or, AreJobs}
 use Rattle.bfd_workers.proofs.passes.deal_jobs.Given as goal
 
 abbrev pub invariant-loop-at : goal.invariant-loop-at

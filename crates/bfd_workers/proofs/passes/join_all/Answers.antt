@@ -1,10 +1,6 @@
 -- One pass more is taken in.
-use Rattle.std.proofs.Common.{◌≡◌, ◌≢◌, ◌++◌, ◌∷◌, [], length, map, sym, ap, ◌∙◌, subst, append_assoc, append-nil}
-use Rattle.std.proofs.lemmas.List.{nil_from_length}
-use Rattle.bfd_engine.specs.Engines.{Knows, IsOf, AllThere}
-use Rattle.bfd_engine.specs.Passes.{Joined}
+use Rattle.bfd_workers.proofs.Common.{◌≡◌, ◌≢◌, ◌++◌, ◌∷◌, [], length, map, sym, ap, ◌∙◌, subst, append_assoc, append-nil, nil_from_length, Knows, IsOf, AllThere, Joined, AllJobsJoined, Work, seen_as}
 use Rattle.bfd_workers.proofs.Ordering.{told_more}
-use Rattle.bfd_workers.specs.Jobs.{AllJobsJoined, Work, seen_as}
 use Rattle.bfd_workers.proofs.Joining.{joined_none, joined_more, next_here}
 use Rattle.bfd_workers.proofs.passes.join_all.Goals as goal
 

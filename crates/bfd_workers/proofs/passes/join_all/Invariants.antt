@@ -1,6 +1,5 @@
 -- The passes so far are taken in.
-use Rattle.std.proofs.Common.{◌≡◌, ◌++◌, map}
-use Rattle.bfd_workers.specs.Jobs.{AllJobsJoined, seen_as}
+use Rattle.bfd_workers.proofs.Common.{◌≡◌, ◌++◌, map, AllJobsJoined, seen_as}
 use Rattle.bfd_workers.proofs.passes.join_all.Given as goal
 
 abbrev pub invariant-loop-job : goal.invariant-loop-job

@@ -1,11 +1,7 @@
 -- The report and the counts of the whole script.
-use Rattle.std.proofs.Common.{rules, ◌≡◌, ◌∙◌, length, map, sym, ap}
-use Rattle.std.specs.Prelude.{sum_by}
-use Rattle.bfd_session.specs.Step.{started}
+use Rattle.bfd_workers.proofs.Common.{rules, ◌≡◌, ◌∙◌, length, map, sym, ap, sum_by, started, happenings, script_with, world_is}
 use Rattle.bfd_script.specs.Report.{report, packets_sent, dropped}
-use Rattle.bfd_plan.specs.Planned.{happenings, script_with}
 use Rattle.bfd_workers.proofs.Whole.{events_are, happenings_long, none, ups_are}
-use Rattle.bfd_plan.proofs.Worlds.{world_is}
 use Rattle.bfd_workers.proofs.replaying.replay_parts.Goals as goal
 
 pub returns-clause-text : goal.returns-clause-text

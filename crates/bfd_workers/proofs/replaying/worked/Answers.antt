@@ -1,9 +1,6 @@
 -- The parts and the states of the whole script.
-use Rattle.std.proofs.Common.{rules, ◌%◌, ◌∙◌, [], length, map, sym, ap, subst, arith}
-use Rattle.std.specs.Prelude.{slice_index_or}
+use Rattle.bfd_workers.proofs.Common.{rules, ◌%◌, ◌∙◌, [], length, map, sym, ap, subst, arith, slice_index_or, length-map, IsMet, happenings, script_with}
 use Rattle.std.specs.List.{AllByRecursion}
-use Rattle.std.proofs.lemmas.List.{length-map}
-use Rattle.bfd_plan.specs.Planned.{IsMet, happenings, script_with}
 use Rattle.bfd_workers.proofs.Whole.{room_enough, met_queues, short_queues, happenings_long, are_parts, have_replayed}
 use Rattle.bfd_workers.proofs.replaying.worked.Goals as goal
 

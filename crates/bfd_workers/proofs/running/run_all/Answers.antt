@@ -1,7 +1,5 @@
 -- All workers' jobs, done, joined and closed.
-use Rattle.std.proofs.Common.{◌∙◌, map, sym, arith}
-use Rattle.std.proofs.lemmas.List.{length-map}
-use Rattle.bfd_workers.specs.Jobs.{seen_as}
+use Rattle.bfd_workers.proofs.Common.{◌∙◌, map, sym, arith, length-map, seen_as}
 use Rattle.bfd_workers.proofs.Endings.{all_closed, all_ready, fine_ends, at_end, done_jobs, each_joined, joining, states, told_all}
 use Rattle.bfd_workers.proofs.running.run_all.Goals as goal
 

@@ -1,6 +1,5 @@
 -- One shard more.
-use Rattle.std.proofs.Common.{rules, ◌≡◌, ◌<◌, ◌++◌, ◌∙◌, ◌∷◌, [], List, ap, sym, subst, length, map, append_assoc, length-append, arith}
-use Rattle.bfd_workers.specs.Working.{AreMet}
+use Rattle.bfd_workers.proofs.Common.{rules, ◌≡◌, ◌<◌, ◌++◌, ◌∙◌, ◌∷◌, [], List, ap, sym, subst, length, map, append_assoc, length-append, arith, AreMet}
 use Rattle.bfd_workers.proofs.Courses.{over_end, over_finished, over_more, over_left, stopped_here, next_queue, long_map}
 use Rattle.bfd_workers.proofs.working.all_shards.Goals as goal
 

@@ -1,5 +1,5 @@
 -- The shards up to here are done.
-use Rattle.std.proofs.Common.{◌≡◌, ◌++◌, length, map}
+use Rattle.bfd_workers.proofs.Common.{◌≡◌, ◌++◌, length, map}
 use Rattle.bfd_workers.proofs.Courses.{OverShards}
 use Rattle.bfd_workers.proofs.working.all_shards.Given as goal
 

@@ -1,6 +1,5 @@
 -- One event more of the queue.
-use Rattle.std.proofs.Common.{◌∙◌, reverse, subst}
-use Rattle.bfd_workers.specs.Working.{AreMet}
+use Rattle.bfd_workers.proofs.Common.{◌∙◌, reverse, subst, AreMet}
 use Rattle.bfd_workers.proofs.Courses.{queue_more, stopped_amid}
 use Rattle.bfd_workers.proofs.working.one_shard.Goals as goal
 

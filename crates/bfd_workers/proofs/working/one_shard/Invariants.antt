@@ -1,7 +1,5 @@
 -- The events up to here were done; those that are left stand in reverse.
-use Rattle.std.proofs.Common.{◌≡◌, length, reverse}
-use Rattle.bfd_engine.specs.Engines.{IsOf, AllThere}
-use Rattle.bfd_workers.specs.Working.{AreMet}
+use Rattle.bfd_workers.proofs.Common.{◌≡◌, length, reverse, IsOf, AllThere, AreMet}
 use Rattle.bfd_workers.proofs.Courses.{InQueue}
 use Rattle.bfd_workers.proofs.working.one_shard.Given as goal
 

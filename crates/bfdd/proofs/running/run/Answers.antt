@@ -1,17 +1,9 @@
 -- What the parts of a run promise of the job is promised of the words that ask for it.
-use Rattle.std.proofs.Common.{◌≡◌, ◌⊎◌, true, false, Option, Some, inr, subst, sym, map, string_bytes}
-use Rattle.std.specs.Prelude.{IfSome}
+use Rattle.bfdd.proofs.Common.{◌≡◌, ◌⊎◌, true, false, Option, Some, inr, subst, sym, map, string_bytes, IfSome, Rose, Job, Memory, IsDecided, IsEndOf, IsServedToFinish, edges_of, Wanted, wanted_of, OfServing, is_reading, serves}
 use Rattle.std.specs.Io.KnownBytes.{Appends}
-use Rattle.bfd_edge.specs.Faults.{Rose}
-use Rattle.bfd_words.specs.declared.job.Job.{Job}
 use Rattle.bfd_words.specs.Grammar.{job_of}
-use Rattle.bfd_jobs.specs.declared.status.Status.TheVariants.{Memory}
 use Rattle.bfd_alone.specs.Written.{TookFront}
-use Rattle.bfdd.specs.Status.{IsDecided, IsEndOf}
-use Rattle.bfd_jobs.specs.Serving.{IsServedToFinish, edges_of}
 use Rattle.bfdd.specs.Telling.{IsTold}
-use Rattle.bfd_jobs.specs.Text.{Wanted, wanted_of}
-use Rattle.bfd_jobs.specs.Words.{OfServing, is_reading, serves}
 use Rattle.bfdd.proofs.Ending.{ended, ends_so, unopened}
 use Rattle.bfdd.proofs.Served.{finished, of_serving}
 use Rattle.bfd_alone.proofs.Written.{took_nothing}

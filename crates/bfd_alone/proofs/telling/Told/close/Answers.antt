@@ -1,7 +1,5 @@
 -- What is left was taken so far as the sink took it.
-use Rattle.std.proofs.Common.{rules, ◌≡◌, ◌++◌, subst}
-use Rattle.bfd_script.specs.Report.{done_line}
-use Rattle.bfd_alone.specs.Written.{TookFront}
+use Rattle.bfd_alone.proofs.Common.{rules, ◌≡◌, ◌++◌, subst, done_line, TookFront}
 use Rattle.bfd_alone.proofs.Written.{took_nothing}
 use Rattle.bfd_alone.proofs.telling.Told.close.Goals as goal
 

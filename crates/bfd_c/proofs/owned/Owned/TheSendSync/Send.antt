@@ -2,14 +2,14 @@
 use mir.Raw.{raw}
 use base.Shift.{Keyless}
 use denote.Memory.{lone}
-use denote.RawPtr.{Ptr}
+use Rattle.bfd_c.proofs.Common.{Ptr, Option, None, Some}
 use denote.Builtin.{u32}
 use denote.Struct.Struct.{exits_of}
 use denote.Struct.Owning.{shape, fields, to}
 use denote.Struct.Tuple.{tuple_type}
 use denote.Param.Send.{IsSend, AllSend, owning_send, struct_send, view_send, sendable}
 use denote.Param.SendFields.{declared_send}
-use Rattle.std.specs.Prelude.{Option, None, Some, [], ◌∷◌}
+use Rattle.std.specs.Prelude.{[], ◌∷◌}
 use Rattle.std.specs.Global.{Global}
 use Rattle.std.specs.contracts.option.Option as Choice
 use Rattle.std.proofs.Crossing as heap

@@ -1,4 +1,4 @@
-use Rattle.std.proofs.Common.{arith, sym, ap, ◌∙◌, refl, Some}
+use Rattle.bfd_demux.proofs.Common.{arith, sym, ap, ◌∙◌, refl, Some}
 use Rattle.bfd_demux.specs.declared.name.Name.TheVariants.{Session}
 use Rattle.bfd_demux.specs.contracts.name.NameOrd.TheImpl as name_order
 use Rattle.bfd_demux.specs.contracts.row.RowKindOrd.TheImpl as kind_order

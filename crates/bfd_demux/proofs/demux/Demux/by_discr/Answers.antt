@@ -1,5 +1,4 @@
-use Rattle.std.proofs.Common.{arith, sym, ap, ◌∙◌, refl, Some}
-use Rattle.bfd_demux.specs.Index.{is_heard}
+use Rattle.bfd_demux.proofs.Common.{arith, sym, ap, ◌∙◌, refl, Some, is_heard}
 use Rattle.bfd_demux.specs.contracts.name.NameOrd.TheImpl as name_order
 use Rattle.bfd_demux.proofs.Lookups.{missing_by, found_by, few_names, name_known, name_unknown, none_named, some_named, place_of_name}
 use Rattle.bfd_demux.proofs.demux.Demux.by_discr.Goals as goal

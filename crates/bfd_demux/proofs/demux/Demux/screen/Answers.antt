@@ -1,10 +1,6 @@
-use Rattle.std.proofs.Common.{◌≡◌, Err, arith, rules, sym, ap, ◌∙◌, refl}
-use Rattle.std.specs.Option.{option_map}
+use Rattle.bfd_demux.proofs.Common.{◌≡◌, Err, arith, rules, sym, ap, ◌∙◌, refl, option_map, read_of, the_one, row_has_discr, echo_target, first_echo_failing}
 use Rattle.bfd_packet.specs.declared.arrival.Port.TheVariants.{Echo as EchoPort}
 use Rattle.bfd_packet.specs.Layout.{word_at}
-use Rattle.bfd_packet.specs.HeaderTests.{read_of}
-use Rattle.bfd_demux.specs.Selection.{the_one, row_has_discr}
-use Rattle.bfd_demux.specs.Parts.{echo_target, first_echo_failing}
 use Rattle.bfd_demux.proofs.Selecting.{ok_then, ok_always, echo_failing, echo_named, header_passed, read_past, unread}
 use Rattle.bfd_demux.proofs.demux.Demux.screen.Goals as goal
 

@@ -1,4 +1,4 @@
-use Rattle.std.proofs.Common.{arith}
+use Rattle.bfd_demux.proofs.Common.{arith}
 use Rattle.bfd_demux.proofs.Selecting.{echo_read, no_echo_packet, echo_known, echo_unknown, echo_found}
 use Rattle.bfd_demux.proofs.demux.Demux.select_echo.Goals as goal
 

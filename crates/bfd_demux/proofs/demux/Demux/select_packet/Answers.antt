@@ -1,9 +1,4 @@
-use Rattle.std.proofs.Common.{◌≡◌, true, false, ◌&&◌, arith, sym, ap, ◌∙◌, refl}
-use Rattle.bfd_packet.specs.HeaderTests.{takes_multipoint_of}
-use Rattle.bfd_demux.specs.declared.row.RowKind.TheVariants.{Tail}
-use Rattle.bfd_demux.specs.Selection.{is_multipoint, session_index, the_one}
-use Rattle.bfd_demux.specs.Parts.{first_session_failing, names_session}
-use Rattle.std.specs.Option.{option_map}
+use Rattle.bfd_demux.proofs.Common.{◌≡◌, true, false, ◌&&◌, arith, sym, ap, ◌∙◌, refl, takes_multipoint_of, Tail, is_multipoint, session_index, the_one, first_session_failing, names_session, option_map}
 use Rattle.bfd_demux.specs.declared.target.Target.TheVariants.{Session}
 use Rattle.bfd_demux.proofs.Selecting.{ok_then, reflector_failing, reflector_named, tail_failing, tail_named, session_failing, session_named, selector_addressed, tail_by_addresses, session_by_discr}
 use Rattle.bfd_demux.proofs.demux.Demux.select_packet.Goals as goal

@@ -1,7 +1,5 @@
-use Rattle.std.proofs.Common.{arith, ap, ◌∙◌, if◌then◌else◌, Some, None, Bool}
+use Rattle.bfd_demux.proofs.Common.{arith, ap, ◌∙◌, if◌then◌else◌, Some, None, Bool, YourUnknown, row_has_discr, knows, the_one}
 use Rattle.bfd_packet.specs.declared.arrival.Port.TheVariants.{Sbfd as SbfdPort}
-use Rattle.bfd_packet.specs.declared.discard.Test.TheVariants.{YourUnknown}
-use Rattle.bfd_demux.specs.Selection.{row_has_discr, knows, the_one}
 use Rattle.bfd_demux.proofs.Selecting.{reflects_none, reflects, to_reflector}
 use Rattle.bfd_demux.proofs.demux.Demux.select_reflector.Goals as goal
 

@@ -1,4 +1,4 @@
-use Rattle.std.proofs.Common.{arith, sym}
+use Rattle.bfd_demux.proofs.Common.{arith, sym}
 use Rattle.bfd_demux.proofs.Selecting.{your_known, your_unknown, your_named, heard_without_your, no_session, addresses_known, addresses_unknown, addresses_named, addressed_kind}
 use Rattle.bfd_demux.proofs.demux.Demux.select_session.Goals as goal
 

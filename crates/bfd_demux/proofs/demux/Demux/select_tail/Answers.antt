@@ -1,7 +1,4 @@
-use Rattle.std.proofs.Common.{arith, ap, ◌∙◌, if◌then◌else◌, Some, None, Bool}
-use Rattle.std.specs.List.{list_any}
-use Rattle.bfd_packet.specs.declared.discard.Test.TheVariants.{NoTail}
-use Rattle.bfd_demux.specs.Selection.{row_has_selector, the_one}
+use Rattle.bfd_demux.proofs.Common.{arith, ap, ◌∙◌, if◌then◌else◌, Some, None, Bool, list_any, NoTail, row_has_selector, the_one}
 use Rattle.bfd_demux.proofs.Selecting.{no_tail, tail_heard, to_session}
 use Rattle.bfd_demux.proofs.demux.Demux.select_tail.Goals as goal
 

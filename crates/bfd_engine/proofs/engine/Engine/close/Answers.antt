@@ -1,6 +1,5 @@
 -- Lock by lock, the pass of the next shard closes it.
-use Rattle.std.proofs.Common.{◌≡◌, ◌≤◌, ◌+◌, ◌++◌, ◌∷◌, [], List, ℕ, None, slice_get, slice_set, length, append_assoc, refl, ap, sym, ◌∙◌, subst}
-use Rattle.bfd_engine.specs.Engines.{Held}
+use Rattle.bfd_engine.proofs.Common.{◌≡◌, ◌≤◌, ◌+◌, ◌++◌, ◌∷◌, [], List, ℕ, None, slice_get, slice_set, length, append_assoc, refl, ap, sym, ◌∙◌, subst, Held}
 use Rattle.bfd_engine.proofs.Closing.{grown, none_left, next_pass, lifted, joined_here, LeftFrom, left_more, ended_more}
 use Rattle.bfd_engine.proofs.engine.Engine.close.Goals as goal
 

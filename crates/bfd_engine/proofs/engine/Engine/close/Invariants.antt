@@ -1,4 +1,4 @@
-use Rattle.std.proofs.Common.{◌≡◌, ◌≤◌, ◌++◌, length, vec_capacity}
+use Rattle.bfd_engine.proofs.Common.{◌≡◌, ◌≤◌, ◌++◌, length, vec_capacity}
 use Rattle.bfd_engine.proofs.Closing.{LeftFrom, AreEnded}
 use Rattle.bfd_engine.proofs.engine.Engine.close.Given as goal
 

@@ -1,12 +1,6 @@
 -- A reflector's packet takes no turn; and what the answer tells.
-use Rattle.std.proofs.Common.{Ok, Some, IfOk, sym, subst}
-use Rattle.bfd_demux.specs.declared.target.Target.{Target}
-use Rattle.bfd_demux.specs.declared.target.Target.TheVariants.{Session, Reflector, Echo}
-use Rattle.bfd_sbfd.specs.Reflect.{reflect}
-use Rattle.bfd_session.specs.Arrivals.{coming_to}
-use Rattle.bfd_engine.specs.Calls.{IsDone, coming_act}
-use Rattle.bfd_engine.specs.Inside.{Arrives}
-use Rattle.bfd_engine.specs.Judging.{arrival_judged}
+use Rattle.bfd_engine.proofs.Common.{Ok, Some, IfOk, sym, subst, Target, Session, Echo, reflect, coming_to, IsDone, coming_act, Arrives, arrival_judged}
+use Rattle.bfd_demux.specs.declared.target.Target.TheVariants.{Reflector}
 use Rattle.bfd_engine.proofs.Acts.{reflects}
 use Rattle.bfd_engine.proofs.Verdicts.{judged_target}
 use Rattle.bfd_engine.proofs.engine.Engine.deliver.Goals as goal

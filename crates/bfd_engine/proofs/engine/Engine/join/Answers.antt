@@ -1,7 +1,5 @@
 -- The other's pass is there until its shard is joined.
-use Rattle.std.proofs.Common.{◌∙◌, length, ap, subst, arith}
-use Rattle.bfd_engine.specs.Engines.{Shards}
-use Rattle.bfd_engine.specs.Passes.{GluesAt}
+use Rattle.bfd_engine.proofs.Common.{◌∙◌, length, ap, subst, arith, Shards, GluesAt}
 use Rattle.bfd_engine.proofs.Gluing.{theirs_there, glue_more, all_joined}
 use Rattle.bfd_engine.proofs.engine.Engine.join.Goals as goal
 

@@ -1,6 +1,4 @@
-use Rattle.std.proofs.Common.{◌≡◌}
-use Rattle.bfd_engine.specs.Engines.{IsOf, AllThere}
-use Rattle.bfd_engine.specs.Passes.{AreGlued}
+use Rattle.bfd_engine.proofs.Common.{◌≡◌, IsOf, AllThere, AreGlued}
 use Rattle.bfd_engine.proofs.engine.Engine.join.Given as goal
 
 abbrev pub invariant-loop-at : goal.invariant-loop-at

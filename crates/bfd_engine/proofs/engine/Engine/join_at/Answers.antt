@@ -1,8 +1,5 @@
 -- The pass that took in the other is put back in its place.
-use Rattle.std.proofs.Common.{get_or, ◌≡◌, ◌∙◌, None, slice_set, sym, ap, subst, arith}
-use Rattle.std.proofs.lemmas.Option.{get_or_from_slice_get}
-use Rattle.bfd_engine.specs.Engines.{Shards, Knows, IsOf, IsCallers, AllThere}
-use Rattle.bfd_engine.specs.Passes.{GluesAt}
+use Rattle.bfd_engine.proofs.Common.{get_or, ◌≡◌, ◌∙◌, None, slice_set, sym, ap, subst, arith, get_or_from_slice_get, Shards, Knows, IsOf, IsCallers, AllThere, GluesAt}
 use Rattle.bfd_engine.proofs.Places.{K, put_back, of_set, none_set, there_set}
 use Rattle.bfd_engine.proofs.Lending.{still}
 use Rattle.bfd_engine.proofs.Gluing.{glue_here}

@@ -1,8 +1,5 @@
 -- The pass of the turn that is given back is put in its place.
-use Rattle.std.proofs.Common.{rules, ◌≡◌, ◌<◌, ◌∙◌, get_or, length, vec_len, Some, slice_set, sym, ap, ap₂, subst, arith}
-use Rattle.std.proofs.lemmas.Option.{get_or_from_slice_get, slice_get_within}
-use Rattle.bfd_turn.specs.Passes.{having_done}
-use Rattle.bfd_engine.specs.Engines.{Shards, Knows, IsOf}
+use Rattle.bfd_engine.proofs.Common.{rules, ◌≡◌, ◌<◌, ◌∙◌, get_or, length, vec_len, Some, slice_set, sym, ap, ap₂, subst, arith, get_or_from_slice_get, slice_get_within, having_done, Shards, Knows, IsOf}
 use Rattle.bfd_engine.specs.Holds.{Holding}
 use Rattle.bfd_engine.proofs.Places.{K}
 use Rattle.bfd_engine.proofs.Lending.{of_back, still}

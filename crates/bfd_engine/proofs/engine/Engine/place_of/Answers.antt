@@ -1,7 +1,5 @@
 -- The search's clause, at the discriminators of the table.
-use Rattle.std.proofs.Common.{◌∙◌, Ok, Err, ap}
-use Rattle.bfd_session.specs.Rows.{place_of}
-use Rattle.bfd_engine.specs.Engines.{Shards}
+use Rattle.bfd_engine.proofs.Common.{◌∙◌, Ok, Err, ap, place_of, Shards}
 use Rattle.bfd_engine.proofs.Seeking.{search_is}
 use Rattle.bfd_engine.proofs.engine.Engine.place_of.Goals as goal
 

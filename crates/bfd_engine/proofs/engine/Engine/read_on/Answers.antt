@@ -1,12 +1,6 @@
 -- The turn's pass is put back in its place.
-use Rattle.std.proofs.Common.{◌≡◌, ◌∙◌, List, Option, IfOk, get_or, drop, sym, ap, subst, arith}
-use Rattle.std.proofs.lemmas.Option.{get_or_from_slice_get}
-use Rattle.bfd_shard.specs.declared.entry.Entry.{Entry}
-use Rattle.bfd_engine.specs.declared.locked.Base.{Base}
-use Rattle.bfd_engine.specs.Calls.{seen_of, met_word_of}
+use Rattle.bfd_engine.proofs.Common.{◌≡◌, ◌∙◌, List, Option, IfOk, get_or, drop, sym, ap, subst, arith, get_or_from_slice_get, Entry, Base, seen_of, met_word_of, configs_in, Shards, Knows, IsOf, AllThere}
 use Rattle.bfd_engine.specs.Reads.{AreGiven}
-use Rattle.bfd_engine.specs.Turned.{configs_in}
-use Rattle.bfd_engine.specs.Engines.{Shards, Knows, IsOf, AllThere}
 use Rattle.bfd_engine.proofs.Places.{put_back, of_set, there_set}
 use Rattle.bfd_engine.proofs.Turning.{at_place}
 use Rattle.bfd_engine.proofs.Copies.{has_read, unread_at}

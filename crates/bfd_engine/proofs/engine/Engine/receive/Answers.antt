@@ -1,17 +1,7 @@
 -- An arrival comes to what it is for, or is discarded by the first test that it fails.
-use Rattle.std.proofs.Common.{◌≡◌, ◌<◌, ◌∙◌, List, length, None, Some, Ok, IfOk, refl, sym, ap, ap₂, subst, append-nil}
-use Rattle.bfd_packet.specs.declared.arrival.Arrival.{Arrival}
-use Rattle.bfd_packet.specs.declared.discard.Test.{Test}
-use Rattle.bfd_demux.specs.declared.row.Row.{Row}
-use Rattle.bfd_demux.specs.declared.target.Target.{Target}
-use Rattle.bfd_demux.specs.Selection.{first_table_failing, target_of}
+use Rattle.bfd_engine.proofs.Common.{◌≡◌, ◌<◌, ◌∙◌, List, length, None, Some, Ok, IfOk, refl, sym, ap, ap₂, subst, append-nil, Arrival, Test, Row, Target, first_table_failing, target_of, Coming, Discarded, coming_to, coming_by, comes_to, Ascends, table_of, Shards, IsDone, coming_act, arrival_judged}
 use Rattle.bfd_sbfd.specs.Reflect.{Ascends as PoolAscends}
 use Rattle.bfd_session.specs.declared.event.Answer.TheVariants.{Dropped}
-use Rattle.bfd_session.specs.Arrivals.{Coming, Discarded, coming_to, coming_by, comes_to}
-use Rattle.bfd_session.specs.Rows.{Ascends, table_of}
-use Rattle.bfd_engine.specs.Engines.{Shards}
-use Rattle.bfd_engine.specs.Calls.{IsDone, coming_act}
-use Rattle.bfd_engine.specs.Judging.{arrival_judged}
 use Rattle.bfd_engine.proofs.Reaching.{arrives}
 use Rattle.bfd_engine.proofs.engine.Engine.receive.Goals as goal
 

@@ -1,16 +1,9 @@
 -- What a reflector answers is told.
-use Rattle.std.proofs.Common.{◌≡◌, ◌∙◌, ◌++◌, ◌∷◌, [], ℕ, List, Result, Ok, get_or, ap, sym, refl, subst}
-use Rattle.std.proofs.lemmas.Option.{get_or_from_slice_get}
+use Rattle.bfd_engine.proofs.Common.{◌≡◌, ◌∙◌, ◌++◌, ◌∷◌, [], ℕ, List, Result, Ok, get_or, ap, sym, refl, subst, get_or_from_slice_get, Arrival, Datagram, Test, Out, Shards, IsNamedBy, IsReflected}
 use Rattle.bfd_packet.specs.Layout.{fields_of}
-use Rattle.bfd_packet.specs.declared.arrival.Arrival.{Arrival}
-use Rattle.bfd_packet.specs.declared.arrival.Datagram.{Datagram}
-use Rattle.bfd_packet.specs.declared.discard.Test.{Test}
-use Rattle.bfd_rules.specs.declared.outputs.Out.{Out}
 use Rattle.bfd_rules.specs.declared.outputs.Out.TheVariants.{Sent}
 use Rattle.bfd_sbfd.specs.declared.reflecting.Reflector.{Reflector}
 use Rattle.bfd_session.specs.declared.event.Answer.TheVariants.{Handled, Dropped}
-use Rattle.bfd_engine.specs.Engines.{Shards}
-use Rattle.bfd_engine.specs.Inside.{IsNamedBy, IsReflected}
 use Rattle.bfd_engine.proofs.engine.Engine.reflected.Goals as goal
 
 sent : (r : Result Datagram Test) (arrival : Arrival) (pool : List Reflector) (place : ℕ) (read : Reflector) (datagram : Datagram) (outs outs2 : List Out) → IsNamedBy pool place (fields_of arrival.payload).your

@@ -1,6 +1,5 @@
 -- Shard by shard a pass is cut; what was made is one of every shard.
-use Rattle.std.proofs.Common.{◌≡◌, ◌∙◌, length, refl, ap, sym, subst, arith}
-use Rattle.bfd_engine.specs.Engines.{Shards, Knows, IsOf}
+use Rattle.bfd_engine.proofs.Common.{◌≡◌, ◌∙◌, length, refl, ap, sym, subst, arith, Shards, Knows, IsOf}
 use Rattle.bfd_engine.proofs.Cutting.{new_of, new_there, cut_more, new_left, all_parted}
 use Rattle.bfd_engine.proofs.engine.Engine.split.Goals as goal
 

@@ -1,6 +1,4 @@
-use Rattle.std.proofs.Common.{◌≡◌, ◌≤◌, ◌<◌, vec_capacity}
-use Rattle.bfd_engine.specs.Engines.{IsOf, AllThere}
-use Rattle.bfd_engine.specs.Passes.{AreCut}
+use Rattle.bfd_engine.proofs.Common.{◌≡◌, ◌≤◌, ◌<◌, vec_capacity, IsOf, AllThere, AreCut}
 use Rattle.bfd_engine.proofs.engine.Engine.split.Given as goal
 
 abbrev pub invariant-loop-at : goal.invariant-loop-at

@@ -1,8 +1,5 @@
 -- The pass that was cut is put back in its place.
-use Rattle.std.proofs.Common.{get_or, ◌≡◌, ◌∙◌, sym, ap, subst, arith}
-use Rattle.std.proofs.lemmas.Option.{get_or_from_slice_get}
-use Rattle.bfd_engine.specs.Engines.{Shards, Knows, IsOf, AllThere}
-use Rattle.bfd_engine.specs.Passes.{CutsAt}
+use Rattle.bfd_engine.proofs.Common.{get_or, ◌≡◌, ◌∙◌, sym, ap, subst, arith, get_or_from_slice_get, Shards, Knows, IsOf, AllThere, CutsAt}
 use Rattle.bfd_engine.proofs.Places.{K, put_back, of_set, there_set}
 use Rattle.bfd_engine.proofs.Cutting.{cut_here}
 use Rattle.bfd_engine.proofs.engine.Engine.split_at.Goals as goal

@@ -1,9 +1,5 @@
 -- The turn is the pass's, or the pass is put back in its place.
-use Rattle.std.proofs.Common.{◌≡◌, ◌∙◌, get_or, sym, ap, subst}
-use Rattle.std.proofs.lemmas.Option.{get_or_from_slice_get}
-use Rattle.bfd_turn.specs.Passes.{IsBack, WasBusy, WasSpent}
-use Rattle.bfd_engine.specs.Turned.{OfShard}
-use Rattle.bfd_engine.specs.Engines.{Shards, Knows, IsOf, IsCallers, AllThere}
+use Rattle.bfd_engine.proofs.Common.{◌≡◌, ◌∙◌, get_or, sym, ap, subst, get_or_from_slice_get, IsBack, WasBusy, WasSpent, OfShard, Shards, Knows, IsOf, IsCallers, AllThere}
 use Rattle.bfd_engine.proofs.Places.{put_back, of_set, none_set, there_set}
 use Rattle.bfd_engine.proofs.Lending.{still, has_taken, busy_is, spent_is, was_busy, was_spent}
 use Rattle.bfd_engine.proofs.engine.Engine.try_hold.Goals as goal

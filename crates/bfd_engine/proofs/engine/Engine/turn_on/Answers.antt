@@ -1,13 +1,5 @@
 -- The turn's pass is put back in its place.
-use Rattle.std.proofs.Common.{◌≡◌, ◌≤◌, ◌+◌, ◌∙◌, ℕ, get_or, Some, Ok, IfOk, Result, slice_get, slice_set, set-set, sym, ap, refl, subst}
-use Rattle.std.proofs.lemmas.Option.{get_or_from_slice_get}
-use Rattle.bfd_session.specs.declared.event.Answer.{Answer}
-use Rattle.bfd_shard.specs.declared.entry.ShardEvent.{ShardEvent}
-use Rattle.bfd_shard.specs.Shard.{CanHappen}
-use Rattle.bfd_engine.specs.declared.turn.TurnFault.{TurnFault}
-use Rattle.bfd_engine.specs.Turned.{IsTimely, configs_in, room_in}
-use Rattle.bfd_engine.specs.Calls.{seen_of, seen_at}
-use Rattle.bfd_engine.specs.Engines.{Shards, Knows, IsOf, AllThere, base_at, configs_at}
+use Rattle.bfd_engine.proofs.Common.{◌≡◌, ◌≤◌, ◌+◌, ◌∙◌, ℕ, get_or, Some, Ok, IfOk, Result, slice_get, slice_set, set-set, sym, ap, refl, subst, get_or_from_slice_get, Answer, ShardEvent, CanHappen, TurnFault, IsTimely, configs_in, room_in, seen_of, seen_at, Shards, Knows, IsOf, AllThere, base_at, configs_at}
 use Rattle.bfd_engine.proofs.Places.{K}
 use Rattle.bfd_engine.proofs.Places.{of_set, there_set}
 use Rattle.bfd_engine.proofs.Turning.{at_place, call_done, fault_done}

@@ -1,7 +1,5 @@
 -- A pass is taken out.
-use Rattle.std.proofs.Common.{get_or, ◌≡◌, ◌∙◌, List, ℕ, Some, None, slice_get, slice_set, sym, ap, subst}
-use Rattle.std.proofs.lemmas.Option.{get_or_from_slice_get}
-use Rattle.bfd_engine.specs.Engines.{Held, IsCallers, Knows}
+use Rattle.bfd_engine.proofs.Common.{get_or, ◌≡◌, ◌∙◌, List, ℕ, Some, None, slice_get, slice_set, sym, ap, subst, get_or_from_slice_get, Held, IsCallers, Knows}
 use Rattle.bfd_engine.proofs.Places.{K}
 use Rattle.bfd_engine.proofs.pass.EnginePass.lift.Goals as goal
 

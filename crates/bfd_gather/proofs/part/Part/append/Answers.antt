@@ -1,5 +1,5 @@
 -- What is left of another part was told.
-use Rattle.std.proofs.Common.{drop}
+use Rattle.bfd_gather.proofs.Common.{drop}
 use Rattle.bfd_gather.proofs.Marks.{has_left, left_by, left_told}
 use Rattle.bfd_gather.proofs.part.Part.append.Goals as goal
 

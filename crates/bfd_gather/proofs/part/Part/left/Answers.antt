@@ -1,5 +1,5 @@
 -- All text that is left.
-use Rattle.std.proofs.Common.{arith, ap, length, length-drop}
+use Rattle.bfd_gather.proofs.Common.{arith, ap, length, length-drop}
 use Rattle.bfd_gather.proofs.Alone.{all_text}
 use Rattle.bfd_gather.proofs.part.Part.left.Goals as goal
 

@@ -1,5 +1,5 @@
 -- One piece less is left.
-use Rattle.std.proofs.Common.{ap, arith, length}
+use Rattle.bfd_gather.proofs.Common.{ap, arith, length}
 use Rattle.bfd_gather.proofs.Marks.{has_next, first_fits}
 use Rattle.bfd_gather.proofs.part.Part.take.Goals as goal
 

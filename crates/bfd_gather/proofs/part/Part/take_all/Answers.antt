@@ -1,7 +1,6 @@
 -- All text and all packets that are left.
-use Rattle.std.proofs.Common.{◌∙◌, ◌++◌, List, ap, sym, drop}
+use Rattle.bfd_gather.proofs.Common.{◌∙◌, ◌++◌, List, ap, sym, drop, Mark}
 use Rattle.std.specs.List.{sum_by}
-use Rattle.bfd_gather.specs.declared.key.Mark.{Mark}
 use Rattle.bfd_gather.proofs.Alone.{all_text, all_txs, all_drops}
 use Rattle.bfd_gather.proofs.part.Part.take_all.Goals as goal
 

@@ -1,6 +1,5 @@
 -- A piece more was told.
-use Rattle.std.proofs.Common.{◌∷◌, []}
-use Rattle.bfd_gather.specs.Pieces.{whole_piece}
+use Rattle.bfd_gather.proofs.Common.{◌∷◌, [], whole_piece}
 use Rattle.bfd_gather.proofs.Marks.{part_by, told_by, single, whole_has}
 use Rattle.bfd_gather.proofs.part.Part.tell_event.Goals as goal
 

@@ -1,6 +1,5 @@
 -- The pieces of a tick were told.
-use Rattle.std.proofs.Common.{map}
-use Rattle.bfd_gather.specs.Pieces.{item_piece}
+use Rattle.bfd_gather.proofs.Common.{map, item_piece}
 use Rattle.bfd_gather.proofs.Marks.{part_by, told_by, items_have}
 use Rattle.bfd_gather.proofs.part.Part.tell_tick.Goals as goal
 

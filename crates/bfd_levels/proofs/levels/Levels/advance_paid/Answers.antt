@@ -1,7 +1,4 @@
-use Rattle.std.proofs.Common.{◌+◌, ◌-◌, ◌*◌, ◌≤◌, ap, map, sym, ◌∙◌, arith}
-use Rattle.bfd_lanes.specs.Places.{due_of}
-use Rattle.bfd_wheel.proofs.Views.{back}
-use Rattle.bfd_levels.specs.Height.{Clocked}
+use Rattle.bfd_levels.proofs.Common.{◌+◌, ◌-◌, ◌*◌, ◌≤◌, ap, map, sym, ◌∙◌, arith, due_of, back, Clocked}
 use Rattle.bfd_levels.proofs.Views.{paid_view}
 use Rattle.bfd_levels.proofs.levels.Levels.advance_paid.Goals as goal
 

@@ -1,8 +1,4 @@
-use Rattle.std.proofs.Common.{refl, ap, map, ◌∙◌}
-use Rattle.std.specs.Prelude.{None}
-use Rattle.bfd_lanes.specs.Places.{never, due_of}
-use Rattle.bfd_wheel.proofs.Views.{back, set_view}
-use Rattle.bfd_levels.specs.Height.{Clocked}
+use Rattle.bfd_levels.proofs.Common.{refl, ap, map, ◌∙◌, None, never, due_of, back, set_view, Clocked}
 use Rattle.bfd_levels.proofs.Views.{linked_view}
 use Rattle.bfd_levels.proofs.Potentials.{clears_falls}
 use Rattle.bfd_levels.proofs.levels.LevelsTimers.clear.Goals as goal

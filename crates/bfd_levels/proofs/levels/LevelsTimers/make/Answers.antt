@@ -1,7 +1,4 @@
-use Rattle.std.proofs.Common.{ap, List}
-use Rattle.std.specs.Prelude.{Option, ℕ}
-use Rattle.bfd_wheel.proofs.Views.{none_yet}
-use Rattle.bfd_levels.specs.Height.{Clocked}
+use Rattle.bfd_levels.proofs.Common.{ap, List, Option, ℕ, none_yet, Clocked}
 use Rattle.bfd_levels.proofs.Views.{start_levels}
 use Rattle.bfd_levels.proofs.levels.LevelsTimers.make.Goals as goal
 

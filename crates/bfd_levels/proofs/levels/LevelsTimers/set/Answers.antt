@@ -1,8 +1,4 @@
-use Rattle.std.proofs.Common.{ap, map, ◌∙◌}
-use Rattle.std.specs.Prelude.{Some}
-use Rattle.bfd_lanes.specs.Places.{due_of}
-use Rattle.bfd_wheel.proofs.Views.{back, set_view, due_of_below}
-use Rattle.bfd_levels.specs.Height.{Clocked}
+use Rattle.bfd_levels.proofs.Common.{ap, map, ◌∙◌, Some, due_of, back, set_view, due_of_below, Clocked}
 use Rattle.bfd_levels.proofs.Potentials.{set_rises}
 use Rattle.bfd_levels.proofs.levels.LevelsTimers.set.Goals as goal
 

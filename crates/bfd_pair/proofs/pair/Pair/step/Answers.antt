@@ -1,9 +1,5 @@
 -- The room that is made first changes no list; the event is then that of the definitions, over what the past made.
-use Rattle.std.proofs.Common.{◌≡◌, ◌++◌, [], ◌∷◌, ℕ, List, ap, ◌∙◌}
-use Rattle.bfd_pair.specs.declared.event.PairEvent.{PairEvent}
-use Rattle.bfd_pair.specs.declared.peer.Peer.{Peer}
-use Rattle.bfd_pair.specs.Run.{Both, turn}
-use Rattle.bfd_pair.specs.Inside.{seen, both_of}
+use Rattle.bfd_pair.proofs.Common.{◌≡◌, ◌++◌, [], ◌∷◌, ℕ, List, ap, ◌∙◌, PairEvent, Peer, Both, turn, seen, both_of}
 use Rattle.bfd_pair.proofs.Pairs.{pair_more, pairing_more, handshake_more, rises_more}
 use Rattle.bfd_pair.proofs.pair.Pair.step.Goals as goal
 

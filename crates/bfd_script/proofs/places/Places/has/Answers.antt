@@ -1,6 +1,4 @@
-use Rattle.std.proofs.Common.{ap, sym, ◌∙◌}
-use Rattle.std.specs.Ordering.{is_lt}
-use Rattle.bfd_script.specs.Tables.{among}
+use Rattle.bfd_script.proofs.Common.{ap, sym, ◌∙◌, is_lt, among}
 use Rattle.bfd_script.proofs.Addressed.{above_all}
 use Rattle.bfd_script.proofs.places.Places.has.Goals as goal
 

@@ -1,8 +1,5 @@
-use Rattle.std.proofs.Common.{◌∙◌, ap, subst, sym, Some}
-use Rattle.std.specs.BTreeMap.{is_at}
-use Rattle.std.specs.Map.{lookup, values_of}
-use Rattle.std.specs.Ordering.{nat_cmp}
-use Rattle.bfd_session.specs.Rows.{Ascends, place_of}
+use Rattle.bfd_script.proofs.Common.{◌∙◌, ap, subst, sym, Some, is_at, lookup, values_of, nat_cmp, place_of}
+use Rattle.bfd_session.specs.Rows.{Ascends}
 use Rattle.bfd_script.proofs.Rising.{look_at, look_past, rising_alone}
 use Rattle.bfd_script.proofs.rows.Rows.get.Goals as goal
 

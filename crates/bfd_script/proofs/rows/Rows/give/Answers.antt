@@ -1,7 +1,5 @@
-use Rattle.std.proofs.Common.{◌∙◌, ap, refl, subst, sym, Some}
-use Rattle.std.specs.Map.{values_of}
-use Rattle.bfd_session.specs.Rows.{Ascends, place_of}
-use Rattle.bfd_script.specs.Rows.{by_discr, given, keyed_with}
+use Rattle.bfd_script.proofs.Common.{◌∙◌, ap, refl, subst, sym, Some, values_of, place_of, by_discr, given, keyed_with}
+use Rattle.bfd_session.specs.Rows.{Ascends}
 use Rattle.bfd_script.proofs.Giving.{with_keeps}
 use Rattle.bfd_script.proofs.Rising.{changed_at, changed_past_rising, rising_alone}
 use Rattle.bfd_script.proofs.rows.Rows.give.Goals as goal

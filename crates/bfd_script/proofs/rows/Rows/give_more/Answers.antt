@@ -1,10 +1,5 @@
-use Rattle.std.proofs.Common.{◌∙◌, ◌==◌, ap, refl, subst, sym, Some}
-use Rattle.std.specs.Map.{values_of}
-use Rattle.std.specs.Prelude.{find}
-use Rattle.bfd_session.specs.Kinds.{discr_of}
-use Rattle.bfd_session.specs.Rows.{Ascends, place_of}
-use Rattle.bfd_session.specs.declared.event.SessionConfig.{SessionConfig}
-use Rattle.bfd_script.specs.Rows.{by_discr, given_more, keyed_more, keys_in}
+use Rattle.bfd_script.proofs.Common.{◌∙◌, ◌==◌, ap, refl, subst, sym, Some, values_of, find, discr_of, place_of, SessionConfig, by_discr, given_more, keyed_more, keys_in}
+use Rattle.bfd_session.specs.Rows.{Ascends}
 use Rattle.bfd_line.specs.Secrets.{key_fault}
 use Rattle.bfd_script.proofs.Giving.{more_keeps}
 use Rattle.bfd_script.proofs.Rising.{changed_at, changed_past_rising, find_at, find_past, rising_alone}

@@ -1,5 +1,4 @@
-use Rattle.std.proofs.Common.{◌∙◌, ◌++◌, ap, sym}
-use Rattle.std.specs.Map.{values_of}
+use Rattle.bfd_script.proofs.Common.{◌∙◌, ◌++◌, ap, sym, values_of}
 use Rattle.bfd_script.proofs.Rising.{values_more}
 use Rattle.bfd_script.proofs.rows.Rows.into_rows.Goals as goal
 

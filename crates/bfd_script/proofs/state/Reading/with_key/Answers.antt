@@ -1,4 +1,4 @@
-use Rattle.bfd_script.specs.Rows.{keyed_more}
+use Rattle.bfd_script.proofs.Common.{keyed_more}
 use Rattle.bfd_script.proofs.Giving.{more_keeps}
 use Rattle.bfd_script.proofs.Naming.{reading_changed}
 use Rattle.bfd_script.proofs.state.Reading.with_key.Goals as goal

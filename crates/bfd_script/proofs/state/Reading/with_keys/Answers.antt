@@ -1,4 +1,4 @@
-use Rattle.bfd_script.specs.Rows.{keyed_with}
+use Rattle.bfd_script.proofs.Common.{keyed_with}
 use Rattle.bfd_script.proofs.Giving.{with_keeps}
 use Rattle.bfd_script.proofs.Naming.{reading_changed}
 use Rattle.bfd_script.proofs.state.Reading.with_keys.Goals as goal

@@ -1,5 +1,4 @@
-use Rattle.std.proofs.Common.{◌∙◌, sym, ap}
-use Rattle.bfd_script.specs.Reading.{is_full, is_taken}
+use Rattle.bfd_script.proofs.Common.{◌∙◌, sym, ap, is_full, is_taken}
 use Rattle.bfd_script.proofs.Naming.{reading_reflector}
 use Rattle.bfd_script.proofs.state.Reading.with_reflector.Goals as goal
 

@@ -1,6 +1,5 @@
-use Rattle.std.proofs.Common.{ap, refl}
+use Rattle.bfd_script.proofs.Common.{ap, refl, discr_of}
 use Rattle.bfd_demux.specs.declared.row.Row.{Row}
-use Rattle.bfd_session.specs.Kinds.{discr_of}
 use Rattle.bfd_script.proofs.Inserting.{rows_more, table_more}
 use Rattle.bfd_script.proofs.table.Table.with.Goals as goal
 

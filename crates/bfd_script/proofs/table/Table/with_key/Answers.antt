@@ -1,4 +1,4 @@
-use Rattle.bfd_script.specs.Rows.{keyed_more}
+use Rattle.bfd_script.proofs.Common.{keyed_more}
 use Rattle.bfd_script.proofs.Giving.{rows_changed, table_more_keys}
 use Rattle.bfd_script.proofs.table.Table.with_key.Goals as goal
 

@@ -1,4 +1,4 @@
-use Rattle.bfd_script.specs.Rows.{keyed_with}
+use Rattle.bfd_script.proofs.Common.{keyed_with}
 use Rattle.bfd_script.proofs.Giving.{rows_changed, table_given}
 use Rattle.bfd_script.proofs.table.Table.with_keys.Goals as goal
 

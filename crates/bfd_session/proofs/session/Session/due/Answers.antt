@@ -1,7 +1,5 @@
 -- A point-to-point session's due tick is that of its parts, whatever number comes next.
-use Rattle.std.proofs.Common.{◌∙◌, sym, ap}
-use Rattle.bfd_session.specs.Due.{due}
-use Rattle.bfd_session.specs.Inside.{running_of}
+use Rattle.bfd_session.proofs.Common.{◌∙◌, sym, ap, due, running_of}
 use Rattle.bfd_session.proofs.session.Session.due.Goals as goal
 
 pub returns-in-Pair-clause-value : goal.returns-in-Pair-clause-value

@@ -1,14 +1,5 @@
 -- The event leaves a shard.
-use Rattle.std.proofs.Common.{◌≡◌, ◌≤◌, ◌≢◌, ℕ, List, ◌++◌, ◌∷◌, [], length, map, sym, ◌∙◌, ap, subst, arith, rules, Option}
-use Rattle.std.specs.List.{AllByRecursion}
-use Rattle.bfd_num.specs.Numbers.{greatest_tick}
-use Rattle.bfd_lanes.specs.Held.{HeldIds, room_of}
-use Rattle.bfd_session.specs.Due.{due}
-use Rattle.bfd_session.specs.Kinds.{Running, configs_of}
-use Rattle.bfd_session.specs.Step.{IsSound}
-use Rattle.bfd_shard.specs.declared.entry.Entry.{Entry}
-use Rattle.bfd_shard.specs.History.{later, moved}
-use Rattle.bfd_shard.specs.Shard.{Shard, shard_of, IsExact, IsOver, IsShard, IsTimed, CanHappen}
+use Rattle.bfd_shard.proofs.Common.{◌≡◌, ◌≤◌, ◌≢◌, ℕ, List, ◌++◌, ◌∷◌, [], length, map, sym, ◌∙◌, ap, subst, arith, rules, Option, AllByRecursion, greatest_tick, HeldIds, room_of, due, Running, configs_of, IsSound, Entry, later, moved, Shard, shard_of, IsExact, IsOver, IsShard, IsTimed, CanHappen}
 use Rattle.bfd_shard.proofs.Expiring.{exactly}
 use Rattle.bfd_shard.proofs.Moves.{may_come}
 use Rattle.bfd_shard.proofs.OnTime.{IsLaw, on_time}

@@ -1,8 +1,5 @@
 -- A shard at the start.
-use Rattle.std.proofs.Common.{◌∙◌, ◌-◌, ap, map, arith}
-use Rattle.std.specs.Prelude.{vec_len, vec_capacity}
-use Rattle.bfd_lanes.specs.Held.{room_of}
-use Rattle.bfd_session.specs.Due.{due}
+use Rattle.bfd_shard.proofs.Common.{◌∙◌, ◌-◌, ap, map, arith, vec_len, vec_capacity, room_of, due}
 use Rattle.bfd_shard.proofs.Setting.{shard_made}
 use Rattle.bfd_shard.proofs.shard.ShardState.make.Goals as goal
 

@@ -1,4 +1,4 @@
-use Rattle.std.proofs.Common.{sym, ap}
+use Rattle.bfd_turn.proofs.Common.{sym, ap}
 use Rattle.std.specs.Slots.{slots_items}
 use Rattle.bfd_turn.proofs.Sharing.{finds, finds_at}
 use Rattle.bfd_turn.proofs.lock.TurnLock.close.Goals as goal

@@ -1,5 +1,4 @@
-use Rattle.std.proofs.Common.{rules, ◌∷◌, ap, ◌∙◌, Some}
-use Rattle.atomic_table.specs.Table.{rest}
+use Rattle.bfd_turn.proofs.Common.{rules, ◌∷◌, ap, ◌∙◌, Some, rest}
 use Rattle.bfd_turn.proofs.TakeAndRelease.{gives_at}
 use Rattle.bfd_turn.proofs.lock.TurnLock.done.Goals as goal
 

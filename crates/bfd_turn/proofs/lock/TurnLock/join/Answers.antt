@@ -1,4 +1,4 @@
-use Rattle.std.proofs.Common.{rules, sym, ap, ◌∙◌}
+use Rattle.bfd_turn.proofs.Common.{rules, sym, ap, ◌∙◌}
 use Rattle.bfd_turn.proofs.Kept.{sits, sits_known}
 use Rattle.bfd_turn.proofs.Sharing.{joins_at}
 use Rattle.bfd_turn.proofs.Loads.{looks}

@@ -1,5 +1,4 @@
-use Rattle.std.proofs.Common.{rules, ◌∷◌, sym, ap, ◌∙◌, Some}
-use Rattle.atomic_table.specs.Table.{rest}
+use Rattle.bfd_turn.proofs.Common.{rules, ◌∷◌, sym, ap, ◌∙◌, Some, rest}
 use Rattle.bfd_turn.proofs.lock.TurnLock.lend.Goals as goal
 
 pub exchange-lent-requires : goal.exchange-lent-requires

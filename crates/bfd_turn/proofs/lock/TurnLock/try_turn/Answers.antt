@@ -1,4 +1,4 @@
-use Rattle.std.proofs.Common.{rules, ap, ◌∙◌, arith}
+use Rattle.bfd_turn.proofs.Common.{rules, ap, ◌∙◌, arith}
 use Rattle.bfd_turn.proofs.Loads.{looks}
 use Rattle.bfd_turn.proofs.TakeAndRelease.{takes_turn}
 use Rattle.bfd_turn.proofs.lock.TurnLock.try_turn.Goals as goal

@@ -1,5 +1,4 @@
-use Rattle.std.proofs.Common.{◌≡◌, ◌≤◌}
-use Rattle.bfd_turn.specs.Passes.{having_met}
+use Rattle.bfd_turn.proofs.Common.{◌≡◌, ◌≤◌, having_met}
 use Rattle.bfd_turn.proofs.lock.TurnLock.turn.Given as goal
 
 -- the pass has met later words, and all else is as it was

@@ -1,6 +1,4 @@
-use Rattle.std.proofs.Common.{refl, ap, map, ◌∙◌}
-use Rattle.std.specs.Prelude.{None}
-use Rattle.bfd_lanes.specs.Places.{never, due_of}
+use Rattle.bfd_wheel.proofs.Common.{refl, ap, map, ◌∙◌, None, never, due_of}
 use Rattle.bfd_wheel.proofs.Views.{back, set_view, linked_view}
 use Rattle.bfd_wheel.proofs.hashed.HashedWheelTimers.clear.Goals as goal
 

@@ -1,6 +1,4 @@
-use Rattle.std.proofs.Common.{ap, map, ◌∙◌}
-use Rattle.std.specs.Prelude.{Some}
-use Rattle.bfd_lanes.specs.Places.{due_of}
+use Rattle.bfd_wheel.proofs.Common.{ap, map, ◌∙◌, Some, due_of}
 use Rattle.bfd_wheel.proofs.Views.{back, set_view, due_of_below}
 use Rattle.bfd_wheel.proofs.hashed.HashedWheelTimers.set.Goals as goal
 

@@ -1,0 +1,24 @@
+-- Names that proofs of this crate cite, passed on from one place. Declares nothing.
+pub use Rattle.std.proofs.Common.{Bool, Err, IfOk, List, None, Ok, OnErr, OnOk, Option, Result, Some, [], ap, append-nil, append_assoc, arith, drop, drop-cons, ext_get_or, false, get_or, get_or-set_other, get_or-set_same, if◌then◌else◌, inl, inr, length, length-append, length-drop, length-set, map, max, refl, set, subst, suc, sym, take, take-append-drop, true, zero, ℕ, ◌%◌, ◌&&◌, ◌*◌, ◌++◌, ◌+◌, ◌-◌, ◌/◌, ◌<◌, ◌==◌, ◌||◌, ◌∙◌, ◌∷◌, ◌≡◌, ◌≢◌, ◌≤◌, ◌⊎◌}
+pub use Rattle.std.proofs.lemmas.Bool.{both_ways, cases_eq, eq-eqb, ne_eqb}
+pub use Rattle.std.proofs.lemmas.List.{drop-append-le, get_or-map, get_or_default, length-map, map-append, take-append-le}
+pub use Rattle.std.proofs.lemmas.List.Sums.{sum_by-append, sum_by-cons}
+pub use Rattle.std.specs.List.{AllByRecursion, cons_option, filter, filter_map, flat_map}
+pub use Rattle.std.specs.Prelude.{nat_lt, slice_get}
+pub use Rattle.bfd_gather.specs.Happenings.{Among, Apart, AreParts, Happening, happening_outcomes, in_shard, numbered, queue, session_event, shard_tells, told_apart, told_whole}
+pub use Rattle.bfd_gather.specs.Inside.{BestOf, HasAll, IsBest, IsLeast, IsPart, better, first_drops, first_key, first_text, first_txs, mark, mark_key, mark_of, pieces_at}
+pub use Rattle.bfd_gather.specs.Pieces.{Piece, event_pieces, item_piece, key, precedes, texts, whole_piece}
+pub use Rattle.bfd_gather.specs.Spread.{AreGathered, Dealt, IsBefore, IsSpread, Ordered, deal, dealt_text, pieces_in}
+pub use Rattle.bfd_gather.specs.declared.key.Key.{Key}
+pub use Rattle.bfd_gather.specs.declared.key.Mark.{Mark}
+pub use Rattle.bfd_rules.specs.declared.outputs.Out.{Out}
+pub use Rattle.bfd_script.specs.Report.{answer_line, done_line, dropped, dropped_by, event_lines, item_line, lines_from, packets_sent, packets_sent_by, report}
+pub use Rattle.bfd_session.specs.Alone.{Outcome, stepped, tick_items, ticked}
+pub use Rattle.bfd_session.specs.Kinds.{Running, configs_of, discr_of}
+pub use Rattle.bfd_session.specs.declared.event.Event.{Event}
+pub use Rattle.bfd_shard.specs.Dealing.{event_in, history_of}
+unfoldable pub use Rattle.bfd_shard.specs.Dealing.{share}
+pub use Rattle.bfd_shard.specs.History.{last_tick, later, own_moved, own_outcome, runs}
+unfoldable pub use Rattle.bfd_shard.specs.History.{last_from, moved, outcome_of, run_from}
+pub use Rattle.bfd_shard.specs.declared.entry.ShardEvent.{ShardEvent}
+pub use Rattle.bfd_shard.specs.declared.entry.ShardEvent.TheVariants.{Own, Tick}
