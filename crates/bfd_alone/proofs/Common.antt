@@ -3,7 +3,7 @@ pub use Rattle.std.proofs.Common.{Err, List, Ok, Option, Result, [], ap, append-
 pub use Rattle.std.specs.Io.KnownBytes.{Appends}
 pub use Rattle.std.specs.List.{AllByRecursion}
 pub use Rattle.bfd_alone.specs.Telling.{Telling, ToldUpTo}
-pub use Rattle.bfd_alone.specs.Written.{TookFront, TookUpTo}
+pub use Rattle.bfd_gather.specs.Written.{TookFront, TookUpTo}
 pub use Rattle.bfd_gather.specs.Happenings.{Happening, happening_outcomes}
 pub use Rattle.bfd_plan.specs.Planned.{IsMet, happening, happenings, route_is, script_with}
 pub use Rattle.bfd_script.specs.Report.{done_line, dropped, event_lines, lines_from, packets_sent, report}

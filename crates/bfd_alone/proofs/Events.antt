@@ -1,7 +1,7 @@
 -- One event more is told.
 use Rattle.bfd_alone.proofs.Common.{◌≡◌, ◌+◌, ◌++◌, ℕ, List, [], ◌∷◌, length, Option, refl, sym, ap, subst, ◌∙◌, append_assoc, append-nil, arith, Appends, Outcome, done_line, dropped, event_lines, lines_from, packets_sent, report, ToldUpTo, Telling, TookFront, TookUpTo}
 use Rattle.std.specs.Prelude.{sum_by}
-use Rattle.bfd_alone.proofs.Written.{front_of_longer, took_front, took_of_longer, took_on, took_rest}
+use Rattle.bfd_gather.proofs.Written.{front_of_longer, took_front, took_of_longer, took_on, took_rest}
 
 -- more was told
 pub told_on : (first next last : Option (List ℕ)) (start told after : Telling) (all some rest : List Outcome)

@@ -1,4 +1,3 @@
 mod Common
-pub mod Written
 pub mod Routing
 pub mod Events

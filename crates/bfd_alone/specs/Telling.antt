@@ -2,7 +2,7 @@
 use Rattle.std.specs.Prelude.{◌≡◌, ◌+◌, ◌++◌, ℕ, List, length, sum_by, Option}
 use Rattle.bfd_session.specs.Alone.{Outcome}
 use Rattle.bfd_script.specs.Report.{lines_from, packets_sent, dropped}
-use Rattle.bfd_alone.specs.Written.{TookUpTo}
+use Rattle.bfd_gather.specs.Written.{TookUpTo}
 
 -- the text that no sink took yet, and how many events were told, with how many packets that were sent and were dropped in them
 pub record Telling : Type 0 where

@@ -4,21 +4,19 @@
 //! Then one shard with every session takes the events one by one, in the caller's thread; what each gave is appended to a text
 //! as the lines of a report, and where that has 64 KiB the sink takes it and it begins anew. So no more of the report is held than
 //! that and the lines of one event, and no mark of its pieces; what else is held is the sessions, the events that are left and the
-//! shard's journal of the others. [`report_to`] is all of it, and [`write_all`] writes any text.
+//! shard's journal of the others. [`report_to`] is all of it.
 //!
 //! Modules: `routes` says what the lines are, `happening` is one event of the shard, `telling` the text and the counts so far,
-//! `reporting` the whole, `output` a text to a sink.
+//! `reporting` the whole.
 //!
-//! It stands on `bfd_workers` for what a line is, on `bfd_shard` for what the events give, on `bfd_script` and `bfd_gather` for
+//! It stands on `bfd_plan` for what a line is, on `bfd_shard` for what the events give, on `bfd_script` and `bfd_gather` for
 //! the lines, and on `bfd_edge` for the sink. It promises that a sink which doesn't fail takes the report of `bfd_replay`'s
 //! `specs/World.antt`, byte for byte, as the replays on several shards give it too; and that any sink takes a front of it.
 #![tactic(auto)]
 
 mod happening;
-mod output;
 mod reporting;
 mod routes;
 mod telling;
 
-pub use output::write_all;
 pub use reporting::report_to;

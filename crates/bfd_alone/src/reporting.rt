@@ -12,7 +12,7 @@ ghost use Rattle.bfd_gather.specs.Happenings.{Happening, happening_outcomes};
 ghost use Rattle.bfd_replay.specs.World.{replayed};
 ghost use Rattle.bfd_plan.specs.Planned.{IsMet, route_is};
 ghost use Rattle.bfd_alone.specs.Telling.{ToldUpTo};
-ghost use Rattle.bfd_alone.specs.Written.{TookFront};
+ghost use Rattle.bfd_gather.specs.Written.{TookFront};
 
 use crate::happening::happen;
 use crate::routes::routes_of;

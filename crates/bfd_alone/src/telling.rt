@@ -3,19 +3,15 @@ ghost use Rattle.std.specs.Prelude.{◌≡◌, ◌≤◌, ◌<◌, ◌+◌, ◌+
 ghost use Rattle.std.specs.Io.KnownBytes.{Appends};
 ghost use Rattle.bfd_edge.specs.Faults.{HasCause};
 ghost use Rattle.bfd_script.specs.Report.{done_line, dropped_by, event_lines, packets_sent_by};
-ghost use Rattle.bfd_alone.specs.Written.{TookFront, TookUpTo};
+ghost use Rattle.bfd_gather.specs.Written.{TookFront, TookUpTo};
 
-use crate::output::write_all;
 use bfd_edge::{Fault, Sink};
-use bfd_gather::{done_text, dropped, sent};
+use bfd_gather::{dropped, give_on, sent, write_last};
 use bfd_rules::Outs;
 use bfd_script::lines;
 use bfd_session::Answer;
 use std::alloc::{AllocError, Global};
 use std::marker::Model;
-
-/// How long the text gets before it is written.
-const PIECE: usize = 65_536;
 
 /// The lines that are not written yet, and how many events were told, with how many packets that were sent and were dropped in
 /// them. An event puts out at most five outputs for each of 65,536 sessions and five more, so that the counts fit.
@@ -79,12 +75,7 @@ impl Told {
         ensures cause { HasCause (K.faults sink.old) (K.faults sink.new) result }
         ensures calm { OnOk result (K.faults sink.new ≡ K.faults sink.old) }
     {
-        if self.text.len() < PIECE {
-            return Ok(());
-        }
-        write_all(sink, self.text.as_slice())?;
-        self.text.clear();
-        Ok(())
+        give_on(&mut self.text, sink)
     }
 
     /// Writes what is left of the text, and the last line of the report behind it.
@@ -102,13 +93,6 @@ impl Told {
             txs,
             drops,
         } = self;
-        let mut text = text;
-        let Ok(line) = done_text(alloc, events, txs, drops) else {
-            return Err(Fault::Memory);
-        };
-        let Ok(()) = text.extend_from_slice(line.as_bytes()) else {
-            return Err(Fault::Memory);
-        };
-        write_all(sink, text.as_slice())
+        write_last(alloc, text, events, txs, drops, sink)
     }
 }

@@ -8,6 +8,8 @@ pub use Rattle.std.specs.Prelude.{nat_lt, slice_get}
 pub use Rattle.bfd_gather.specs.Happenings.{Among, Apart, AreParts, Happening, happening_outcomes, in_shard, numbered, queue, session_event, shard_tells, told_apart, told_whole}
 pub use Rattle.bfd_gather.specs.Inside.{BestOf, HasAll, IsBest, IsLeast, IsPart, better, first_drops, first_key, first_text, first_txs, mark, mark_key, mark_of, pieces_at}
 pub use Rattle.bfd_gather.specs.Pieces.{Piece, event_pieces, item_piece, key, precedes, texts, whole_piece}
+pub use Rattle.std.specs.Io.KnownBytes.{Appends}
+pub use Rattle.bfd_gather.specs.Written.{TookFront, TookUpTo}
 pub use Rattle.bfd_gather.specs.Spread.{AreGathered, Dealt, IsBefore, IsSpread, Ordered, deal, dealt_text, pieces_in}
 pub use Rattle.bfd_gather.specs.declared.key.Key.{Key}
 pub use Rattle.bfd_gather.specs.declared.key.Mark.{Mark}

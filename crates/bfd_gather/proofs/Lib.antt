@@ -1,5 +1,6 @@
 mod Common
 pub mod Keys
+pub mod Written
 pub mod Sizes
 pub mod Marks
 pub mod Scan
@@ -9,3 +10,4 @@ pub mod Sharing
 pub mod Histories
 pub mod Telling
 pub mod Whole
+pub mod PiecesGiven

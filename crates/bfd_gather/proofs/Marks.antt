@@ -5,6 +5,7 @@ use Rattle.std.proofs.Math.Seq.{take-append_seam, drop-append_seam, take-add}
 use Rattle.bfd_session.specs.declared.event.Answer.TheVariants.{Handled}
 use Rattle.std.proofs.lemmas.Grind.{flat_map-append}
 use Rattle.bfd_rules.specs.Names.{named}
+use Rattle.bfd_script.proofs.Elements.{each_more}
 use Rattle.bfd_script.proofs.Sizes.{item_some}
 use Rattle.bfd_gather.proofs.Sizes.{event_some}
 
@@ -80,11 +81,6 @@ pub record HasLeft (ms : List Mark) (t : List ℕ) : Type 0 where
   pub whole : long_of ms ≡ length t
   pub counts : AllByRecursion (λ m. m.txs + m.drops ≤ m.long) ms
 
-all_both : (ms ns : List Mark) → AllByRecursion (λ m. m.txs + m.drops ≤ m.long) ms → AllByRecursion (λ m. m.txs + m.drops ≤ m.long) ns
-    → AllByRecursion (λ m. m.txs + m.drops ≤ m.long) (ms ++ ns)
-all_both [] ns h k = k
-all_both (m ∷ ms) ns h k = (h.0, all_both ms ns h.1 k)
-
 all_behind : (n : ℕ) (ms : List Mark) → AllByRecursion (λ m. m.txs + m.drops ≤ m.long) ms → AllByRecursion (λ m. m.txs + m.drops ≤ m.long) (drop n ms)
 all_behind zero ms h = h
 all_behind (suc n) [] h = tt
@@ -110,7 +106,7 @@ part_left ms ms2 ns t t2 u next at s l m e =
         ap long_of (drop-append-le next ms ns s.inside),
         sum_by-append (λ (n : Mark). n.long) (drop next ms) ns,
       );
-      counts = all_both ms ns s.counts l.counts;
+      counts = each_more (λ (n : Mark). n.txs + n.drops ≤ n.long) ms ns s.counts l.counts;
     }))
 
 pub told_left : (ms ms2 ns : List Mark) (t t2 u : List ℕ) (next at : ℕ) → IsPart ms t next at → ms2 ≡ ms ++ ns → t2 ≡ t ++ u

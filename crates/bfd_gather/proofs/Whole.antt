@@ -7,14 +7,11 @@ use Rattle.bfd_rules.specs.Names.{named}
 use Rattle.bfd_session.specs.Rows.{Ascends}
 use Rattle.bfd_session.proofs.Naming.{tick_named}
 use Rattle.bfd_shard.proofs.Runs.{moved_configs}
+use Rattle.bfd_script.proofs.Elements.{each_more}
 use Rattle.bfd_gather.proofs.Keys.{earlier, lower}
 use Rattle.bfd_gather.proofs.Scan.{before_or_at}
 use Rattle.bfd_gather.proofs.Taking.{txs_of, drops_of}
 use Rattle.bfd_gather.proofs.Telling.{deal_items, deal_event, deal_all, tick_gives, told_each, apart_is}
-
-all_append : (P : Dealt → Type 0) (ds es : List Dealt) → AllByRecursion P ds → AllByRecursion P es → AllByRecursion P (ds ++ es)
-all_append P [] es h k = k
-all_append P (d ∷ ds) es h k = (h.0, all_append P ds es h.1 k)
 
 -- every piece has its part
 
@@ -25,7 +22,7 @@ session_within number q n (o ∷ os) h = (h, session_within number q n os h)
 items_within : (n number : ℕ) (items : Running → List Out) (k : ℕ) (ss : List Running) → 0 < n → AllByRecursion (λ d. d.part < n + 1) (deal_items n number items k ss)
 items_within n number items k [] some = tt
 items_within n number items k (s ∷ ss) some =
-    all_append (λ d. d.part < n + 1) (map (λ o. deal (k % n) (item_piece number o)) (items s)) (deal_items n number items (k + 1) ss)
+    each_more (λ d. d.part < n + 1) (map (λ o. deal (k % n) (item_piece number o)) (items s)) (deal_items n number items (k + 1) ss)
     (session_within number (k % n) (n + 1) (items s) (omega (arith, mod-lt k some))) (items_within n number items (k + 1) ss some)
 
 all_within : (n number last : ℕ) (hs : List Happening) (ss : List Running) → 0 < n → AllByRecursion (λ d. d.part < n + 1) (deal_all n number last hs ss)
@@ -34,7 +31,7 @@ all_within n number last (Apart o ∷ hs) ss some = (omega arith, all_within n (
 all_within n number last (Among (Own k m event) ∷ hs) ss some =
     (omega (arith, mod-lt k some), all_within n (number + 1) last hs (moved last (Own k m event) ss) some)
 all_within n number last (Among (Tick t) ∷ hs) ss some =
-    all_append (λ d. d.part < n + 1) (deal_items n number (tick_items (max last t)) 0 ss) (deal_all n (number + 1) (max last t) hs (moved last (Tick t) ss))
+    each_more (λ d. d.part < n + 1) (deal_items n number (tick_items (max last t)) 0 ss) (deal_all n (number + 1) (max last t) hs (moved last (Tick t) ss))
     (items_within n number (tick_items (max last t)) 0 ss some) (all_within n (number + 1) (max last t) hs (moved last (Tick t) ss) some)
 
 -- pieces of an event, and of events from one on
@@ -52,7 +49,7 @@ session_of number q (o ∷ os) = (refl, session_of number q os)
 items_of : (n number : ℕ) (items : Running → List Out) (k : ℕ) (ss : List Running) → OfEvent number (deal_items n number items k ss)
 items_of n number items k [] = tt
 items_of n number items k (s ∷ ss) =
-    all_append (λ d. d.piece.key.event ≡ number) (map (λ o. deal (k % n) (item_piece number o)) (items s)) (deal_items n number items (k + 1) ss)
+    each_more (λ d. d.piece.key.event ≡ number) (map (λ o. deal (k % n) (item_piece number o)) (items s)) (deal_items n number items (k + 1) ss)
     (session_of number (k % n) (items s)) (items_of n number items (k + 1) ss)
 
 event_of : (n number last : ℕ) (e : ShardEvent) (ss : List Running) → OfEvent number (deal_event n number last e ss)
@@ -71,7 +68,7 @@ all_from : (n number last : ℕ) (hs : List Happening) (ss : List Running) → F
 all_from n number last [] ss = tt
 all_from n number last (Apart o ∷ hs) ss = (omega arith, from_less number (deal_all n (number + 1) last hs ss) (all_from n (number + 1) last hs ss))
 all_from n number last (Among e ∷ hs) ss =
-    all_append (λ d. number ≤ d.piece.key.event) (deal_event n number last e ss) (deal_all n (number + 1) (later last e) hs (moved last e ss))
+    each_more (λ d. number ≤ d.piece.key.event) (deal_event n number last e ss) (deal_all n (number + 1) (later last e) hs (moved last e ss))
     (of_from number (deal_event n number last e ss) (event_of n number last e ss))
     (from_less number (deal_all n (number + 1) (later last e) hs (moved last e ss)) (all_from n (number + 1) (later last e) hs (moved last e ss)))
 
@@ -82,7 +79,7 @@ before_later number d (x ∷ es) e h = (inr (earlier d.piece.key x.piece.key (le
 
 event_first : (number : ℕ) (ds es : List Dealt) → OfEvent number ds → Ordered ds → From (number + 1) es → Ordered es → Ordered (ds ++ es)
 event_first number [] es h o f p = p
-event_first number (d ∷ ds) es h o f p = (all_append (IsBefore d) ds es o.0 (before_later number d es h.0 f), event_first number ds es h.1 o.1 f p)
+event_first number (d ∷ ds) es h o f p = (each_more (IsBefore d) ds es o.0 (before_later number d es h.0 f), event_first number ds es h.1 o.1 f p)
 
 -- the pieces of a tick ascend with the sessions
 
@@ -109,13 +106,13 @@ session_first : (number q discr : ℕ) (os : List Out) (es : List Dealt) → Nam
     → Ordered (map (λ o. deal q (item_piece number o)) os ++ es)
 session_first number q discr [] es n h o = o
 session_first number q discr (x ∷ os) es n h o =
-    (all_append (IsBefore (deal q (item_piece number x))) (map (λ y. deal q (item_piece number y)) os) es (same_part number q x os) (before_item number q discr x es n.0 h), session_first number q discr os es n.1 h o)
+    (each_more (IsBefore (deal q (item_piece number x))) (map (λ y. deal q (item_piece number y)) os) es (same_part number q x os) (before_item number q discr x es n.0 h), session_first number q discr os es n.1 h o)
 
 module _ (items : Running → List Out) (names : (s : Running) → Names (discr_of s.config) (items s)) where
   items_later : (n number discr k : ℕ) (ss : List Running) → AllByRecursion (λ c. discr < discr_of c) (configs_of ss) → AllByRecursion (IsLaterItem number discr) (deal_items n number items k ss)
   items_later n number discr k [] h = tt
   items_later n number discr k (s ∷ ss) h =
-      all_append (IsLaterItem number discr) (map (λ o. deal (k % n) (item_piece number o)) (items s)) (deal_items n number items (k + 1) ss)
+      each_more (IsLaterItem number discr) (map (λ o. deal (k % n) (item_piece number o)) (items s)) (deal_items n number items (k + 1) ss)
       (session_later number (k % n) discr (discr_of s.config) (items s) h.0 (names s)) (items_later n number discr (k + 1) ss h.1)
 
   pub items_ordered : (n number k : ℕ) (ss : List Running) → Ascends (configs_of ss) → Ordered (deal_items n number items k ss)

@@ -2,3 +2,4 @@ pub mod Pieces
 pub mod Happenings
 pub mod Spread
 pub mod Inside
+pub mod Written

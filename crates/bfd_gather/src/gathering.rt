@@ -34,7 +34,7 @@ fn best_of(parts: &[Part]) -> Option<(usize, Key)>
 
 /// The part whose first piece no other part's first piece precedes, if one has a piece.
 #[tactic(auto, using(crate::proofs::Scan::best_none, crate::proofs::Scan::best_some))]
-fn least(parts: &[Part]) -> Option<usize>
+pub(crate) fn least(parts: &[Part]) -> Option<usize>
     ensures none { IfNone result ((s : ℕ) → s < length parts.now → first_key (slice_index_or parts.now s []) ≡ None) }
     ensures some { IfSome result (λ s. IsLeast parts.now s) }
 {
@@ -90,7 +90,7 @@ fn is_sole(parts: &[Part], s: usize) -> bool
 }
 
 /// The part that has all pieces, where one has them.
-fn sole(parts: &[Part]) -> Option<usize>
+pub(crate) fn sole(parts: &[Part]) -> Option<usize>
     ensures { IfSome result (λ s. HasAll parts.now s) }
 {
     match least(parts) {

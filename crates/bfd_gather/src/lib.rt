@@ -4,23 +4,27 @@
 //! what its events gave in a [`Part`], as text in pieces: all lines of an own event, or one line for each output of a tick,
 //! each piece with the number of its event and, of a tick, the discriminator that it names. [`report`] then takes the least
 //! piece of all parts, by event and then by discriminator, until none is left. A part more has what was told of events of no
-//! session.
+//! session. [`report_to`] writes the same report to a sink in pieces of 64 KiB as it is gathered, and [`write_all`] writes any text.
 //!
-//! It stands on `bfd_shard` for what a shard's events give and on `bfd_script` for the lines, and knows no lock and no thread.
-//! It promises that of sessions that are dealt out each shard's are what the whole table's would be, and that the report of
-//! the shards' parts is the report of the whole table, byte for byte, for every number of shards.
+//! It stands on `bfd_shard` for what a shard's events give, on `bfd_script` for the lines and on `bfd_edge` for the sink, and knows no
+//! lock and no thread. It promises that of sessions that are dealt out each shard's are what the whole table's would be; that the report
+//! of the shards' parts is the report of the whole table, byte for byte, for every number of shards; and that a sink which doesn't fail
+//! takes that report, and any sink a front of it.
 #![tactic(auto)]
 
 mod counts;
 mod gathering;
+mod giving;
 mod key;
 mod law;
+mod output;
 mod part;
 mod queue;
 mod reporting;
 
 pub use counts::{dropped, sent};
 pub use law::{dealing_laws, telling_laws};
+pub use output::{give_on, write_all};
 pub use part::Part;
 pub use queue::{Numbered, queue_event};
-pub use reporting::{Gathered, done_text, report};
+pub use reporting::{Gathered, report, report_to, write_last};

@@ -4,9 +4,9 @@ use Rattle.std.specs.Io.KnownBytes.{Appends}
 use Rattle.std.proofs.KnownBytes.{Appends-nil}
 use Rattle.bfd_fields.specs.declared.fault.BadLine.{BadLine as FaultyLine}
 use Rattle.bfd_jobs.specs.Answers.{HasText, IsAnswer}
-use Rattle.bfd_alone.specs.Written.{TookFront}
+use Rattle.bfd_gather.specs.Written.{TookFront}
 use Rattle.bfdd.specs.Writing.{Writes, broken_off}
-use Rattle.bfd_alone.proofs.Written.{took_nothing}
+use Rattle.bfd_gather.proofs.Written.{took_nothing}
 
 -- by the statuses that have a text
 

@@ -6,7 +6,7 @@ use Rattle.bfd_fields.specs.declared.fault.BadLine.{BadLine as FaultyLine}
 use Rattle.bfd_words.specs.declared.job.Job.{Job}
 use Rattle.bfd_jobs.specs.declared.status.Status.{Status}
 use Rattle.bfd_jobs.specs.declared.status.Status.TheVariants.{Done, Usage, BadLine, ReadFault, WriteFault, PortFault, LinkFault, TooLarge, JournalFull, Turns, ClockFault, Memory, NoMember}
-use Rattle.bfd_alone.specs.Written.{TookFront}
+use Rattle.bfd_gather.specs.Written.{TookFront}
 use Rattle.bfd_jobs.specs.Words.{is_reading, is_serving, is_watching}
 
 -- a fact about the faulty line, where the status names one

@@ -1,6 +1,6 @@
 -- What a run has told, whether or not its source tells what it had.
 use Rattle.std.specs.Prelude.{◌≡◌, ◌⊎◌, ℕ, List, Option, Some}
-use Rattle.bfd_alone.specs.Written.{TookFront}
+use Rattle.bfd_gather.specs.Written.{TookFront}
 use Rattle.bfd_jobs.specs.declared.status.Status.{Status}
 use Rattle.bfd_jobs.specs.Serving.{Edges}
 use Rattle.bfd_jobs.specs.Telling.{Tells}

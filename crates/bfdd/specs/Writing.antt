@@ -4,7 +4,7 @@ use Rattle.std.specs.Io.KnownBytes.{Appends}
 use Rattle.bfd_edge.specs.Faults.{Rose}
 use Rattle.bfd_jobs.specs.declared.status.Status.{Status}
 use Rattle.bfd_jobs.specs.declared.status.Status.TheVariants.{Done, WriteFault, Memory}
-use Rattle.bfd_alone.specs.Written.{TookFront}
+use Rattle.bfd_gather.specs.Written.{TookFront}
 use Rattle.bfd_jobs.specs.Text.{Wanted}
 
 -- the status where the sink failed: a faulty line that wasn't told whole is still one

@@ -1,7 +1,7 @@
 // The top call.
 ghost use Rattle.std.specs.Prelude.{◌≡◌, ◌≢◌, ◌+◌, ◌⊎◌, ℕ, IfSome, None, Some, true, false, map, string_bytes};
 ghost use Rattle.std.specs.Io.KnownBytes.{Appends, IsAtEnd};
-ghost use Rattle.bfd_alone.specs.Written.{TookFront};
+ghost use Rattle.bfd_gather.specs.Written.{TookFront};
 ghost use Rattle.bfd_edge.specs.Faults.{Rose};
 ghost use Rattle.bfd_jobs.specs.Outside.{ConsumesAtMost};
 ghost use Rattle.bfd_jobs.specs.Serving.{IsServedToFinish, edges_of};

@@ -6,7 +6,7 @@ use Rattle.bfd_line.specs.declared.entries.Line.{Line}
 use Rattle.bfd_script.specs.Reading.{Lists}
 use Rattle.bfd_replay.specs.World.{replayed}
 use Rattle.bfd_plan.proofs.Worlds.{world_is}
-use Rattle.bfd_alone.proofs.Written.{took_nothing, when_ok}
+use Rattle.bfd_gather.proofs.Written.{took_nothing, when_ok}
 use Rattle.bfd_alone.proofs.reporting.report_to.Goals as goal
 
 report_is : (configs : List SessionConfig) (pool : List Reflector) (lines : List Line) (hs : List Happening) (script : Lists) → hs ≡ happenings configs pool lines → script_with configs pool lines ≡ script

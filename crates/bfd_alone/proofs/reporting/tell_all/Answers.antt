@@ -2,7 +2,7 @@
 use Rattle.bfd_alone.proofs.Common.{◌≡◌, ℕ, List, map, ap, subst, sym, ◌∙◌, Appends, AllByRecursion, Outcome, Running, configs_of, SessionConfig, report, Happening, happening_outcomes, IsMet, route_is, Telling, TookFront}
 use Rattle.bfd_session.specs.Step.{started}
 use Rattle.bfd_session.proofs.Starting.{started_configs}
-use Rattle.bfd_alone.proofs.Written.{took_nothing, when_ok}
+use Rattle.bfd_gather.proofs.Written.{took_nothing, when_ok}
 use Rattle.bfd_alone.proofs.Events.{lines_front, report_front, report_whole}
 use Rattle.bfd_alone.proofs.reporting.tell_all.Goals as goal
 

@@ -1,6 +1,6 @@
 -- The event's lines are told, and nothing was taken where it came to none.
 use Rattle.bfd_alone.proofs.Common.{◌+◌, ◌++◌, ◌∷◌, Outcome, lines_from, happening_outcomes, route_is}
-use Rattle.bfd_alone.proofs.Written.{took_nothing}
+use Rattle.bfd_gather.proofs.Written.{took_nothing}
 use Rattle.bfd_alone.proofs.Events.{event_front}
 use Rattle.bfd_alone.proofs.reporting.tell_event.Goals as goal
 

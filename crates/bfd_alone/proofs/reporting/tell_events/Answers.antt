@@ -1,6 +1,6 @@
 -- One event more is told.
 use Rattle.bfd_alone.proofs.Common.{◌≡◌, ◌+◌, ◌++◌, ◌∷◌, List, length, map, reverse, ap, subst, sym, ◌∙◌, arith, AllByRecursion, Outcome, configs_of, SessionConfig, lines_from, Happening, happening_outcomes, IsMet, route_is, ToldUpTo, TookFront}
-use Rattle.bfd_alone.proofs.Written.{took_front}
+use Rattle.bfd_gather.proofs.Written.{took_front}
 use Rattle.bfd_alone.proofs.Events.{told_on}
 use Rattle.bfd_alone.proofs.reporting.tell_events.Goals as goal
 

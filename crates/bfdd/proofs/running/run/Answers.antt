@@ -2,11 +2,11 @@
 use Rattle.bfdd.proofs.Common.{◌≡◌, ◌⊎◌, true, false, Option, Some, inr, subst, sym, map, string_bytes, IfSome, Rose, Job, Memory, IsDecided, IsEndOf, IsServedToFinish, edges_of, Wanted, wanted_of, OfServing, is_reading, serves}
 use Rattle.std.specs.Io.KnownBytes.{Appends}
 use Rattle.bfd_words.specs.Grammar.{job_of}
-use Rattle.bfd_alone.specs.Written.{TookFront}
+use Rattle.bfd_gather.specs.Written.{TookFront}
 use Rattle.bfdd.specs.Telling.{IsTold}
 use Rattle.bfdd.proofs.Ending.{ended, ends_so, unopened}
 use Rattle.bfdd.proofs.Served.{finished, of_serving}
-use Rattle.bfd_alone.proofs.Written.{took_nothing}
+use Rattle.bfd_gather.proofs.Written.{took_nothing}
 use Rattle.bfdd.proofs.Wanting.{done_wanted, of_all, of_answer, of_job, settled}
 use Rattle.bfdd.proofs.Writing.{bad_text, calm, decided, front, no_read_fault, no_usage, unwritten, write_fault, written, written_whole}
 use Rattle.bfdd.proofs.running.run.Goals as goal

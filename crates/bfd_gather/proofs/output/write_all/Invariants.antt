@@ -1,5 +1,5 @@
-use Rattle.bfd_alone.proofs.Common.{◌≡◌, length, TookUpTo}
-use Rattle.bfd_alone.proofs.output.write_all.Given as goal
+use Rattle.bfd_gather.proofs.Common.{◌≡◌, length, TookUpTo}
+use Rattle.bfd_gather.proofs.output.write_all.Given as goal
 
 -- a front of the text was taken, the rest is still to be written, and no write failed
 abbrev pub invariant-pieces : goal.invariant-pieces

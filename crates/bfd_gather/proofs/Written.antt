@@ -1,5 +1,5 @@
 -- What a sink took, over several calls.
-use Rattle.bfd_alone.proofs.Common.{ℕ, List, [], ◌++◌, take, drop, Option, Result, Ok, Err, refl, sym, ap, subst, ◌∙◌, append_assoc, Appends, TookUpTo, TookFront}
+use Rattle.bfd_gather.proofs.Common.{ℕ, List, [], ◌++◌, take, drop, Option, Result, Ok, Err, refl, sym, ap, subst, ◌∙◌, append_assoc, Appends, TookUpTo, TookFront}
 use Rattle.std.specs.Prelude.{OnOk}
 use Rattle.std.proofs.KnownBytes.{Appends-nil, Appends-trans}
 use Rattle.std.proofs.lemmas.List.{take-append-drop}

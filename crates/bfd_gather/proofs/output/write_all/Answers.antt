@@ -1,6 +1,6 @@
-use Rattle.bfd_alone.proofs.Common.{arith, inl, ◌∙◌}
-use Rattle.bfd_alone.proofs.Written.{took_more}
-use Rattle.bfd_alone.proofs.output.write_all.Goals as goal
+use Rattle.bfd_gather.proofs.Common.{arith, inl, ◌∙◌}
+use Rattle.bfd_gather.proofs.Written.{took_more}
+use Rattle.bfd_gather.proofs.output.write_all.Goals as goal
 
 -- one more piece was taken
 pub pieces-preserved : goal.pieces-preserved

@@ -1,10 +1,13 @@
-//! A whole text to a sink.
+//! Text to a sink.
 ghost use Rattle.std.specs.Prelude.{◌≡◌, ◌≤◌, OnOk, IsErrOf};
 ghost use Rattle.std.specs.Io.KnownBytes.{Appends};
-ghost use Rattle.bfd_edge.specs.Faults.{Rose};
-ghost use Rattle.bfd_alone.specs.Written.{TookFront};
+ghost use Rattle.bfd_edge.specs.Faults.{HasCause, Rose};
+ghost use Rattle.bfd_gather.specs.Written.{TookFront, TookUpTo};
 
 use bfd_edge::{Fault, Sink};
+
+/// How long a text gets before it is written.
+const PIECE: usize = 65_536;
 
 /// Writes the whole text. It is refused as Failed where the sink failed or took nothing of what is left, and as Memory where the sink
 /// had none; the sink took a front of the text then.
@@ -24,5 +27,20 @@ pub fn write_all<K: Sink>(sink: &mut K, text: &[u8]) -> Result<(), Fault>
             Err(fault) => return Err(fault),
         }
     }
+    Ok(())
+}
+
+/// Writes the text where it is long, and begins it anew. It is refused as `write_all` is, and then the text is as before.
+pub fn give_on<K: Sink>(text: &mut Vec<u8>, sink: &mut K) -> Result<(), Fault>
+    ensures text { OnOk result (TookUpTo (K.taken sink.old) (K.taken sink.new) text.old.items text.new.items) }
+    ensures front { TookFront (K.taken sink.old) (K.taken sink.new) text.old.items }
+    ensures cause { HasCause (K.faults sink.old) (K.faults sink.new) result }
+    ensures calm { OnOk result (K.faults sink.new ≡ K.faults sink.old) }
+{
+    if text.len() < PIECE {
+        return Ok(());
+    }
+    write_all(sink, text.as_slice())?;
+    text.clear();
     Ok(())
 }

@@ -1,0 +1,91 @@
+//! The parts' pieces, taken in the order of a report and given to a sink.
+ghost use Rattle.std.specs.Prelude.{ℕ, ◌≡◌, ◌<◌, ◌+◌, ◌++◌, List, IfOk, OnOk, drop, length, sum_by};
+ghost use Rattle.bfd_edge.specs.Faults.{HasCause};
+ghost use Rattle.bfd_gather.specs.Inside.{first_text, first_txs, first_drops};
+ghost use Rattle.bfd_gather.specs.Spread.{Dealt, IsSpread, dealt_text};
+ghost use Rattle.bfd_gather.specs.Written.{TookFront, TookUpTo};
+
+use crate::gathering::{least, sole};
+use crate::output::give_on;
+use crate::part::Part;
+use bfd_edge::{Fault, Sink};
+use std::alloc::AllocError;
+
+/// Takes the first piece off a part, appends its text, and adds to these counts the packets that it tells were sent and were
+/// dropped. The one refusal is want of memory, as which 2^64 packets count.
+fn counted(
+    part: &mut Part,
+    text: &mut Vec<u8>,
+    counts: (u64, u64),
+) -> Result<(u64, u64), AllocError>
+    requires { 0 < length part.old }
+    ensures rest { OnOk result (part.new ≡ drop 1 part.old) }
+    ensures text { OnOk result (text.new.items ≡ text.old.items ++ first_text part.old) }
+    ensures txs { IfOk result (λ sums. sums.0 ≡ counts.0 + first_txs part.old) }
+    ensures drops { IfOk result (λ sums. sums.1 ≡ counts.1 + first_drops part.old) }
+{
+    let (sent, dropped) = part.take(text)?;
+    match (counts.0.checked_add(sent), counts.1.checked_add(dropped)) {
+        (Some(txs), Some(drops)) => Ok((txs, drops)),
+        _ => Err(AllocError),
+    }
+}
+
+/// Takes all pieces off the parts, in the order of a report. Appends their text, which the sink takes where it is long, and gives how
+/// many packets they tell were sent and were dropped. It is refused as Failed where the sink failed, and as Memory where memory was
+/// wanting, here or there, as which 2^64 packets count.
+fn give<K: Sink>(
+    parts: &mut Vec<Part>,
+    text: &mut Vec<u8>,
+    sink: &mut K,
+) -> Result<(u64, u64), Fault>
+    ensures told { (dealt : List Dealt) → IsSpread dealt parts.old.items
+        → OnOk result (TookUpTo (K.taken sink.old) (K.taken sink.new)
+        (text.old.items ++ dealt_text dealt) text.new.items) }
+    ensures front { (dealt : List Dealt) → IsSpread dealt parts.old.items
+        → TookFront (K.taken sink.old) (K.taken sink.new) (text.old.items ++ dealt_text dealt) }
+    ensures txs { (dealt : List Dealt) → IsSpread dealt parts.old.items
+        → IfOk result (λ counts. counts.0 ≡ sum_by (λ d. d.piece.txs) dealt) }
+    ensures drops { (dealt : List Dealt) → IsSpread dealt parts.old.items
+        → IfOk result (λ counts. counts.1 ≡ sum_by (λ d. d.piece.drops) dealt) }
+    ensures cause { HasCause (K.faults sink.old) (K.faults sink.new) result }
+    ensures calm { OnOk result (K.faults sink.new ≡ K.faults sink.old) }
+{
+    let mut counts = (0u64, 0u64);
+    while let Some(s) = least(parts) {
+        let Ok(sums) = counted(&mut parts[s], text, counts) else {
+            return Err(Fault::Memory);
+        };
+        counts = sums;
+        give_on(text, sink)?;
+    }
+    Ok(counts)
+}
+
+/// The same; the text of a part that has all pieces is given at once.
+pub(crate) fn give_all<K: Sink>(
+    parts: &mut Vec<Part>,
+    text: &mut Vec<u8>,
+    sink: &mut K,
+) -> Result<(u64, u64), Fault>
+    ensures told { (dealt : List Dealt) → IsSpread dealt parts.old.items
+        → OnOk result (TookUpTo (K.taken sink.old) (K.taken sink.new)
+        (text.old.items ++ dealt_text dealt) text.new.items) }
+    ensures front { (dealt : List Dealt) → IsSpread dealt parts.old.items
+        → TookFront (K.taken sink.old) (K.taken sink.new) (text.old.items ++ dealt_text dealt) }
+    ensures txs { (dealt : List Dealt) → IsSpread dealt parts.old.items
+        → IfOk result (λ counts. counts.0 ≡ sum_by (λ d. d.piece.txs) dealt) }
+    ensures drops { (dealt : List Dealt) → IsSpread dealt parts.old.items
+        → IfOk result (λ counts. counts.1 ≡ sum_by (λ d. d.piece.drops) dealt) }
+    ensures cause { HasCause (K.faults sink.old) (K.faults sink.new) result }
+    ensures calm { OnOk result (K.faults sink.new ≡ K.faults sink.old) }
+{
+    let Some(s) = sole(parts) else {
+        return give(parts, text, sink);
+    };
+    let Ok(counts) = parts[s].take_all(text) else {
+        return Err(Fault::Memory);
+    };
+    give_on(text, sink)?;
+    Ok(counts)
+}
