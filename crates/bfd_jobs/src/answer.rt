@@ -8,6 +8,7 @@ ghost use Rattle.bfd_jobs.specs.Text.{bare, done_with, ends};
 use crate::status::Status;
 use bfd_script::Script;
 use bfd_words::Form;
+use bfd_workers::ReportInParts;
 use std::alloc::Global;
 use std::marker::Model;
 
@@ -19,11 +20,14 @@ pub enum Text {
 
     /// The report of a replay that is made while it is written: the script, and which timers its shard keeps.
     Report(Script, Form),
+
+    /// The report of a replay that was made on shards, and is put together while it is written.
+    InParts(ReportInParts),
 }
 
 impl Text {
     /// Whether there is nothing to write. A report has a last line in any case.
-    #[tactic(auto, using(crate::proofs::Held::replayed_some))]
+    #[tactic(auto, using(bfd_workers::proofs::LastLine::replayed_some))]
     pub fn is_empty(&self) -> bool
         ensures empty { result ≡ true → held_text self.now ≡ [] }
         ensures some { result ≡ false → held_text self.now ≢ [] }
@@ -31,6 +35,7 @@ impl Text {
         match self {
             Text::Whole(bytes) => bytes.is_empty(),
             Text::Report(..) => false,
+            Text::InParts(report) => report.is_empty(),
         }
     }
 }
@@ -88,6 +93,16 @@ impl Answer {
         Answer {
             status: Status::Done,
             text: Text::Report(script, timers),
+        }
+    }
+
+    /// This report. It isn't put together yet.
+    pub(crate) fn in_parts(report: ReportInParts) -> Answer
+        ensures { result ≡ done_with report }
+    {
+        Answer {
+            status: Status::Done,
+            text: Text::InParts(report),
         }
     }
 }

@@ -13,7 +13,7 @@ ghost use Rattle.bfd_jobs.specs.Text.{answer_to, complaint_line, ends, load_line
 ghost use Rattle.bfd_jobs.specs.Words.{serves};
 
 use crate::answer::Answer;
-use crate::replaying::replay_by;
+use crate::replaying::{replay_by, replay_in_parts};
 use crate::status::Status;
 use bfd_edge::Gate;
 use bfd_fields::{BadLine, ScriptFault};
@@ -61,7 +61,8 @@ fn script_in(alloc: Global, bytes: Vec<u8>) -> Result<Script, ScriptFault>
     script
 }
 
-/// `replay` of a script. On one shard by one worker there is nothing to deal out, and its report can be made while it is written.
+/// `replay` of a script. On one shard by one worker there is nothing to deal out, and its report can be made while it is written; else
+/// it is put together then.
 fn replay_script<R: Threads + Wait + Sync, G: Gate + Sync>(
     rt: &R,
     alloc: Global,
@@ -76,7 +77,7 @@ fn replay_script<R: Threads + Wait + Sync, G: Gate + Sync>(
     if hands.shards == 1 && hands.workers == 1 {
         return Ok(Answer::report(script, hands.timers));
     }
-    Ok(Answer::done_with(replay_by(rt, alloc, script, hands, gate)?.text))
+    Ok(Answer::in_parts(replay_in_parts(rt, alloc, script, hands, gate)?))
 }
 
 /// `replay` of these bytes.

@@ -1,8 +1,8 @@
 //! What each job has to write.
 //!
 //! [`answer_to_job`] reads the source whole where the job reads it, does what the job asks for, and answers what is to be told of that:
-//! a status, and a text or the script that the text is still to be made of. `serve` alone opens links from the ports and asks the
-//! ticker. It writes nothing: a sink is its caller's.
+//! a status, and a text, or the script or the report's parts that the text is still to be made of. `serve` alone opens links from the
+//! ports and asks the ticker. It writes nothing: a sink is its caller's.
 //!
 //! Layers, lowest first: `status`, `answer`, `asking` (whether a job reads), `input` (a whole text from a source), `replaying`, `jobs`
 //! and `serving` (what each word has to write), `deciding` ([`answer_to_job`] itself).

@@ -9,7 +9,7 @@ use bfd_levels::Levels;
 use bfd_script::Script;
 use bfd_wheel::HashedWheel;
 use bfd_words::{Form, Hands};
-use bfd_workers::{Report, reported};
+use bfd_workers::{Report, ReportInParts, reported, reported_in_parts};
 use std::alloc::{AllocError, Global};
 use std::sync::Wait;
 use std::thread::Threads;
@@ -38,5 +38,30 @@ pub(crate) fn replay_by<R: Threads + Wait + Sync, G: Gate + Sync>(
     match timers {
         Form::Hashed => reported::<HashedWheel, R, G>(rt, alloc, script, shards, workers, gate),
         Form::Levels => reported::<Levels, R, G>(rt, alloc, script, shards, workers, gate),
+    }
+}
+
+/// The same replay, whose report is put together only when it is written. The one refusal is want of memory.
+pub(crate) fn replay_in_parts<R: Threads + Wait + Sync, G: Gate + Sync>(
+    rt: &R,
+    alloc: Global,
+    script: Script,
+    hands: Hands,
+    gate: &G,
+) -> Result<ReportInParts, AllocError>
+    requires script { IsScript script }
+    requires hands { AreHands hands }
+    ensures { IfOk result (λ report. report ≡ replayed script) }
+{
+    let Hands {
+        shards,
+        workers,
+        timers,
+    } = hands;
+    match timers {
+        Form::Hashed => reported_in_parts::<HashedWheel, R, G>(
+            rt, alloc, script, shards, workers, gate,
+        ),
+        Form::Levels => reported_in_parts::<Levels, R, G>(rt, alloc, script, shards, workers, gate),
     }
 }

@@ -8,3 +8,4 @@ pub mod Endings
 pub mod Summing
 pub mod Ordering
 pub mod Whole
+pub mod LastLine

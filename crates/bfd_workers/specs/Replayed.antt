@@ -1,10 +1,13 @@
--- What a replay on shards leaves of each.
-use Rattle.std.specs.Prelude.{ℕ, ◌≡◌, ◌+◌, ◌%◌, List, length, slice_get, Some}
+-- What a replay on shards leaves of each, and tells.
+use Rattle.std.specs.Prelude.{ℕ, ◌≡◌, ◌+◌, ◌%◌, List, length, map, slice_get, Some}
 use Rattle.bfd_session.specs.Kinds.{configs_of}
+use Rattle.bfd_session.specs.Step.{started}
 use Rattle.bfd_shard.specs.Dealing.{history_of, share}
 use Rattle.bfd_shard.specs.Shard.{Shard}
 use Rattle.bfd_script.specs.Reading.{Lists}
-use Rattle.bfd_plan.specs.Planned.{events_of_table}
+use Rattle.bfd_gather.specs.Happenings.{AreParts}
+use Rattle.bfd_gather.specs.Pieces.{Piece}
+use Rattle.bfd_plan.specs.Planned.{events_of_table, happenings}
 use Rattle.bfd_workers.specs.Working.{entries_by}
 
 -- the state of this shard: it was made of the sessions that are dealt to it, and its journal is, in the order of the script, the own
@@ -16,3 +19,9 @@ pub record HasReplayed (script : Lists) (shards workers number : ℕ) (state : S
 pub record HaveReplayed (script : Lists) (shards workers : ℕ) (states : List Shard) : Type 0 where
   pub long : length states ≡ shards
   pub each : (number : ℕ) (state : Shard) → slice_get states number ≡ Some state → HasReplayed script shards workers number state
+
+-- the parts of a report are those of this script's events on some number of shards, and so many events are they
+pub record AreOfScript (script : Lists) (parts : List (List Piece)) (events : ℕ) : Type 0 where
+  pub shards : ℕ
+  pub of_shards : AreParts shards 1 0 (happenings script.configs script.pool script.events) (map started script.configs) parts
+  pub count : length script.events ≡ events

@@ -4,24 +4,28 @@
 //! The sessions stand in an engine of 1 to 64 shards, which are made at once. Each of 1 to 64 workers has a pass of the engine and
 //! takes the shards of its own, in a thread of its own where one can be had; what each shard's events give is told in a part, and
 //! the parts are gathered into one report. [`replay`] hands out the report, the counts and the shards, and [`reported`] lets the
-//! shards go, each in a thread of its own where one can be had, before it puts the report together.
+//! shards go, each in a thread of its own where one can be had, before it puts the report together. [`reported_in_parts`] lets them
+//! go too, and hands out a [`ReportInParts`], which is put together when it is written.
 //!
 //! Modules: `working` is one worker's turns, `jobs` all workers, `passes` their passes, `running` the engine from opening to
-//! closing, `finish` puts the parts in order, `counting` counts.
+//! closing, `finish` puts the parts in order, `counting` counts, `in_parts` is a report that is written from its parts.
 //!
-//! It stands on `bfd_plan` for the queues, on `bfd_engine` for the turns and on `bfd_gather` for the report. It promises that the text is
-//! that of `bfd_replay`'s `specs/World.antt`, which knows of no shard, no worker and no lock, for every number of shards and workers; that
-//! the counts are `totals`; and that each shard was made of the sessions that are dealt to it and has, in the order of the script, their
-//! own events and every tick in its journal, all brought by its one worker. A worker can't know that nobody else takes a turn of its
-//! shard: the closed engine shows it, and so that no journal was full and no lock spent.
+//! It stands on `bfd_plan` for the queues, on `bfd_engine` for the turns, on `bfd_gather` for the report and on `bfd_edge` for the gate
+//! and the sink. It promises that the text, also one that is written from its parts, is that of `bfd_replay`'s `specs/World.antt`,
+//! which knows of no shard, no worker and no lock, for every number of shards and workers; that the counts are `totals`; and that each
+//! shard was made of the sessions that are dealt to it and has, in the order of the script, their own events and every tick in its
+//! journal, all brought by its one worker. A worker can't know that nobody else takes a turn of its shard: the closed engine shows it,
+//! and so that no journal was full and no lock spent.
 #![tactic(auto)]
 
 mod counting;
 mod finish;
+mod in_parts;
 mod jobs;
 mod passes;
 mod replaying;
 mod running;
 mod working;
 
-pub use replaying::{Outcome, Report, replay, reported};
+pub use in_parts::ReportInParts;
+pub use replaying::{Outcome, Report, replay, reported, reported_in_parts};

@@ -10,6 +10,7 @@ ghost use Rattle.bfd_workers.specs.Replayed.{HaveReplayed};
 
 use crate::counting::{up_all, up_at_last};
 use crate::finish::in_order;
+use crate::in_parts::ReportInParts;
 use crate::running::{opened, run_all};
 use bfd_edge::Gate;
 use bfd_gather::{Part, report};
@@ -21,6 +22,7 @@ use bfd_session::SessionConfig;
 use bfd_shard::ShardState;
 use bfd_wheel::Timers;
 use std::alloc::{AllocError, Global};
+use std::snapshot::Snapshot;
 use std::sync::Wait;
 use std::thread::Threads;
 
@@ -228,4 +230,38 @@ pub fn reported<W: Timers + Send, R: Threads + Wait + Sync, G: Gate + Sync>(
         events,
     } = script;
     report_parts::<W, R, G>(rt, alloc, configs, pool, events, shards, workers, gate)
+}
+
+/// The same replay, whose report is put together only when it is written: the shards with their journals are let go here. The one refusal
+/// is want of memory.
+#[tactic(auto, using(bfd_plan::proofs::Worlds::is_table))]
+pub fn reported_in_parts<W: Timers + Send, R: Threads + Wait + Sync, G: Gate + Sync>(
+    rt: &R,
+    alloc: Global,
+    script: Script,
+    shards: u32,
+    workers: u32,
+    gate: &G,
+) -> Result<ReportInParts, AllocError>
+    requires script { IsScript script }
+    requires shards { (0 < shards) × (shards ≤ 64) }
+    requires workers { (0 < workers) × (workers ≤ 64) }
+    ensures { IfOk result (λ report. report ≡ replayed script) }
+{
+    let known = Snapshot::of(&script);
+    let Script {
+        configs,
+        pool,
+        events,
+    } = script;
+    let count = events.len() as u64;
+    let (parts, states) = worked::<W, R, G>(
+        rt, alloc, configs, pool, events, shards, workers, gate,
+    )?;
+    let _up = up_at_last(rt, states)?;
+    Ok(ReportInParts {
+        script: known,
+        parts,
+        events: count,
+    })
 }

@@ -25,7 +25,7 @@ fn broken_off(status: Status) -> Status
     }
 }
 
-/// Writes the whole text; a report that is still to be made is made as it is written.
+/// Writes the whole text; a report that is still to be made, or to be put together, is that as it is written.
 fn write_text<K: Sink>(alloc: Global, text: Text, sink: &mut K) -> Result<(), Fault>
     requires { HasScript text }
     ensures whole { OnOk result (Appends (K.taken sink.old) (K.taken sink.new) (held_text text)) }
@@ -38,6 +38,7 @@ fn write_text<K: Sink>(alloc: Global, text: Text, sink: &mut K) -> Result<(), Fa
         Text::Whole(bytes) => write_all(sink, bytes.as_slice()),
         Text::Report(script, Form::Hashed) => report_to::<HashedWheel, K>(alloc, script, sink),
         Text::Report(script, Form::Levels) => report_to::<Levels, K>(alloc, script, sink),
+        Text::InParts(report) => report.write_to(alloc, sink),
     }
 }
 

@@ -1,4 +1,4 @@
--- A report that is still to be made isn't empty.
+-- No report is empty.
 use Rattle.std.proofs.Common.{◌≢◌, List, [], ◌∷◌, ◌++◌, ℕ}
 use Rattle.bfd_replay.specs.World.{replayed, world}
 use Rattle.bfd_script.specs.Reading.{Lists}

@@ -1,0 +1,60 @@
+//! A report that is put together when it is written.
+ghost use Rattle.std.specs.Prelude.{◌≡◌, ◌≢◌, ◌≤◌, [], OnOk, IsErrOf, true, false};
+ghost use Rattle.std.specs.Io.KnownBytes.{Appends};
+ghost use Rattle.bfd_edge.specs.Faults.{Rose};
+ghost use Rattle.bfd_gather.specs.Written.{TookFront};
+
+use bfd_edge::{Fault, Sink};
+use bfd_gather::{Part, report_to};
+use bfd_script::Script;
+use std::alloc::Global;
+use std::marker::Model;
+use std::snapshot::Snapshot;
+
+/// The report of a replay in its parts, which is put together when it is written. Contracts see the report.
+#[derive(Drop)]
+pub struct ReportInParts {
+    // The script, for clauses alone.
+    pub(crate) script: Snapshot<Script>,
+    // What each shard told, and last what was told of events of no session.
+    pub(crate) parts: Vec<Part>,
+    // How many events there were.
+    pub(crate) events: u64,
+}
+
+impl Model for ReportInParts {
+    ghost use Rattle.std.specs.Prelude.{List, ℕ};
+    ghost use Rattle.bfd_replay.specs.World.{replayed};
+    ghost use Rattle.bfd_workers.specs.Replayed.{AreOfScript};
+
+    ghost Value = { List ℕ };
+
+    ghost view = { λ r. replayed r.script.value };
+
+    ghost invariant = { λ r. AreOfScript r.script.value r.parts.items r.events };
+}
+
+impl ReportInParts {
+    /// Whether there is nothing to write. A report has a last line in any case.
+    #[tactic(auto, using(crate::proofs::LastLine::replayed_some))]
+    pub fn is_empty(&self) -> bool
+        ensures empty { result ≡ true → self.now ≡ [] }
+        ensures some { result ≡ false → self.now ≢ [] }
+    {
+        let _ = &self.script;
+        false
+    }
+
+    /// Writes the report in pieces as it is put together. It is refused as Failed where the sink failed, and as Memory where memory was
+    /// wanting, here or there; the sink took a front of the report then.
+    pub fn write_to<K: Sink>(self, alloc: Global, sink: &mut K) -> Result<(), Fault>
+        ensures whole { OnOk result (Appends (K.taken sink.old) (K.taken sink.new) self) }
+        ensures failed { IsErrOf result Fault.Failed → Rose (K.faults sink.old) (K.faults sink.new) }
+        ensures front { TookFront (K.taken sink.old) (K.taken sink.new) self }
+        ensures later { K.faults sink.old ≤ K.faults sink.new }
+        ensures calm { OnOk result (K.faults sink.new ≡ K.faults sink.old) }
+        ensures calm_memory { IsErrOf result Fault.Memory → K.faults sink.new ≡ K.faults sink.old }
+    {
+        report_to(alloc, self.parts, self.events, sink)
+    }
+}
