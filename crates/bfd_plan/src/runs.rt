@@ -12,12 +12,12 @@ pub(crate) struct Run {
     pub(crate) lines: Vec<Line>,
 }
 
-/// Cuts lines into runs of one length, of which the first may be shorter: as many as `count`, or fewer where that comes out even. The
-/// one refusal is want of memory.
+/// Cuts lines into at most `count` runs of one length, of which the first may be shorter. The one refusal is want of memory.
 pub(crate) fn cut(alloc: Global, lines: Vec<Line>, count: usize) -> Result<Vec<Run>, AllocError>
     requires some { 0 < count }
     requires few { length lines.items ≤ 200000 }
-    ensures { IfOk result (λ runs. AreRuns lines.items runs.items) }
+    ensures runs { IfOk result (λ runs. AreRuns lines.items runs.items) }
+    ensures most { IfOk result (λ runs. length runs.items ≤ count) }
 {
     let size = lines.len() / count + 1;
     let mut runs = Vec::new(alloc);

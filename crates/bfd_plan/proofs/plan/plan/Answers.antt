@@ -6,7 +6,7 @@ use Rattle.bfd_plan.proofs.plan.plan.Goals as goal
 pub runs-init : goal.runs-init
 runs-init g c = record {
   put = put_start c.args.configs.now c.args.pool.now c.args.events.items c.args.shards (columns_are c.in_ok-columns.columns.items) c.new-apart.result
-      c.in_ok-runs.runs.items c.in_ok-left.left.items (reverse c.reverse.new.self.items) c.in_ok-runs.ensures
+      c.in_ok-runs.runs.items c.in_ok-left.left.items (reverse c.reverse.new.self.items) c.in_ok-runs.ensures.runs
       (ap reverse c.reverse.ensures.items ∙ reverse-reverse c.in_ok-left.left.items) c.in_ok-left.ensures.long c.in_ok-left.ensures.each
       (length-map c.in_ok-columns.columns.items (λ x. flat_map (λ q. q.items) x.items) ∙ c.in_ok-columns.ensures.long) c.in_ok-columns.ensures.each c.new-apart.ensures;
 }
