@@ -1,5 +1,5 @@
 -- The parts' pieces, given to a sink.
-use Rattle.bfd_gather.proofs.Common.{◌≡◌, ◌<◌, ◌+◌, ◌++◌, ℕ, List, [], length, drop, set, get_or, refl, sym, ap, subst, ◌∙◌, append_assoc, Option, None, Appends, TookFront, TookUpTo, Piece, Dealt, IsSpread, dealt_text, IsLeast, Happening, happening_outcomes, Running, Outcome, done_line, dropped, lines_from, packets_sent, report, first_key, first_text, first_txs, first_drops}
+use Rattle.bfd_gather.proofs.Common.{◌≡◌, ◌<◌, ◌+◌, ◌++◌, ℕ, List, [], length, drop, set, get_or, refl, sym, ap, subst, ◌∙◌, append_assoc, Option, None, Appends, TookFront, TookUpTo, Piece, Dealt, dealt_text, IsLeast, Happening, happening_outcomes, Running, Outcome, done_line, dropped, lines_from, packets_sent, report, first_key, first_text, first_txs, first_drops}
 use Rattle.std.specs.List.{sum_by}
 use Rattle.std.proofs.KnownBytes.{Appends-trans}
 use Rattle.bfd_gather.proofs.Written.{front_of_longer, took_front, took_of_longer, took_rest}

@@ -30,7 +30,7 @@ pub fn write_all<K: Sink>(sink: &mut K, text: &[u8]) -> Result<(), Fault>
     Ok(())
 }
 
-/// Writes the text where it is long, and begins it anew. It is refused as `write_all` is, and then the text is as before.
+/// Writes the text where it is long, and begins it anew. It is refused as `write_all` is; the sink took a front of the text then.
 pub fn give_on<K: Sink>(text: &mut Vec<u8>, sink: &mut K) -> Result<(), Fault>
     ensures text { OnOk result (TookUpTo (K.taken sink.old) (K.taken sink.new) text.old.items text.new.items) }
     ensures front { TookFront (K.taken sink.old) (K.taken sink.new) text.old.items }

@@ -1,5 +1,5 @@
 -- What the one part has is what was dealt.
-use Rattle.bfd_gather.proofs.Common.{◌≡◌, ◌∙◌, ◌++◌, ℕ, List, ap, subst, Dealt, IsSpread, dealt_text, map, Piece, texts, HasAll, TookFront, TookUpTo}
+use Rattle.bfd_gather.proofs.Common.{◌≡◌, ◌∙◌, ◌++◌, List, ap, subst, Dealt, IsSpread, dealt_text, map, Piece, texts, HasAll, TookFront, TookUpTo}
 use Rattle.std.specs.List.{sum_by}
 use Rattle.bfd_gather.proofs.Alone.{whole, texts_dealt, txs_dealt, drops_dealt}
 use Rattle.bfd_gather.proofs.Written.{took_nothing}

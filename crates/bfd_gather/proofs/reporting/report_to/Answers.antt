@@ -1,5 +1,5 @@
 -- The parts' text is that of the whole replay.
-use Rattle.bfd_gather.proofs.Common.{◌≡◌, ◌++◌, ℕ, List, ap, subst, dealt_text, Happening, Running, TookFront, TookUpTo}
+use Rattle.bfd_gather.proofs.Common.{◌++◌, subst, dealt_text, TookFront, TookUpTo}
 use Rattle.bfd_gather.proofs.PiecesGiven.{lines_front, report_front, report_whole}
 use Rattle.bfd_gather.proofs.Telling.{deal_all}
 use Rattle.bfd_gather.proofs.Whole.{parts_spread}
