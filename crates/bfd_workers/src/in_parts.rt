@@ -1,5 +1,5 @@
 //! A report that is put together when it is written.
-ghost use Rattle.std.specs.Prelude.{◌≡◌, ◌≢◌, ◌≤◌, [], OnOk, IsErrOf, true, false};
+ghost use Rattle.std.specs.Prelude.{◌≡◌, ◌≢◌, ◌≤◌, [], OnOk, IsErrOf, false};
 ghost use Rattle.std.specs.Io.KnownBytes.{Appends};
 ghost use Rattle.bfd_edge.specs.Faults.{Rose};
 ghost use Rattle.bfd_gather.specs.Written.{TookFront};
@@ -35,11 +35,11 @@ impl Model for ReportInParts {
 }
 
 impl ReportInParts {
-    /// Whether there is nothing to write. A report has a last line in any case.
+    /// Whether there is nothing to write: never, since a report has a last line in any case.
     #[tactic(auto, using(crate::proofs::LastLine::replayed_some))]
     pub fn is_empty(&self) -> bool
-        ensures empty { result ≡ true → self.now ≡ [] }
-        ensures some { result ≡ false → self.now ≢ [] }
+        ensures never { result ≡ false }
+        ensures some { self.now ≢ [] }
     {
         let _ = &self.script;
         false

@@ -1,5 +1,5 @@
 -- What the parts tell is the report of the script.
-use Rattle.bfd_workers.proofs.Common.{◌≡◌, ◌∙◌, ℕ, List, length, map, ap, subst, started, AreParts, happenings, world_is}
+use Rattle.bfd_workers.proofs.Common.{◌∙◌, map, ap, subst, started, happenings, world_is}
 use Rattle.std.specs.Prelude.{OnOk}
 use Rattle.std.specs.Io.KnownBytes.{Appends}
 use Rattle.bfd_gather.specs.Written.{TookFront}
