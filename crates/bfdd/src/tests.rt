@@ -239,6 +239,14 @@ fn writing(text: &'static str, call: u64, status: Status, written: &'static str)
     case
 }
 
+/// A replay on two shards, whose report is put together while it is written, to a sink of which a call may fail.
+fn on_shards(call: Option<u64>, status: Status, written: &'static str) -> Case<'static> {
+    let mut case = calm(&["replay", "--shards", "2"], TICKS, written);
+    case.sink_fails = call;
+    case.status = status;
+    case
+}
+
 #[test]
 fn runs(rt: HostRuntime) -> Result<(), Fail> {
     let bad = Status::BadLine {
@@ -253,6 +261,8 @@ fn runs(rt: HostRuntime) -> Result<(), Fail> {
         reading(16, Some(2), Status::ReadFault, ""),
         writing(TICKS, 1, Status::WriteFault, "done 2 0 0"),
         writing(TICKS, 0, Status::WriteFault, ""),
+        on_shards(None, Status::Done, REPORT),
+        on_shards(Some(1), Status::WriteFault, "done 2 0 0"),
         writing(FAULTY, 9, bad, "bad 3 BadNumber\n"),
         writing(FAULTY, 1, bad, "bad 3 BadN"),
     ];
