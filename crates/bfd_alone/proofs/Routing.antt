@@ -1,8 +1,6 @@
 -- One line more is found.
-use Rattle.bfd_alone.proofs.Common.{◌≡◌, List, [], ◌∷◌, ◌++◌, map, sym, ap, subst, ◌∙◌, append_assoc, append-nil, AllByRecursion, SessionConfig, Happening, IsMet, happening, happenings, route_is}
+use Rattle.bfd_alone.proofs.Common.{◌≡◌, List, [], ◌∷◌, ◌++◌, map, append_assoc, AllByRecursion, SessionConfig, IsMet, happening, happenings, route_is, Reflector, Line}
 use Rattle.std.proofs.lemmas.List.{map-append}
-use Rattle.bfd_sbfd.specs.declared.reflecting.Reflector.{Reflector}
-use Rattle.bfd_line.specs.declared.entries.Line.{Line}
 use Rattle.bfd_plan.specs.declared.routing.Route.{Route}
 
 -- what the lines are, of which those that are left are still to be found
@@ -15,27 +13,17 @@ met_more : (configs : List SessionConfig) (routes : List Route) (route : Route) 
 met_more configs [] route all one = (one, tt)
 met_more configs (x ∷ routes) route all one = (all.0, met_more configs routes route all.1 one)
 
-pub found_more : (configs : List SessionConfig) (pool : List Reflector) (all left rest : List Line) (line : Line) (routes after : List Route) (route : Route)
+found_more : (configs : List SessionConfig) (pool : List Reflector) (all left rest : List Line) (line : Line) (routes after : List Route) (route : Route)
     → left ≡ line ∷ rest → route_is route ≡ happening configs pool line → IsMet configs (route_is route) → after ≡ routes ++ route ∷ []
     → IsFound configs pool all left routes → IsFound configs pool all rest after
 found_more configs pool all left rest line routes after route split is met added so_far =
-    let others : List Happening = happenings configs pool rest in
     record {
-      all_are = ap (λ rs. map route_is rs ++ others) added
-          ∙ (ap (λ hs. hs ++ others) (map-append route_is routes (route ∷ []))
-          ∙ (append_assoc (map route_is routes) (route_is route ∷ []) others
-          ∙ (ap (λ h. map route_is routes ++ (h ∷ others)) is
-          ∙ (ap (λ ls. map route_is routes ++ happenings configs pool ls) (sym split) ∙ so_far.all_are))));
-      met = subst (λ rs. AllByRecursion (IsMet configs) (map route_is rs)) (sym added) (met_more configs routes route so_far.met met);
+      all_are = cc (map-append route_is routes (route ∷ []), append_assoc (map route_is routes) (route_is route ∷ []) (happenings configs pool rest));
+      met = rw added (met_more configs routes route so_far.met met);
     }
 
-pub found_all : (configs : List SessionConfig) (pool : List Reflector) (all left : List Line) (routes : List Route) → left ≡ []
-    → IsFound configs pool all left routes → map route_is routes ≡ happenings configs pool all
-found_all configs pool all left routes none so_far =
-    sym (append-nil (map route_is routes)) ∙ (ap (λ ls. map route_is routes ++ happenings configs pool ls) (sym none) ∙ so_far.all_are)
-
-pub found_none : (configs : List SessionConfig) (pool : List Reflector) (all left : List Line) (routes : List Route) → left ≡ all → routes ≡ [] → IsFound configs pool all left routes
+found_none : (configs : List SessionConfig) (pool : List Reflector) (all left : List Line) (routes : List Route) → left ≡ all → routes ≡ [] → IsFound configs pool all left routes
 found_none configs pool all left routes same none = record {
-  all_are = ap (λ rs. map route_is rs ++ happenings configs pool left) none ∙ ap (happenings configs pool) same;
-  met = subst (λ rs. AllByRecursion (IsMet configs) (map route_is rs)) (sym none) tt;
+  all_are = cc;
+  met = rw none tt;
 }

@@ -1,5 +1,5 @@
 -- A receiver with the same keys hears what is sealed.
-use Rattle.std.proofs.Common.{◌≡◌, ◌∙◌, ◌<◌, ◌≤◌, ◌+◌, ◌-◌, ◌*◌, ◌^◌, if◌then◌else◌, List, [], ◌∷◌, ℕ, zero, suc, Bool, true, false, IsTrue, length, drop, replicate, refl, sym, ap, subst, arith, nat_eq, nat_le, slice_index, length-append, Some, Ok}
+use Rattle.std.proofs.Common.{◌≡◌, ◌<◌, ◌≤◌, ◌+◌, ◌-◌, ◌*◌, ◌^◌, if◌then◌else◌, List, [], ◌∷◌, ℕ, zero, suc, Bool, true, false, IsTrue, length, replicate, refl, sym, subst, arith, nat_eq, nat_le, slice_index, length-append, Some, Ok}
 use Rattle.std.proofs.lemmas.Bool.Decides.{nat_tests}
 use Rattle.std.proofs.lemmas.List.{take_all, drop_all, append-nil, length-replicate}
 use Rattle.std.specs.Prelude.{slice_range}
@@ -29,10 +29,8 @@ length-digest_bytes : (h : List ℕ) (n : ℕ) → length (digest_bytes h n) ≡
 unfolding digest_bytes
 length-digest_bytes h zero = refl
 length-digest_bytes h (suc n) =
-    let before = length-digest_bytes h n in
     let last : length (to_be_bytes w32 (slice_index h n)) ≡ 4 = refl in
-    let both = length-append (digest_bytes h n) (to_be_bytes w32 (slice_index h n)) in
-    omega (arith, before, last, both)
+    omega (arith, length-digest_bytes h n, last, length-append (digest_bytes h n) (to_be_bytes w32 (slice_index h n)))
 
 length-sha1 : (m : List ℕ) → length (sha1 m) ≡ 20
 unfolding sha1
@@ -56,9 +54,7 @@ in_digest_place-text_of : (kind : AuthType) (key : Key) (sequence : ℕ) (c : Co
     → length bytes ≡ digest_size kind → length old ≡ digest_size kind
     → in_digest_place kind bytes (text_of c (digest_section kind key sequence old)) ≡ text_of c (digest_section kind key sequence bytes)
 unfolding text_of
-in_digest_place-text_of kind key sequence c bytes old fits was =
-    let gone : drop (digest_size kind) old ≡ [] = drop_all (digest_size kind) old (omega arith) in
-    rw (gone, was, fits, append-nil) refl
+in_digest_place-text_of kind key sequence c bytes old fits was = rw (drop_all (digest_size kind) old (omega arith), was, fits, append-nil) refl
 
 -- a packet is accepted whose section is right and whose number may be heard
 accepts : (keys : KeyChain) (receiver : SeqState) (raw : List ℕ) (key : Key)
@@ -77,18 +73,12 @@ accepts keys receiver raw key kind long named size room timely genuine =
 -- the right digest in its place is genuine
 genuine_digest : (kind : AuthType) (key : Key) (raw digest : List ℕ) → is_password kind ≡ false
     → slice_range raw 32 (32 + digest_size kind) ≡ digest → right_digest kind key raw ≡ digest → is_genuine kind key raw ≡ true
-genuine_digest kind key raw digest other body right =
-    let same : bytes_eq (slice_range raw 32 (32 + digest_size kind)) (right_digest kind key raw) ≡ true =
-    ap (λ (xs : List ℕ). bytes_eq xs (right_digest kind key raw)) body ∙ ap (bytes_eq digest) right ∙ bytes_eq-same digest in
-    rw other same
+genuine_digest kind key raw digest other body right = rw other (cc (bytes_eq-same digest))
 
 -- the secret in the password's place is genuine
 genuine_password : (kind : AuthType) (key : Key) (raw : List ℕ) → is_password kind ≡ true
     → slice_range raw 27 (24 + slice_index raw 25) ≡ key.secret → is_genuine kind key raw ≡ true
-genuine_password kind key raw password body =
-    let same : bytes_eq (slice_range raw 27 (24 + slice_index raw 25)) key.secret ≡ true =
-    ap (λ (xs : List ℕ). bytes_eq xs key.secret) body ∙ bytes_eq-same key.secret in
-    rw password same
+genuine_password kind key raw password body = rw password (cc (bytes_eq-same key.secret))
 
 -- a packet with a digest is accepted
 hears_digest : (keys : KeyChain) (receiver : SeqState) (c : Control) (key : Key) (xmit : ℕ)
@@ -99,37 +89,29 @@ unfolding text_of
 hears_digest keys receiver c key xmit kind fits range named timely =
     let digest : List ℕ = digest_of keys.kind (keyed_text keys.kind key xmit c) in
     let raw : List ℕ = text_of c (digest_section keys.kind key xmit digest) in
-    let size : length digest ≡ digest_size keys.kind = length-digest_of keys.kind (keyed_text keys.kind key xmit c) in
-    let sequence : sequence_of raw ≡ xmit = big_number-reads_back 4 xmit digest range in
+    let size = length-digest_of keys.kind (keyed_text keys.kind key xmit c) in
+    let sequence = big_number-reads_back 4 xmit digest range in
     let asked : section_length keys.kind key ≡ digest_size keys.kind + 8 = rw kind refl in
-    let long : 26 < length raw = omega arith in
-    let room : section_length keys.kind key ≤ length raw - 24 = omega arith in
     let count : 32 + digest_size keys.kind - 32 ≡ digest_size keys.kind = omega arith in
     let body : slice_range raw 32 (32 + digest_size keys.kind) ≡ digest = rw count (take_all (digest_size keys.kind) digest (omega arith)) in
     let right : right_digest keys.kind key raw ≡ digest =
-    ap (digest_of keys.kind) (in_digest_place-text_of keys.kind key xmit c (padded keys.kind key) digest (length-padded keys.kind key fits) size) in
-    let genuine : is_genuine keys.kind key raw ≡ true = genuine_digest keys.kind key raw digest kind body right in
+    cc (in_digest_place-text_of keys.kind key xmit c (padded keys.kind key) digest (length-padded keys.kind key fits) size) in
+    let genuine = genuine_digest keys.kind key raw _ kind body right in
     let heard_at : may_hear keys.kind receiver c.mult (sequence_of raw) ≡ true = rw sequence timely in
-    accepts keys receiver raw key refl long named refl room heard_at genuine
-    ∙ ap (λ (s : ℕ). Ok (accepted_seq keys.kind receiver s)) sequence
+    cc (accepts keys receiver raw key refl (omega arith) named refl (omega arith) heard_at genuine)
 
 -- a packet with a password is accepted
-hears_password : (keys : KeyChain) (receiver : SeqState) (c : Control) (key : Key) (xmit : ℕ)
-    → is_password keys.kind ≡ true → 1 ≤ length key.secret
-    → key_named key.id keys.list ≡ Some key
-    → verdict keys receiver (text_of c (password_section keys.kind key)) ≡ Ok (accepted_seq keys.kind receiver xmit)
+hears_password : (keys : KeyChain) (receiver : SeqState) (c : Control) {key : Key} (xmit : ℕ) → is_password keys.kind ≡ true → 1 ≤ length key.secret
+    → key_named key.id keys.list ≡ Some key → verdict keys receiver (text_of c (password_section keys.kind key)) ≡ Ok (accepted_seq keys.kind receiver xmit)
 unfolding text_of
-hears_password keys receiver c key xmit kind some named =
+hears_password keys receiver c {key} xmit kind some named =
     let raw : List ℕ = text_of c (password_section keys.kind key) in
     let asked : section_length keys.kind key ≡ length key.secret + 3 = rw kind refl in
-    let long : 26 < length raw = omega arith in
-    let room : section_length keys.kind key ≤ length raw - 24 = omega arith in
     let count : 24 + section_length keys.kind key - 27 ≡ length key.secret = omega arith in
     let body : slice_range raw 27 (24 + slice_index raw 25) ≡ key.secret = rw count (take_all (length key.secret) key.secret (omega arith)) in
-    let genuine : is_genuine keys.kind key raw ≡ true = genuine_password keys.kind key raw kind body in
     let timely : may_hear keys.kind receiver (slice_index raw 2) (sequence_of raw) ≡ true = rw kind refl in
     let same : accepted_seq keys.kind receiver (sequence_of raw) ≡ accepted_seq keys.kind receiver xmit = rw kind refl in
-    accepts keys receiver raw key refl long named refl room timely genuine ∙ ap Ok same
+    cc (accepts keys receiver raw key refl (omega arith) named refl (omega arith) timely (genuine_password keys.kind key raw kind body))
 
 -- fits_kind says both bounds on a secret
 secret_bounds : (kind : AuthType) (secret : List ℕ) → IsTrue (fits_kind kind secret) → (1 ≤ length secret) × (length secret ≤ digest_size kind)
@@ -141,7 +123,7 @@ hears_section : (password : Bool) (keys : KeyChain) (receiver : SeqState) (c : C
     → key_named key.id keys.list ≡ Some key → may_hear keys.kind receiver c.mult xmit ≡ true
     → verdict keys receiver (text_of c (if password then password_section keys.kind key else digest_section keys.kind key xmit (digest_of keys.kind (keyed_text keys.kind key xmit c)))) ≡ Ok (accepted_seq keys.kind receiver xmit)
 hears_section true keys receiver c key xmit kind fits range named timely =
-    hears_password keys receiver c key xmit kind (secret_bounds keys.kind key.secret fits).0 named
+    hears_password keys receiver c xmit kind (secret_bounds keys.kind key.secret fits).0 named
 hears_section false keys receiver c key xmit kind fits range named timely =
     hears_digest keys receiver c key xmit kind (secret_bounds keys.kind key.secret fits).1 range named timely
 

@@ -1,6 +1,5 @@
 -- A box of an engine, in its parts and behind a handle: all three own the same.
-use Rattle.bfd_c.proofs.Common.{impl, tnil, dnil, Slot, plain, Bx}
-use mathlib.Core.List.{[]}
+use Rattle.bfd_c.proofs.Common.{impl, tnil, dnil, Slot, plain, Bx, []}
 use Rattle.std_heap.specs.contracts.Global as Heap
 use Rattle.std_heap.specs.contracts.GlobalAllocator.TheImpl.{ghosts, dict}
 use Rattle.std_heap.proofs.Global.TheLaws as heap

@@ -17,7 +17,7 @@ pub use denote.Steps.{heard, nothing, only}
 pub use denote.Triple.Spec.{triple_of}
 pub use denote.Triple.Table.{entered}
 pub use denote.Triple.Walked.{Goes-dropped, Stays, ends_at, says, stay_dropped, walk_Meets, walk_of}
-pub use mathlib.Core.Path.{refl, subst}
+pub use mathlib.Core.Path.{ap, refl, subst, sym, ◌∙◌, ◌≡◌}
 pub use mir.Syntax.{Args, Body, Dict, Fn, a_type, assign, copy, dcons, dnil, impl, place, return, rv_opd, seq, tnil}
 pub use mir.Val.{Val, WT, has_ty, of_list, vcons, vnil, vptr, vstruct}
 pub use prog.Memory.{Memory}
@@ -26,7 +26,20 @@ pub use prog.Wp.{Tables, WpFn}
 pub use seplogic.Ra.Ura.{Ura}
 pub use sound.WpLaws.{WpFn-mono, fm_of}
 pub use types.ByLocal.{alloc_all, env, free_all, get, get_in, lands_as, lands_last, look_at, pass_all, sets}
-pub use types.Kit.{ !, Item, at_ret, await, by, done, feq_i, feq_l, fjoin, fpack, fpick, fsplit, join, later, move, pick, qed, rewrite, some, split, split3, suffices, use1, ‵, ◌$◌, ◌∵◌, ◌⊛◌}
+pub use types.Kit.{ !, Item, at_ret, await, by, done, drop, feq_i, feq_l, fjoin, fpack, fpick, fsplit, join, later, move, pick, qed, raw, rewrite, some, split, split3, suffices, use1, ‵, ◌$◌, ◌∵◌, ◌⊛◌}
 pub use types.Logic.{Logic, sem}
 pub use types.Part.{agg, sub, whole}
 pub use types.Run.{and_then, blocks, enter, exec, first, fld, lit, no_more, of_opd, returns, stop}
+pub use mathlib.Core.List.{List, [], ◌++◌, ◌∷◌}
+pub use Rattle.std.proofs.lemmas.List.{drop-drop, drop-replicate}
+pub use lib.Dec.{T}
+pub use mir.MapTy.{inst_fn}
+pub use contract.BorrowLft.{◌⊑◌}
+pub use denote.Triple.Call.{calls_at, calls_at_last}
+pub use denote.Triple.Clauses.{Clauses, Ended}
+pub use denote.Triple.Statement.{Contract, Triple}
+pub use Rattle.std_alloc.specs.Box.Ownership.{box_owns}
+pub use denote.Struct.Tuple.{Tuple, tuple_type}
+pub use denote.Builtin.{RawPtr, u32}
+pub use denote.Struct.Struct.{exits_of, within}
+pub use denote.Struct.Owning.{fields, shape, to}

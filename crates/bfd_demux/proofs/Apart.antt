@@ -1,7 +1,6 @@
 -- Where each key comes once, no row is like an earlier one.
-use Rattle.bfd_demux.proofs.Common.{◌≡◌, ◌≤◌, ℕ, ◌+◌, Bool, true, false, cond, ◌&&◌, List, [], ◌∷◌, ◌++◌, refl, sym, ◌∙◌, ap, arith, None, append_assoc, inl, inr, ◌⊎◌, filter, position_from, nat_cmp, is_eq, tied_itself, eq-eqb, Row, RowKind, repeat_after, first_repeat, same_discr, same_addresses, same_selector, has_addresses, discrs_of, addresses_of, how_many, HasKeysOnce}
+use Rattle.bfd_demux.proofs.Common.{◌≡◌, ◌≤◌, ℕ, ◌+◌, Bool, true, false, cond, ◌&&◌, List, [], ◌∷◌, ◌++◌, refl, sym, ◌∙◌, ap, arith, None, append_assoc, inl, inr, ◌⊎◌, filter, position_from, nat_cmp, is_eq, tied_itself, eq-eqb, Row, RowKind, repeat_after, first_repeat, same_discr, same_addresses, same_selector, has_addresses, discrs_of, addresses_of, how_many, HasKeysOnce, total-law}
 use Rattle.bfd_demux.specs.contracts.row.RowKindOrd.TheImpl as kind_order
-use Rattle.bfd_demux.specs.contracts.row.RowKindOrd.TheImpl.Laws.{total-law}
 use Rattle.bfd_demux.proofs.AlikeRows.{nat_level_back, selector_level, selector_level_back, same_selector_is, unaddressed, position_from-none}
 use Rattle.bfd_demux.proofs.Ascending.{how_many-cons}
 use Rattle.bfd_demux.proofs.Once.{how_many-append, how_many-map, how_many-filter, how_many_weaker}
@@ -34,7 +33,7 @@ apart_after same alike earlier (row ∷ rows) once =
           let here : how_many (same row) (row ∷ rows) ≡ 1 + how_many (same row) rows = how_many-cons (same row) row rows ∙ rw itself refl in
           let most = once row in
           nowhere (same row) 0 earlier (omega arith)
-      | inr never ↦ position_from-none (same row) never 0 earlier
+      | inr never ↦ position_from-none never 0 earlier
     ]
 
 -- rows whose discriminators each come once
@@ -42,12 +41,11 @@ pub discrs_apart : (rows : List Row) → HasKeysOnce nat_cmp (discrs_of rows) �
 discrs_apart rows once = apart_after same_discr (λ row. inl (eq-eqb row.discr row.discr refl)) [] rows (λ row.
     let mapped = how_many-map (λ (entry : ℕ × Unit {0}). is_eq (nat_cmp entry.0 row.discr)) (λ (other : Row). (other.discr, tt)) rows in
     let less = how_many_weaker (same_discr row) (λ other. is_eq (nat_cmp other.discr row.discr)) (λ other e. nat_level_back other.discr row.discr ∙ e) rows in
-    let most = once row.discr in
-    omega arith)
+    omega (arith, once row.discr))
 
 -- a kind with addresses is like itself, and any other like none
 alike_or_never : (a : RowKind) (b : Bool) → has_addresses a ≡ b → (same_selector a a ≡ true) ⊎ ((other : Row) → same_selector a other.kind ≡ false)
-alike_or_never a true h = inl (sym (selector_level a a h) ∙ ap is_eq (tied_itself total-law a))
+alike_or_never a true h = inl (cc (selector_level a a h, tied_itself total-law a))
 alike_or_never a false h = inr (λ other. unaddressed a other.kind h)
 
 -- a kind that is like another has addresses, and compares Equal
@@ -66,5 +64,4 @@ addresses_apart rows once = apart_after same_addresses (λ row. alike_or_never r
     let mapped = how_many-map (λ (entry : RowKind × ℕ). is_eq (kind_order.ghosts.cmp entry.0 row.kind)) (λ (other : Row). (other.kind, other.discr)) (filter (λ other. has_addresses other.kind) rows) in
     let kept = how_many-filter (λ (other : Row). is_eq (kind_order.ghosts.cmp other.kind row.kind)) (λ other. has_addresses other.kind) rows in
     let less = how_many_weaker (same_addresses row) (λ (other : Row). has_addresses other.kind && is_eq (kind_order.ghosts.cmp other.kind row.kind)) (λ other e. alike_level row.kind other.kind e) rows in
-    let most = once row.kind in
-    omega arith)
+    omega (arith, once row.kind))

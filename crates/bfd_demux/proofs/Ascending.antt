@@ -1,6 +1,5 @@
 -- Tables in ascending order, and how many of their entries pass a test.
-use Rattle.bfd_demux.proofs.Common.{◌≡◌, ◌<◌, ◌≤◌, ℕ, ◌+◌, ◌-◌, ◌*◌, ◌^◌, Bool, true, false, cond, List, [], ◌∷◌, length, get_or, refl, sym, ◌∙◌, ap, arith, suc, zero, inl, inr, ◌⊎◌, leb_tells, sorted_far, sum_by-IsPermutation, filter, list_any, is_eq, is_lt, ordering_reverse, IsTotalOrder, tied_itself, alike_right, Ordering, Less, Equal, Greater, how_many, HasKeysOnce, IsAscending, IsPlaceOf}
-use Rattle.std.proofs.Math.Nat.{pow-le-pow_right, mul-le-mul_left, eq-or-lt_of_le}
+use Rattle.bfd_demux.proofs.Common.{◌≡◌, ◌<◌, ◌≤◌, ℕ, ◌+◌, ◌-◌, ◌*◌, ◌^◌, Bool, true, false, cond, List, [], ◌∷◌, length, get_or, refl, sym, ◌∙◌, ap, arith, suc, zero, inl, inr, ◌⊎◌, leb_tells, sorted_far, sum_by-IsPermutation, filter, list_any, is_eq, is_lt, ordering_reverse, IsTotalOrder, tied_itself, alike_right, Ordering, Less, Equal, Greater, how_many, HasKeysOnce, IsAscending, IsPlaceOf, pow-le-pow_right, mul-le-mul_left, eq-or-lt_of_le}
 use Rattle.std.proofs.lemmas.Nat.{pow-add}
 use Rattle.std.proofs.lemmas.List.Sums.{length-filter}
 use Rattle.std.proofs.lemmas.List.MinMax.{ranks_by}
@@ -10,8 +9,8 @@ pub le_or_lt : (a b : ℕ) → (a ≤ b) ⊎ (b < a)
 le_or_lt a b = elim (leb_tells a b) [ inl le ↦ inl le.1 | inr lt ↦ inr lt.1 ]
 
 -- a permutation has as many that pass
-pub how_many-IsPermutation : {X : Type 0} (test : X → Bool) (xs ys : List X) → IsPermutation xs ys → how_many test ys ≡ how_many test xs
-how_many-IsPermutation test xs ys moved = length-filter test ys ∙ sum_by-IsPermutation (λ x. cond (test x) 1 0) xs ys moved ∙ sym (length-filter test xs)
+pub how_many-IsPermutation : {X : Type 0} (test : X → Bool) {xs ys : List X} → IsPermutation xs ys → how_many test ys ≡ how_many test xs
+how_many-IsPermutation test {xs} {ys} moved = cc (length-filter test ys, sum_by-IsPermutation (λ x. cond (test x) 1 0) xs ys moved, length-filter test xs)
 
 -- one more in front
 pub how_many-cons : {X : Type 0} (test : X → Bool) (x : X) (xs : List X) → how_many test (x ∷ xs) ≡ cond (test x) 1 0 + how_many test xs
@@ -53,15 +52,14 @@ none_passes test [] none = refl
 none_passes test (x ∷ xs) none = rw (none zero x (omega arith)) (none_passes test xs (λ k d lt. none (suc k) d (omega arith)))
 
 -- a search over half as many, after one step more
-pub halves : (t size half n : ℕ) → 2 ^ t * size ≤ n → half + half ≤ size → 2 ^ (t + 1) * half ≤ n
-halves t size half n all twice =
+pub halves : (t : ℕ) {size : ℕ} (half : ℕ) {n : ℕ} → 2 ^ t * size ≤ n → half + half ≤ size → 2 ^ (t + 1) * half ≤ n
+halves t half all twice =
     let doubled : 2 ^ (t + 1) * half ≡ 2 ^ t * (half + half) = rw pow-add (omega arith) in
-    let less = mul-le-mul_left (2 ^ t) twice in
-    omega arith
+    omega (arith, mul-le-mul_left (2 ^ t) twice)
 
 -- 15 steps halve 65,535 entries to one
-pub few_steps : (t size n : ℕ) → 2 ^ t * size ≤ n → 0 < size → n < 65536 → t ≤ 15
-few_steps t size n all some few =
+pub few_steps : (t : ℕ) {size n : ℕ} → 2 ^ t * size ≤ n → 0 < size → n < 65536 → t ≤ 15
+few_steps t all some few =
     elim (le_or_lt t 15) [
       | inl le ↦ le
       | inr gt ↦
@@ -72,11 +70,11 @@ few_steps t size n all some few =
 
 module _ {K : Type 0} {cmp : K → K → Ordering} (order : IsTotalOrder cmp) where
   -- what is lower one way is higher the other
-  pub turned : (a b : K) → cmp a b ≡ Less → cmp b a ≡ Greater
-  turned a b less = order.antisymm b a ∙ ap ordering_reverse less
+  pub turned : {a b : K} → cmp a b ≡ Less → cmp b a ≡ Greater
+  turned {a} {b} less = cc (order.antisymm b a)
 
-  turned_back : (a b : K) → cmp a b ≡ Greater → cmp b a ≡ Less
-  turned_back a b more = order.antisymm b a ∙ ap ordering_reverse more
+  turned_back : {a b : K} → cmp a b ≡ Greater → cmp b a ≡ Less
+  turned_back {a} {b} more = cc (order.antisymm b a)
 
   -- of two keys that are not in falling order and differ, the first is lower
   lower_of : (a b : K) → is_lt (cmp b a) ≡ false → (cmp a b ≡ Equal → ⊥) → cmp a b ≡ Less
@@ -92,32 +90,29 @@ less_of Less e = refl
 less_of r e = cc
 
 -- a permutation has each key once where the list has
-pub keys_once-IsPermutation : {K V : Type 0} (cmp : K → K → Ordering) (xs ys : List (K × V)) → IsPermutation xs ys → HasKeysOnce cmp xs → HasKeysOnce cmp ys
-keys_once-IsPermutation {K} {V} cmp xs ys moved once key =
-    let same = how_many-IsPermutation (λ (entry : K × V). is_eq (cmp entry.0 key)) xs ys moved in
-    let before = once key in
-    omega arith
+pub keys_once-IsPermutation : {K V : Type 0} (cmp : K → K → Ordering) {xs ys : List (K × V)} → IsPermutation xs ys → HasKeysOnce cmp xs → HasKeysOnce cmp ys
+keys_once-IsPermutation {K} {V} cmp moved once key =
+    let same = how_many-IsPermutation (λ entry. is_eq (cmp entry.0 key)) moved in
+    omega (arith, once key)
 
 -- and the other way round
-pub keys_once-IsPermutation_back : {K V : Type 0} (cmp : K → K → Ordering) (xs ys : List (K × V)) → IsPermutation xs ys → HasKeysOnce cmp ys → HasKeysOnce cmp xs
-keys_once-IsPermutation_back {K} {V} cmp xs ys moved once key =
-    let same = how_many-IsPermutation (λ (entry : K × V). is_eq (cmp entry.0 key)) xs ys moved in
-    let after = once key in
-    omega arith
+pub keys_once-IsPermutation_back : {K V : Type 0} (cmp : K → K → Ordering) {xs ys : List (K × V)} → IsPermutation xs ys → HasKeysOnce cmp ys → HasKeysOnce cmp xs
+keys_once-IsPermutation_back {K} {V} cmp moved once key =
+    let same = how_many-IsPermutation (λ entry. is_eq (cmp entry.0 key)) moved in
+    omega (arith, once key)
 
 module _ {K V : Type 0} {cmp : K → K → Ordering} (order : IsTotalOrder cmp) where
   -- a sorted list with each key once ascends
   pub ascending_from_sorted : (xs : List (K × V)) → IsSortedByKey (λ (entry : K × V). entry.0) cmp xs → HasKeysOnce cmp xs → IsAscending cmp xs
   ascending_from_sorted xs up once i j d lt within =
-      lower_of order _ _ (sorted_far (λ (x y : K × V). is_lt (cmp x.0 y.0)) (ranks_by order (λ (entry : K × V). entry.0)) xs up i j d (omega arith) within)
-      (λ level. let twice = two_pass (λ (entry : K × V). is_eq (cmp entry.0 (get_or xs j d).0)) xs i j d lt within (ap is_eq level) (ap is_eq (tied_itself order _)) in
-      let once_only = once (get_or xs j d).0 in omega arith)
+      lower_of order _ _ (sorted_far (λ x y. is_lt (cmp x.0 y.0)) (ranks_by order (λ entry. entry.0)) xs up i j d (omega arith) within)
+      (λ level. let twice = two_pass (λ entry. is_eq (cmp entry.0 (get_or xs j d).0)) xs i j d lt within (cc) (ap is_eq (tied_itself order _)) in omega (arith, once (get_or xs j d).0))
 
   -- one entry more, above the one before it
-  pub one_longer : (xs : List (K × V)) (p : ℕ) (x y : K × V) → 0 < p → p < length xs → ((d : K × V) → x ≡ get_or xs (p - 1) d) → ((d : K × V) → y ≡ get_or xs p d) → is_lt (cmp x.0 y.0) ≡ true →
+  pub one_longer : (xs : List (K × V)) {p : ℕ} {x y : K × V} → 0 < p → p < length xs → ((d : K × V) → x ≡ get_or xs (p - 1) d) → ((d : K × V) → y ≡ get_or xs p d) → is_lt (cmp x.0 y.0) ≡ true →
       ((i j : ℕ) (d : K × V) → i < j → j < p → cmp (get_or xs i d).0 (get_or xs j d).0 ≡ Less) →
       (i j : ℕ) (d : K × V) → i < j → j < p + 1 → cmp (get_or xs i d).0 (get_or xs j d).0 ≡ Less
-  one_longer xs p x y some within before is less up i j d lt le =
+  one_longer xs {p} some within before is less up i j d lt le =
       elim (eq-or-lt_of_le {n = j} {m = p} (omega arith)) [
         | inl same ↦ elim (eq-or-lt_of_le {n = i} {m = p - 1} (omega arith)) [
           | inl also ↦ rw (same, also, ← before d, ← is d) (less_of _ less)
@@ -145,52 +140,47 @@ module _ {K V : Type 0} {cmp : K → K → Ordering} (order : IsTotalOrder cmp) 
       go : how_many level xs ≤ 1 → (r : Ordering) → cmp x.0 key ≡ r → how_many level (x ∷ xs) ≤ 1
       go few Equal here =
           let none : how_many level xs ≡ 0 = front_passes level xs zero (omega arith) (λ k d lt. absurd (omega arith))
-          (λ k d le lt. ap is_eq (turned order _ _ (sym (order.congr _ _ _ here) ∙ up zero (suc k) d (omega arith) (omega arith)))) in
+          (λ k d le lt. ap is_eq (turned order (sym (order.congr _ _ _ here) ∙ up zero (suc k) d (omega arith) (omega arith)))) in
           let one : how_many level (x ∷ xs) ≡ 1 + how_many level xs = counted ∙ rw here refl in
           omega arith
       go few Less lower = apart few (ap is_eq lower)
       go few Greater higher = apart few (ap is_eq higher)
 
   -- a key below the one at m has a lower entry everywhere up to m
-  pub lower_up_to : (xs : List (K × V)) (key : K) (m : ℕ) (x : K × V) → IsAscending cmp xs → m < length xs → ((d : K × V) → x ≡ get_or xs m d) → cmp x.0 key ≡ Less →
+  pub lower_up_to : (xs : List (K × V)) {key : K} {m : ℕ} {x : K × V} → IsAscending cmp xs → m < length xs → ((d : K × V) → x ≡ get_or xs m d) → cmp x.0 key ≡ Less →
       (k : ℕ) (d : K × V) → k < m + 1 → cmp (get_or xs k d).0 key ≡ Less
-  lower_up_to xs key m x up within is less k d lt =
+  lower_up_to xs {m} up within is less k d lt =
       elim (eq-or-lt_of_le {n = k} {m = m} (omega arith)) [
         | inl same ↦ rw (same, ← is d) less
         | inr below ↦ order.trans _ _ _ (up k m d below within) (rw (← is d) less)
       ]
 
   -- a key above
-  pub higher_from : (xs : List (K × V)) (key : K) (m : ℕ) (x : K × V) → IsAscending cmp xs → m < length xs → ((d : K × V) → x ≡ get_or xs m d) → cmp x.0 key ≡ Greater →
+  pub higher_from : (xs : List (K × V)) {key : K} {m : ℕ} {x : K × V} → IsAscending cmp xs → m < length xs → ((d : K × V) → x ≡ get_or xs m d) → cmp x.0 key ≡ Greater →
       (k : ℕ) (d : K × V) → m ≤ k → k < length xs → cmp (get_or xs k d).0 key ≡ Greater
-  higher_from xs key m x up within is more k d le lt =
+  higher_from xs {m} up within is more k d le lt =
       elim (eq-or-lt_of_le le) [
         | inl same ↦ rw (← same, ← is d) more
-        | inr above ↦ turned order _ _ (order.trans _ _ _ (rw (← is d) (turned_back order _ _ more)) (up m k d above lt))
+        | inr above ↦ turned order (order.trans _ _ _ (rw (← is d) (turned_back order more)) (up m k d above lt))
       ]
 
   -- the entry whose key compares Equal, with all lower ones before it
-  pub place_found : (xs : List (K × V)) (key : K) (m : ℕ) (x : K × V) → IsAscending cmp xs → m < length xs → ((d : K × V) → x ≡ get_or xs m d) → cmp x.0 key ≡ Equal → IsPlaceOf cmp xs key m
-  place_found xs key m x up within is level = record {
+  pub place_found : (xs : List (K × V)) {key : K} {m : ℕ} {x : K × V} → IsAscending cmp xs → m < length xs → ((d : K × V) → x ≡ get_or xs m d) → cmp x.0 key ≡ Equal → IsPlaceOf cmp xs key m
+  place_found xs {key} {m} {x} up within is level = record {
     within = within;
     level = λ d. rw (← is d) level;
-    lower = front_passes (λ (entry : K × V). is_lt (cmp entry.0 key)) xs m (omega arith)
-        (λ k d lt.
+    lower = front_passes (λ entry. is_lt (cmp entry.0 key)) xs m (omega arith) (λ k d lt.
         let before : cmp (get_or xs k d).0 x.0 ≡ Less = rw (is d) (up k m d lt within) in
-        ap is_lt (sym (alike_right order _ _ _ level) ∙ before))
-        (λ k d le lt. elim (eq-or-lt_of_le le) [
-          | inl same ↦ rw (← same, ← is d) (ap is_lt level)
+        ap is_lt (sym (alike_right order _ _ _ level) ∙ before)) (λ k d le lt. elim (eq-or-lt_of_le le) [
+          | inl same ↦ rw (← same, ← is d) (cc)
           | inr above ↦
               let after : cmp x.0 (get_or xs k d).0 ≡ Less = rw (is d) (up m k d above lt) in
-              ap is_lt (turned order _ _ (sym (order.congr _ _ _ level) ∙ after))
+              ap is_lt (turned order (cc (order.congr _ _ _ level)))
         ]);
   }
 
   -- all before are lower and all from here on higher: no entry has the key
-  pub place_missing : (xs : List (K × V)) (key : K) (low : ℕ) →
-      ((k : ℕ) (d : K × V) → k < low → cmp (get_or xs k d).0 key ≡ Less) →
-      ((k : ℕ) (d : K × V) → low ≤ k → k < length xs → cmp (get_or xs k d).0 key ≡ Greater) →
-      list_any (λ (entry : K × V). is_eq (cmp entry.0 key)) xs ≡ false
-  place_missing xs key low below above =
-      none_passes (λ (entry : K × V). is_eq (cmp entry.0 key)) xs (λ k d lt.
+  pub place_missing : (xs : List (K × V)) {key : K} {low : ℕ} → ((k : ℕ) (d : K × V) → k < low → cmp (get_or xs k d).0 key ≡ Less) →
+      ((k : ℕ) (d : K × V) → low ≤ k → k < length xs → cmp (get_or xs k d).0 key ≡ Greater) → list_any (λ (entry : K × V). is_eq (cmp entry.0 key)) xs ≡ false
+  place_missing xs {key} {low} below above = none_passes (λ entry. is_eq (cmp entry.0 key)) xs (λ k d lt.
       elim (le_or_lt low k) [ inl le ↦ ap is_eq (above k d le lt) | inr before ↦ ap is_eq (below k d before) ])

@@ -19,6 +19,11 @@ pub use Rattle.bfd_demux.specs.Table.{HasKeysOnce, IsAscending, IsPlaceOf, how_m
 pub use Rattle.bfd_demux.specs.declared.row.Row.{Row}
 pub use Rattle.bfd_demux.specs.declared.row.RowKind.{RowKind}
 pub use Rattle.bfd_demux.specs.declared.row.RowKind.TheVariants.{Head, Multi, Reflect, Seek, Single, Tail}
-pub use Rattle.bfd_packet.specs.HeaderTests.{header_fails, read_of, takes_multipoint_of, unless}
+pub use Rattle.bfd_packet.specs.HeaderTests.{header_fails, read_of, unless}
 pub use Rattle.bfd_packet.specs.declared.arrival.Port.{Port}
 pub use Rattle.bfd_packet.specs.declared.discard.Test.TheVariants.{EchoForm, MultipointYour, NoSession, NoTail, YourUnknown, YourZeroState}
+pub use Rattle.bfd_demux.specs.declared.name.Name.TheVariants.{Reflector, Session}
+pub use Rattle.bfd_demux.specs.contracts.row.RowKindOrd.TheImpl.Laws.{total-law}
+pub use Rattle.std.proofs.Math.Nat.{eq-or-lt_of_le, mul-le-mul_left, pow-le-pow_right}
+pub use Rattle.std.proofs.lemmas.List.Elements.{filter_agree}
+pub use Rattle.bfd_demux.specs.declared.name.Name.{Name}

@@ -1,5 +1,5 @@
 -- One answer more of a list of them.
-use Rattle.std.proofs.Common.{◌≡◌, ℕ, zero, suc, ◌+◌, List, [], ◌∷◌, ◌++◌, take, drop, Some, None, refl, ap, sym, ◌∙◌, append_assoc, append-nil, arith}
+use Rattle.std.proofs.Common.{◌≡◌, ℕ, zero, suc, ◌+◌, List, [], ◌∷◌, ◌++◌, take, drop, Some, None, refl, sym, append_assoc, append-nil, arith}
 use Rattle.std.specs.Prelude.{slice_get}
 use Rattle.bfd_packet.specs.declared.arrival.Arrival.{Arrival}
 use Rattle.bfd_packet.specs.declared.arrival.Datagram.{Datagram}
@@ -12,30 +12,28 @@ use Rattle.bfd_edge.specs.Links.{LinkTold, after_receive, counts_after_receive, 
 use Rattle.bfd_edge.specs.MemoryLink.{Answers, Hears, IsPacket, items_used, packet_in, packets_in}
 
 -- the item at a place is the first behind it
-pub item_first : (items : List Heard) (at : ℕ) (item : Heard) → slice_get items at ≡ Some item → drop at items ≡ item ∷ drop (suc at) items
+item_first : (items : List Heard) (at : ℕ) (item : Heard) → slice_get items at ≡ Some item → drop at items ≡ item ∷ drop (suc at) items
 item_first [] at item there = absurd (cc there)
 item_first (x ∷ xs) zero item there = let same : x ≡ item = cc there in rw same refl
 item_first (x ∷ xs) (suc at) item there = item_first xs at item there
 
-pub packets_more : (items : List Heard) (at : ℕ) (item : Heard) → slice_get items at ≡ Some item
+packets_more : (items : List Heard) (at : ℕ) (item : Heard) → slice_get items at ≡ Some item
     → packets_in (take (suc at) items) ≡ packets_in (take at items) ++ packet_in item
 packets_more [] at item there = absurd (cc there)
 packets_more (x ∷ xs) zero item there =
     let same : x ≡ item = cc there in
     rw same (append-nil (packet_in item))
-packets_more (x ∷ xs) (suc at) item there =
-    ap (λ packets. packet_in x ++ packets) (packets_more xs at item there)
-    ∙ sym (append_assoc (packet_in x) (packets_in (take at xs)) (packet_in item))
+packets_more (x ∷ xs) (suc at) item there = cc (packets_more xs at item there, append_assoc (packet_in x) (packets_in (take at xs)) (packet_in item))
 
 -- behind the end nothing is left
-pub none_left : (items : List Heard) (at : ℕ) → slice_get items at ≡ None → drop at items ≡ []
+none_left : (items : List Heard) (at : ℕ) → slice_get items at ≡ None → drop at items ≡ []
 none_left [] zero there = refl
 none_left [] (suc at) there = refl
 none_left (x ∷ xs) zero there = absurd (cc there)
 none_left (x ∷ xs) (suc at) there = none_left xs at there
 
 -- the item at a place is the first of those behind it
-pub first_left : (items : List Heard) (at : ℕ) → slice_get (drop at items) 0 ≡ slice_get items at
+first_left : (items : List Heard) (at : ℕ) → slice_get (drop at items) 0 ≡ slice_get items at
 first_left [] zero = refl
 first_left [] (suc at) = refl
 first_left (x ∷ xs) zero = refl
@@ -63,8 +61,7 @@ heard_all items at received.Memory there =
     rw here (sym (append-nil (packets_in (take at items))), (first, refl))
 
 -- a link tells one answer more
-pub told_more : (packets more : List (ℕ × Arrival)) (sent : List Datagram) (counts : LinkCounts) (answer : Received)
-    → more ≡ packets ++ packets_of answer → (now : LinkTold)
-    → now ≡ record { traffic = Some (record { received = packets; sent = sent }); counts = counts }
+pub told_more : {packets more : List (ℕ × Arrival)} {sent : List Datagram} {counts : LinkCounts} (answer : Received)
+    → more ≡ packets ++ packets_of answer → {now : LinkTold} → now ≡ record { traffic = Some (record { received = packets; sent = sent }); counts = counts }
     → record { traffic = Some (record { received = more; sent = sent }); counts = counts_after_receive answer counts } ≡ after_receive answer now
-told_more packets more sent counts answer is now was = rw (was, is, append-nil sent) refl
+told_more {sent} answer is was = rw (was, is, append-nil sent) refl

@@ -1,5 +1,5 @@
 -- The links of ports over memory.
-use Rattle.std.proofs.Common.{◌≡◌, ℕ, zero, suc, ◌<◌, ◌≤◌, List, [], ◌∷◌, length, get_or, refl, ap, arith, inr}
+use Rattle.std.proofs.Common.{◌≡◌, ℕ, zero, suc, ◌<◌, ◌≤◌, List, [], ◌∷◌, length, get_or, refl, arith, inr}
 use Rattle.std.specs.Prelude.{slice_set}
 use Rattle.bfd_edge.specs.Links.{IsNewLink}
 use Rattle.bfd_edge.specs.MemoryLink.{HeldLink, told_of}
@@ -18,13 +18,13 @@ link_past (link ∷ links) (suc n) past = link_past links n (omega arith)
 pub set_ended : (links : List HeldLink) (n : ℕ) → n < length links → slice_set links n ended_link ≡ with_ended n links
 set_ended [] n inside = absurd (omega arith)
 set_ended (link ∷ links) zero inside = refl
-set_ended (link ∷ links) (suc n) inside = ap (λ rest. link ∷ rest) (set_ended links n (omega arith))
+set_ended (link ∷ links) (suc n) inside = cc (set_ended links n (omega arith))
 
 pub set_past : (links : List HeldLink) (n : ℕ) → length links ≤ n → links ≡ with_ended n links
 set_past [] zero past = refl
 set_past [] (suc n) past = refl
 set_past (link ∷ links) zero past = absurd (omega arith)
-set_past (link ∷ links) (suc n) past = ap (λ rest. link ∷ rest) (set_past links n (omega arith))
+set_past (link ∷ links) (suc n) past = cc (set_past links n (omega arith))
 
 ended_new : IsNewLink (told_of ended_link)
 ended_new = record { counts = refl; traffic = inr refl }

@@ -1,5 +1,5 @@
 -- Places that are made and that change.
-use Rattle.std.proofs.Common.{◌≡◌, ℕ, zero, suc, ◌<◌, ◌≤◌, ◌==◌, ◌||◌, Bool, true, false, List, [], ◌∷◌, ◌++◌, length, get_or, None, Result, if◌then◌else◌, refl, ap, sym, ◌∙◌, arith}
+use Rattle.std.proofs.Common.{◌≡◌, ℕ, zero, suc, ◌<◌, ◌==◌, ◌||◌, Bool, true, false, List, [], ◌∷◌, ◌++◌, length, get_or, None, Result, if◌then◌else◌, refl, sym, ◌∙◌, arith}
 use Rattle.std.specs.Prelude.{nat_lt, slice_set, Ok, Err, OnErr}
 use mathlib.Core.Logic.{dite}
 use native.Mathlib.Decide.{ℕ_discrete}
@@ -33,27 +33,25 @@ set_at (x ∷ xs) zero place zero inside = refl
 set_at (x ∷ xs) zero place (suc n) inside = let other : (suc n == 0) ≡ false = grind (arith, nat_tests) in rw other refl
 set_at (x ∷ xs) (suc number) place zero inside = let other : (0 == suc number) ≡ false = grind (arith, nat_tests) in rw other refl
 set_at (x ∷ xs) (suc number) place (suc n) inside =
-    let next : (suc n == suc number) ≡ (n == number) = dite (ℕ_discrete n number)
-    (λ same.
+    let next : (suc n == suc number) ≡ (n == number) = dite (ℕ_discrete n number) (λ same.
     let left : (suc n == suc number) ≡ true = grind (arith, nat_tests, same) in
     let right : (n == number) ≡ true = grind (arith, nat_tests, same) in
-    left ∙ sym right)
-    (λ other.
+    cc) (λ other.
     let left : (suc n == suc number) ≡ false = grind (arith, nat_tests, other) in
     let right : (n == number) ≡ false = grind (arith, nat_tests, other) in
-    left ∙ sym right) in
+    cc) in
     rw next (set_at xs number place n (omega arith))
 
 -- a place that changes
-pub set_place : {T : Type 0} → (places : List (Place T)) (number : ℕ) (place : Place T) → number < length places
+pub set_place : {T : Type 0} → (places : List (Place T)) {number : ℕ} (place : Place T) → number < length places
     → place_in (slice_set places number place) ≡ with_place number place (place_in places)
-set_place places number place inside = λ r n. set_at places number place n inside r
+set_place places {number} place inside = λ r n. set_at places _ place n inside r
 
 -- a number that was opened has a place
 pub opened_inside : {T : Type 0} → (places : List (Place T)) (n : ℕ) → is_opened (place_in places n) ≡ true → n < length places
 opened_inside [] n opened = absurd (cc opened)
 opened_inside (place ∷ places) zero opened = omega arith
-opened_inside (place ∷ places) (suc n) opened = let inside = opened_inside places n opened in omega arith
+opened_inside (place ∷ places) (suc n) opened = omega (arith, opened_inside places n opened)
 
 through : {X Y : Type 0} → (f : X → Y) (b : Bool) (x y : X) → f (if b then x else y) ≡ (if b then f x else f y)
 through f true x y = refl
@@ -62,8 +60,7 @@ through f false x y = refl
 -- a place that changes, and what is read of it stays
 unseen : {T Y : Type 0} → (f : Place T → Y) (number n : ℕ) (place : Place T) (places : ℕ → Place T) → f place ≡ f (places number)
     → f (with_place number place places n) ≡ f (places n)
-unseen f number n place places same = dite (ℕ_discrete n number)
-    (λ here. let e : (n == number) ≡ true = grind (arith, nat_tests, here) in rw e (same ∙ ap (λ i. f (places i)) (sym here)))
+unseen f number n place places same = dite (ℕ_discrete n number) (λ here. let e : (n == number) ≡ true = grind (arith, nat_tests, here) in rw e (cc))
     (λ other. let e : (n == number) ≡ false = grind (arith, nat_tests, other) in rw e refl)
 
 if_or : (b other : Bool) → (if b then true else other) ≡ (b || other)
@@ -96,17 +93,13 @@ shut_told told old new number faults kept is opened = rw is (λ r. record {
 })
 
 -- what stands at a number, where the list has it
-pub place_there : {T : Type 0} → (places : List (Place T)) (n : ℕ) (place : Place T) → true ≡ nat_lt n (length places)
+pub place_there : {T : Type 0} → (places : List (Place T)) (n : ℕ) {place : Place T} → true ≡ nat_lt n (length places)
     → place ≡ get_or places n place → place_in places n ≡ place
-place_there [] n place inside there = absurd (omega (arith, ltb-true n 0 (sym inside)))
-place_there (x ∷ xs) zero place inside there = sym there
-place_there (x ∷ xs) (suc n) place inside there =
-    let less : suc n < suc (length xs) = ltb-true (suc n) (suc (length xs)) (sym inside) in
-    place_there xs n place (sym (lt-ltb n (length xs) (omega (arith, less)))) there
+place_there [] n inside there = absurd (omega (arith, ltb-true n 0 (sym inside)))
+place_there (x ∷ xs) zero inside there = sym there
+place_there (x ∷ xs) (suc n) inside there = place_there xs n (sym (lt-ltb n (length xs) (omega (arith, ltb-true (suc n) (suc (length xs)) (sym inside))))) there
 
 pub place_past : {T : Type 0} → (places : List (Place T)) (n : ℕ) → false ≡ nat_lt n (length places) → place_in places n ≡ Waiting
 place_past [] n past = refl
 place_past (x ∷ xs) zero past = absurd (omega (arith, ltb-false 0 (suc (length xs)) (sym past)))
-place_past (x ∷ xs) (suc n) past =
-    let more : suc (length xs) ≤ suc n = ltb-false (suc n) (suc (length xs)) (sym past) in
-    place_past xs n (sym (le-ltb n (length xs) (omega (arith, more))))
+place_past (x ∷ xs) (suc n) past = place_past xs n (sym (le-ltb n (length xs) (omega (arith, ltb-false (suc n) (suc (length xs)) (sym past)))))

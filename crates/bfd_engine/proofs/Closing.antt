@@ -1,6 +1,5 @@
 -- Shards that are taken out one by one.
-use Rattle.bfd_engine.proofs.Common.{◌≡◌, ◌≢◌, ◌<◌, ◌≤◌, ◌+◌, ◌*◌, ◌++◌, ◌∷◌, [], ℕ, zero, suc, false, List, length, length-append, set, map, true, Some, slice_get, refl, ap, sym, ◌∙◌, subst, arith, slice_get_within, same_Some, dite, ℕ_discrete, calls, has, TableId, AllJoined, configs_of, Shard, Base, by, configs_in, limit_in, Shards, Held, Knows, IsOf, AllThere, base_at, seen_of, met_word_of, taken_of, made_of, kept_of, EachJoined, IsClosed}
-use Rattle.bfd_turn.specs.Plays.{AllKept}
+use Rattle.bfd_engine.proofs.Common.{◌≡◌, ◌≢◌, ◌<◌, ◌≤◌, ◌+◌, ◌*◌, ◌++◌, ◌∷◌, [], ℕ, zero, suc, false, List, length, length-append, set, Some, slice_get, refl, ap, sym, ◌∙◌, subst, arith, slice_get_within, same_Some, dite, ℕ_discrete, calls, has, TableId, AllJoined, configs_of, Shard, Base, by, configs_in, limit_in, Shards, Held, Knows, IsOf, AllThere, base_at, met_word_of, taken_of, made_of, kept_of, EachJoined, IsClosed, AllKept}
 use Rattle.bfd_engine.proofs.Places.{K, set_else, last_here, front_here}
 
 next_here : {X : Type 0} (xs ys : List X) (x : X) (i : ℕ) → i ≡ length xs → slice_get (xs ++ x ∷ ys) i ≡ Some x
@@ -9,10 +8,10 @@ next_here (z ∷ zs) ys x (suc i) e = next_here zs ys x i (omega arith)
 next_here xs ys x i e = absurd (omega arith)
 
 pub grown : {X : Type 0} (xs more : List X) (x : X) → more ≡ xs ++ x ∷ [] → length more ≡ length xs + 1
-grown xs more x is = (let a = ap length is in let b = length-append xs (x ∷ []) in omega (arith, a, b))
+grown xs more x is = omega (arith, ap length is, length-append xs (x ∷ []))
 
-pub none_left : {X : Type 0} (xs rest whole : List X) → xs ++ rest ≡ whole → length rest ≡ 0 → length xs ≡ length whole
-none_left xs rest whole is none = (let a = ap length is in let b = length-append xs rest in omega (arith, a, b, none))
+pub none_left : {X : Type 0} (xs rest : List X) {whole : List X} → xs ++ rest ≡ whole → length rest ≡ 0 → length xs ≡ length whole
+none_left xs rest is none = omega (arith, ap length is, length-append xs rest, none)
 
 -- the passes from a place on are as they were
 pub record LeftFrom (at : ℕ) (before after : List Held) : Type 0 where
@@ -33,13 +32,13 @@ pub record IsNext (engine : Shards) (before after : List Held) (lock : TableId) 
 pub next_pass : (engine : Shards) (yielded rest : List TableId) (lock : TableId) (before after : List Held) (at : ℕ) → yielded ++ lock ∷ rest ≡ engine.locks
     → at ≡ length yielded → IsOf engine before → AllThere before → LeftFrom at before after → IsNext engine before after lock at
 next_pass engine yielded rest lock before after at whole long of all l =
-    let here : slice_get engine.locks at ≡ Some lock = ap (λ (ls : List TableId). slice_get ls at) (sym whole) ∙ next_here yielded rest lock at long in
-    let inside : at < length engine.locks = slice_get_within engine.locks at lock here in
+    let here : slice_get engine.locks at ≡ Some lock = cc (next_here yielded rest lock at long) in
+    let inside = slice_get_within engine.locks at lock here in
     let t = all.at at (let e = of.long in omega (arith, inside, e)) in record {
       pass = t.0;
       before_is = t.1;
       after_is = l.left at (omega arith) ∙ t.1;
-      lock_is = same_Some t.0.0 lock (sym (of.lock at t.0 t.1) ∙ here);
+      lock_is = same_Some t.0.0 lock (cc (of.lock at t.0 t.1));
       base_is = of.base_is at t.0 t.1;
       within_is = inside;
     }
@@ -47,14 +46,11 @@ next_pass engine yielded rest lock before after at whole long of all l =
 -- the pass that was lifted is that one
 pub lifted : (engine : Shards) (before after : List Held) (lock : TableId) (at : ℕ) (p : K) → IsNext engine before after lock at → slice_get after at ≡ Some (Some p)
     → IsNext engine before after lock at × (slice_get before at ≡ Some (Some p)) × (p.0 ≡ lock) × (p.1.base ≡ Some (base_at engine at))
-lifted engine before after lock at p n e =
-    let same : n.pass ≡ p = same_Some n.pass p (same_Some (Some n.pass) (Some p) (sym n.after_is ∙ e)) in
-    (n, n.before_is ∙ ap (λ (x : K). Some (Some x)) same, sym (ap (λ (x : K). x.0) same) ∙ n.lock_is, sym (ap (λ (x : K). x.1.base) same) ∙ n.base_is)
+lifted engine before after lock at p n e = (n, cc, cc, cc)
 
 -- all that this pass made was joined
 pub joined_here : (engine : Shards) (k : Knows) (at : ℕ) (p : K) → slice_get k.1 at ≡ Some (Some p) → at < length engine.locks → EachJoined engine k → AllJoined p.1
-joined_here engine k at p here inside all n h =
-    subst (λ js. has n (map (λ j. j.0) js) ≡ true) (ap kept_of here) (all at n inside (ap (has n) (ap made_of here) ∙ h))
+joined_here engine k at p here inside all n h = rw (← ap kept_of here) (all at n inside (ap (has n) (ap made_of here) ∙ h))
 
 -- what a lock says when it is closed
 pub record IsEnd (p : K) (shard : Shard) : Type 0 where
@@ -67,12 +63,12 @@ pub record IsEnd (p : K) (shard : Shard) : Type 0 where
 closed_here : (engine : Shards) (k : Knows) (at : ℕ) (p : K) (shard : Shard) → slice_get k.1 at ≡ Some (Some p) → p.1.base ≡ Some (base_at engine at) → IsEnd p shard
     → IsClosed engine k at shard
 closed_here engine k at p shard here base e = record {
-  journal = e.notes ∙ sym (ap seen_of here);
+  journal = cc;
   configs = ap configs_in (e.base ∙ base);
   limit = ap limit_in (e.base ∙ base);
-  word = (let a = ap met_word_of here in let b = ap taken_of here in let d = e.word in omega arith);
-  kept = subst (λ js. AllKept by js shard.journal) (sym (ap kept_of here)) e.kept;
-  unmade = λ n other h. e.unmade n other (ap (has n) (sym (ap made_of here)) ∙ h);
+  word = omega (arith, ap met_word_of here, ap taken_of here, e.word);
+  kept = rw (ap kept_of here) e.kept;
+  unmade = λ n other h. e.unmade n other (cc);
 }
 
 -- the shards that were taken out
@@ -82,11 +78,9 @@ pub record AreEnded (engine : Shards) (k : Knows) (shards : List Shard) : Type 0
 pub ended_more : (engine : Shards) (k : Knows) (at : ℕ) (p : K) (shards more : List Shard) (shard : Shard) → slice_get k.1 at ≡ Some (Some p) → p.1.base ≡ Some (base_at engine at)
     → IsEnd p shard → at ≡ length shards → more ≡ shards ++ shard ∷ [] → AreEnded engine k shards → AreEnded engine k more
 ended_more engine k at p shards more shard here base end long is all = record {
-  each = λ number x e.
-      (let f : slice_get (shards ++ shard ∷ []) number ≡ Some x = ap (λ (xs : List Shard). slice_get xs number) (sym is) ∙ e in
-      dite (ℕ_discrete number at)
-      (λ same. (let s : shard ≡ x = same_Some shard x (sym (last_here shards shard number (same ∙ long)) ∙ f) in
-      subst (λ (y : ℕ × Shard). IsClosed engine k y.0 y.1) (λ i. (sym same i, s i)) (closed_here engine k at p shard here base end)))
+  each = λ number x e. (
+      dite (ℕ_discrete number at) (λ same. (
+      subst (λ (y : ℕ × Shard). IsClosed engine k y.0 y.1) (λ i. (sym same i, (same_Some shard x (cc (last_here shards shard number (cc)))) i)) (closed_here engine k at p shard here base end)))
       (λ other. all.each number x
-      (sym (front_here shards shard number (let w = slice_get_within (shards ++ shard ∷ []) number x f in let l = length-append shards (shard ∷ []) in omega (arith, w, l, other, long))) ∙ f)));
+      (cc (front_here shards shard number (omega (arith, slice_get_within (shards ++ shard ∷ []) number x cc, length-append shards (shard ∷ []), other, long))))));
 }

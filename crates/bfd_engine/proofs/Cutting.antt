@@ -1,5 +1,5 @@
 -- Passes that are cut, shard by shard.
-use Rattle.bfd_engine.proofs.Common.{◌≡◌, ◌<◌, ◌+◌, ◌++◌, ◌∷◌, [], ℕ, List, length, length-append, set, Option, Some, slice_get, refl, ap, sym, ◌∙◌, subst, arith, slice_get_within, dite, ℕ_discrete, calls, TableId, having_made, made_by, by, Shards, Held, Knows, IsOf, AllThere, AreNew, AreNewAt, seen_of, met_word_of, taken_of, made_of, kept_of, Parted, IsCut, AreCut, CutsAt}
+use Rattle.bfd_engine.proofs.Common.{◌≡◌, ◌<◌, ◌+◌, ◌++◌, ◌∷◌, [], ℕ, List, length, length-append, set, Option, Some, slice_get, refl, ap, sym, ◌∙◌, arith, slice_get_within, dite, ℕ_discrete, calls, TableId, having_made, made_by, by, Shards, Held, Knows, IsOf, AllThere, AreNew, AreNewAt, Parted, IsCut, AreCut, CutsAt}
 use Rattle.bfd_engine.proofs.Places.{K, set_here, set_else, last_here, front_here, same_held}
 
 -- one shard is cut
@@ -9,19 +9,19 @@ cut_here number at ps id p q r here lock is_q is_r fresh = record {
   cut = record {
     pass = p;
     before_is = here;
-    after_is = set_here ps at (Some q) (slice_get_within ps at (Some p) here) ∙ ap (λ (x : K). Some (Some x)) (is_q ∙ ap (λ (i : TableId). (i, having_made number p.1)) (sym lock));
-    new_is = ap (λ (x : K). Some (Some x)) (is_r ∙ ap (λ (i : TableId). (i, made_by number p.1)) (sym lock));
+    after_is = cc (set_here ps at (Some q) (slice_get_within ps at (Some p) here));
+    new_is = cc;
     fresh = fresh;
   };
   left = λ k other. set_else ps at k (Some q) other;
 }
 
-cut_same : (number : ℕ) (a a2 b b2 d d2 : Option Held) → a ≡ a2 → b ≡ b2 → d ≡ d2 → IsCut number a b d → IsCut number a2 b2 d2
-cut_same number a a2 b b2 d d2 e f h cut = record {
+cut_same : {number : ℕ} {a a2 b : Option Held} (b2 : Option Held) {d d2 : Option Held} → a ≡ a2 → b ≡ b2 → d ≡ d2 → IsCut number a b d → IsCut number a2 b2 d2
+cut_same b2 e f h cut = record {
   pass = cut.pass;
-  before_is = sym e ∙ cut.before_is;
-  after_is = sym f ∙ cut.after_is;
-  new_is = sym h ∙ cut.new_is;
+  before_is = cc;
+  after_is = cc;
+  new_is = cc;
   fresh = cut.fresh;
 }
 
@@ -29,14 +29,11 @@ cut_same number a a2 b b2 d d2 e f h cut = record {
 pub cut_more : (number at : ℕ) (before now after new more : List Held) (one : K) → AreCut number at before now new → CutsAt number at now after one
     → more ≡ new ++ Some one ∷ [] → AreCut number (at + 1) before after more
 cut_more number at before now after new more one cuts cut is = record {
-  long = (let a = ap length is in let b = length-append new (Some one ∷ []) in omega (arith, a, b, cuts.long));
-  below = λ k h. dite (ℕ_discrete k at)
-      (λ same. subst (λ n. IsCut number (slice_get before n) (slice_get after n) (slice_get more n)) (sym same)
-      (cut_same number (slice_get now at) (slice_get before at) (slice_get after at) (slice_get after at) (Some (Some one)) (slice_get more at) (cuts.left at (omega arith)) refl
-      (sym (ap (λ (xs : List Held). slice_get xs at) is ∙ last_here new (Some one) at (sym cuts.long))) cut.cut))
-      (λ other. (let inside : k < at = omega (arith, h, other) in
-      cut_same number (slice_get before k) (slice_get before k) (slice_get now k) (slice_get after k) (slice_get new k) (slice_get more k) refl (sym (cut.left k other))
-      (sym (ap (λ (xs : List Held). slice_get xs k) is ∙ front_here new (Some one) k (omega (arith, inside, cuts.long)))) (cuts.below k inside)));
+  long = omega (arith, ap length is, length-append new (Some one ∷ []), cuts.long);
+  below = λ k h. dite (ℕ_discrete k at) (λ same. rw same (cut_same (slice_get after at) (cuts.left at (omega arith)) refl
+      (sym (cc (last_here new (Some one) at (sym cuts.long)))) cut.cut)) (λ other. (let inside : k < at = omega (arith, h, other) in
+      cut_same {a2 = slice_get before k} _ refl (sym (cut.left k other))
+      (sym (cc (front_here new (Some one) k (omega (arith, inside, cuts.long))))) (cuts.below k inside)));
   left = λ k h. cut.left k (λ e. omega (arith, h, e)) ∙ cuts.left k (omega (arith, h));
 }
 
@@ -47,40 +44,37 @@ new_left number at start before now new is fresh cuts p e =
 
 parted_by : (k l o : Knows) (shard : ℕ) → IsCut o.0 (slice_get k.1 shard) (slice_get l.1 shard) (slice_get o.1 shard) → Parted k l o shard
 parted_by k l o shard cut = record {
-  seen = ap seen_of cut.after_is ∙ sym (ap seen_of cut.before_is);
-  word = ap met_word_of cut.after_is ∙ sym (ap met_word_of cut.before_is);
-  taken = ap taken_of cut.after_is ∙ sym (ap taken_of cut.before_is);
-  made = ap made_of cut.after_is ∙ ap (λ (ms : List ℕ). ms ++ o.0 ∷ []) (sym (ap made_of cut.before_is));
-  kept = ap kept_of cut.after_is ∙ sym (ap kept_of cut.before_is);
-  seen_new = ap seen_of cut.new_is ∙ sym (ap seen_of cut.before_is);
-  word_new = ap met_word_of cut.new_is ∙ sym (ap met_word_of cut.before_is);
-  taken_new = ap taken_of cut.new_is;
-  fresh = ap (calls by o.0) (ap seen_of cut.before_is) ∙ cut.fresh;
+  seen = cc;
+  word = cc;
+  taken = cc;
+  made = cc;
+  kept = cc;
+  seen_new = cc;
+  word_new = cc;
+  taken_new = cc;
+  fresh = cc;
 }
 
 -- once all are cut
 pub all_parted : (k l o : Knows) (at n : ℕ) (before : List Held) → before ≡ k.1 → AreCut o.0 at before l.1 o.1 → n ≡ at → (shard : ℕ) → shard < n → Parted k l o shard
-all_parted k l o at n before is cuts end shard h =
-    parted_by k l o shard
-    (cut_same o.0 (slice_get before shard) (slice_get k.1 shard) (slice_get l.1 shard) (slice_get l.1 shard) (slice_get o.1 shard) (slice_get o.1 shard)
-    (ap (λ (ps : List Held). slice_get ps shard) is) refl refl (cuts.below shard (omega (arith, h, end))))
+all_parted k l o at n before is cuts end shard h = parted_by k l o shard (cut_same (slice_get l.1 shard) {d2 = slice_get o.1 shard}
+    (cc) refl refl (cuts.below shard (omega (arith, h, end))))
 
 module _ (engine : Shards) (number at : ℕ) (before after new : List Held) (cuts : AreCut number at before after new) (of : IsOf engine before) (all : length engine.locks ≡ at) where
   one : (k : ℕ) (p : K) → slice_get new k ≡ Some (Some p) → (u : K) × (slice_get before k ≡ Some (Some u)) × (p ≡ (u.0, made_by number u.1))
   one k p e =
-      let c : IsCut number (slice_get before k) (slice_get after k) (slice_get new k) = cuts.below k (let i = slice_get_within new k (Some p) e in omega (arith, i, cuts.long)) in
-      (c.pass, c.before_is, same_held p (c.pass.0, made_by number c.pass.1) (slice_get new k) e c.new_is)
+      let c = cuts.below k (omega (arith, slice_get_within new k (Some p) e, cuts.long)) in
+      (c.pass, c.before_is, same_held e c.new_is)
 
   pub new_of : IsOf engine new
   new_of = record {
-    long = cuts.long ∙ sym all;
-    lock = λ k p e. (let o = one k p e in of.lock k o.0 o.1 ∙ ap Some (sym (ap (λ (x : K). x.0) o.2)));
-    base_is = λ k p e. (let o = one k p e in ap (λ (x : K). x.1.base) o.2 ∙ of.base_is k o.0 o.1);
+    long = cc;
+    lock = λ k p e. (let o = one k p e in cc (of.lock k o.0 o.1));
+    base_is = λ k p e. (let o = one k p e in ap (λ x. x.1.base) o.2 ∙ of.base_is k o.0 o.1);
   }
 
   pub new_there : AllThere new
   new_there = record {
-    at = λ k h.
-        (let c : IsCut number (slice_get before k) (slice_get after k) (slice_get new k) = cuts.below k (omega (arith, h, cuts.long)) in
+    at = λ k h. (let c = cuts.below k (omega (arith, h, cuts.long)) in
         ((c.pass.0, made_by number c.pass.1), c.new_is));
   }

@@ -1,5 +1,5 @@
 -- Passes that are joined, shard by shard.
-use Rattle.bfd_engine.proofs.Common.{◌≡◌, ◌<◌, ◌≤◌, ◌+◌, ◌++◌, ◌∷◌, [], ℕ, List, length, set, Option, Some, None, slice_get, refl, ap, ap₂, sym, ◌∙◌, subst, arith, slice_get_within, dite, ℕ_discrete, Begins, longer, calls, TableId, having_joined, Entry, by, Held, Knows, AllThere, seen_of, met_word_of, taken_of, made_of, kept_of, seen_at, Joined, IsGlued, AreGlued, GluesAt}
+use Rattle.bfd_engine.proofs.Common.{◌≡◌, ◌<◌, ◌≤◌, ◌+◌, ℕ, List, length, set, Option, Some, None, slice_get, refl, ap, ap₂, sym, ◌∙◌, subst, arith, slice_get_within, dite, ℕ_discrete, Begins, longer, calls, TableId, having_joined, Entry, by, Held, Knows, AllThere, met_word_of, taken_of, seen_at, Joined, IsGlued, AreGlued, GluesAt}
 use Rattle.bfd_engine.proofs.Places.{K, set_here, set_else}
 
 -- what a shard's lock says of a join
@@ -16,34 +16,33 @@ pub record IsJoin (id : TableId) (p q r : K) : Type 0 where
 pub glue_here : (number at : ℕ) (ps qs : List Held) (id : TableId) (p q r : K) → slice_get ps at ≡ Some (Some p) → slice_get qs at ≡ Some (Some q) → q.1.number ≡ number
     → IsJoin id p q r → GluesAt number at ps qs (set ps at (Some r)) (set qs at None)
 glue_here number at ps qs id p q r here theirs is j =
-    let seen : r.1.seen ≡ longer p.1.seen q.1.seen = ap (λ (x : K). x.1.seen) j.result_is in record {
+    let seen = ap (λ x. x.1.seen) j.result_is in record {
       glued = record {
         pass = p;
         other = q;
         word = r.1.word;
         before_is = here;
         theirs_is = theirs;
-        after_is = set_here ps at (Some r) (slice_get_within ps at (Some p) here)
-            ∙ ap (λ (x : K). Some (Some x)) (j.result_is ∙ ap (λ (i : TableId). (i, having_joined by r.1.word p.1 q.1)) (sym j.first_lock));
+        after_is = cc (set_here ps at (Some r) (slice_get_within ps at (Some p) here));
         number_is = is;
         later = j.later;
         later_theirs = j.later_theirs;
-        begins = subst (λ xs. Begins p.1.seen xs) seen j.begins;
-        begins_theirs = subst (λ xs. Begins q.1.seen xs) seen j.begins_theirs;
-        own = ap (calls by 0) (sym seen) ∙ j.own;
+        begins = rw (← seen) j.begins;
+        begins_theirs = rw (← seen) j.begins_theirs;
+        own = cc;
       };
       left = λ k other. set_else ps at k (Some r) other;
       theirs_left = λ k other. set_else qs at k None other;
     }
 
-glued_same : (number : ℕ) (a a2 b b2 d d2 : Option Held) → a ≡ a2 → b ≡ b2 → d ≡ d2 → IsGlued number a b d → IsGlued number a2 b2 d2
-glued_same number a a2 b b2 d d2 e f h g = record {
+glued_same : {number : ℕ} {a a2 b b2 d d2 : Option Held} → a ≡ a2 → b ≡ b2 → d ≡ d2 → IsGlued number a b d → IsGlued number a2 b2 d2
+glued_same e f h g = record {
   pass = g.pass;
   other = g.other;
   word = g.word;
-  before_is = sym e ∙ g.before_is;
-  theirs_is = sym f ∙ g.theirs_is;
-  after_is = sym h ∙ g.after_is;
+  before_is = cc;
+  theirs_is = cc;
+  after_is = cc;
   number_is = g.number_is;
   later = g.later;
   later_theirs = g.later_theirs;
@@ -56,11 +55,8 @@ glued_same number a a2 b b2 d d2 e f h g = record {
 pub glue_more : (number at : ℕ) (before theirs now left after rest : List Held) → AreGlued number at before theirs now left → GluesAt number at now left after rest
     → AreGlued number (at + 1) before theirs after rest
 glue_more number at before theirs now left after rest all one = record {
-  below = λ k h. dite (ℕ_discrete k at)
-      (λ same. subst (λ n. IsGlued number (slice_get before n) (slice_get theirs n) (slice_get after n)) (sym same)
-      (glued_same number (slice_get now at) (slice_get before at) (slice_get left at) (slice_get theirs at) (slice_get after at) (slice_get after at)
-      (all.left at (omega arith)) (all.theirs_left at (omega arith)) refl one.glued))
-      (λ other. glued_same number (slice_get before k) (slice_get before k) (slice_get theirs k) (slice_get theirs k) (slice_get now k) (slice_get after k)
+  below = λ k h. dite (ℕ_discrete k at) (λ same. rw same (glued_same {d2 = slice_get after at}
+      (all.left at (omega arith)) (all.theirs_left at (omega arith)) refl one.glued)) (λ other. glued_same {a2 = slice_get before k} {b2 = slice_get theirs k}
       refl refl (sym (one.left k other)) (all.below k (omega (arith, h, other))));
   left = λ k h. one.left k (λ e. omega (arith, h, e)) ∙ all.left k (omega (arith, h));
   theirs_left = λ k h. one.theirs_left k (λ e. omega (arith, h, e)) ∙ all.theirs_left k (omega (arith, h));
@@ -74,19 +70,18 @@ theirs_there number at before theirs after rest all there h =
 
 joined_by : (k o l : Knows) (shard : ℕ) → k.0 ≡ 0 → l.0 ≡ 0 → IsGlued o.0 (slice_get k.1 shard) (slice_get o.1 shard) (slice_get l.1 shard) → Joined k o l shard
 joined_by k o l shard zero zero2 g =
-    let before : seen_at k shard ≡ g.pass.1.seen = ap seen_of g.before_is in
-    let theirs : seen_at o shard ≡ g.other.1.seen = ap seen_of g.theirs_is in
-    let after : seen_at l shard ≡ longer g.pass.1.seen g.other.1.seen = ap seen_of g.after_is in record {
+    let before : seen_at k shard ≡ g.pass.1.seen = cc in
+    let theirs : seen_at o shard ≡ g.other.1.seen = cc in
+    let after : seen_at l shard ≡ longer g.pass.1.seen g.other.1.seen = cc in record {
       seen = after ∙ ap₂ longer (sym before) (sym theirs);
       first = subst (λ (xs : List Entry × List Entry). Begins xs.0 xs.1) (λ i. (sym before i, sym after i)) g.begins;
       other = subst (λ (xs : List Entry × List Entry). Begins xs.0 xs.1) (λ i. (sym theirs i, sym after i)) g.begins_theirs;
-      own = ap₂ (λ n xs. calls by n xs) zero2 after ∙ (g.own ∙ sym (ap₂ (λ n xs. calls by n xs) zero before));
-      kept = ap kept_of g.after_is
-          ∙ ap₂ (λ a b. a ++ b ∷ []) (sym (ap kept_of g.before_is)) (ap₂ (λ n xs. (n, calls by n xs)) g.number_is (sym theirs));
-      word = (let a = ap met_word_of g.before_is in let b = ap met_word_of g.after_is in let d = g.later in omega arith);
-      word_other = (let a = ap met_word_of g.theirs_is in let b = ap met_word_of g.after_is in let d = g.later_theirs in omega arith);
-      taken = (let a = ap taken_of g.before_is in let b = ap taken_of g.theirs_is in let d = ap taken_of g.after_is in omega arith);
-      made = ap made_of g.after_is ∙ sym (ap made_of g.before_is);
+      own = cc (ap₂ (λ n xs. calls by n xs) zero2 after, ap₂ (λ n xs. calls by n xs) zero before);
+      kept = cc;
+      word = omega (arith, ap met_word_of g.before_is, ap met_word_of g.after_is, g.later);
+      word_other = omega (arith, ap met_word_of g.theirs_is, ap met_word_of g.after_is, g.later_theirs);
+      taken = omega (arith, ap taken_of g.before_is, ap taken_of g.theirs_is, ap taken_of g.after_is);
+      made = cc;
     }
 
 pub all_joined : (k o l : Knows) (at n : ℕ) (rest : List Held) → AreGlued o.0 at k.1 o.1 l.1 rest → n ≡ at → k.0 ≡ 0 → l.0 ≡ 0 → (shard : ℕ) → shard < n → Joined k o l shard

@@ -1,5 +1,5 @@
 -- Passes at their places.
-use Rattle.bfd_engine.proofs.Common.{◌≡◌, ◌≢◌, ℕ, zero, suc, ◌<◌, List, [], ◌∷◌, ◌++◌, length, set, length-set, set-set, Option, Some, None, slice_get, refl, ap, sym, ◌∙◌, arith, slice_get_within, same_Some, dite, ℕ_discrete, TableId, OfShard, Shards, Held, Knows, IsOf, AllThere, base_at}
+use Rattle.bfd_engine.proofs.Common.{◌≡◌, ◌≢◌, ℕ, zero, suc, ◌<◌, List, [], ◌∷◌, ◌++◌, length, set, length-set, set-set, Option, Some, None, slice_get, refl, ap, ◌∙◌, arith, slice_get_within, same_Some, dite, ℕ_discrete, TableId, OfShard, Shards, Held, Knows, IsOf, AllThere}
 
 module _ {X : Type 0} where
   pub set_here : (xs : List X) (i : ℕ) (x : X) → i < length xs → slice_get (set xs i x) i ≡ Some x
@@ -12,7 +12,7 @@ module _ {X : Type 0} where
   set_else (y ∷ ys) zero zero x n = absurd (n refl)
   set_else (y ∷ ys) zero (suc j) x n = refl
   set_else (y ∷ ys) (suc i) zero x n = refl
-  set_else (y ∷ ys) (suc i) (suc j) x n = set_else ys i j x (λ e. n (ap suc e))
+  set_else (y ∷ ys) (suc i) (suc j) x n = set_else ys i j x (λ e. n (cc))
 
   pub last_here : (xs : List X) (x : X) (i : ℕ) → i ≡ length xs → slice_get (xs ++ x ∷ []) i ≡ Some x
   last_here [] x zero e = refl
@@ -28,8 +28,8 @@ module _ {X : Type 0} where
 abbrev pub K : Type 0
 K = TableId × OfShard
 
-pub same_held : (p q : K) (o : Option Held) → o ≡ Some (Some p) → o ≡ Some (Some q) → p ≡ q
-same_held p q o e f = same_Some p q (same_Some (Some p) (Some q) (sym e ∙ f))
+pub same_held : {p q : K} {o : Option Held} → o ≡ Some (Some p) → o ≡ Some (Some q) → p ≡ q
+same_held {p} {q} e f = same_Some p q (same_Some (Some p) (Some q) (cc))
 
 -- a pass is lifted, and one put back
 pub put_back : (k l m : Knows) (at : ℕ) (q : K) → l ≡ (k.0, set k.1 at None, k.2) → m ≡ (l.0, set l.1 at (Some q), l.2) → m ≡ (k.0, set k.1 at (Some q), k.2)
@@ -39,20 +39,16 @@ put_back k l m at q lifted put = rw (put, lifted, set-set) refl
 pub of_set : (engine : Shards) (ps : List Held) (at : ℕ) (p q : K) → slice_get ps at ≡ Some (Some p) → q.0 ≡ p.0 → q.1.base ≡ p.1.base → IsOf engine ps → IsOf engine (set ps at (Some q))
 of_set engine ps at p q here same base of = record {
   long = length-set ps at (Some q) ∙ of.long;
-  lock = λ k r e. dite (ℕ_discrete k at)
-      (λ is. let qr : q ≡ r = same_held q r (slice_get (set ps at (Some q)) at) (set_here ps at (Some q) (slice_get_within ps at (Some p) here)) (ap (slice_get (set ps at (Some q))) (sym is) ∙ e) in
-      ap (slice_get engine.locks) is ∙ (of.lock at p here ∙ ap Some (sym same ∙ ap (λ (x : K). x.0) qr)))
-      (λ other. of.lock k r (sym (set_else ps at k (Some q) other) ∙ e));
-  base_is = λ k r e. dite (ℕ_discrete k at)
-      (λ is. let qr : q ≡ r = same_held q r (slice_get (set ps at (Some q)) at) (set_here ps at (Some q) (slice_get_within ps at (Some p) here)) (ap (slice_get (set ps at (Some q))) (sym is) ∙ e) in
-      ap (λ (x : K). x.1.base) (sym qr) ∙ (base ∙ (of.base_is at p here ∙ ap (λ s. Some (base_at engine s)) (sym is))))
-      (λ other. of.base_is k r (sym (set_else ps at k (Some q) other) ∙ e));
+  lock = λ k r e. dite (ℕ_discrete k at) (λ is. let qr : q ≡ r = same_held (set_here ps at (Some q) (slice_get_within ps at (Some p) here)) (cc) in
+      cc (of.lock at p here)) (λ other. of.lock k r (cc (set_else ps at k (Some q) other)));
+  base_is = λ k r e. dite (ℕ_discrete k at) (λ is. let qr : q ≡ r = same_held (set_here ps at (Some q) (slice_get_within ps at (Some p) here)) (cc) in
+      cc (of.base_is at p here)) (λ other. of.base_is k r (cc (set_else ps at k (Some q) other)));
 }
 
 pub there_set : (ps : List Held) (at : ℕ) (q : K) → AllThere ps → AllThere (set ps at (Some q))
 there_set ps at q all = record {
   at = λ k h. (let inside : k < length ps = omega (arith, length-set ps at (Some q), h) in dite (ℕ_discrete k at)
-      (λ is. (q, ap (slice_get (set ps at (Some q))) is ∙ set_here ps at (Some q) (omega (arith, ap (λ (n : ℕ). n) is, inside))))
+      (λ is. (q, cc (set_here ps at (Some q) (omega (arith, ap (λ (n : ℕ). n) is, inside)))))
       (λ other. let t = all.at k inside in (t.0, set_else ps at k (Some q) other ∙ t.1)));
 }
 
@@ -60,9 +56,9 @@ pub none_set : (engine : Shards) (ps : List Held) (at : ℕ) (p : K) → slice_g
 none_set engine ps at p here of = record {
   long = length-set ps at None ∙ of.long;
   lock = λ k r e. dite (ℕ_discrete k at)
-      (λ is. let gone : Some None ≡ Some (Some r) = sym (set_here ps at None (slice_get_within ps at (Some p) here)) ∙ (ap (slice_get (set ps at None)) (sym is) ∙ e) in absurd (cc))
-      (λ other. of.lock k r (sym (set_else ps at k None other) ∙ e));
+      (λ is. let gone : Some None ≡ Some (Some r) = cc (set_here ps at None (slice_get_within ps at (Some p) here)) in absurd (cc))
+      (λ other. of.lock k r (cc (set_else ps at k None other)));
   base_is = λ k r e. dite (ℕ_discrete k at)
-      (λ is. let gone : Some None ≡ Some (Some r) = sym (set_here ps at None (slice_get_within ps at (Some p) here)) ∙ (ap (slice_get (set ps at None)) (sym is) ∙ e) in absurd (cc))
-      (λ other. of.base_is k r (sym (set_else ps at k None other) ∙ e));
+      (λ is. let gone : Some None ≡ Some (Some r) = cc (set_here ps at None (slice_get_within ps at (Some p) here)) in absurd (cc))
+      (λ other. of.base_is k r (cc (set_else ps at k None other)));
 }

@@ -1,5 +1,5 @@
 -- A list that is dealt out in turn, one element after another.
-use Rattle.bfd_engine.proofs.Common.{◌≡◌, ◌≢◌, ◌==◌, ℕ, suc, ◌+◌, ◌-◌, ◌<◌, List, [], ◌∷◌, ◌++◌, refl, ap, sym, ◌∙◌, append_assoc, append-nil, arith, if◌then◌else◌, nat_lt, nat_tests, share}
+use Rattle.bfd_engine.proofs.Common.{◌≡◌, ◌≢◌, ◌==◌, ℕ, suc, ◌+◌, ◌-◌, ◌<◌, List, [], ◌∷◌, ◌++◌, refl, append_assoc, append-nil, arith, if◌then◌else◌, nat_lt, nat_tests, share}
 
 module _ {A : Type 0} where
   share_none : (n c : ℕ) (xs : List A) → xs ≡ [] → share n c xs ≡ []
@@ -18,32 +18,29 @@ module _ {A : Type 0} where
 
   share_here : (n next r : ℕ) (x : A) (rest : List A) → r ≡ next → share n (gap n next r) (x ∷ rest) ≡ x ∷ share n (n - 1) rest
   unfolding share
-  share_here n next r x rest e = let g : gap n next r ≡ 0 = grind (arith, nat_tests) in ap (λ i. share n i (x ∷ rest)) g
+  share_here n next r x rest e = let g : gap n next r ≡ 0 = grind (arith, nat_tests) in cc
 
   share_past : (n next next2 r : ℕ) (x : A) (rest : List A) → gap n next r ≡ suc (gap n next2 r) → share n (gap n next r) (x ∷ rest) ≡ share n (gap n next2 r) rest
   unfolding share
-  share_past n next next2 r x rest e = ap (λ i. share n i (x ∷ rest)) e
+  share_past n next next2 r x rest e = cc
 
-  pub shares_none : (n r : ℕ) (part rest all : List A) → part ≡ [] → rest ≡ all → Shares n 0 r part rest all
-  shares_none n r part rest all e is =
+  pub shares_none : (n r : ℕ) {part rest all : List A} → part ≡ [] → rest ≡ all → Shares n 0 r part rest all
+  shares_none n r e is =
       let g : gap n 0 r ≡ r = grind (arith, nat_tests) in
-      record { whole = ap (λ p. p ++ share n (gap n 0 r) rest) e ∙ (ap (λ i. share n i rest) g ∙ ap (share n r) is) }
+      record { whole = cc }
 
   pub shares_own : (n next next2 r : ℕ) (x : A) (part part2 rest left all : List A) → left ≡ x ∷ rest → r ≡ next → next < n → next2 ≡ (if next + 1 == n then 0 else next + 1) → part2 ≡ part ++ x ∷ []
       → Shares n next r part left all → Shares n next2 r part2 rest all
   shares_own n next next2 r x part part2 rest left all split at within is pushed s =
       let g : gap n next2 r ≡ n - 1 = grind (arith, nat_tests) in
       record {
-        whole = ap (λ p. p ++ share n (gap n next2 r) rest) pushed ∙ (ap (λ i. (part ++ x ∷ []) ++ share n i rest) g
-            ∙ (append_assoc part (x ∷ []) (share n (n - 1) rest) ∙ (ap (λ l. part ++ l) (sym (share_here n next r x rest at)) ∙ (ap (λ l. part ++ share n (gap n next r) l) (sym split) ∙ s.whole))));
+        whole = cc (append_assoc part (x ∷ []) (share n (n - 1) rest), share_here n next r x rest at);
       }
 
-  pub shares_other : (n next next2 r : ℕ) (x : A) (part part2 rest left all : List A) → left ≡ x ∷ rest → r ≢ next → r < n → next < n → next2 ≡ (if next + 1 == n then 0 else next + 1) → part2 ≡ part
+  pub shares_other : {n next next2 r : ℕ} {x : A} {part part2 rest left all : List A} → left ≡ x ∷ rest → r ≢ next → r < n → next < n → next2 ≡ (if next + 1 == n then 0 else next + 1) → part2 ≡ part
       → Shares n next r part left all → Shares n next2 r part2 rest all
-  shares_other n next next2 r x part part2 rest left all split off inside within is same s =
-      let g : gap n next r ≡ suc (gap n next2 r) = grind (arith, nat_tests) in
-      record { whole = ap (λ p. p ++ share n (gap n next2 r) rest) same ∙ (ap (λ l. part ++ l) (sym (share_past n next next2 r x rest g)) ∙ (ap (λ l. part ++ share n (gap n next r) l) (sym split) ∙ s.whole)) }
+  shares_other {n} {next} {next2} {r} {x} {rest} split off inside within is same s =
+      record { whole = cc (share_past n next next2 r x rest (grind (arith, nat_tests))) }
 
-  pub shares_all : (n next r : ℕ) (part rest all : List A) → rest ≡ [] → Shares n next r part rest all → part ≡ share n r all
-  shares_all n next r part rest all e s =
-      sym (ap (λ l. part ++ l) (share_none n (gap n next r) rest e) ∙ append-nil part) ∙ s.whole
+  pub shares_all : {n next r : ℕ} {part rest all : List A} → rest ≡ [] → Shares n next r part rest all → part ≡ share n r all
+  shares_all {n} {next} {r} {part} {rest} e s = cc (share_none n (gap n next r) rest e, append-nil part)

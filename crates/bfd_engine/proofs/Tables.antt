@@ -1,11 +1,9 @@
 -- Rows that make a table differ in their discriminators.
-use Rattle.bfd_engine.proofs.Common.{◌≡◌, ◌<◌, ◌≤◌, ◌==◌, ◌++◌, ◌+◌, ℕ, Bool, true, false, List, [], ◌∷◌, length, map, refl, Option, None, Some, arith, if◌then◌else◌, nat_lt, position, position_from, AllByRecursion, option_map, option_or, nat_tests, Row, SessionConfig, discr_of, Ascends, row_of, rows_of, row_of_reflector, table_of, Climbs}
+use Rattle.bfd_engine.proofs.Common.{◌≡◌, ◌<◌, ◌≤◌, ◌==◌, ◌++◌, ◌+◌, ℕ, Bool, true, false, List, [], ◌∷◌, length, map, refl, Option, None, Some, arith, if◌then◌else◌, nat_lt, position, position_from, AllByRecursion, option_map, option_or, nat_tests, Row, SessionConfig, discr_of, Ascends, row_of, rows_of, row_of_reflector, table_of, Climbs, Reflector, same_discr, repeat_after, first_repeat, early_fault, build_fault}
 use Rattle.bfd_demux.specs.declared.fault.BuildFault.{BuildFault}
-use Rattle.bfd_demux.specs.declared.fault.BuildFault.TheVariants.{SameDiscr, ZeroDiscr, TooMany}
+use Rattle.bfd_demux.specs.declared.fault.BuildFault.TheVariants.{ZeroDiscr, TooMany}
 use Rattle.bfd_demux.proofs.Once.{unmapped}
-use Rattle.bfd_demux.specs.Rows.{same_discr, repeat_after, first_repeat, pair_fault, early_fault, build_fault}
 use Rattle.bfd_session.proofs.Tables.{Apart, Fresh}
-use Rattle.bfd_sbfd.specs.declared.reflecting.Reflector.{Reflector}
 use Rattle.bfd_sbfd.specs.Reflect.{Ascends as PoolAscends}
 
 or_first : {A : Type 0} (a b : Option A) → option_or a b ≡ None → a ≡ None
@@ -21,7 +19,7 @@ few_by n true o is e = cc
 few_by n false o is e = grind (arith, nat_tests)
 
 pub few_rows : (rows : List Row) → build_fault rows ≡ None → length rows ≤ 65536
-few_rows rows e = few_by (length rows) (nat_lt 65536 (length rows)) (option_map ZeroDiscr (position (λ row. row.discr == 0) rows)) refl (or_first (early_fault rows) _ e)
+few_rows rows e = few_by (length rows) _ (option_map ZeroDiscr (position (λ row. row.discr == 0) rows)) refl (or_first (early_fault rows) _ e)
 
 apart_found : (same : Row → Bool) (x : Row) (n : ℕ) (rows : List Row) (b : Bool) → same x ≡ b → (if b then Some n else position_from same (n + 1) rows) ≡ None
     → (same x ≡ false) × (position_from same (n + 1) rows ≡ None)
@@ -31,7 +29,7 @@ apart_found same x n rows false is e = (is, e)
 -- where no place is found, none is like it
 unlike : (same : Row → Bool) (n : ℕ) (rows : List Row) → position_from same n rows ≡ None → AllByRecursion (λ other. same other ≡ false) rows
 unlike same n [] e = tt
-unlike same n (x ∷ rows) e = let s = apart_found same x n rows (same x) refl e in (s.0, unlike same (n + 1) rows s.1)
+unlike same n (x ∷ rows) e = let s = apart_found same x n rows _ refl e in (s.0, unlike same (n + 1) rows s.1)
 
 front : (P : Row → Type 0) (xs : List Row) (x : Row) → AllByRecursion P (xs ++ x ∷ []) → AllByRecursion P xs
 front P [] x h = tt
@@ -52,26 +50,22 @@ fresh_front same earlier x (row ∷ rows) h = (front (λ other. same row other �
 fresh_all : (same : Row → Row → Bool) (earlier rows : List Row) → repeat_after same earlier rows ≡ None → Fresh same earlier rows
 fresh_all same earlier [] e = tt
 fresh_all same earlier (row ∷ rows) e =
-    let here : position_from (same row) 0 earlier ≡ None = unmapped _ (position_from (same row) 0 earlier) (or_first _ _ e) in
-    let next : Fresh same (earlier ++ row ∷ []) rows = fresh_all same (earlier ++ row ∷ []) rows (or_second _ _ e) in
-    (unlike (same row) 0 earlier here, fresh_front same earlier row rows next)
+    (unlike (same row) 0 earlier (unmapped _ (position_from (same row) 0 earlier) (or_first _ _ e)), fresh_front same earlier row rows (fresh_all same (earlier ++ row ∷ []) rows (or_second _ _ e)))
 
 apart_all : (same : Row → Row → Bool) (earlier rows : List Row) → repeat_after same earlier rows ≡ None → Apart same rows
 apart_all same earlier [] e = tt
 apart_all same earlier (row ∷ rows) e =
-    let rest : repeat_after same (earlier ++ row ∷ []) rows ≡ None = or_second _ _ e in
+    let rest = or_second _ _ e in
     (fresh_last same earlier row rows (fresh_all same (earlier ++ row ∷ []) rows rest), apart_all same (earlier ++ row ∷ []) rows rest)
 
 apart_discrs : (rows : List Row) → build_fault rows ≡ None → Apart same_discr rows
-apart_discrs rows e =
-    let pairs : pair_fault SameDiscr (first_repeat same_discr rows) ≡ None = or_first _ _ (or_second (early_fault rows) _ e) in
-    apart_all same_discr [] rows (unmapped _ (first_repeat same_discr rows) pairs)
+apart_discrs rows e = apart_all same_discr [] rows (unmapped _ (first_repeat same_discr rows) (or_first _ _ (or_second (early_fault rows) _ e)))
 
-lower : (d e : ℕ) → d ≤ e → (e == d) ≡ false → d < e
-lower d e le differs = grind (arith, nat_tests)
+lower : {d e : ℕ} → d ≤ e → (e == d) ≡ false → d < e
+lower le differs = grind (arith, nat_tests)
 
 config_lower : (c later : SessionConfig) → discr_of c ≤ discr_of later → same_discr (row_of later) (row_of c) ≡ false → discr_of c < discr_of later
-config_lower c d le differs = lower (discr_of c) (discr_of d) le differs
+config_lower c d le differs = lower le differs
 
 head_lower : (c : SessionConfig) (cs : List SessionConfig) (ps : List Row) → AllByRecursion (λ later. same_discr later (row_of c) ≡ false) (rows_of cs ++ ps) → AllByRecursion (λ e. discr_of c ≤ e) (map discr_of cs)
     → AllByRecursion (λ later. discr_of c < discr_of later) cs
@@ -85,7 +79,7 @@ ascend_by (c ∷ cs) ps h climbs = (head_lower c cs ps h.0 climbs.0, ascend_by c
 pool_head : (r : Reflector) (rs : List Reflector) → AllByRecursion (λ later. same_discr later (row_of_reflector r) ≡ false) (map row_of_reflector rs) → AllByRecursion (λ e. r.discr ≤ e) (map (λ x. x.discr) rs)
     → AllByRecursion (λ later. r.discr < later.discr) rs
 pool_head r [] h climbs = tt
-pool_head r (x ∷ rs) h climbs = (lower r.discr x.discr climbs.0 h.0, pool_head r rs h.1 climbs.1)
+pool_head r (x ∷ rs) h climbs = (lower climbs.0 h.0, pool_head r rs h.1 climbs.1)
 
 pool_by : (rs : List Reflector) → Apart same_discr (map row_of_reflector rs) → Climbs (map (λ x. x.discr) rs) → PoolAscends rs
 pool_by [] h climbs = tt

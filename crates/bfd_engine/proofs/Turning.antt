@@ -1,87 +1,78 @@
 -- What one turn of a shard leaves of a caller's passes.
-use Rattle.bfd_engine.proofs.Common.{◌≡◌, ◌≢◌, ℕ, List, [], ◌∷◌, ◌++◌, length, set, Option, Some, Result, Ok, Err, IfOk, IfErr, OnErr, slice_get, refl, ap, sym, ◌∙◌, subst, append-nil, arith, slice_get_within, dite, ℕ_discrete, Out, Answer, Entry, ShardEvent, calls, TurnFault, by, entry_of, configs_in, limit_in, given_after, IsSame, HasTurned, HasLooked, IsTurnCause, Shards, Held, Knows, base_at, configs_at, seen_of, seen_at, met_word_of, taken_of, made_of, kept_of, Turned, IsCause, fault_of, IsCall, IsFailed}
+use Rattle.bfd_engine.proofs.Common.{◌≡◌, ◌≢◌, ℕ, List, [], ◌∷◌, ◌++◌, length, set, Option, Some, Result, Ok, Err, IfOk, IfErr, OnErr, slice_get, refl, ap, sym, ◌∙◌, subst, append-nil, arith, slice_get_within, dite, ℕ_discrete, Out, Answer, Entry, ShardEvent, calls, TurnFault, by, entry_of, configs_in, limit_in, given_after, IsSame, HasTurned, HasLooked, IsTurnCause, Shards, Held, Knows, base_at, configs_at, seen_of, seen_at, met_word_of, taken_of, made_of, kept_of, Turned, IsCause, fault_of, IsCall, IsFailed, Memory, Full, Spent, EngineFault}
 use Rattle.bfd_rules.specs.EventFrame.{Outputs}
-use Rattle.bfd_engine.specs.declared.turn.TurnFault.TheVariants.{Memory, Full, Spent}
-use Rattle.bfd_engine.specs.declared.fault.EngineFault.{EngineFault}
 use Rattle.bfd_engine.proofs.Places.{K, set_here, set_else}
 
-pub at_place : (k l : Knows) (s : ℕ) (p q : K) → slice_get k.1 s ≡ Some (Some p) → l ≡ (k.0, set k.1 s (Some q), k.2) → slice_get l.1 s ≡ Some (Some q)
-at_place k l s p q here is = ap (λ (m : Knows). slice_get m.1 s) is ∙ set_here k.1 s (Some q) (slice_get_within k.1 s (Some p) here)
+pub at_place : (k : Knows) {l : Knows} (s : ℕ) {p : K} (q : K) → slice_get k.1 s ≡ Some (Some p) → l ≡ (k.0, set k.1 s (Some q), k.2) → slice_get l.1 s ≡ Some (Some q)
+at_place k s {p} q here is = cc (set_here k.1 s (Some q) (slice_get_within k.1 s (Some p) here))
 
-pub elsewhere : (k l : Knows) (s : ℕ) (q : K) (r : ℕ) → l ≡ (k.0, set k.1 s (Some q), k.2) → r ≢ s → slice_get l.1 r ≡ slice_get k.1 r
-elsewhere k l s q r is other = ap (λ (m : Knows). slice_get m.1 r) is ∙ set_else k.1 s r (Some q) other
+pub elsewhere : (k : Knows) {l : Knows} {s : ℕ} (q : K) {r : ℕ} → l ≡ (k.0, set k.1 s (Some q), k.2) → r ≢ s → slice_get l.1 r ≡ slice_get k.1 r
+elsewhere k {s} q {r} is other = cc (set_else k.1 s r (Some q) other)
 
-pub same_at : {X : Type 0} (f : Option Held → X) (k l : Knows) (s : ℕ) (p q : K) → slice_get k.1 s ≡ Some (Some p) → l ≡ (k.0, set k.1 s (Some q), k.2) → f (Some (Some q)) ≡ f (Some (Some p))
+pub same_at : {X : Type 0} (f : Option Held → X) (k : Knows) {l : Knows} (s : ℕ) {p q : K} → slice_get k.1 s ≡ Some (Some p) → l ≡ (k.0, set k.1 s (Some q), k.2) → f (Some (Some q)) ≡ f (Some (Some p))
     → (r : ℕ) → f (slice_get l.1 r) ≡ f (slice_get k.1 r)
-same_at f k l s p q here is same r = dite (ℕ_discrete r s)
-    (λ at. subst (λ i. f (slice_get l.1 i) ≡ f (slice_get k.1 i)) (sym at) (ap f (at_place k l s p q here is) ∙ (same ∙ ap f (sym here))))
-    (λ other. ap f (elsewhere k l s q r is other))
+same_at f k s {q} here is same r = dite (ℕ_discrete r s) (λ at. rw (← sym at) (cc (at_place k s q here is))) (λ other. ap f (elsewhere k q is other))
 
-pub turned : (k l : Knows) (s : ℕ) (p q : K) (between new : List Entry) → slice_get k.1 s ≡ Some (Some p) → l ≡ (k.0, set k.1 s (Some q), k.2) → p.1.number ≡ k.0 → IsSame p.1 q.1
+pub turned : (k : Knows) {l : Knows} (s : ℕ) {p : K} (q : K) (between new : List Entry) → slice_get k.1 s ≡ Some (Some p) → l ≡ (k.0, set k.1 s (Some q), k.2) → p.1.number ≡ k.0 → IsSame p.1 q.1
     → q.1.seen ≡ (p.1.seen ++ between) ++ new → calls by p.1.number between ≡ [] → Turned k l s between new
-turned k l s p q between new here is num same seen others =
-    let at_l = at_place k l s p q here is in record {
-      number = ap (λ (m : Knows). m.0) is;
-      used = ap (λ (m : Knows). m.2) is;
-      others = subst (λ n. calls by n between ≡ []) num others;
-      here = ap seen_of at_l ∙ (seen ∙ ap (λ (xs : List Entry). (xs ++ between) ++ new) (sym (ap seen_of here)));
-      word = (let a = ap met_word_of at_l in let b = ap met_word_of here in let d = same.word in omega arith);
-      taken = (let a = ap taken_of at_l in let b = ap taken_of here in let d = same.taken in omega arith);
-      seen_elsewhere = λ r other. ap seen_of (elsewhere k l s q r is other);
-      word_elsewhere = λ r other. ap met_word_of (elsewhere k l s q r is other);
-      taken_elsewhere = λ r other. ap taken_of (elsewhere k l s q r is other);
-      made = same_at made_of k l s p q here is same.made;
-      kept = same_at kept_of k l s p q here is same.joined;
+turned k s q between new here is num same seen others =
+    let at_l = at_place k s q here is in record {
+      number = cc;
+      used = cc;
+      others = rw (← num) others;
+      here = cc;
+      word = omega (arith, ap met_word_of at_l, ap met_word_of here, same.word);
+      taken = omega (arith, ap taken_of at_l, ap taken_of here, same.taken);
+      seen_elsewhere = λ r other. ap seen_of (elsewhere k q is other);
+      word_elsewhere = λ r other. ap met_word_of (elsewhere k q is other);
+      taken_elsewhere = λ r other. ap taken_of (elsewhere k q is other);
+      made = same_at made_of k s here is same.made;
+      kept = same_at kept_of k s here is same.joined;
     }
 
-given_is : (engine : Shards) (k : Knows) (s : ℕ) (p : K) (between : List Entry) (event : ShardEvent) → slice_get k.1 s ≡ Some (Some p) → p.1.base ≡ Some (base_at engine s)
+given_is : (engine : Shards) (k : Knows) (s : ℕ) {p : K} (between : List Entry) (event : ShardEvent) → slice_get k.1 s ≡ Some (Some p) → p.1.base ≡ Some (base_at engine s)
     → given_after (configs_in p.1.base) (p.1.seen ++ between) event ≡ given_after (configs_at engine s) (seen_at k s ++ between) event
-given_is engine k s p between event here base =
-    ap (λ b. given_after (configs_in b) (p.1.seen ++ between) event) base
-    ∙ ap (λ xs. given_after (configs_at engine s) (xs ++ between) event) (sym (ap seen_of here))
+given_is engine k s between event here base = cc
 
 limit_is : (engine : Shards) (s : ℕ) (p q : K) → p.1.base ≡ Some (base_at engine s) → IsSame p.1 q.1 → limit_in q.1.base ≡ engine.limit
-limit_is engine s p q base same = ap limit_in (same.base_is ∙ base)
+limit_is engine s p q base same = cc
 
-failed : (engine : Shards) (k l : Knows) (s : ℕ) (p q : K) (outs outs2 : List Out) (fault : EngineFault) → slice_get k.1 s ≡ Some (Some p) → l ≡ (k.0, set k.1 s (Some q), k.2) → p.1.number ≡ k.0 → IsSame p.1 q.1
+failed : (engine : Shards) (k : Knows) {l : Knows} (s : ℕ) {p : K} (q : K) {outs outs2 : List Out} (fault : EngineFault) → slice_get k.1 s ≡ Some (Some p) → l ≡ (k.0, set k.1 s (Some q), k.2) → p.1.number ≡ k.0 → IsSame p.1 q.1
     → HasLooked p.1 q.1 → outs2 ≡ outs → IsCause fault engine s l → IsFailed engine s k l outs outs2 fault
-failed engine k l s p q outs outs2 fault here is num same looked told cause = record {
+failed engine k s {p} q fault here is num same looked told cause = record {
   between = looked.between;
-  turned = turned k l s p q looked.between [] here is num same (looked.seen ∙ sym (append-nil (p.1.seen ++ looked.between))) looked.others;
+  turned = turned k s q looked.between [] here is num same (cc (append-nil (p.1.seen ++ looked.between))) looked.others;
   told = told;
   cause = cause;
 }
 
-fault_by : (engine : Shards) (k l : Knows) (s : ℕ) (p q : K) (outs outs2 : List Out) (fault : TurnFault) → slice_get k.1 s ≡ Some (Some p) → p.1.base ≡ Some (base_at engine s)
+fault_by : (engine : Shards) (k : Knows) {l : Knows} (s : ℕ) {p : K} (q : K) {outs outs2 : List Out} (fault : TurnFault) → slice_get k.1 s ≡ Some (Some p) → p.1.base ≡ Some (base_at engine s)
     → l ≡ (k.0, set k.1 s (Some q), k.2) → p.1.number ≡ k.0 → IsSame p.1 q.1 → HasLooked p.1 q.1 → IsTurnCause fault q.1 → outs2 ≡ outs
     → IsFailed engine s k l outs outs2 (fault_of s fault)
-fault_by engine k l s p q outs outs2 Memory here base is num same looked cause told =
-    failed engine k l s p q outs outs2 (fault_of s Memory) here is num same looked told
-    (let a = ap (λ h. length (seen_of h)) (at_place k l s p q here is) in let b = limit_is engine s p q base same in omega (arith, a, b, cause))
-fault_by engine k l s p q outs outs2 (Full n) here base is num same looked cause told =
-    failed engine k l s p q outs outs2 (fault_of s (Full n)) here is num same looked told
-    (refl, cause.1 ∙ limit_is engine s p q base same, ap (λ h. length (seen_of h)) (at_place k l s p q here is) ∙ cause.0)
-fault_by engine k l s p q outs outs2 (Spent word) here base is num same looked cause told =
-    failed engine k l s p q outs outs2 (fault_of s (Spent word)) here is num same looked told
-    (refl, cause.0, ap met_word_of (at_place k l s p q here is) ∙ cause.1)
+fault_by engine k s {p} q Memory here base is num same looked cause told = failed engine k s q (fault_of s Memory) here is num same looked told
+    (let a = ap (λ h. length (seen_of h)) (at_place k s q here is) in omega (arith, a, limit_is engine s p q base same, cause))
+fault_by engine k s {p} q (Full n) here base is num same looked cause told = failed engine k s q (fault_of s (Full n)) here is num same looked told
+    (refl, cause.1 ∙ limit_is engine s p q base same, cc (at_place k s q here is))
+fault_by engine k s q (Spent word) here base is num same looked cause told =
+    failed engine k s q (fault_of s (Spent word)) here is num same looked told (refl, cause.0, cc (at_place k s q here is))
 
 -- a turn that added no entry
-pub fault_done : (engine : Shards) (k l : Knows) (s : ℕ) (p q : K) (outs outs2 : Outputs) (r : Result Answer TurnFault) (fault : TurnFault) (told : EngineFault) → slice_get k.1 s ≡ Some (Some p)
+pub fault_done : (engine : Shards) (k : Knows) {l : Knows} (s : ℕ) {p : K} (q : K) (outs outs2 : Outputs) {r : Result Answer TurnFault} {fault : TurnFault} {told : EngineFault} → slice_get k.1 s ≡ Some (Some p)
     → p.1.base ≡ Some (base_at engine s) → l ≡ (k.0, set k.1 s (Some q), k.2) → p.1.number ≡ k.0 → IsSame p.1 q.1
     → r ≡ Err fault → IfErr r (λ f. HasLooked p.1 q.1 × IsTurnCause f q.1) → OnErr r (outs2 ≡ outs) → told ≡ fault_of s fault → IsFailed engine s k l outs.items outs2.items told
-fault_done engine k l s p q outs outs2 r fault told here base is num same e looked untold is_told =
-    let l1 : HasLooked p.1 q.1 × IsTurnCause fault q.1 = subst (λ x. IfErr x (λ f. HasLooked p.1 q.1 × IsTurnCause f q.1)) e looked in
-    let u : outs2 ≡ outs = subst (λ (x : Result Answer TurnFault). OnErr x (outs2 ≡ outs)) e untold in
-    subst (λ x. IsFailed engine s k l outs.items outs2.items x) (sym is_told) (fault_by engine k l s p q outs.items outs2.items fault here base is num same l1.0 l1.1 (ap (λ (o : Outputs). o.items) u))
+fault_done engine k s {p} q outs outs2 {fault} here base is num same e looked untold is_told =
+    let l1 = subst (λ x. IfErr x (λ f. HasLooked p.1 q.1 × IsTurnCause f q.1)) e looked in
+    let u = subst (λ x. OnErr x (outs2 ≡ outs)) e untold in
+    rw is_told (fault_by engine k s q fault here base is num same l1.0 l1.1 (cc))
 
 -- a turn with its entry
-pub call_done : (engine : Shards) (k l : Knows) (s : ℕ) (event : ShardEvent) (p q : K) (outs outs2 : List Out) (r : Result Answer TurnFault) (answer : Answer) → slice_get k.1 s ≡ Some (Some p)
+pub call_done : (engine : Shards) (k : Knows) {l : Knows} (s : ℕ) (event : ShardEvent) {p : K} (q : K) (outs outs2 : List Out) {r : Result Answer TurnFault} {answer : Answer} → slice_get k.1 s ≡ Some (Some p)
     → p.1.base ≡ Some (base_at engine s) → l ≡ (k.0, set k.1 s (Some q), k.2) → p.1.number ≡ k.0 → IsSame p.1 q.1
     → r ≡ Ok answer → IfOk r (λ a. HasTurned p.1 event q.1 outs outs2 a) → IsCall engine s event k l outs outs2 answer
-call_done engine k l s event p q outs outs2 r answer here base is num same e all =
-    let ok : HasTurned p.1 event q.1 outs outs2 answer = subst (λ x. IfOk x (λ a. HasTurned p.1 event q.1 outs outs2 a)) e all in record {
+call_done engine k s event {p} q outs outs2 {answer} here base is num same e all =
+    let ok = subst (λ x. IfOk x (λ a. HasTurned p.1 event q.1 outs outs2 a)) e all in record {
       between = ok.between;
-      turned = turned k l s p q ok.between (entry_of k.0 event ∷ []) here is num same (subst (λ n. q.1.seen ≡ (p.1.seen ++ ok.between) ++ entry_of n event ∷ []) num ok.seen) ok.others;
-      told = ok.told ∙ ap (λ o. outs ++ o.items) (given_is engine k s p ok.between event here base);
-      answered = ok.answered ∙ ap (λ o. o.answer) (given_is engine k s p ok.between event here base);
+      turned = turned k s q ok.between (entry_of k.0 event ∷ []) here is num same (rw (← num) ok.seen) ok.others;
+      told = cc (given_is engine k s ok.between event here base);
+      answered = cc (given_is engine k s ok.between event here base);
     }

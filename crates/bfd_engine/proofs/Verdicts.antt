@@ -1,12 +1,11 @@
 -- The answer to an arrival tells the first test that it fails.
-use Rattle.bfd_engine.proofs.Common.{◌≡◌, ◌<◌, ◌+◌, ◌/◌, ◌%◌, ◌++◌, ◌∷◌, [], ℕ, zero, suc, List, length, Option, None, Some, Result, Ok, Err, IfOk, refl, sym, ap, ◌∙◌, slice_get, option_or, Arrival, Datagram, Test, Out, Target, Session, Echo, first_table_failing, reflect, Answer, Event, SessionConfig, coming_to, Running, table_of, reply, Entry, ShardEvent, Own, events_of, last_tick, outcome_of, own_outcome, run, runs, runs_from, IsTaken, entry_of, Shards, Knows, configs_at, IsCall, IsDone, coming_act, reflect_act, seen_at, Arrives, IsAnswered, packet_answer, return_answer, arrival_judged}
+use Rattle.bfd_engine.proofs.Common.{◌≡◌, ◌<◌, ◌+◌, ◌++◌, ◌∷◌, [], ℕ, zero, suc, List, length, Option, None, Some, Result, Ok, Err, IfOk, refl, sym, slice_get, option_or, Arrival, Datagram, Test, Out, Target, Session, Echo, first_table_failing, reflect, Answer, Event, SessionConfig, coming_to, Running, table_of, reply, Entry, ShardEvent, Own, events_of, last_tick, outcome_of, run, runs, runs_from, IsTaken, Shards, Knows, configs_at, IsCall, IsDone, coming_act, reflect_act, seen_at, Arrives, IsAnswered, packet_answer, return_answer, arrival_judged, EngineFault}
 use Rattle.std.specs.Result.{result_err}
 use Rattle.bfd_demux.specs.declared.target.Target.TheVariants.{Reflector as ReflectorAt}
 use Rattle.bfd_session.specs.declared.event.Event.TheVariants.{Packet, Returned}
 use Rattle.bfd_session.specs.Alone.{effective}
-use Rattle.bfd_session.specs.Discards.{answer_by, first_discarding, first_own_failing, judging}
+use Rattle.bfd_session.specs.Discards.{answer_by, first_own_failing, judging}
 use Rattle.bfd_session.proofs.Discarding.{discards_first, reply_first}
-use Rattle.bfd_engine.specs.declared.fault.EngineFault.{EngineFault}
 use Rattle.bfd_engine.proofs.Reaching.{dealt_event}
 
 -- a session stands where its configuration does
@@ -20,35 +19,33 @@ runs_there p es (x ∷ cs) (suc k) c e = runs_there (p + 1) es cs k c e
 pub own_answer : (last place moment : ℕ) (event : Event) (ss : List Running) (s : Running) → slice_get ss place ≡ Some s
     → (outcome_of last (Own place moment event) ss).answer ≡ reply (effective moment last s) event s
 unfolding outcome_of
-own_answer last place moment event ss s there = ap (λ (o : Option Running). (own_outcome o moment last event).answer) there
+own_answer last place moment event ss s there = cc
 
-only_own : (failing own all : Option Test) → all ≡ option_or failing own → None ≡ failing → own ≡ all
-only_own failing own all is none = sym (is ∙ ap (λ f. option_or f own) (sym none))
+only_own : {failing : Option Test} (own : Option Test) {all : Option Test} → all ≡ option_or failing own → None ≡ failing → own ≡ all
+only_own own is none = sym (cc)
 
 pub packet_is : (engine : Shards) (arrival : Arrival) (eff : ℕ) (s : Running) → None ≡ first_table_failing (table_of engine.configs engine.pool) arrival
     → reply eff (Packet arrival) s ≡ packet_answer engine arrival eff s
-packet_is engine arrival eff s none =
-    reply_first s eff arrival
-    ∙ ap answer_by (only_own (first_table_failing (table_of engine.configs engine.pool) arrival) (first_own_failing s.config (judging eff s) arrival)
-    (first_discarding (table_of engine.configs engine.pool) s.config (judging eff s) arrival)
-    (discards_first (table_of engine.configs engine.pool) s.config (judging eff s) arrival) none)
+packet_is engine arrival eff s none = cc (
+  reply_first s eff arrival,
+  only_own (first_own_failing s.config (judging eff s) arrival) (discards_first (table_of engine.configs engine.pool) s.config (judging eff s) arrival) none,
+)
 
 pub return_is : (sequence eff : ℕ) (s : Running) → reply eff (Returned sequence) s ≡ return_answer sequence eff s
 unfolding reply
 return_is sequence eff s = refl
 
-judged_call : (expected : ℕ → Running → Answer) (engine : Shards) (shard place moment : ℕ) (event : Event) (k l : Knows) (outs outs2 : List Out) (answer : Answer)
+judged_call : {expected : ℕ → Running → Answer} {engine : Shards} {shard place moment : ℕ} {event : Event} {k l : Knows} {outs outs2 : List Out} {answer : Answer}
     → ((eff : ℕ) (s : Running) → reply eff event s ≡ expected eff s) → IsTaken (configs_at engine shard) place event
     → IsCall engine shard (Own place moment event) k l outs outs2 answer → IsAnswered expected engine shard place moment event l.0 (seen_at l shard) answer
-judged_call expected engine shard place moment event k l outs outs2 answer is taken call =
+judged_call {engine} {shard} {place} {moment} {event} {k} is taken call =
     let before : List Entry = seen_at k shard ++ call.between in
-    let s = runs_there 0 (events_of before) (configs_at engine shard) place taken.config taken.there in record {
+    let s = runs_there 0 (events_of before) (configs_at engine shard) place _ taken.there in record {
       before = before;
-      last = call.turned.here ∙ ap (λ (n : ℕ). before ++ entry_of n (Own place moment event) ∷ []) (sym call.turned.number);
+      last = cc;
       session = s.0;
       there = s.1;
-      answered = call.answered ∙ (own_answer (last_tick (events_of before)) place moment event (runs (events_of before) (configs_at engine shard)) s.0 s.1
-          ∙ is (effective moment (last_tick (events_of before)) s.0) s.0);
+      answered = cc (own_answer (last_tick (events_of before)) place moment event (runs (events_of before) (configs_at engine shard)) s.0 s.1, is (effective moment (last_tick (events_of before)) s.0) s.0);
     }
 
 judged_reflected : (r : Result Datagram Test) (engine : Shards) (k l : Knows) (arrival : Arrival) (outs outs2 : List Out) (answer : Answer)
@@ -60,14 +57,10 @@ pub judged_target : (target : Target) (engine : Shards) (moment : ℕ) (arrival 
     → 0 < length engine.locks → None ≡ first_table_failing (table_of engine.configs engine.pool) arrival → Arrives engine.configs engine.pool arrival target
     → IsDone (coming_act engine moment arrival (coming_to (Some target) arrival)) engine k l outs outs2 result
     → IfOk result (λ answer. arrival_judged engine moment arrival (coming_to (Some target) arrival) l answer)
-judged_target (Session place) engine moment arrival k l outs outs2 (Ok answer) some none arrives h =
-    judged_call (packet_answer engine arrival) engine (place % length engine.locks) (place / length engine.locks) moment (Packet arrival) k l outs outs2 answer
-    (λ eff s. packet_is engine arrival eff s none)
-    (dealt_event engine place (length engine.locks) (Packet arrival) refl some arrives) h
+judged_target (Session place) engine moment arrival k l outs outs2 (Ok answer) some none arrives h = judged_call
+    (λ eff s. packet_is engine arrival eff s none) (dealt_event engine _ _ _ refl some arrives) h
 judged_target (ReflectorAt place) engine moment arrival k l outs outs2 (Ok answer) some none arrives h =
     judged_reflected (reflect engine.pool arrival) engine k l arrival outs outs2 answer h
-judged_target (Echo place sequence) engine moment arrival k l outs outs2 (Ok answer) some none arrives h =
-    judged_call (return_answer sequence) engine (place % length engine.locks) (place / length engine.locks) moment (Returned sequence) k l outs outs2 answer
-    (λ eff s. return_is sequence eff s)
-    (dealt_event engine place (length engine.locks) (Returned sequence) refl some arrives) h
+judged_target (Echo place sequence) engine moment arrival k l outs outs2 (Ok answer) some none arrives h = judged_call
+    (λ eff s. return_is sequence eff s) (dealt_event engine _ _ _ refl some arrives) h
 judged_target target engine moment arrival k l outs outs2 (Err fault) some none arrives h = tt

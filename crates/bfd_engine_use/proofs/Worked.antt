@@ -7,7 +7,6 @@ use Rattle.bfd_turn.proofs.Beginnings.{begins_itself, begins_through}
 use Rattle.bfd_engine.specs.declared.fault.EngineFault.{EngineFault}
 use Rattle.bfd_engine.specs.Engines.{Shards, Knows, IsOf, AllThere}
 use Rattle.bfd_engine.specs.Calls.{Act, Turns, Rests, IsDone, Turned, seen_at, met_word}
-use Rattle.bfd_engine.specs.Turned.{entry_of}
 use Rattle.bfd_engine.proofs.Growing.{grows, words}
 use Rattle.bfd_engine_use.specs.declared.threads.Call.{Call}
 use Rattle.bfd_engine_use.specs.declared.threads.Saw.{Saw}
@@ -27,10 +26,10 @@ grown_same k = record {
 
 pub grown_then : (k l m : Knows) → HasGrown k l → HasGrown l m → HasGrown k m
 grown_then k l m a b = record {
-  number = b.number ∙ a.number;
-  used = b.used ∙ a.used;
-  seen = λ s. begins_through (seen_at k s) (seen_at l s) (seen_at m s) (a.seen s) (b.seen s);
-  word = λ s. (let x = a.word s in let y = b.word s in omega (arith, x, y));
+  number = cc;
+  used = cc;
+  seen = λ s. begins_through (seen_at k s) _ _ (a.seen s) (b.seen s);
+  word = λ s. (omega (arith, a.word s, b.word s));
   made = λ s. b.made s ∙ a.made s;
   kept = λ s. b.kept s ∙ a.kept s;
 }
@@ -39,46 +38,44 @@ pub grown_turn : (k l : Knows) (shard : ℕ) (between new : List Entry) → Turn
 grown_turn k l shard between new t = record {
   number = t.number;
   used = t.used;
-  seen = λ s. grows k l shard s between new t;
-  word = λ s. words k l shard s between new t;
+  seen = λ s. grows k l _ s _ new t;
+  word = λ s. words k l _ s _ new t;
   made = t.made;
   kept = t.kept;
 }
 
 grown_by : (engine : Shards) (act : Act) (k l : Knows) (outs outs2 : List Out) (result : Result Answer EngineFault) → IsDone act engine k l outs outs2 result → HasGrown k l
 grown_by engine (Rests told answer) k l outs outs2 result d = subst (HasGrown k) (sym d.1) (grown_same k)
-grown_by engine (Turns shard event) k l outs outs2 (Ok answer) d = grown_turn k l shard d.between (entry_of k.0 event ∷ []) d.turned
-grown_by engine (Turns shard event) k l outs outs2 (Err fault) d = grown_turn k l shard d.between [] d.turned
+grown_by engine (Turns shard event) k l outs outs2 (Ok answer) d = grown_turn k l _ _ _ d.turned
+grown_by engine (Turns shard event) k l outs outs2 (Err fault) d = grown_turn k l _ _ [] d.turned
 
 -- calls after calls
 made_then : (engine : Shards) (xs ys : List Call) (k l m : Knows) (ss ts : List Saw) → WereMade engine xs k l ss → WereMade engine ys l m ts → WereMade engine (ys ++ xs) k m (ss ++ ts)
-made_then engine xs [] k l m ss ts a b =
-    subst (λ x. WereMade engine xs k x (ss ++ ts)) (sym b.0) (subst (WereMade engine xs k l) (sym (append-nil ss) ∙ ap (λ w. ss ++ w) (sym b.1)) a)
-made_then engine xs (y ∷ ys) k l m ss ts a b =
-    (b.0, ss ++ b.1, b.2, made_then engine xs ys k l b.0 ss b.1 a b.3, b.4, ap (λ w. ss ++ w) b.5 ∙ sym (append_assoc ss b.1 (b.2 ∷ [])))
+made_then engine xs [] k l m ss ts a b = rw b.0 (rw (← sym (append-nil ss) ∙ ap (λ w. ss ++ w) (sym b.1)) a)
+made_then engine xs (y ∷ ys) k l m ss ts a b = (b.0, ss ++ b.1, b.2, made_then engine xs ys k l b.0 ss b.1 a b.3, b.4, cc (append_assoc ss b.1 (b.2 ∷ [])))
 
 module _ (engine : Shards) where
   -- a job whose pass, calls and saw are as they were
-  pub worked_same : (a b : Job) → IsJobReady engine a → b.pass ≡ a.pass → b.room ≡ a.room → b.calls.items ≡ a.calls.items → b.saw.items ≡ a.saw.items → HasCalled engine a b
-  worked_same a b ready same room calls saw = record {
+  pub worked_same : {a : Job} (b : Job) → IsJobReady engine a → b.pass ≡ a.pass → b.room ≡ a.room → b.calls.items ≡ a.calls.items → b.saw.items ≡ a.saw.items → HasCalled engine a b
+  worked_same {a} b ready same room calls saw = record {
     ready = record {
-      of = subst (λ (k : Knows). IsOf engine k.1) (sym same) ready.of;
-      there = subst (λ (k : Knows). AllThere k.1) (sym same) ready.there;
-      room = λ s. (let r = ready.room s in omega (arith, r, room));
+      of = rw same ready.of;
+      there = rw same ready.there;
+      room = λ s. (omega (arith, ready.room s, room));
     };
     grown = subst (HasGrown a.pass) (sym same) (grown_same a.pass);
     done = [];
     news = [];
-    calls = sym calls ∙ sym (append-nil b.calls.items);
-    saw = saw ∙ sym (append-nil a.saw.items);
+    calls = cc (append-nil b.calls.items);
+    saw = cc (append-nil a.saw.items);
     made = (same, refl);
   }
 
   -- one call more
-  pub worked_one : (a b : Job) (call : Call) (saw : Saw) → IsJobReady engine a → IsOf engine b.pass.1 → AllThere b.pass.1 → b.room ≡ a.room → a.calls.items ≡ b.calls.items ++ call ∷ []
+  pub worked_one : {a : Job} (b : Job) (call : Call) (saw : Saw) → IsJobReady engine a → IsOf engine b.pass.1 → AllThere b.pass.1 → b.room ≡ a.room → a.calls.items ≡ b.calls.items ++ call ∷ []
       → b.saw.items ≡ a.saw.items ++ saw ∷ [] → WasMade engine call a.pass b.pass saw → HasCalled engine a b
-  worked_one a b call saw ready of there room calls saws made = record {
-    ready = record { of = of; there = there; room = λ s. (let r = ready.room s in omega (arith, r, room)) };
+  worked_one {a} b call saw ready of there room calls saws made = record {
+    ready = record { of = of; there = there; room = λ s. (omega (arith, ready.room s, room)) };
     grown = grown_by engine (act_of engine call) a.pass b.pass [] saw.outs.items saw.answer made;
     done = call ∷ [];
     news = saw ∷ [];
@@ -87,14 +84,14 @@ module _ (engine : Shards) where
     made = (a.pass, [], saw, (refl, refl), made, refl);
   }
 
-  pub worked_then : (a b c : Job) → HasCalled engine a b → HasCalled engine b c → HasCalled engine a c
-  worked_then a b c v w = record {
+  pub worked_then : {a b c : Job} → HasCalled engine a b → HasCalled engine b c → HasCalled engine a c
+  worked_then {a} {b} {c} v w = record {
     ready = w.ready;
-    grown = grown_then a.pass b.pass c.pass v.grown w.grown;
+    grown = grown_then _ _ _ v.grown w.grown;
     done = w.done ++ v.done;
     news = v.news ++ w.news;
-    calls = v.calls ∙ (ap (λ l. l ++ v.done) w.calls ∙ append_assoc c.calls.items w.done v.done);
-    saw = w.saw ∙ (ap (λ l. l ++ w.news) v.saw ∙ append_assoc a.saw.items v.news w.news);
+    calls = cc (append_assoc c.calls.items w.done v.done);
+    saw = cc (append_assoc a.saw.items v.news w.news);
     made = made_then engine v.done w.done a.pass b.pass c.pass v.news w.news v.made w.made;
   }
 
@@ -107,5 +104,5 @@ same_numbers (x ∷ xs) [] long each = absurd (omega (arith, long))
 same_numbers (x ∷ xs) (y ∷ ys) long each =
     ap₂ (λ n ns. n ∷ ns) (each 0 x (omega arith)) (same_numbers xs ys (omega (arith, long)) (λ i d h. each (suc i) d (omega (arith, h))))
 
-pub numbers_each : (engine : Shards) (xs ys : List Job) → length ys ≡ length xs → ((i : ℕ) (d : Job) → i < length xs → HasEndedCalls engine (get_or xs i d) (get_or ys i d)) → map number_of ys ≡ map number_of xs
-numbers_each engine xs ys long each = same_numbers xs ys long (λ i d h. (each i d h).worked.grown.number)
+pub numbers_each : {engine : Shards} (xs ys : List Job) → length ys ≡ length xs → ((i : ℕ) (d : Job) → i < length xs → HasEndedCalls engine (get_or xs i d) (get_or ys i d)) → map number_of ys ≡ map number_of xs
+numbers_each xs ys long each = same_numbers xs ys long (λ i d h. (each i d h).worked.grown.number)

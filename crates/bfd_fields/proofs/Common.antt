@@ -12,6 +12,13 @@ pub use Rattle.std.specs.Str.Parse.{ParsesUnsigned, digits_value, digits_value_a
 pub use Rattle.bfd_fields.specs.Fields.{is_number, is_printable, lines_of, number_in, onto_line, split_fields}
 pub use Rattle.bfd_fields.specs.Values.{address_by, address_of, decoded, dotted_of, octet_of, part_of, payload_of}
 unfoldable pub use Rattle.bfd_fields.specs.Values.{quad_of}
-pub use Rattle.hex.specs.Hex.{IsBytes, decode_sized, digit_or_error, encode_lower, hex_digit_value, lower_digits, pair_value, value_at}
+pub use Rattle.hex.specs.Hex.{IsBytes, decode_sized, digit_or_error, encode_lower, hex_digit_value, lower_digits, pair_value}
 unfoldable pub use Rattle.hex.specs.Hex.{decode_pairs, encode_with}
 pub use lib.Count.{count_trailing_zeros}
+pub use Rattle.std.specs.Str.{IsUtf8, bytes_eq}
+pub use Rattle.std.proofs.lemmas.List.Sums.{position_or_len_is, prefix_len-le-length, prefix_len_is}
+pub use Rattle.memchr.specs.Find.{NoneBefore, Nowhere, Passes, is_byte}
+pub use Rattle.bfd_fields.specs.Gives.{◌>>=◌}
+pub use Rattle.bfd_packet.specs.declared.arrival.Addr.TheVariants.{V4}
+pub use Rattle.hex.proofs.HexLemmas.{decode_sized-odd, decode_sized-other, decode_sized-twice}
+pub use Rattle.std.proofs.Math.Seq.{take-length}

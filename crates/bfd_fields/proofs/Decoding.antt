@@ -1,9 +1,6 @@
 -- Hexadecimal digits that are decoded into room of their own size.
-use Rattle.bfd_fields.proofs.Common.{◌≡◌, ℕ, ◌*◌, ◌≤◌, ◌==◌, false, List, ◌∷◌, length, take, Ok, refl, arith, nat_tests, codes, decode_sized, decoded, payload_of}
-use Rattle.std.specs.Str.{bytes_eq}
+use Rattle.bfd_fields.proofs.Common.{◌≡◌, ℕ, ◌*◌, ◌≤◌, ◌==◌, false, List, ◌∷◌, length, take, Ok, refl, arith, nat_tests, codes, decode_sized, decoded, payload_of, bytes_eq, ◌>>=◌, decode_sized-twice}
 use Rattle.std.proofs.Math.Bool.{and-false}
-use Rattle.hex.proofs.HexLemmas.{decode_sized-twice}
-use Rattle.bfd_fields.specs.Gives.{◌>>=◌}
 
 no_dash : (field : List ℕ) → 2 ≤ length field → bytes_eq field (codes "-") ≡ false
 no_dash (a ∷ b ∷ field) some = and-false (a == 45)

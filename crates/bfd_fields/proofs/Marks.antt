@@ -1,5 +1,5 @@
 -- Spaces that are marked by bits.
-use Rattle.bfd_fields.proofs.Common.{◌≡◌, ℕ, zero, suc, ◌+◌, ◌-◌, ◌*◌, ◌/◌, ◌^◌, ◌<◌, ◌≤◌, ◌==◌, cond, not, Bool, true, false, List, [], ◌∷◌, length, map, take, drop, refl, ap, sym, subst, ◌∙◌, arith, drop-map, drop-take, length-take-le, trailing_mask_l, position_or_len, mask_l, count_trailing_zeros}
+use Rattle.bfd_fields.proofs.Common.{◌≡◌, ℕ, zero, suc, ◌+◌, ◌-◌, ◌*◌, ◌/◌, ◌^◌, ◌<◌, ◌≤◌, ◌==◌, cond, not, Bool, true, false, List, [], ◌∷◌, length, map, take, drop, refl, sym, arith, drop-map, drop-take, length-take-le, trailing_mask_l, position_or_len, mask_l, count_trailing_zeros}
 use Rattle.std.proofs.lemmas.Nat.{shr-shr}
 use Rattle.bfd_fields.proofs.Cuts.{near}
 
@@ -7,7 +7,7 @@ none : (n : ℕ) → 0 / 2 ^ n ≡ 0
 none zero = refl
 none (suc n) =
     let e : suc n ≡ 1 + n = omega arith in
-    ap (λ k. 0 / 2 ^ k) e ∙ sym (shr-shr 0 1 n) ∙ none n
+    cc (shr-shr 0 1 n, none n)
 
 half : (b : Bool) (m : ℕ) → m ≡ (cond b 1 0 + 2 * m) / 2 ^ 1
 half true m = omega arith
@@ -19,41 +19,34 @@ behind zero ms = omega arith
 behind (suc n) [] = sym (none (suc n))
 behind (suc n) (b ∷ ms) =
     let e : 1 + n ≡ suc n = omega arith in
-    behind n ms ∙ ap (λ m. m / 2 ^ n) (half b (mask_l ms)) ∙ shr-shr (cond b 1 0 + 2 * mask_l ms) 1 n ∙ ap (λ k. (cond b 1 0 + 2 * mask_l ms) / 2 ^ k) e
+    cc (behind n ms, half b (mask_l ms), shr-shr (cond b 1 0 + 2 * mask_l ms) 1 n)
 
-found_step : (b : Bool) (place long m : ℕ) → 0 < cond b 1 0 + 2 * m → (0 < m → place < long) → cond (not b) (1 + place) 0 < suc long
-found_step true place long m some known = omega arith
-found_step false place long m some known =
-    let l = known (omega (arith, some)) in
-    omega (arith, l)
+found_step : (b : Bool) (place : ℕ) {long m : ℕ} → 0 < cond b 1 0 + 2 * m → (0 < m → place < long) → cond (not b) (1 + place) 0 < suc long
+found_step true place some known = omega arith
+found_step false place some known = omega (arith, known (omega (arith, some)))
 
 -- where a mark is, a byte passes
-pub found : (p : ℕ → Bool) (xs : List ℕ) → 0 < mask_l (map p xs) → position_or_len p xs < length xs
+found : (p : ℕ → Bool) (xs : List ℕ) → 0 < mask_l (map p xs) → position_or_len p xs < length xs
 found p [] some = absurd (omega (arith, some))
-found p (x ∷ xs) some = found_step (p x) (position_or_len p xs) (length xs) (mask_l (map p xs)) some (λ l. found p xs l)
+found p (x ∷ xs) some = found_step (p x) (position_or_len p xs) some (λ l. found p xs l)
 
 -- the marks of the bytes that are left
-pub later : (p : ℕ → Bool) (xs : List ℕ) (marked place : ℕ) → place < marked
+pub later : (p : ℕ → Bool) (xs : List ℕ) {marked place : ℕ} → place < marked
     → mask_l (map p (take marked xs)) / 2 ^ place / 2 ^ 1 ≡ mask_l (map p (take (marked - (place + 1)) (drop (place + 1) xs)))
-later p xs marked place low =
+later p xs {marked} {place} low =
     let k : ℕ = place + 1 in
     let sum : k + (marked - k) ≡ marked = omega arith in
-    shr-shr (mask_l (map p (take marked xs))) place 1
-    ∙ sym (behind k (map p (take marked xs)))
-    ∙ ap mask_l (drop-map p k (take marked xs))
-    ∙ ap (λ ys. mask_l (map p (drop k ys))) (ap (λ n. take n xs) (sym sum))
-    ∙ ap (λ ys. mask_l (map p ys)) (drop-take k (marked - k) xs)
+    cc (shr-shr (mask_l (map p (take marked xs))) place 1, behind k (map p (take marked xs)), drop-map p k (take marked xs), drop-take k (marked - k) xs)
 
 -- the first mark is at the first byte that passes
-pub placed : (byte : ℕ) (text : List ℕ) (marked marks : ℕ) → 0 < marks → marked ≤ length text → marked ≤ 64
+pub placed : (byte : ℕ) (text : List ℕ) {marked marks : ℕ} → 0 < marks → marked ≤ length text → marked ≤ 64
     → marks ≡ mask_l (map (λ other. other == byte) (take marked text))
     → (count_trailing_zeros 64 marks ≡ position_or_len (λ other. other == byte) text) × (count_trailing_zeros 64 marks < marked)
-placed byte text marked marks some within few e =
+placed byte text {marked} {marks} some within few e =
     let p : ℕ → Bool = λ other. other == byte in
     let xs : List ℕ = take marked text in
-    let long : length xs ≡ marked = length-take-le marked text within in
-    let set : 0 < mask_l (map p xs) = subst (λ m. 0 < m) e some in
-    let at : count_trailing_zeros 64 marks ≡ position_or_len p xs = ap (count_trailing_zeros 64) e ∙ trailing_mask_l p 64 xs (omega (arith, long)) set in
-    let f = found p xs set in
-    let low : count_trailing_zeros 64 marks < marked = omega (arith, at, f, long) in
+    let long = length-take-le marked text within in
+    let set : 0 < mask_l (map p xs) = rw (← e) some in
+    let at : count_trailing_zeros 64 marks ≡ position_or_len p xs = cc (trailing_mask_l p 64 xs (omega (arith, long)) set) in
+    let low : count_trailing_zeros 64 marks < marked = omega (arith, at, found p xs set, long) in
     (near byte text xs marked (count_trailing_zeros 64 marks) refl at low, low)

@@ -1,9 +1,8 @@
 -- Hexadecimal digits that are read and written side by side.
-use Rattle.bfd_fields.proofs.Common.{inl, inr, ◌++◌, ◌≡◌, ℕ, zero, suc, ◌+◌, ◌-◌, ◌*◌, ◌/◌, ◌%◌, ◌^◌, ◌<◌, ◌==◌, ◌&&◌, ◌||◌, cond, Bool, true, false, List, [], ◌∷◌, length, map, replicate, get_or, slice_index, bit_and, bit_or, eqb, eqb-true, ltb, Option, Some, None, unwrap_or, Result, Ok, Err, take, drop, refl, ap, sym, ◌∙◌, arith, and_parts, cases_eq, cases_lt, nat_tests, append_assoc, append-nil, take-append-drop, mask_l-mod, slice_split, Each1, chunk, mask_l, sel_l, top, zip2, decode_pairs, decode_sized, digit_or_error, encode_lower, encode_with, hex_digit_value, lower_digits, pair_value, value_at, address_of, dotted_of}
+use Rattle.bfd_fields.proofs.Common.{inl, inr, ◌++◌, ◌≡◌, ℕ, zero, suc, ◌+◌, ◌-◌, ◌*◌, ◌/◌, ◌%◌, ◌^◌, ◌<◌, ◌==◌, ◌&&◌, ◌||◌, cond, Bool, true, false, List, [], ◌∷◌, length, map, replicate, get_or, slice_index, bit_and, bit_or, eqb, eqb-true, ltb, Option, Some, None, unwrap_or, Result, Ok, Err, take, drop, refl, ap, sym, ◌∙◌, arith, and_parts, cases_eq, cases_lt, nat_tests, append_assoc, append-nil, take-append-drop, mask_l-mod, slice_split, Each1, chunk, mask_l, sel_l, top, zip2, decode_pairs, decode_sized, digit_or_error, encode_lower, encode_with, hex_digit_value, lower_digits, pair_value, address_of, dotted_of, decode_sized-odd, decode_sized-other}
 use Rattle.hex.specs.Hex.{◌>>=◌}
 use Rattle.hex.specs.declared.error.FromHexError.{FromHexError}
-use Rattle.hex.proofs.HexLemmas.{decode_sized-odd, decode_sized-other}
-use Rattle.hex.proofs.Pairs.{cons_byte, decode_pairs-ok_pair, decode_sized-pairs}
+use Rattle.hex.proofs.Pairs.{decode_pairs-ok_pair, decode_sized-pairs}
 use Rattle.bfd_fields.specs.Spelling.{hex_field}
 
 -- what passes for each number below n
@@ -59,16 +58,16 @@ unfolding all_below
 all_read = refl
 
 some : (o : Option ℕ) (v : ℕ) → ltb v 16 ≡ true → unwrap_or o 99 ≡ v → o ≡ Some v
-some (Some n) v small e = ap Some e
+some (Some n) v small e = cc
 some None v small e = absurd (grind (arith, nat_tests))
 
-digit : (x : ℕ) (wrong : Bool) → is_wrong x ≡ wrong → wrong ≡ false → x < 256 → (hex_digit_value x ≡ Some (value x)) × (value x < 16)
-digit x true is none low = cc none
-digit x false is none low =
+digit : {x : ℕ} (wrong : Bool) → is_wrong x ≡ wrong → wrong ≡ false → x < 256 → (hex_digit_value x ≡ Some (value x)) × (value x < 16)
+digit true is none low = cc none
+digit {x} false is none low =
     let passed : (false || (ltb (value x) 16 && eqb (unwrap_or (hex_digit_value x) 99) (value x))) ≡ true = ap (λ b. b || (ltb (value x) 16 && eqb (unwrap_or (hex_digit_value x) 99) (value x))) (sym is) ∙ at is_read 256 x all_read low in
     let parts = and_parts (ltb (value x) 16) (eqb (unwrap_or (hex_digit_value x) 99) (value x)) passed in
     let small = parts.0 in
-    (some (hex_digit_value x) (value x) small (eqb-true _ _ parts.1), grind (arith, nat_tests, small))
+    (some (hex_digit_value x) _ small (eqb-true _ _ parts.1), grind (arith, nat_tests, small))
 
 abbrev byte : ℕ → ℕ → ℕ
 byte h l = plus (h * 2 ^ 4 % 2 ^ 8) l
@@ -87,11 +86,7 @@ whole h l a b = omega arith
 
 one_pair : (h l i : ℕ) → hex_digit_value h ≡ Some (value h) → hex_digit_value l ≡ Some (value l) → value h < 16 → value l < 16
     → pair_value h l i ≡ Ok (byte (value h) (value l))
-one_pair h l i eh el lh ll =
-    let a : value_at h i ≡ Ok (value h) = ap (digit_or_error h i) eh in
-    let b : value_at l (i + 1) ≡ Ok (value l) = ap (digit_or_error l (i + 1)) el in
-    let same : value h * 16 + value l ≡ byte (value h) (value l) = whole (value h) (value l) lh ll in
-    rw (a, b) (ap Ok same)
+one_pair h l i eh el lh ll = rw (ap (digit_or_error h i) eh, ap (digit_or_error l (i + 1)) el) (ap Ok (whole _ _ lh ll))
 
 decoded : (n : ℕ) (xs : List ℕ) → length xs ≡ 2 * n → Each1 (λ x. x < 256) xs → mask_l (map (λ x. is_wrong x) xs) ≡ 0 → (i : ℕ) → decode_pairs i xs ≡ Ok (pairs xs)
 unfolding decode_pairs
@@ -99,10 +94,9 @@ decoded n [] long fit none i = refl
 decoded n (h ∷ []) long fit none i = absurd (omega arith)
 decoded zero (h ∷ l ∷ rest) long fit none i = absurd (omega arith)
 decoded (suc n) (h ∷ l ∷ rest) long fit none i =
-    let a = digit h (is_wrong h) refl (unset (is_wrong h) (omega (arith, none))) fit.0 in
-    let b = digit l (is_wrong l) refl (unset (is_wrong l) (omega (arith, none))) fit.1.0 in
-    let more = decoded n rest (omega arith) fit.1.1 (omega (arith, none)) (i + 2) in
-    decode_pairs-ok_pair i h l _ rest (one_pair h l i a.0 b.0 a.1 b.1) ∙ ap (cons_byte (byte (value h) (value l))) more
+    let a = digit _ refl (unset (is_wrong h) (omega (arith, none))) fit.0 in
+    let b = digit _ refl (unset (is_wrong l) (omega (arith, none))) fit.1.0 in
+    cc (decode_pairs-ok_pair i h l _ rest (one_pair h l i a.0 b.0 a.1 b.1), (decoded n rest (omega arith) fit.1.1 (omega (arith, none)) (i + 2)))
 
 -- the same, as it is computed
 abbrev figures : List ℕ → List ℕ
@@ -139,7 +133,7 @@ run_decoded (x0 ∷ x1 ∷ x2 ∷ x3 ∷ x4 ∷ x5 ∷ x6 ∷ x7 ∷ x8 ∷ x9 �
 run_decoded (x0 ∷ x1 ∷ x2 ∷ x3 ∷ x4 ∷ x5 ∷ x6 ∷ x7 ∷ x8 ∷ x9 ∷ x10 ∷ x11 ∷ x12 ∷ x13 ∷ x14 ∷ []) long fit none i = absurd (omega arith)
 run_decoded (x0 ∷ x1 ∷ x2 ∷ x3 ∷ x4 ∷ x5 ∷ x6 ∷ x7 ∷ x8 ∷ x9 ∷ x10 ∷ x11 ∷ x12 ∷ x13 ∷ x14 ∷ x15 ∷ []) long fit none i =
     let xs : List ℕ = x0 ∷ x1 ∷ x2 ∷ x3 ∷ x4 ∷ x5 ∷ x6 ∷ x7 ∷ x8 ∷ x9 ∷ x10 ∷ x11 ∷ x12 ∷ x13 ∷ x14 ∷ x15 ∷ [] in
-    decoded 8 xs refl (bounded xs fit) (sym (mask_l-mod (map (λ x. is_wrong x) xs) 64 (omega arith)) ∙ none) i
+    decoded 8 xs refl (bounded xs fit) (cc (mask_l-mod (map (λ x. is_wrong x) xs) 64 (omega arith))) i
 run_decoded (x0 ∷ x1 ∷ x2 ∷ x3 ∷ x4 ∷ x5 ∷ x6 ∷ x7 ∷ x8 ∷ x9 ∷ x10 ∷ x11 ∷ x12 ∷ x13 ∷ x14 ∷ x15 ∷ y ∷ ys) long fit none i = absurd (omega arith)
 
 -- ---- writing, lane by lane
@@ -164,10 +158,7 @@ encoded [] fit = refl
 encoded (x ∷ xs) fit =
     let parts = and_parts _ _ (at is_written 256 x all_written fit.0) in
     let high : written (x / 2 ^ 4) ≡ slice_index lower_digits (x / 16) = eqb-true _ _ parts.0 in
-    let low : written (bit_and x 15) ≡ slice_index lower_digits (x % 16) = eqb-true _ _ parts.1 in
-    ap (λ a. a ∷ written (bit_and x 15) ∷ digits xs) high
-    ∙ ap (λ b. slice_index lower_digits (x / 16) ∷ b ∷ digits xs) low
-    ∙ ap (λ more. slice_index lower_digits (x / 16) ∷ slice_index lower_digits (x % 16) ∷ more) (encoded xs fit.1)
+    cc ((eqb-true _ _ parts.1), encoded xs fit.1)
 
 abbrev halves : List ℕ → List ℕ
 halves xs = zip2 (λ a b. a / 2 ^ b) xs (replicate 8 4) ++ zip2 bit_and xs (replicate 8 15)
@@ -193,48 +184,39 @@ run_encoded (x0 ∷ x1 ∷ x2 ∷ x3 ∷ x4 ∷ x5 ∷ x6 ∷ x7 ∷ y ∷ ys) l
 abbrev joined : ℕ → ℕ → ℕ → Option ℕ → Option ℕ → Result (List ℕ) FromHexError → Result (List ℕ) FromHexError
 joined i h l o p r = (digit_or_error h i o >>= λ a. digit_or_error l (i + 1) p >>= λ b. Ok (a * 16 + b)) >>= λ v. r >>= λ bytes. Ok (v ∷ bytes)
 
-abbrev extend : List ℕ → Result (List ℕ) FromHexError → Result (List ℕ) FromHexError
-extend more (Ok bytes) = Ok (bytes ++ more)
-extend more (Err e) = Err e
-
-joined_more : (i j h l : ℕ) (o p : Option ℕ) (r q : Result (List ℕ) FromHexError) (front more : List ℕ)
+joined_more : (i j h l : ℕ) (o p : Option ℕ) (r q : Result (List ℕ) FromHexError) {front : List ℕ} (more : List ℕ)
     → ((bytes : List ℕ) → r ≡ Ok bytes → q ≡ Ok (bytes ++ more)) → joined i h l o p r ≡ Ok front → joined j h l o p q ≡ Ok (front ++ more)
-joined_more i j h l (Some a) (Some b) (Ok x) q front more f e = rw (f x refl) (ap (extend more) e)
-joined_more i j h l (Some a) (Some b) (Err x) q front more f e = cc e
-joined_more i j h l (Some a) None r q front more f e = cc e
-joined_more i j h l None p r q front more f e = cc e
+joined_more i j h l (Some a) (Some b) (Ok x) q more f e = rw (f x refl) (cc)
+joined_more i j h l (Some a) (Some b) (Err x) q more f e = cc e
+joined_more i j h l (Some a) None r q more f e = cc e
+joined_more i j h l None p r q more f e = cc e
 
 -- digits before digits
-pub appended : (i j : ℕ) (run rest front more : List ℕ) → decode_pairs i run ≡ Ok front → ((k : ℕ) → decode_pairs k rest ≡ Ok more) → decode_pairs j (run ++ rest) ≡ Ok (front ++ more)
+appended : (i j : ℕ) (run rest : List ℕ) {front : List ℕ} (more : List ℕ) → decode_pairs i run ≡ Ok front → ((k : ℕ) → decode_pairs k rest ≡ Ok more) → decode_pairs j (run ++ rest) ≡ Ok (front ++ more)
 unfolding decode_pairs
-appended i j [] rest front more e f = f j ∙ ap (extend more) e
-appended i j (h ∷ []) rest front more e f = cc e
-appended i j (h ∷ l ∷ run) rest front more e f =
-    joined_more i j h l (hex_digit_value h) (hex_digit_value l) (decode_pairs (i + 2) run) (decode_pairs (j + 2) (run ++ rest)) front more
-    (λ bytes same. appended (i + 2) (j + 2) run rest bytes more same f) e
+appended i j [] rest more e f = cc (f j)
+appended i j (h ∷ []) rest more e f = cc e
+appended i j (h ∷ l ∷ run) rest more e f = joined_more i j h l (hex_digit_value h) (hex_digit_value l) _ (decode_pairs (j + 2) (run ++ rest)) more
+    (λ bytes same. appended (i + 2) (j + 2) run rest more same f) e
 
 -- what decodes at one place decodes at each
-pub anywhere : (i j : ℕ) (xs bytes : List ℕ) → decode_pairs i xs ≡ Ok bytes → decode_pairs j xs ≡ Ok bytes
+anywhere : (i j : ℕ) (xs : List ℕ) {bytes : List ℕ} → decode_pairs i xs ≡ Ok bytes → decode_pairs j xs ≡ Ok bytes
 unfolding decode_pairs
-anywhere i j xs bytes e =
-    ap (decode_pairs j) (sym (append-nil xs)) ∙ appended i j xs [] bytes [] e (λ k. refl) ∙ ap Ok (append-nil bytes)
+anywhere i j xs {bytes} e = cc (append-nil xs, appended i j xs [] [] e (λ k. refl), append-nil bytes)
 
 -- one run more is decoded
-pub run_more : (digits rest run after front done next : List ℕ) → run ≡ take 16 rest → after ≡ drop 16 rest
+pub run_more : (digits rest : List ℕ) {run after front : List ℕ} (done : List ℕ) {next : List ℕ} → run ≡ take 16 rest → after ≡ drop 16 rest
     → ((i : ℕ) → decode_pairs i run ≡ Ok front) → next ≡ done ++ front
     → ((more : List ℕ) → ((i : ℕ) → decode_pairs i rest ≡ Ok more) → decode_pairs 0 digits ≡ Ok (done ++ more))
     → (more : List ℕ) → ((i : ℕ) → decode_pairs i after ≡ Ok more) → decode_pairs 0 digits ≡ Ok (next ++ more)
-run_more digits rest run after front done next head tail is put was more all =
+run_more digits rest {run} {after} {front} done head tail is put was more all =
     let whole : run ++ after ≡ rest = rw (head, tail) (take-append-drop 16 rest) in
-    was (front ++ more) (λ i. ap (decode_pairs i) (sym whole) ∙ appended i i run after front more (is i) all)
-    ∙ ap Ok (sym (append_assoc done front more) ∙ ap (λ xs. xs ++ more) (sym put))
+    cc (was (front ++ more) (λ i. cc (whole, appended i i run after more (is i) all)), append_assoc done front more)
 
 -- the digits that are left are decoded
 pub rest_more : (digits rest room was : List ℕ) (at : ℕ) → decode_pairs 0 rest ≡ Ok (drop at room) → take at room ≡ take at was
-    → ((more : List ℕ) → ((i : ℕ) → decode_pairs i rest ≡ Ok more) → decode_pairs 0 digits ≡ Ok (take at was ++ more))
-    → decode_pairs 0 digits ≡ Ok room
-rest_more digits rest room was at e front all =
-    all (drop at room) (λ i. anywhere 0 i rest (drop at room) e) ∙ ap (λ xs. Ok (xs ++ drop at room)) (sym front) ∙ ap Ok (take-append-drop at room)
+    → ((more : List ℕ) → ((i : ℕ) → decode_pairs i rest ≡ Ok more) → decode_pairs 0 digits ≡ Ok (take at was ++ more)) → decode_pairs 0 digits ≡ Ok room
+rest_more digits rest room was at e front all = cc (all (drop at room) (λ i. anywhere 0 i rest e), take-append-drop at room)
 
 -- into room of their own size
 pub sized : (digits : List ℕ) (n : ℕ) → length digits ≡ 2 * n → decode_sized digits n ≡ decode_pairs 0 digits
@@ -252,14 +234,13 @@ no_sixteen field other =
 encode_both : (xs ys : List ℕ) → encode_lower (xs ++ ys) ≡ encode_lower xs ++ encode_lower ys
 unfolding encode_with
 encode_both [] ys = refl
-encode_both (x ∷ xs) ys = ap (λ more. slice_index lower_digits (x / 16) ∷ slice_index lower_digits (x % 16) ∷ more) (encode_both xs ys)
+encode_both (x ∷ xs) ys = cc (encode_both xs ys)
 
 pub encode_more : (line rest run after whole next : List ℕ) → run ≡ take 8 rest → after ≡ drop 8 rest → next ≡ line ++ encode_lower run
     → line ++ encode_lower rest ≡ whole → next ++ encode_lower after ≡ whole
 encode_more line rest run after whole next head tail put was =
     let both : run ++ after ≡ rest = rw (head, tail) (take-append-drop 8 rest) in
-    ap (λ xs. xs ++ encode_lower after) put ∙ append_assoc line (encode_lower run) (encode_lower after)
-    ∙ ap (λ xs. line ++ xs) (sym (encode_both run after) ∙ ap encode_lower both) ∙ was
+    cc (append_assoc line (encode_lower run) (encode_lower after), encode_both run after)
 
 pub some_hex : (bytes : List ℕ) → (length bytes ≡ 0 → ⊥) → encode_lower bytes ≡ hex_field bytes
 some_hex [] some = absurd (some refl)

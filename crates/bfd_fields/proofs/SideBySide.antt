@@ -1,5 +1,5 @@
 -- Bytes that are looked at side by side.
-use Rattle.bfd_fields.proofs.Common.{◌≡◌, ℕ, zero, suc, ◌-◌, ◌+◌, ◌<◌, ◌%◌, ◌^◌, ◌≤◌, cond, Bool, true, false, List, [], ◌∷◌, length, map, replicate, take, drop, eqb, eqb-true, ltb, ltb-false, refl, ap, sym, ◌∙◌, arith, and_parts, nat_tests, drop-drop, length-map, length-zip2, mask_l-mod, list_all, mask_l, top, zip2, is_printable}
+use Rattle.bfd_fields.proofs.Common.{◌≡◌, ℕ, zero, suc, ◌-◌, ◌+◌, ◌<◌, ◌%◌, ◌^◌, ◌≤◌, cond, Bool, true, false, List, [], ◌∷◌, length, map, replicate, take, drop, eqb, eqb-true, ltb, ltb-false, refl, arith, and_parts, nat_tests, drop-drop, length-map, length-zip2, mask_l-mod, list_all, mask_l, top, zip2, is_printable}
 
 -- what a comparison leaves in a lane
 abbrev below : ℕ → ℕ → ℕ
@@ -24,15 +24,12 @@ by_lanes (x ∷ xs) low high =
 
 -- a mask of 32 lanes has 32 bits
 small : (xs ys : List ℕ) → length xs ≡ 32 → length ys ≡ 32 → mask_of xs ys % 2 ^ 64 ≡ mask_of xs ys
-small xs ys p q = mask_l-mod _ 64 (omega (arith, length-map (zip2 below xs ys) (top 7), length-zip2 below xs ys (p ∙ sym q)))
+small xs ys p q = mask_l-mod _ 64 (omega (arith, length-map (zip2 below xs ys) (top 7), length-zip2 below xs ys (cc)))
 
 -- a run none of whose bytes is below the space, and none above the tilde
 pub by_masks : (xs : List ℕ) → length xs ≡ 32 → mask_of xs (replicate 32 32) % 2 ^ 64 ≡ 0 → eqb (mask_of (replicate 32 126) xs % 2 ^ 64) 0 ≡ true
     → list_all is_printable xs ≡ true
-by_masks xs long low high =
-    by_lanes xs
-    (ap (λ n. mask_of xs (replicate n 32)) long ∙ sym (small xs (replicate 32 32) long refl) ∙ low)
-    (ap (λ n. mask_of (replicate n 126) xs) long ∙ sym (small (replicate 32 126) xs refl long) ∙ eqb-true _ _ high)
+by_masks xs long low high = by_lanes xs (cc (small xs (replicate 32 32) long refl)) (cc (small (replicate 32 126) xs refl long, eqb-true _ _ high))
 
 -- past bytes that may stand in a line
 passed : (rest : List ℕ) (n : ℕ) → list_all is_printable (take n rest) ≡ true → list_all is_printable (drop n rest) ≡ list_all is_printable rest
@@ -43,9 +40,9 @@ passed (byte ∷ rest) (suc n) all =
     rw here (passed rest n (grind (arith, nat_tests)))
 
 -- past a run whose bytes may stand in a line
-pub run_passed : (rest run after : List ℕ) (n : ℕ) → run ≡ take n rest → after ≡ drop n rest → list_all is_printable run ≡ true
+pub run_passed : (rest : List ℕ) {run after : List ℕ} (n : ℕ) → run ≡ take n rest → after ≡ drop n rest → list_all is_printable run ≡ true
     → list_all is_printable after ≡ list_all is_printable rest
-run_passed rest run after n front behind all = rw behind (passed rest n (ap (λ xs. list_all is_printable xs) (sym front) ∙ all))
+run_passed rest n front behind all = rw behind (passed rest n (cc))
 
 -- behind bytes that may stand in a line
 behind : (n : ℕ) (xs : List ℕ) → list_all is_printable xs ≡ true → list_all is_printable (drop n xs) ≡ true
@@ -54,16 +51,15 @@ behind (suc n) [] all = refl
 behind (suc n) (x ∷ xs) all = behind n xs (and_parts (is_printable x) (list_all is_printable xs) all).1
 
 -- the end of a line whose last run may stand in it
-pub end_passed : (line rest : List ℕ) → rest ≡ drop (length line - length rest) line → length rest < 32 → length rest ≤ length line
+pub end_passed : (line : List ℕ) {rest : List ℕ} → rest ≡ drop (length line - length rest) line → length rest < 32 → length rest ≤ length line
     → list_all is_printable (drop (length line - 32) line) ≡ true → list_all is_printable rest ≡ true
-end_passed line rest is short within all =
+end_passed line {rest} is short within all =
     let sum : length line - 32 + (length line - length rest - (length line - 32)) ≡ length line - length rest = omega arith in
-    let there = behind (length line - length rest - (length line - 32)) (drop (length line - 32) line) all in
-    ap (λ xs. list_all is_printable xs) (is ∙ ap (λ n. drop n line) (sym sum) ∙ sym (drop-drop (length line - length rest - (length line - 32)) (length line - 32) line)) ∙ there
+    cc (drop-drop (length line - length rest - (length line - 32)) (length line - 32) line, behind (length line - length rest - (length line - 32)) (drop (length line - 32) line) all)
 
 -- what is left behind one run more
-pub left_more : (line rest after : List ℕ) → rest ≡ drop (length line - length rest) line → length rest ≤ length line → after ≡ drop 32 rest → length after + 32 ≡ length rest
+pub left_more : (line : List ℕ) {rest after : List ℕ} → rest ≡ drop (length line - length rest) line → length rest ≤ length line → after ≡ drop 32 rest → length after + 32 ≡ length rest
     → after ≡ drop (length line - length after) line
-left_more line rest after is within e long =
+left_more line {rest} {after} is within e long =
     let sum : length line - length rest + 32 ≡ length line - length after = omega arith in
-    e ∙ ap (drop 32) is ∙ drop-drop 32 (length line - length rest) line ∙ ap (λ n. drop n line) sum
+    cc (drop-drop 32 (length line - length rest) line)

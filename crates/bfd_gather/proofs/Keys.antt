@@ -1,14 +1,13 @@
 -- The order of keys.
-use Rattle.bfd_gather.proofs.Common.{◌≡◌, ◌<◌, ◌==◌, ◌&&◌, ◌||◌, ℕ, true, false, arith, nat_lt, Key, precedes}
-use Rattle.std.proofs.lemmas.Bool.Decides.{nat_tests}
+use Rattle.bfd_gather.proofs.Common.{◌≡◌, ◌<◌, ◌==◌, ◌&&◌, ◌||◌, ℕ, true, false, arith, nat_lt, Key, precedes, nat_tests}
 
 -- the piece of an earlier event stands before
 pub earlier : (a b : Key) → a.event < b.event → precedes a b ≡ true
 earlier a b h = grind (arith, nat_tests)
 
 -- of one event the piece of a lower discriminator stands before
-pub lower : (a b : Key) → a.event ≡ b.event → a.discr < b.discr → precedes a b ≡ true
-lower a b e h = grind (arith, nat_tests)
+pub lower : {a b : Key} → a.event ≡ b.event → a.discr < b.discr → precedes a b ≡ true
+lower e h = grind (arith, nat_tests)
 
 pub itself : (a : Key) → precedes a a ≡ false
 itself a = grind (arith, nat_tests)

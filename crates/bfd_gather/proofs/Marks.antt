@@ -1,12 +1,6 @@
 -- A part's marks and text, as pieces are told and taken.
-use Rattle.bfd_gather.proofs.Common.{◌≡◌, ◌≤◌, ◌<◌, ◌+◌, ◌++◌, ℕ, suc, zero, List, [], ◌∷◌, length, take, drop, map, get_or, subst, Result, Ok, Err, OnOk, OnErr, drop-cons, refl, sym, ap, ◌∙◌, append_assoc, append-nil, arith, length-append, length-drop, AllByRecursion, flat_map, take-append-le, drop-append-le, map-append, sum_by-append, sum_by-cons, Out, Outcome, event_lines, item_line, packets_sent_by, Mark, Piece, texts, key, whole_piece, item_piece, pieces_at, mark_key, mark, mark_of, IsPart}
-use Rattle.std.specs.List.{sum_by}
+use Rattle.bfd_gather.proofs.Common.{◌≡◌, ◌≤◌, ◌<◌, ◌+◌, ◌++◌, ℕ, suc, zero, List, [], ◌∷◌, length, take, drop, map, get_or, Result, Ok, Err, OnOk, OnErr, drop-cons, refl, sym, ap, ◌∙◌, append_assoc, append-nil, arith, length-append, length-drop, AllByRecursion, flat_map, take-append-le, drop-append-le, map-append, sum_by-append, sum_by-cons, Out, Outcome, event_lines, item_line, packets_sent_by, Mark, Piece, texts, key, whole_piece, item_piece, pieces_at, mark, mark_of, IsPart, sum_by, Handled, flat_map-append, named, each_more, item_some}
 use Rattle.std.proofs.Math.Seq.{take-append_seam, drop-append_seam, take-add}
-use Rattle.bfd_session.specs.declared.event.Answer.TheVariants.{Handled}
-use Rattle.std.proofs.lemmas.Grind.{flat_map-append}
-use Rattle.bfd_rules.specs.Names.{named}
-use Rattle.bfd_script.proofs.Elements.{each_more}
-use Rattle.bfd_script.proofs.Sizes.{item_some}
 use Rattle.bfd_gather.proofs.Sizes.{event_some}
 
 -- each packet that the piece counts has a byte of text
@@ -18,29 +12,25 @@ abbrev pub long_of : List Mark → ℕ
 long_of ms = sum_by (λ m. m.long) ms
 
 -- pieces that are marked are pieces again
-pub pieces_back : (ps : List Piece) → pieces_at (map mark_of ps) (texts ps) ≡ ps
+pieces_back : (ps : List Piece) → pieces_at (map mark_of ps) (texts ps) ≡ ps
 pieces_back [] = refl
 pieces_back (p ∷ ps) =
     ap (λ t. record { key = p.key; text = t; txs = p.txs; drops = p.drops } ∷ pieces_at (map mark_of ps) (drop (length p.text) (texts (p ∷ ps)))) (take-append_seam p.text (texts ps))
     ∙ (ap (λ t. p ∷ pieces_at (map mark_of ps) t) (drop-append_seam p.text (texts ps)) ∙ ap (λ qs. p ∷ qs) (pieces_back ps))
 
 -- marks that have all the text, and others behind them
-pub pieces_append : (ms ns : List Mark) (t u : List ℕ) → long_of ms ≡ length t → pieces_at (ms ++ ns) (t ++ u) ≡ pieces_at ms t ++ pieces_at ns u
+pieces_append : (ms ns : List Mark) (t u : List ℕ) → long_of ms ≡ length t → pieces_at (ms ++ ns) (t ++ u) ≡ pieces_at ms t ++ pieces_at ns u
 pieces_append [] ns [] u h = refl
 pieces_append [] ns (x ∷ t) u h = absurd (omega (arith, h))
 pieces_append (m ∷ ms) ns t u h =
-    let s = sum_by-cons (λ (n : Mark). n.long) m ms in
+    let s = sum_by-cons (λ n. n.long) m ms in
     let fits : m.long ≤ length t = omega (arith, h, s) in
-    let left : long_of ms ≡ length (drop m.long t) = omega (arith, h, s, length-drop m.long t) in
-    ap (λ v. record { key = mark_key m; text = v; txs = m.txs; drops = m.drops } ∷ pieces_at (ms ++ ns) (drop m.long (t ++ u))) (take-append-le m.long t u fits)
-    ∙ (ap (λ v. record { key = mark_key m; text = take m.long t; txs = m.txs; drops = m.drops } ∷ pieces_at (ms ++ ns) v) (drop-append-le m.long t u fits)
-    ∙ ap (λ qs. record { key = mark_key m; text = take m.long t; txs = m.txs; drops = m.drops } ∷ qs) (pieces_append ms ns (drop m.long t) u left))
+    cc (take-append-le m.long t u fits, drop-append-le m.long t u fits, pieces_append ms ns (drop m.long t) u (omega (arith, h, s, length-drop m.long t)))
 
 -- marks have all of their pieces' text
-pub long_marks : (ps : List Piece) → long_of (map mark_of ps) ≡ length (texts ps)
+long_marks : (ps : List Piece) → long_of (map mark_of ps) ≡ length (texts ps)
 long_marks [] = refl
-long_marks (p ∷ ps) =
-    omega (arith, long_marks ps, sum_by-cons (λ (n : Mark). n.long) (mark_of p) (map mark_of ps), length-append p.text (texts ps))
+long_marks (p ∷ ps) = omega (arith, long_marks ps, sum_by-cons (λ n. n.long) (mark_of p) (map mark_of ps), length-append p.text (texts ps))
 
 all_append : (ms : List Mark) (ps : List Piece) → AllByRecursion (λ m. m.txs + m.drops ≤ m.long) ms → AllByRecursion HasText ps
     → AllByRecursion (λ m. m.txs + m.drops ≤ m.long) (ms ++ map mark_of ps)
@@ -49,10 +39,10 @@ all_append [] (p ∷ ps) h k = (k.0, all_append [] ps tt k.1)
 all_append (m ∷ ms) ps h k = (h.0, all_append ms ps h.1 k)
 
 -- a part where these pieces more were told
-pub part_more : (ms ms2 : List Mark) (t t2 : List ℕ) (next at : ℕ) (ps : List Piece) → IsPart ms t next at → ms2 ≡ ms ++ map mark_of ps → t2 ≡ t ++ texts ps
+part_more : (ms ms2 : List Mark) (t t2 : List ℕ) (next at : ℕ) (ps : List Piece) → IsPart ms t next at → ms2 ≡ ms ++ map mark_of ps → t2 ≡ t ++ texts ps
     → AllByRecursion HasText ps → IsPart ms2 t2 next at
 part_more ms ms2 t t2 next at ps s m e k =
-    subst (λ xs. IsPart xs t2 next at) (sym m) (subst (λ ys. IsPart (ms ++ map mark_of ps) ys next at) (sym e) (record {
+    rw m (rw e (record {
       inside = omega (arith, s.inside, length-append ms (map mark_of ps));
       whole = omega (
         arith,
@@ -60,21 +50,17 @@ part_more ms ms2 t t2 next at ps s m e k =
         length-append t (texts ps),
         long_marks ps,
         ap long_of (drop-append-le next ms (map mark_of ps) s.inside),
-        sum_by-append (λ (n : Mark). n.long) (drop next ms) (map mark_of ps),
+        sum_by-append (λ n. n.long) (drop next ms) (map mark_of ps),
       );
       counts = all_append ms ps s.counts k;
     }))
 
 -- and what it tells then
-pub told_more : (ms ms2 : List Mark) (t t2 : List ℕ) (next at : ℕ) (ps : List Piece) → IsPart ms t next at → ms2 ≡ ms ++ map mark_of ps → t2 ≡ t ++ texts ps
+told_more : (ms ms2 : List Mark) (t t2 : List ℕ) (next at : ℕ) (ps : List Piece) → IsPart ms t next at → ms2 ≡ ms ++ map mark_of ps → t2 ≡ t ++ texts ps
     → pieces_at (drop next ms2) (drop at t2) ≡ pieces_at (drop next ms) (drop at t) ++ ps
 told_more ms ms2 t t2 next at ps s m e =
     let fits : at ≤ length t = omega (arith, s.whole) in
-    let left : long_of (drop next ms) ≡ length (drop at t) = omega (arith, s.whole, length-drop at t) in
-    ap (λ xs. pieces_at (drop next xs) (drop at t2)) m ∙ (ap (λ ys. pieces_at (drop next (ms ++ map mark_of ps)) (drop at ys)) e
-    ∙ (ap (λ xs. pieces_at xs (drop at (t ++ texts ps))) (drop-append-le next ms (map mark_of ps) s.inside)
-    ∙ (ap (λ ys. pieces_at (drop next ms ++ map mark_of ps) ys) (drop-append-le at t (texts ps) fits)
-    ∙ (pieces_append (drop next ms) (map mark_of ps) (drop at t) (texts ps) left ∙ ap (λ qs. pieces_at (drop next ms) (drop at t) ++ qs) (pieces_back ps)))))
+    cc (drop-append-le next ms (map mark_of ps) s.inside, drop-append-le at t (texts ps) fits, pieces_append (drop next ms) (map mark_of ps) (drop at t) (texts ps) (omega (arith, s.whole, length-drop at t)), pieces_back ps)
 
 -- marks that have all of this text, and so many packets that each has a byte of it
 pub record HasLeft (ms : List Mark) (t : List ℕ) : Type 0 where
@@ -94,9 +80,9 @@ has_left ms t next at s = record {
 }
 
 -- a part where this was told behind it
-pub part_left : (ms ms2 ns : List Mark) (t t2 u : List ℕ) (next at : ℕ) → IsPart ms t next at → HasLeft ns u → ms2 ≡ ms ++ ns → t2 ≡ t ++ u → IsPart ms2 t2 next at
+part_left : (ms ms2 ns : List Mark) (t t2 u : List ℕ) (next at : ℕ) → IsPart ms t next at → HasLeft ns u → ms2 ≡ ms ++ ns → t2 ≡ t ++ u → IsPart ms2 t2 next at
 part_left ms ms2 ns t t2 u next at s l m e =
-    subst (λ xs. IsPart xs t2 next at) (sym m) (subst (λ ys. IsPart (ms ++ ns) ys next at) (sym e) (record {
+    rw m (rw e (record {
       inside = omega (arith, s.inside, length-append ms ns);
       whole = omega (
         arith,
@@ -104,20 +90,16 @@ part_left ms ms2 ns t t2 u next at s l m e =
         length-append t u,
         l.whole,
         ap long_of (drop-append-le next ms ns s.inside),
-        sum_by-append (λ (n : Mark). n.long) (drop next ms) ns,
+        sum_by-append (λ n. n.long) (drop next ms) ns,
       );
-      counts = each_more (λ (n : Mark). n.txs + n.drops ≤ n.long) ms ns s.counts l.counts;
+      counts = each_more (λ n. n.txs + n.drops ≤ n.long) ms ns s.counts l.counts;
     }))
 
-pub told_left : (ms ms2 ns : List Mark) (t t2 u : List ℕ) (next at : ℕ) → IsPart ms t next at → ms2 ≡ ms ++ ns → t2 ≡ t ++ u
+told_left : (ms ms2 ns : List Mark) (t t2 u : List ℕ) (next at : ℕ) → IsPart ms t next at → ms2 ≡ ms ++ ns → t2 ≡ t ++ u
     → pieces_at (drop next ms2) (drop at t2) ≡ pieces_at (drop next ms) (drop at t) ++ pieces_at ns u
 told_left ms ms2 ns t t2 u next at s m e =
     let fits : at ≤ length t = omega (arith, s.whole) in
-    let left : long_of (drop next ms) ≡ length (drop at t) = omega (arith, s.whole, length-drop at t) in
-    ap (λ xs. pieces_at (drop next xs) (drop at t2)) m ∙ (ap (λ ys. pieces_at (drop next (ms ++ ns)) (drop at ys)) e
-    ∙ (ap (λ xs. pieces_at xs (drop at (t ++ u))) (drop-append-le next ms ns s.inside)
-    ∙ (ap (λ ys. pieces_at (drop next ms ++ ns) ys) (drop-append-le at t u fits)
-    ∙ pieces_append (drop next ms) ns (drop at t) u left)))
+    cc (drop-append-le next ms ns s.inside, drop-append-le at t u fits, pieces_append (drop next ms) ns (drop at t) u (omega (arith, s.whole, length-drop at t)))
 
 -- the pieces of a tick and of an event have text
 pub items_have : (n : ℕ) (os : List Out) → AllByRecursion HasText (map (item_piece n) os)
@@ -130,14 +112,13 @@ whole_has n o = event_some n o
 -- a list of one output
 pub one_text : (n : ℕ) (os : List Out) → event_lines n (record { items = os; answer = Handled }) ≡ texts (map (item_piece n) os)
 one_text n [] = refl
-one_text n (o ∷ os) = append_assoc (item_line n o) (flat_map (item_line n) os) [] ∙ ap (λ t. item_line n o ++ t) (one_text n os)
+one_text n (o ∷ os) = cc (append_assoc (item_line n o) (flat_map (item_line n) os) [], one_text n os)
 
 pub one_mark : (n : ℕ) (os : List Out) (o : Out) (long txs drops : ℕ) (m : Mark) → length os ≡ 1 → o ≡ get_or os 0 o
     → long ≡ length (event_lines n (record { items = os; answer = Handled })) → txs ≡ packets_sent_by o → drops ≡ 0 → m ≡ mark (key n (named o)) long txs drops → m ∷ [] ≡ map mark_of (map (item_piece n) os)
 one_mark n (x ∷ []) o long txs drops m h e l t d is =
-    let here : long ≡ length (item_line n x) = l ∙ (ap length (one_text n (x ∷ [])) ∙ ap length (append-nil (item_line n x))) in
-    ap (λ (y : Mark). y ∷ []) (is ∙ (ap (λ y. mark (key n (named y)) long txs drops) e ∙ (ap (λ y. mark (key n (named x)) y txs drops) here
-    ∙ (ap (λ y. mark (key n (named x)) (length (item_line n x)) y drops) (t ∙ ap packets_sent_by e) ∙ ap (λ y. mark (key n (named x)) (length (item_line n x)) (packets_sent_by x) y) d))))
+    let here : long ≡ length (item_line n x) = cc (one_text n (x ∷ []), append-nil (item_line n x)) in
+    cc
 one_mark n os o long txs drops m h e l t d is = absurd (omega (arith, h))
 
 -- a part has a mark for each piece
@@ -149,14 +130,13 @@ pub has_next : (ms : List Mark) (t : List ℕ) (next at : ℕ) (ps : List Piece)
 has_next ms t next at ps e h = omega (arith, h, ap length e, long_at (drop next ms) (drop at t), length-drop next ms)
 
 -- the first mark that is left, and those behind it
-rest_marks : (ms : List Mark) (next : ℕ) (m : Mark) → next < length ms → m ≡ get_or ms next m → drop next ms ≡ m ∷ drop (next + 1) ms
-rest_marks ms next m h e =
-    drop-cons ms next m h ∙ (ap (λ (k : ℕ). get_or ms next m ∷ drop k ms) (let one : suc next ≡ next + 1 = omega arith in one)
-    ∙ ap (λ (x : Mark). x ∷ drop (next + 1) ms) (sym e))
+rest_marks : (ms : List Mark) {next : ℕ} {m : Mark} → next < length ms → m ≡ get_or ms next m → drop next ms ≡ m ∷ drop (next + 1) ms
+rest_marks ms {next} {m} h e =
+    drop-cons ms next m h ∙ (ap (λ k. get_or ms next m ∷ drop k ms) (let one : suc next ≡ next + 1 = omega arith in one)
+    ∙ ap (λ x. x ∷ drop (next + 1) ms) (sym e))
 
 pub first_fits : (ms : List Mark) (t : List ℕ) (next at : ℕ) (m : Mark) → IsPart ms t next at → next < length ms → m ≡ get_or ms next m → at + m.long ≤ length t
-first_fits ms t next at m s h e =
-    omega (arith, s.whole, ap long_of (rest_marks ms next m h e), sum_by-cons (λ (n : Mark). n.long) m (drop (next + 1) ms))
+first_fits ms t next at m s h e = omega (arith, s.whole, ap long_of (rest_marks ms h e), sum_by-cons (λ n. n.long) m (drop (next + 1) ms))
 
 -- pieces more were told, or none
 module _ {T E : Type 0} where
@@ -164,44 +144,37 @@ module _ {T E : Type 0} where
       → OnOk r (ms2 ≡ ms ++ map mark_of ps) → OnOk r (t2 ≡ t ++ texts ps) → OnErr r (ms2 ≡ ms) → OnErr r (t2 ≡ t)
       → AllByRecursion HasText ps → IsPart ms2 t2 next at
   part_by (Ok x) ms ms2 t t2 next at ps s m e n f k = part_more ms ms2 t t2 next at ps s m e k
-  part_by (Err x) ms ms2 t t2 next at ps s m e n f k =
-      subst (λ xs. IsPart xs t2 next at) (sym n) (subst (λ ys. IsPart ms ys next at) (sym f) s)
+  part_by (Err x) ms ms2 t t2 next at ps s m e n f k = rw n (rw f s)
 
   pub told_by : (r : Result T E) (ms ms2 : List Mark) (t t2 : List ℕ) (next at : ℕ) (ps before : List Piece) → IsPart ms t next at → pieces_at (drop next ms) (drop at t) ≡ before
       → OnOk r (ms2 ≡ ms ++ map mark_of ps) → OnOk r (t2 ≡ t ++ texts ps) → OnOk r (pieces_at (drop next ms2) (drop at t2) ≡ before ++ ps)
-  told_by (Ok x) ms ms2 t t2 next at ps before s v m e = told_more ms ms2 t t2 next at ps s m e ∙ ap (λ qs. qs ++ ps) v
+  told_by (Ok x) ms ms2 t t2 next at ps before s v m e = cc (told_more ms ms2 t t2 next at ps s m e)
   told_by (Err x) ms ms2 t t2 next at ps before s v m e = tt
 
   -- what is left of another part was told, or nothing
   pub left_by : (r : Result T E) (ms ms2 ns : List Mark) (t t2 u : List ℕ) (next at : ℕ) → IsPart ms t next at → HasLeft ns u
       → OnOk r (ms2 ≡ ms ++ ns) → OnOk r (t2 ≡ t ++ u) → OnErr r (ms2 ≡ ms) → OnErr r (t2 ≡ t) → IsPart ms2 t2 next at
   left_by (Ok x) ms ms2 ns t t2 u next at s l m e n f = part_left ms ms2 ns t t2 u next at s l m e
-  left_by (Err x) ms ms2 ns t t2 u next at s l m e n f =
-      subst (λ xs. IsPart xs t2 next at) (sym n) (subst (λ ys. IsPart ms ys next at) (sym f) s)
+  left_by (Err x) ms ms2 ns t t2 u next at s l m e n f = rw n (rw f s)
 
   pub left_told : (r : Result T E) (ms ms2 ns : List Mark) (t t2 u : List ℕ) (next at : ℕ) (before more : List Piece) → IsPart ms t next at
       → pieces_at (drop next ms) (drop at t) ≡ before → pieces_at ns u ≡ more
       → OnOk r (ms2 ≡ ms ++ ns) → OnOk r (t2 ≡ t ++ u) → OnOk r (pieces_at (drop next ms2) (drop at t2) ≡ before ++ more)
-  left_told (Ok x) ms ms2 ns t t2 u next at before more s v w m e =
-      told_left ms ms2 ns t t2 u next at s m e ∙ (ap (λ qs. qs ++ pieces_at ns u) v ∙ ap (λ qs. before ++ qs) w)
+  left_told (Ok x) ms ms2 ns t t2 u next at before more s v w m e = cc (told_left ms ms2 ns t t2 u next at s m e)
   left_told (Err x) ms ms2 ns t t2 u next at before more s v w m e = tt
 
   -- one piece's text is the text of it alone
   pub single : (r : Result T E) (t t2 : List ℕ) (p : Piece) → OnOk r (t2 ≡ t ++ p.text) → OnOk r (t2 ≡ t ++ texts (p ∷ []))
-  single (Ok x) t t2 p e = e ∙ ap (λ u. t ++ u) (sym (append-nil p.text))
+  single (Ok x) t t2 p e = cc (append-nil p.text)
   single (Err x) t t2 p e = tt
 
 -- one output more of a tick
 pub texts_next : (n at w : ℕ) (os : List Out) (t u v : List ℕ) → w ≡ 1 → u ≡ t ++ texts (map (item_piece n) (take at os))
     → v ≡ u ++ texts (map (item_piece n) (take w (drop at os))) → v ≡ t ++ texts (map (item_piece n) (take (at + 1) os))
 texts_next n at w os t u v one e f =
-    f ∙ (ap (λ x. x ++ texts (map (item_piece n) (take w (drop at os)))) e ∙ (append_assoc t (texts (map (item_piece n) (take at os))) (texts (map (item_piece n) (take w (drop at os))))
-    ∙ ap (λ x. t ++ x) (sym (flat_map-append (λ (p : Piece). p.text) (map (item_piece n) (take at os)) (map (item_piece n) (take w (drop at os))))
-    ∙ ap texts (sym (map-append (item_piece n) (take at os) (take w (drop at os))) ∙ ap (map (item_piece n)) (sym (take-add at w os) ∙ ap (λ k. take (at + k) os) one)))))
+    cc (append_assoc t (texts (map (item_piece n) (take at os))) (texts (map (item_piece n) (take w (drop at os)))), flat_map-append (λ p. p.text) (map (item_piece n) (take at os)) (map (item_piece n) (take w (drop at os))), map-append (item_piece n) (take at os) (take w (drop at os)), take-add at w os)
 
 pub marks_next : (n at w : ℕ) (os : List Out) (t u v : List Mark) → w ≡ 1 → u ≡ t ++ map mark_of (map (item_piece n) (take at os))
     → v ≡ u ++ map mark_of (map (item_piece n) (take w (drop at os))) → v ≡ t ++ map mark_of (map (item_piece n) (take (at + 1) os))
 marks_next n at w os t u v one e f =
-    f ∙ (ap (λ x. x ++ map mark_of (map (item_piece n) (take w (drop at os)))) e ∙ (append_assoc t (map mark_of (map (item_piece n) (take at os))) (map mark_of (map (item_piece n) (take w (drop at os))))
-    ∙ ap (λ x. t ++ x) (sym (map-append mark_of (map (item_piece n) (take at os)) (map (item_piece n) (take w (drop at os))))
-    ∙ ap (map mark_of) (sym (map-append (item_piece n) (take at os) (take w (drop at os))) ∙ ap (map (item_piece n)) (sym (take-add at w os) ∙ ap (λ k. take (at + k) os) one)))))
+    cc (append_assoc t (map mark_of (map (item_piece n) (take at os))) (map mark_of (map (item_piece n) (take w (drop at os)))), map-append mark_of (map (item_piece n) (take at os)) (map (item_piece n) (take w (drop at os))), map-append (item_piece n) (take at os) (take w (drop at os)), take-add at w os)

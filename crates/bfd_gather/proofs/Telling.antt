@@ -1,9 +1,6 @@
 -- What the shards tell is what the whole table gives, dealt out.
-use Rattle.bfd_gather.proofs.Common.{◌≡◌, ◌≢◌, ◌⊎◌, inl, inr, ◌<◌, ◌≤◌, ◌+◌, ◌-◌, ◌*◌, ◌/◌, ◌%◌, ◌==◌, ◌++◌, max, ℕ, zero, suc, Bool, List, [], ◌∷◌, map, refl, sym, ap, ◌∙◌, subst, arith, None, Some, if◌then◌else◌, cons_option, filter, flat_map, map-append, cases_eq, eq-eqb, ne_eqb, Out, Event, tick_items, Running, ShardEvent, Own, Tick, share, later, moved, outcome_of, Piece, whole_piece, item_piece, event_pieces, Happening, Apart, Among, numbered, queue, shard_tells, told_apart, Dealt, deal, pieces_in}
+use Rattle.bfd_gather.proofs.Common.{◌≡◌, ◌≢◌, ◌⊎◌, inl, inr, ◌<◌, ◌+◌, ◌-◌, ◌*◌, ◌/◌, ◌%◌, ◌==◌, ◌++◌, max, ℕ, zero, suc, Bool, List, [], ◌∷◌, map, refl, sym, ap, ◌∙◌, subst, arith, None, Some, if◌then◌else◌, cons_option, filter, flat_map, map-append, cases_eq, eq-eqb, ne_eqb, Out, Event, tick_items, Running, ShardEvent, Own, Tick, share, later, moved, outcome_of, Piece, whole_piece, item_piece, event_pieces, Happening, Apart, Among, numbered, queue, shard_tells, told_apart, Dealt, deal, pieces_in, Numbered, div-add-mod', mul-le, mul-add-mod_self_left, mod-lt, mod-eq_of_lt}
 use Rattle.std.proofs.lemmas.List.Elements.{filter-append}
-use Rattle.std.proofs.lemmas.Nat.{div-add-mod', mul-le}
-use Rattle.std.proofs.Math.Nat.{mul-add-mod_self_left, mod-lt, mod-eq_of_lt}
-use Rattle.bfd_gather.specs.declared.queue.Numbered.{Numbered}
 use Rattle.bfd_gather.proofs.Sharing.{own_here, own_gives, own_away, tick_here}
 use Rattle.bfd_gather.proofs.Taking.{here, away}
 
@@ -23,75 +20,60 @@ deal_all n number last [] ss = []
 deal_all n number last (Apart o ∷ hs) ss = deal n (whole_piece number o) ∷ deal_all n (number + 1) last hs ss
 deal_all n number last (Among e ∷ hs) ss = deal_event n number last e ss ++ deal_all n (number + 1) (later last e) hs (moved last e ss)
 
-pub in_append : (r : ℕ) (ds es : List Dealt) → pieces_in r (ds ++ es) ≡ pieces_in r ds ++ pieces_in r es
-in_append r ds es =
-    ap (map (λ (d : Dealt). d.piece)) (filter-append (λ (d : Dealt). d.part == r) ds es)
-    ∙ map-append (λ (d : Dealt). d.piece) (filter (λ d. d.part == r) ds) (filter (λ d. d.part == r) es)
+in_append : (r : ℕ) (ds es : List Dealt) → pieces_in r (ds ++ es) ≡ pieces_in r ds ++ pieces_in r es
+in_append r ds es = cc (filter-append (λ d. d.part == r) ds es, map-append (λ d. d.piece) (filter (λ d. d.part == r) ds) (filter (λ d. d.part == r) es))
 
 -- the places of a table in turn
 
 -- after as many places as there are shards it is the same shard's turn
-turn_over : (n k : ℕ) → 0 < n → (k + 1 + (n - 1)) % n ≡ k % n
-turn_over n k some = ap (λ x. x % n) (let one : k + 1 + (n - 1) ≡ n * 1 + k = omega (arith, some) in one) ∙ mul-add-mod_self_left n 1 k
+turn_over : {n : ℕ} (k : ℕ) → 0 < n → (k + 1 + (n - 1)) % n ≡ k % n
+turn_over {n} k some = ap (λ x. x % n) (let one : k + 1 + (n - 1) ≡ n * 1 + k = omega (arith, some) in one) ∙ mul-add-mod_self_left n 1 k
 
-not_less : (q p n d : ℕ) → q * n ≡ p * n + suc d → q < p + 1 → ⊥
-not_less q p n d e h = let l : q * n ≤ p * n = mul-le q n p n (omega (arith, h)) (omega arith) in omega (arith, e, l)
+not_less : {q : ℕ} (p n d : ℕ) → q * n ≡ p * n + suc d → q < p + 1 → ⊥
+not_less {q} p n d e h = omega (arith, e, mul-le q n p n (omega (arith, h)) (omega arith))
 
-not_more : (q p n d : ℕ) → q * n ≡ p * n + suc d → suc d < n → p < q → ⊥
-not_more q p n d e h k =
-    let l : (p + 1) * n ≤ q * n = mul-le (p + 1) n q n (omega (arith, k)) (omega arith) in
+not_more : {q p n d : ℕ} → q * n ≡ p * n + suc d → suc d < n → p < q → ⊥
+not_more {q} {p} {n} e h k =
     let m : (p + 1) * n ≡ p * n + n = grind arith in
-    omega (arith, e, h, l, m)
+    omega (arith, e, h, mul-le (p + 1) n q n (omega (arith, k)) (omega arith), m)
 
 below_or : (q p : ℕ) → (q < p + 1) ⊎ (p < q)
 below_or q p = grind arith
 
 -- and not before
-pub not_yet : (n k d : ℕ) → suc d < n → (k + suc d) % n ≢ k % n
-not_yet n k d h = λ e.
-    let a = div-add-mod' k n in
-    let b = div-add-mod' (k + suc d) n in
-    let apart : (k + suc d) / n * n ≡ k / n * n + suc d = omega (arith, a, b, e) in
+not_yet : {n : ℕ} (k : ℕ) {d : ℕ} → suc d < n → (k + suc d) % n ≢ k % n
+not_yet {n} k {d} h = λ e.
+    let apart : (k + suc d) / n * n ≡ k / n * n + suc d = omega (arith, div-add-mod' k n, div-add-mod' (k + suc d) n, e) in
     elim (below_or ((k + suc d) / n) (k / n)) [
-      | inl less ↦ not_less ((k + suc d) / n) (k / n) n d apart less
-      | inr more ↦ not_more ((k + suc d) / n) (k / n) n d apart h more
+      | inl less ↦ not_less _ n d apart less
+      | inr more ↦ not_more apart h more
     ]
 
 -- one session's outputs are its shard's, and no other's
 
-pub items_here : (number q r : ℕ) (os : List Out) → q ≡ r → pieces_in r (map (λ o. deal q (item_piece number o)) os) ≡ map (item_piece number) os
-items_here number q r [] e = refl
-items_here number q r (o ∷ os) e =
-    here (deal q (item_piece number o)) (map (λ o. deal q (item_piece number o)) os) r e ∙ ap (λ ps. item_piece number o ∷ ps) (items_here number q r os e)
+items_here : (number : ℕ) {q r : ℕ} (os : List Out) → q ≡ r → pieces_in r (map (λ o. deal q (item_piece number o)) os) ≡ map (item_piece number) os
+items_here number [] e = refl
+items_here number {q} {r} (o ∷ os) e = cc (here (deal q (item_piece number o)) (map (λ o. deal q (item_piece number o)) os) r e, items_here number os e)
 
-pub items_away : (number q r : ℕ) (os : List Out) → q ≢ r → pieces_in r (map (λ o. deal q (item_piece number o)) os) ≡ []
+items_away : (number q r : ℕ) (os : List Out) → q ≢ r → pieces_in r (map (λ o. deal q (item_piece number o)) os) ≡ []
 items_away number q r [] e = refl
-items_away number q r (o ∷ os) e =
-    away (deal q (item_piece number o)) (map (λ o. deal q (item_piece number o)) os) r e ∙ items_away number q r os e
+items_away number q r (o ∷ os) e = away _ (map (λ o. deal q (item_piece number o)) os) r e ∙ items_away number q r os e
 
 -- what a shard's sessions give at a tick is what the table gives of them
-items_in : (n number : ℕ) (items : Running → List Out) (r c k : ℕ) (ss : List Running) → 0 < n → c < n → (k + c) % n ≡ r
+items_in : {n : ℕ} (number : ℕ) (items : Running → List Out) {r : ℕ} (c k : ℕ) (ss : List Running) → 0 < n → c < n → (k + c) % n ≡ r
     → pieces_in r (deal_items n number items k ss) ≡ map (item_piece number) (flat_map items (share n c ss))
 unfolding share
-items_in n number items r c k [] some h e = refl
-items_in n number items r zero k (s ∷ ss) some h e =
-    in_append r (map (λ o. deal (k % n) (item_piece number o)) (items s)) (deal_items n number items (k + 1) ss)
-    ∙ (ap (λ ps. ps ++ pieces_in r (deal_items n number items (k + 1) ss)) (items_here number (k % n) r (items s) (ap (λ x. x % n) (let z : k ≡ k + 0 = omega arith in z) ∙ e))
-    ∙ (ap (λ ps. map (item_piece number) (items s) ++ ps)
-    (items_in n number items r (n - 1) (k + 1) ss some (omega (arith, some)) (turn_over n k some ∙ (ap (λ x. x % n) (let z : k ≡ k + 0 = omega arith in z) ∙ e)))
-    ∙ sym (map-append (item_piece number) (items s) (flat_map items (share n (n - 1) ss)))))
-items_in n number items r (suc c) k (s ∷ ss) some h e =
-    in_append r (map (λ o. deal (k % n) (item_piece number o)) (items s)) (deal_items n number items (k + 1) ss)
-    ∙ (ap (λ ps. ps ++ pieces_in r (deal_items n number items (k + 1) ss)) (items_away number (k % n) r (items s) (λ z. not_yet n k c h (e ∙ sym z)))
-    ∙ items_in n number items r c (k + 1) ss some (omega (arith, h)) (ap (λ x. x % n) (let z : k + 1 + c ≡ k + suc c = omega arith in z) ∙ e))
+items_in number items c k [] some h e = refl
+items_in {n} number items {r} zero k (s ∷ ss) some h e =
+    cc (in_append r (map (λ o. deal (k % n) (item_piece number o)) (items s)) (deal_items n number items (k + 1) ss), items_here number (items s) (ap (λ x. x % n) (let z : k ≡ k + 0 = omega arith in z) ∙ e), items_in number items _ _ ss some (omega (arith, some)) (turn_over k some ∙ (ap (λ x. x % n) (let z : k ≡ k + 0 = omega arith in z) ∙ e)), map-append (item_piece number) (items s) (flat_map items (share n (n - 1) ss)))
+items_in {n} number items {r} (suc c) k (s ∷ ss) some h e =
+    cc (in_append r (map (λ o. deal (k % n) (item_piece number o)) (items s)) (deal_items n number items (k + 1) ss), items_away number (k % n) r (items s) (λ z. not_yet k h (cc)), items_in number items c _ ss some (omega (arith, h)) (ap (λ x. x % n) (let z : k + 1 + c ≡ k + suc c = omega arith in z) ∙ e))
 
 -- none of a tick's outputs is told apart from the sessions
-items_none : (n number : ℕ) (items : Running → List Out) (k : ℕ) (ss : List Running) → 0 < n → pieces_in n (deal_items n number items k ss) ≡ []
-items_none n number items k [] some = refl
-items_none n number items k (s ∷ ss) some =
-    in_append n (map (λ o. deal (k % n) (item_piece number o)) (items s)) (deal_items n number items (k + 1) ss)
-    ∙ (ap (λ ps. ps ++ pieces_in n (deal_items n number items (k + 1) ss)) (items_away number (k % n) n (items s) (let low = mod-lt k some in λ z. omega (arith, low, z)))
-    ∙ items_none n number items (k + 1) ss some)
+items_none : {n : ℕ} (number : ℕ) (items : Running → List Out) (k : ℕ) (ss : List Running) → 0 < n → pieces_in n (deal_items n number items k ss) ≡ []
+items_none number items k [] some = refl
+items_none {n} number items k (s ∷ ss) some =
+    cc (in_append n (map (λ o. deal (k % n) (item_piece number o)) (items s)) (deal_items n number items (k + 1) ss), items_away number (k % n) n (items s) (λ z. omega (arith, mod-lt k some, z)), items_none number items (k + 1) ss some)
 
 -- what a shard tells
 
@@ -99,63 +81,49 @@ items_none n number items k (s ∷ ss) some =
 abbrev pub begins : Bool → ℕ → ℕ → ℕ → ℕ → Event → List Numbered → List Running → List Piece
 begins b number last p m event rest ss = shard_tells last (cons_option (numbered number (if b then Some (Own p m event) else None)) rest) ss
 
-own_each : (n number last k m : ℕ) (event : Event) (hs : List Happening) (ss : List Running) → 0 < n
+own_each : {n : ℕ} (number last k m : ℕ) (event : Event) (hs : List Happening) (ss : List Running) → 0 < n
     → shard_tells last (queue n (k % n) (number + 1) hs) (share n (k % n) (moved last (Own k m event) ss)) ≡ pieces_in (k % n) (deal_all n (number + 1) last hs (moved last (Own k m event) ss))
     → shard_tells last (queue n (k % n) number (Among (Own k m event) ∷ hs)) (share n (k % n) ss) ≡ pieces_in (k % n) (deal_all n number last (Among (Own k m event) ∷ hs) ss)
-own_each n number last k m event hs ss some rest =
-    ap (λ b. begins b number last (k / n) m event (queue n (k % n) (number + 1) hs) (share n (k % n) ss)) (eq-eqb (k % n) (k % n) refl)
-    ∙ (ap (λ o. whole_piece number o ∷ shard_tells last (queue n (k % n) (number + 1) hs) (moved last (Own (k / n) m event) (share n (k % n) ss))) (own_gives n k m last event ss some)
-    ∙ (ap (λ zs. whole_piece number (outcome_of last (Own k m event) ss) ∷ shard_tells last (queue n (k % n) (number + 1) hs) zs) (sym (own_here n k m last event ss some))
-    ∙ (ap (λ ps. whole_piece number (outcome_of last (Own k m event) ss) ∷ ps) rest
-    ∙ sym (here (deal (k % n) (whole_piece number (outcome_of last (Own k m event) ss))) (deal_all n (number + 1) last hs (moved last (Own k m event) ss)) (k % n) refl))))
+own_each {n} number last k m event hs ss some rest =
+    cc (eq-eqb (k % n) (k % n) refl, own_gives n k m last event ss some, own_here k m last event ss some, here (deal (k % n) (whole_piece number (outcome_of last (Own k m event) ss))) (deal_all n (number + 1) last hs (moved last (Own k m event) ss)) (k % n) refl)
 
-own_others : (n number last r k m : ℕ) (event : Event) (hs : List Happening) (ss : List Running) → 0 < n → r < n → k % n ≢ r
+own_others : {n : ℕ} (number last : ℕ) {r : ℕ} (k m : ℕ) (event : Event) (hs : List Happening) (ss : List Running) → 0 < n → r < n → k % n ≢ r
     → shard_tells last (queue n r (number + 1) hs) (share n r (moved last (Own k m event) ss)) ≡ pieces_in r (deal_all n (number + 1) last hs (moved last (Own k m event) ss))
     → shard_tells last (queue n r number (Among (Own k m event) ∷ hs)) (share n r ss) ≡ pieces_in r (deal_all n number last (Among (Own k m event) ∷ hs) ss)
-own_others n number last r k m event hs ss some h other rest =
-    ap (λ b. begins b number last (k / n) m event (queue n r (number + 1) hs) (share n r ss)) (ne_eqb (k % n) r other)
-    ∙ (ap (shard_tells last (queue n r (number + 1) hs)) (sym (own_away n r k m last event ss some h other))
-    ∙ (rest ∙ sym (away (deal (k % n) (whole_piece number (outcome_of last (Own k m event) ss))) (deal_all n (number + 1) last hs (moved last (Own k m event) ss)) r other)))
+own_others {n} number last {r} k m event hs ss some h other rest =
+    cc (ne_eqb (k % n) r other, own_away n r k m last event ss some h other, away (deal (k % n) (whole_piece number (outcome_of last (Own k m event) ss))) (deal_all n (number + 1) last hs (moved last (Own k m event) ss)) r other)
 
 pub tick_gives : (number last t : ℕ) (ss : List Running) → event_pieces number (Tick t) (outcome_of last (Tick t) ss) ≡ map (item_piece number) (flat_map (tick_items (max last t)) ss)
 unfolding outcome_of
 tick_gives number last t ss = refl
 
-in_turn : (n r : ℕ) → r < n → (0 + r) % n ≡ r
-in_turn n r h = ap (λ x. x % n) (let z : 0 + r ≡ r = omega arith in z) ∙ mod-eq_of_lt h
+in_turn : {n r : ℕ} → r < n → (0 + r) % n ≡ r
+in_turn {n} {r} h = ap (λ x. x % n) (let z : 0 + r ≡ r = omega arith in z) ∙ mod-eq_of_lt h
 
-tick_each : (n number last r t : ℕ) (hs : List Happening) (ss : List Running) → 0 < n → r < n
+tick_each : {n : ℕ} (number last : ℕ) {r : ℕ} (t : ℕ) (hs : List Happening) (ss : List Running) → 0 < n → r < n
     → shard_tells (max last t) (queue n r (number + 1) hs) (share n r (moved last (Tick t) ss)) ≡ pieces_in r (deal_all n (number + 1) (max last t) hs (moved last (Tick t) ss))
     → shard_tells last (queue n r number (Among (Tick t) ∷ hs)) (share n r ss) ≡ pieces_in r (deal_all n number last (Among (Tick t) ∷ hs) ss)
-tick_each n number last r t hs ss some h rest =
-    ap (λ ps. ps ++ shard_tells (max last t) (queue n r (number + 1) hs) (moved last (Tick t) (share n r ss))) (tick_gives number last t (share n r ss))
-    ∙ (ap (λ zs. map (item_piece number) (flat_map (tick_items (max last t)) (share n r ss)) ++ shard_tells (max last t) (queue n r (number + 1) hs) zs) (sym (tick_here n r t last ss))
-    ∙ (ap (λ ps. map (item_piece number) (flat_map (tick_items (max last t)) (share n r ss)) ++ ps) rest
-    ∙ (ap (λ ps. ps ++ pieces_in r (deal_all n (number + 1) (max last t) hs (moved last (Tick t) ss))) (sym (items_in n number (tick_items (max last t)) r r 0 ss some h (in_turn n r h)))
-    ∙ sym (in_append r (deal_items n number (tick_items (max last t)) 0 ss) (deal_all n (number + 1) (max last t) hs (moved last (Tick t) ss))))))
+tick_each {n} number last {r} t hs ss some h rest =
+    cc (tick_gives number last t (share n r ss), tick_here n r t last ss, items_in number (tick_items (max last t)) r 0 ss some h (in_turn h), in_append r (deal_items n number (tick_items (max last t)) 0 ss) (deal_all n (number + 1) (max last t) hs (moved last (Tick t) ss)))
 
-pub told_each : (n number last r : ℕ) (hs : List Happening) (ss : List Running) → 0 < n → r < n
+pub told_each : {n : ℕ} (number last : ℕ) {r : ℕ} (hs : List Happening) (ss : List Running) → 0 < n → r < n
     → shard_tells last (queue n r number hs) (share n r ss) ≡ pieces_in r (deal_all n number last hs ss)
-told_each n number last r [] ss some h = refl
-told_each n number last r (Apart o ∷ hs) ss some h =
-    told_each n (number + 1) last r hs ss some h ∙ sym (away (deal n (whole_piece number o)) (deal_all n (number + 1) last hs ss) r (λ z. omega (arith, z, h)))
-told_each n number last r (Among (Own k m event) ∷ hs) ss some h = elim (cases_eq (k % n) r) [
+told_each number last [] ss some h = refl
+told_each {n} number last {r} (Apart o ∷ hs) ss some h =
+    told_each (number + 1) last hs ss some h ∙ sym (away (deal n (whole_piece number o)) (deal_all n (number + 1) last hs ss) r (λ z. omega (arith, z, h)))
+told_each {n} number last {r} (Among (Own k m event) ∷ hs) ss some h = elim (cases_eq (k % n) r) [
   | inl same ↦ subst (λ i. shard_tells last (queue n i number (Among (Own k m event) ∷ hs)) (share n i ss) ≡ pieces_in i (deal_all n number last (Among (Own k m event) ∷ hs) ss)) same
-      (own_each n number last k m event hs ss some (told_each n (number + 1) last (k % n) hs (moved last (Own k m event) ss) some (mod-lt k some)))
-  | inr other ↦ own_others n number last r k m event hs ss some h other (told_each n (number + 1) last r hs (moved last (Own k m event) ss) some h)
+      (own_each _ last k m _ hs ss some (told_each (number + 1) last hs (moved last (Own k m event) ss) some (mod-lt k some)))
+  | inr other ↦ own_others _ last k m _ hs ss some h other (told_each (number + 1) last hs (moved last (Own k m event) ss) some h)
 ]
-told_each n number last r (Among (Tick t) ∷ hs) ss some h =
-    tick_each n number last r t hs ss some h (told_each n (number + 1) (max last t) r hs (moved last (Tick t) ss) some h)
+told_each number last (Among (Tick t) ∷ hs) ss some h = tick_each _ last t hs ss some h (told_each (number + 1) (max last t) hs (moved last (Tick t) ss) some h)
 
 -- what is told apart from the sessions
-pub apart_is : (n number last : ℕ) (hs : List Happening) (ss : List Running) → 0 < n → told_apart number hs ≡ pieces_in n (deal_all n number last hs ss)
-apart_is n number last [] ss some = refl
-apart_is n number last (Apart o ∷ hs) ss some =
-    ap (λ ps. whole_piece number o ∷ ps) (apart_is n (number + 1) last hs ss some) ∙ sym (here (deal n (whole_piece number o)) (deal_all n (number + 1) last hs ss) n refl)
-apart_is n number last (Among (Own k m event) ∷ hs) ss some =
-    apart_is n (number + 1) last hs (moved last (Own k m event) ss) some
-    ∙ sym (away (deal (k % n) (whole_piece number (outcome_of last (Own k m event) ss))) (deal_all n (number + 1) last hs (moved last (Own k m event) ss)) n (let low = mod-lt k some in λ z. omega (arith, low, z)))
-apart_is n number last (Among (Tick t) ∷ hs) ss some =
-    apart_is n (number + 1) (max last t) hs (moved last (Tick t) ss) some
-    ∙ sym (in_append n (deal_items n number (tick_items (max last t)) 0 ss) (deal_all n (number + 1) (max last t) hs (moved last (Tick t) ss))
-    ∙ ap (λ ps. ps ++ pieces_in n (deal_all n (number + 1) (max last t) hs (moved last (Tick t) ss))) (items_none n number (tick_items (max last t)) 0 ss some))
+pub apart_is : {n : ℕ} (number last : ℕ) (hs : List Happening) (ss : List Running) → 0 < n → told_apart number hs ≡ pieces_in n (deal_all n number last hs ss)
+apart_is number last [] ss some = refl
+apart_is {n} number last (Apart o ∷ hs) ss some =
+    cc (apart_is (number + 1) last hs ss some, here (deal n (whole_piece number o)) (deal_all n (number + 1) last hs ss) n refl)
+apart_is {n} number last (Among (Own k m event) ∷ hs) ss some = apart_is (number + 1) last hs (moved last (Own k m event) ss) some
+    ∙ sym (away (deal (k % n) (whole_piece number (outcome_of last (Own k m event) ss))) (deal_all n (number + 1) last hs (moved last (Own k m event) ss)) n (λ z. omega (arith, mod-lt k some, z)))
+apart_is {n} number last (Among (Tick t) ∷ hs) ss some =
+    cc (apart_is (number + 1) (max last t) hs (moved last (Tick t) ss) some, in_append n (deal_items n number (tick_items (max last t)) 0 ss) (deal_all n (number + 1) (max last t) hs (moved last (Tick t) ss)), items_none number (tick_items (max last t)) 0 ss some)

@@ -1,35 +1,34 @@
 -- What a sink took, over several calls.
-use Rattle.bfd_gather.proofs.Common.{ℕ, List, [], ◌++◌, take, drop, Option, Result, Ok, Err, refl, sym, ap, subst, ◌∙◌, append_assoc, Appends, TookUpTo, TookFront}
+use Rattle.bfd_gather.proofs.Common.{ℕ, List, [], ◌++◌, take, drop, Option, Result, Ok, Err, refl, sym, subst, ◌∙◌, append_assoc, Appends, TookUpTo, TookFront, Appends-nil, Appends-trans}
 use Rattle.std.specs.Prelude.{OnOk}
-use Rattle.std.proofs.KnownBytes.{Appends-nil, Appends-trans}
 use Rattle.std.proofs.lemmas.List.{take-append-drop}
 
 -- before the first call nothing was taken
-pub none_taken : (known : Option (List ℕ)) (text : List ℕ) → TookUpTo known known text text
+none_taken : (known : Option (List ℕ)) (text : List ℕ) → TookUpTo known known text text
 none_taken known text = ([], Appends-nil known, refl)
 
 pub took_nothing : (known : Option (List ℕ)) (text : List ℕ) → TookFront known known text
 took_nothing known text = (text, none_taken known text)
 
 -- one more piece was taken
-pub took_more : (first next last : Option (List ℕ)) (text rest : List ℕ) (n : ℕ) → TookUpTo first next text rest → Appends next last (take n rest) → TookUpTo first last text (drop n rest)
-took_more first next last text rest n (front, so_far, whole) more =
+pub took_more : (first next last : Option (List ℕ)) {text rest : List ℕ} (n : ℕ) → TookUpTo first next text rest → Appends next last (take n rest) → TookUpTo first last text (drop n rest)
+took_more first next last {rest} n (front, so_far, whole) more =
     (front ++ take n rest, Appends-trans first next last front (take n rest) so_far more, whole ∙ rw (append_assoc, take-append-drop n rest) refl)
 
 -- of what was left more was taken, up to a rest, as a front, and whole
 pub took_on : (first next last : Option (List ℕ)) (text mid rest : List ℕ) → TookUpTo first next text mid → TookUpTo next last mid rest → TookUpTo first last text rest
 took_on first next last text mid rest (front, so_far, whole) (more, now, is) =
-    (front ++ more, Appends-trans first next last front more so_far now, whole ∙ (ap (λ t. front ++ t) is ∙ sym (append_assoc front more rest)))
+    (front ++ more, Appends-trans first next last front more so_far now, cc (append_assoc front more rest))
 
 pub took_front : (first next last : Option (List ℕ)) (text mid : List ℕ) → TookUpTo first next text mid → TookFront next last mid → TookFront first last text
-took_front first next last text mid so_far (rest, now) = (rest, took_on first next last text mid rest so_far now)
+took_front first next last text mid so_far (rest, now) = (rest, took_on _ next last text mid rest so_far now)
 
 pub took_rest : (first next last : Option (List ℕ)) (text mid : List ℕ) → TookUpTo first next text mid → Appends next last mid → Appends first last text
 took_rest first next last text mid (front, so_far, whole) now = subst (Appends first last) (sym whole) (Appends-trans first next last front mid so_far now)
 
 -- of a longer text the same was taken
 pub took_of_longer : (old new : Option (List ℕ)) (text rest more : List ℕ) → TookUpTo old new text rest → TookUpTo old new (text ++ more) (rest ++ more)
-took_of_longer old new text rest more (front, took, is) = (front, took, ap (λ t. t ++ more) is ∙ append_assoc front rest more)
+took_of_longer old new text rest more (front, took, is) = (front, took, cc (append_assoc front rest more))
 
 pub front_of_longer : (old new : Option (List ℕ)) (text more : List ℕ) → TookFront old new text → TookFront old new (text ++ more)
 front_of_longer old new text more (rest, took) = (rest ++ more, took_of_longer old new text rest more took)

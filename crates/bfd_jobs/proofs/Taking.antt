@@ -11,5 +11,4 @@ read_nothing most known = ([], Consumes-nil known, omega arith)
 -- one more piece was read
 pub read_more : (most : ℕ) (first next last : Option (List ℕ)) (a b : List ℕ) → Consumes first next a → Consumes next last b
     → length a + length b ≤ most → ConsumesAtMost most first last
-read_more most first next last a b one two fits =
-    (a ++ b, Consumes-trans first next last a b one two, omega (arith, length-append a b))
+read_more most first next last a b one two fits = (a ++ b, Consumes-trans first next last a b one two, omega (arith, length-append a b))

@@ -21,3 +21,5 @@ pub use Rattle.bfd_wheel.specs.Taken.{Took, bit, counts_due, times, waiting}
 pub use Rattle.bfd_wheel.specs.Wheel.{IsLinked, due_in, prev_in}
 unfoldable pub use Rattle.bfd_wheel.specs.Wheel.{next_in}
 pub use Rattle.bfd_wheel.specs.declared.links.Node.{Node}
+pub use Rattle.bfd_wheel.proofs.Rings.{PutsIn, TakesOut, ring_moved, ring_with, ring_without}
+pub use Rattle.bfd_wheel.proofs.Wheels.{head_on, id_on, ranked, ranked_below, ranked_own, ranked_same, ring_linked, start_ranked}

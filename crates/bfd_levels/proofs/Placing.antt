@@ -1,21 +1,19 @@
 -- Rings behind any heads: a node is taken out, put in or moved, the lists get other names, and the start.
-use Rattle.bfd_levels.proofs.Common.{◌≡◌, ◌≢◌, inl, inr, ℕ, suc, ◌+◌, ◌<◌, ◌≤◌, Bool, cond, List, length, sym, ◌∙◌, ap, arith, slice_index, slice_set, refl, get_or-set_same, get_or-set_other, length-set, cases_lt, lt-ltb, le-ltb, never, Node, IsOn, IsRing, Unlinks, Links, due_in, next_in, prev_in, IsLinked, head_for, IsPlaced, Relinks, CanMove}
-use Rattle.bfd_wheel.proofs.Rings.{TakesOut, PutsIn, ring_without, ring_with, ring_moved}
-use Rattle.bfd_wheel.proofs.Wheels.{head_on, id_on, ring_linked, ranked, ranked_own, ranked_same, ranked_below, start_ranked}
+use Rattle.bfd_levels.proofs.Common.{◌≡◌, ◌≢◌, inl, inr, ℕ, suc, ◌+◌, ◌<◌, ◌≤◌, List, length, sym, ◌∙◌, arith, slice_index, slice_set, refl, get_or-set_same, get_or-set_other, length-set, cases_lt, lt-ltb, le-ltb, never, Node, IsOn, IsRing, Unlinks, Links, due_in, next_in, prev_in, IsLinked, head_for, IsPlaced, Relinks, CanMove, TakesOut, PutsIn, ring_without, ring_with, ring_moved, head_on, id_on, ring_linked, ranked, ranked_own, ranked_same, ranked_below, start_ranked}
 
 -- ---- the heads of the nodes
 
 pub head_id : (n : ℕ) (at : ℕ → ℕ) (j : ℕ) → j < n → head_for n at j ≡ at j
 unfolding head_for
-head_id n at j h = ap (λ (b : Bool). cond b (at j) j) (lt-ltb j n h)
+head_id n at j h = cc (lt-ltb j n h)
 
 pub head_own : (n : ℕ) (at : ℕ → ℕ) (j : ℕ) → n ≤ j → head_for n at j ≡ j
 unfolding head_for
-head_own n at j h = ap (λ (b : Bool). cond b (at j) j) (le-ltb j n h)
+head_own n at j h = cc (le-ltb j n h)
 
 pub head_same : (n : ℕ) (at at2 : ℕ → ℕ) (j : ℕ) → (j < n → at2 j ≡ at j) → head_for n at2 j ≡ head_for n at j
 head_same n at at2 j e = elim (cases_lt j n) [
-  | inl near ↦ head_id n at2 j near ∙ e near ∙ sym (head_id n at j near)
+  | inl near ↦ cc (head_id n at2 j near, e near, head_id n at j near)
   | inr far ↦ head_own n at2 j far ∙ sym (head_own n at j far)
 ]
 
@@ -31,12 +29,11 @@ module _ (n m i : ℕ) (at at2 : ℕ → ℕ) (dues : List ℕ) (nodes nodes2 : 
     links = u;
   }
 
-  pub in_to : (h due top : ℕ) (rank : ℕ → ℕ) → due ≢ never → at2 i ≡ h → Links i h (next_in nodes) (prev_in nodes) (next_in nodes2) (prev_in nodes2)
+  in_to : (h due top : ℕ) (rank : ℕ → ℕ) → due ≢ never → at2 i ≡ h → Links i h (next_in nodes) (prev_in nodes) (next_in nodes2) (prev_in nodes2)
       → PutsIn i h top (due_in dues) (head_for n at) (next_in nodes) (prev_in nodes) rank (due_in (slice_set dues i due)) (head_for n at2) (next_in nodes2) (prev_in nodes2) (ranked i top rank)
   in_to h due top rank there own u =
-      let due_own : due_in (slice_set dues i due) i ≡ due = get_or-set_same dues i due 0 (omega arith) in
       record {
-        on_now = λ e. there (sym due_own ∙ e);
+        on_now = λ e. there (cc ((get_or-set_same dues i due 0 (omega arith))));
         due_same = λ j ne. get_or-set_other dues i j due 0 ne;
         home_own = head_id n at2 i near ∙ own;
         home_same = λ j ne. head_same n at at2 j (λ _. same j ne);
@@ -51,14 +48,13 @@ module _ (n m i : ℕ) (at at2 : ℕ → ℕ) (dues : List ℕ) (nodes nodes2 : 
       → IsRing n (n + m) (due_in dues) (head_for n at2) (next_in nodes2) (prev_in nodes2) (ranked i top rank)
   ring_relinked h top rank r below there far inside own u =
       let dues1 = slice_set dues i never in
-      let gone : due_in dues1 i ≡ never = get_or-set_same dues i never 0 (omega arith) in
+      let gone = get_or-set_same dues i never 0 (omega arith) in
       let due_is : (j : ℕ) → j ≢ i → due_in dues1 j ≡ due_in dues j = λ j ne. get_or-set_other dues i j never 0 ne in
-      let mid : IsRing n (n + m) (due_in dues1) (head_for n at) u.next1 u.prev1 rank =
+      let mid =
       ring_without n (n + m) i (due_in dues) (head_for n at) (next_in nodes) (prev_in nodes) rank (due_in dues1) (head_for n at) u.next1 u.prev1 r near (id_on n m dues i near there)
       (record { gone = gone; due_same = due_is; home_same = λ j ne. refl; links = u.out }) in
       ring_with n (n + m) i h top (due_in dues1) (head_for n at) u.next1 u.prev1 rank (due_in dues) (head_for n at2) (next_in nodes2) (prev_in nodes2) (ranked i top rank) mid below (omega arith) near gone far
-      (head_on n m dues1 h (length-set dues i never ∙ count) far inside)
-      (record {
+      (head_on n m dues1 h (length-set dues i never ∙ count) far inside) (record {
         on_now = there;
         due_same = λ j ne. sym (due_is j ne);
         home_own = head_id n at2 i near ∙ own;
@@ -89,9 +85,9 @@ module _ (n m i : ℕ) (at : ℕ → ℕ) (dues : List ℕ) (nodes : List Node) 
         few = omega arith;
         size = omega arith;
         linked = linked near there;
-        alone = λ e. absurd (let l = r.falls i near (id_on n m dues i near there) in let same : w.links.rank (next_in nodes i) ≡ w.links.rank i = ap w.links.rank e in omega arith);
+        alone = λ e. absurd (let same : w.links.rank (next_in nodes i) ≡ w.links.rank i = cc in omega (arith, r.falls i near (id_on n m dues i near there)));
         first = λ h far inside. (let b = (first_on h (omega arith) (omega arith)).below in omega arith);
-        behind = λ h far inside apart e. apart (sym (r.back h (head_on n m dues h w.count (omega arith) (omega arith))) ∙ ap (prev_in nodes) e);
+        behind = λ h far inside apart e. apart (cc (r.back h (head_on n m dues h w.count (omega arith) (omega arith))));
       }
 
   -- the lists get other names
@@ -104,9 +100,7 @@ module _ (n m i : ℕ) (at : ℕ → ℕ) (dues : List ℕ) (nodes : List Node) 
       rank = w.links.rank;
       top = w.links.top;
       below = w.links.below;
-      ring = ring_moved n (n + m) (due_in dues) (head_for n at) (next_in nodes) (prev_in nodes) w.links.rank (head_for n at2) w.links.ring
-          (λ j on. head_same n at at2 j (λ near. same j near on.there))
-          (head_own n at2);
+      ring = ring_moved n _ _ _ _ _ _ _ w.links.ring (λ j on. head_same n at at2 j (λ near. same j near on.there)) (head_own n at2);
     };
   }
 
@@ -116,7 +110,7 @@ module _ (n m i : ℕ) (at : ℕ → ℕ) (dues : List ℕ) (nodes : List Node) 
     freed there u = record {
       few = w.few;
       count = length-set dues i never ∙ w.count;
-      size = size ∙ w.size;
+      size = cc;
       links = record {
         rank = w.links.rank;
         top = w.links.top;
@@ -131,14 +125,13 @@ module _ (n m i : ℕ) (at : ℕ → ℕ) (dues : List ℕ) (nodes : List Node) 
     filled h due off there far inside own u = record {
       few = w.few;
       count = length-set dues i due ∙ w.count;
-      size = size ∙ w.size;
+      size = cc;
       links = record {
         rank = ranked i w.links.top w.links.rank;
         top = suc w.links.top;
-        below = ranked_below i w.links.top w.links.rank w.links.below;
+        below = ranked_below i _ _ w.links.below;
         ring = ring_with n (n + m) i h w.links.top (due_in dues) (head_for n at) (next_in nodes) (prev_in nodes) w.links.rank (due_in (slice_set dues i due)) (head_for n at2) (next_in nodes2) (prev_in nodes2) (ranked i w.links.top w.links.rank) w.links.ring w.links.below (omega arith) near off far
-            (head_on n m dues h w.count far inside)
-            (in_to n m i at at2 dues nodes nodes2 w.count near same h due w.links.top w.links.rank there own u);
+            (head_on n m dues h w.count far inside) (in_to n m i at at2 dues nodes nodes2 w.count near same h due w.links.top w.links.rank there own u);
       };
     }
 
@@ -147,11 +140,11 @@ module _ (n m i : ℕ) (at : ℕ → ℕ) (dues : List ℕ) (nodes : List Node) 
     relinked h there far inside own u = record {
       few = w.few;
       count = w.count;
-      size = size ∙ w.size;
+      size = cc;
       links = record {
         rank = ranked i w.links.top w.links.rank;
         top = suc w.links.top;
-        below = ranked_below i w.links.top w.links.rank w.links.below;
+        below = ranked_below i _ _ w.links.below;
         ring = ring_relinked n m i at at2 dues nodes nodes2 w.count near same h w.links.top w.links.rank w.links.ring w.links.below there far inside own u;
       };
     }

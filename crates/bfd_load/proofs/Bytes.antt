@@ -43,8 +43,7 @@ are_bytes i p =
     let my : List ℕ = bytes_high_first 4 c.my ++ your in
     let words : IsBytes my =
     bytes_then 4 c.my your (bytes_then 4 c.your tx (bytes_then 4 c.min_tx rx (bytes_then 4 c.min_rx echo (bytes_then 4 c.min_echo [] none)))) in
-    byte_then 32 (flag_byte c [] ∷ 3 ∷ 24 ∷ my) (omega arith)
-    (byte_then (flag_byte c []) (3 ∷ 24 ∷ my) (flags_below (p == 0))
+    byte_then 32 (flag_byte c [] ∷ 3 ∷ 24 ∷ my) (omega arith) (byte_then _ (3 ∷ 24 ∷ my) (flags_below (p == 0))
     (byte_then 3 (24 ∷ my) (omega arith) (byte_then 24 my (omega arith) words)))
 
 pub long : (i p : ℕ) → length (text_of (control i p) []) ≡ 24

@@ -1,5 +1,5 @@
 -- The script is one that the grammar gives.
-use Rattle.std.proofs.Common.{◌≡◌, ◌<◌, ◌≤◌, ◌+◌, ◌*◌, ◌%◌, ◌==◌, ◌&&◌, ◌∙◌, ℕ, zero, suc, Bool, true, false, cond, List, [], ◌∷◌, length, map, refl, ap, sym, subst, arith, length-append, not}
+use Rattle.std.proofs.Common.{◌≡◌, ◌<◌, ◌≤◌, ◌+◌, ◌*◌, ◌%◌, ◌==◌, ◌&&◌, ℕ, zero, suc, Bool, true, false, cond, List, [], ◌∷◌, length, map, refl, sym, subst, arith, length-append, not}
 use Rattle.std.proofs.lemmas.List.{length-map}
 use Rattle.std.proofs.Math.Nat.{mod-lt}
 use Rattle.std.proofs.lemmas.Bool.Decides.{nat_tests}
@@ -27,11 +27,11 @@ ascends : (seed a n : ℕ) → Ascends (map (config seed) (range_with_len a n))
 ascends seed a zero = tt
 ascends seed a (suc n) = (all_map (λ later. a < discr_of later) (config seed) (a + 1) n (λ i low high. omega arith), ascends seed (a + 1) n)
 
-other_peer : (a i : ℕ) → a < i → (167837696 + a == 167837696 + i) ≡ false
-other_peer a i less = grind (arith, nat_tests)
+other_peer : {a i : ℕ} → a < i → (167837696 + a == 167837696 + i) ≡ false
+other_peer less = grind (arith, nat_tests)
 
 other_selector : (seed a i : ℕ) → a < i → same_selector (config seed a) (config seed i) ≡ false
-other_selector seed a i less = ap (λ b. true && b) (other_peer a i less)
+other_selector seed a i less = cc (other_peer less)
 
 differs : (seed a n : ℕ) → Differs (map (config seed) (range_with_len a n))
 differs seed a zero = tt
@@ -63,8 +63,8 @@ is_row seed i within = record {
   keys = tt;
 }
 
-are_configs : (seed n : ℕ) → n ≤ 5000 → AreConfigs (map (config seed) (range_with_len 1 n))
-are_configs seed n within = record {
+are_configs : (seed : ℕ) {n : ℕ} → n ≤ 5000 → AreConfigs (map (config seed) (range_with_len 1 n))
+are_configs seed {n} within = record {
   ascends = ascends seed 1 n;
   differs = differs seed 1 n;
   fit = all_map IsFit (config seed) 1 n (λ i low high. is_fit seed i (omega arith));
@@ -87,70 +87,61 @@ is_packet t i tick session = record {
 }
 
 -- what is true of each packet and of each tick is true of each event
-each_event : (P : Line → Type 0) (n k : ℕ) → ((t i : ℕ) → t ≤ k → i ≤ n → P (packet t i)) → ((t : ℕ) → t ≤ k → P (Tick t))
-    → AllByRecursion P (events n k)
-each_event P n k each tick =
-    all_gathered P (tick_events n) 1 k (λ t low high. each_more P (packets n t) (Tick t ∷ [])
-    (all_picked P (packet t) (hears t) 1 n (λ i from to. each t i (omega arith) (omega arith)))
-    (tick t (omega arith), tt))
+each_event : (P : Line → Type 0) (n k : ℕ) → ((t i : ℕ) → t ≤ k → i ≤ n → P (packet t i)) → ((t : ℕ) → t ≤ k → P (Tick t)) → AllByRecursion P (events n k)
+each_event P n k each tick = all_gathered P (tick_events n) 1 k (λ t low high. each_more P (packets n t) (Tick t ∷ [])
+    (all_picked P (packet t) (hears t) 1 n (λ i from to. each t i (omega arith) (omega arith))) (tick t (omega arith), tt))
 
 -- of 300 sessions at most one hears a packet
-one_more : (place live : Bool) (t a n : ℕ) (us : List ℕ) → (t % 300 == a % 300) ≡ place
-    → 300 * length us + gap (t % 300) (a + 1) ≤ n + 299
+one_more : (place live : Bool) (t a n : ℕ) (us : List ℕ) → (t % 300 == a % 300) ≡ place → 300 * length us + gap (t % 300) (a + 1) ≤ n + 299
     → 300 * length (cond (place && live) (a ∷ us) us) + gap (t % 300) a ≤ suc n + 299
 one_more true true t a n us is rest = let same : t % 300 ≡ a % 300 = grind (arith, nat_tests) in omega (arith, rest)
-one_more true false t a n us is rest = let same : t % 300 ≡ a % 300 = grind (arith, nat_tests) in omega (arith, rest)
+one_more true false t a n us is rest = omega (arith, rest)
 one_more false live t a n us is rest = let other : t % 300 ≡ a % 300 → ⊥ = grind (arith, nat_tests) in omega (arith, rest, other)
 
 few_hear : (t a n : ℕ) → 300 * length (filter (hears t) (range_with_len a n)) + gap (t % 300) a ≤ n + 299
 few_hear t a zero = omega arith
-few_hear t a (suc n) =
-    one_more (t % 300 == a % 300) (not (is_silent a (earlier t))) t a n (filter (hears t) (range_with_len (a + 1) n)) refl
+few_hear t a (suc n) = one_more (t % 300 == a % 300) (not (is_silent a (earlier t))) t a n (filter (hears t) (range_with_len (a + 1) n)) refl
     (few_hear t (a + 1) n)
 
-few_packets : (n t : ℕ) → n ≤ 5000 → length (packets n t) ≤ 17
-few_packets n t within = omega (arith, few_hear t 1 n, length-map (filter (hears t) (range_with_len 1 n)) (packet t))
+few_packets : {n : ℕ} (t : ℕ) → n ≤ 5000 → length (packets n t) ≤ 17
+few_packets {n} t within = omega (arith, few_hear t 1 n, length-map (filter (hears t) (range_with_len 1 n)) (packet t))
 
-few_events : (n a k : ℕ) → n ≤ 5000 → length (flat_map (tick_events n) (range_with_len a k)) ≤ 18 * k
-few_events n a zero within = omega arith
-few_events n a (suc k) within =
-    omega (
-      arith,
-      few_packets n a within,
-      few_events n (a + 1) k within,
-      length-append (packets n a) (Tick a ∷ []),
-      length-append (tick_events n a) (flat_map (tick_events n) (range_with_len (a + 1) k)),
-    )
+few_events : {n : ℕ} (a k : ℕ) → n ≤ 5000 → length (flat_map (tick_events n) (range_with_len a k)) ≤ 18 * k
+few_events a zero within = omega arith
+few_events {n} a (suc k) within = omega (
+  arith,
+  few_packets a within,
+  few_events (a + 1) k within,
+  length-append (packets n a) (Tick a ∷ []),
+  length-append (tick_events n a) (flat_map (tick_events n) (range_with_len (a + 1) k)),
+)
 
 -- no reflector stands beside them
 no_pool : ArePool []
 no_pool = record { ascends = tt; rows = tt }
 
-are_events : (n k : ℕ) → n ≤ 5000 → k ≤ 6000 → AreEvents (events n k)
-are_events n k sessions ticks = record {
+are_events : {n k : ℕ} → n ≤ 5000 → k ≤ 6000 → AreEvents (events n k)
+are_events {n} {k} sessions ticks = record {
   lines = each_event IsEvent n k (λ t i tick session. is_packet t i (omega arith) (omega arith)) (λ t tick. omega arith);
-  few = omega (arith, few_events n 1 k sessions);
+  few = omega (arith, few_events 1 k sessions);
 }
 
-pub is_script : (n k seed : ℕ) → n ≤ 5000 → k ≤ 6000 → IsScript (script n k seed)
-is_script n k seed sessions ticks = record {
-  configs = are_configs seed n sessions;
+is_script : {n k : ℕ} (seed : ℕ) → n ≤ 5000 → k ≤ 6000 → IsScript (script n k seed)
+is_script {n} {k} seed sessions ticks = record {
+  configs = are_configs seed sessions;
   pool = no_pool;
   apart = tt;
   few = omega (arith, length-map-range_with_len (config seed) 1 n);
-  events = are_events n k sessions ticks;
+  events = are_events sessions ticks;
   named = each_event (λ e. is_named e (script n k seed).configs ≡ true) n k (λ t i tick session. refl) (λ t tick. refl);
 }
 
 abbrev pub script_of : List SessionConfig → List Reflector → List Line → Lists
 script_of configs pool lines = record { configs = configs; pool = pool; events = lines }
 
-pub made : (n k seed : ℕ) (configs : List SessionConfig) (pool : List Reflector) (lines : List Line) → n ≤ 5000 → k ≤ 6000
-    → configs ≡ map (config seed) (range_with_len 1 n) → pool ≡ [] → lines ≡ events n k
-    → IsScript (script_of configs pool lines)
-made n k seed configs pool lines sessions ticks sessions_are none lines_are =
+pub made : {n k : ℕ} (seed : ℕ) {configs : List SessionConfig} (pool : List Reflector) {lines : List Line} → n ≤ 5000 → k ≤ 6000
+    → configs ≡ map (config seed) (range_with_len 1 n) → pool ≡ [] → lines ≡ events n k → IsScript (script_of configs pool lines)
+made {n} {k} seed {configs} pool {lines} sessions ticks sessions_are none lines_are =
     let same : script_of configs pool lines ≡ script n k seed =
-    ap (λ cs. script_of cs pool lines) sessions_are
-    ∙ (ap (λ rs. script_of (map (config seed) (range_with_len 1 n)) rs lines) none
-    ∙ ap (λ ls. script_of (map (config seed) (range_with_len 1 n)) [] ls) lines_are) in
-    subst IsScript (sym same) (is_script n k seed sessions ticks)
+    cc in
+    subst IsScript (sym same) (is_script seed sessions ticks)

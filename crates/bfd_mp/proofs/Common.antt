@@ -1,5 +1,5 @@
 -- Names that proofs of this crate cite, passed on from one place. Declares nothing.
-pub use Rattle.std.proofs.Common.{Bool, IfSome, IsSome, List, None, Option, Some, ap, arith, false, if◌then◌else◌, is_some, min, not, refl, subst, sym, true, ℕ, ◌&&◌, ◌-◌, ◌<◌, ◌==◌, ◌^◌, ◌↔◌, ◌∙◌, ◌≡◌, ◌≤◌}
+pub use Rattle.std.proofs.Common.{Bool, IfSome, IsSome, List, None, Option, Some, ap, arith, false, if◌then◌else◌, is_some, min, not, refl, sym, true, ℕ, ◌&&◌, ◌-◌, ◌<◌, ◌==◌, ◌^◌, ◌↔◌, ◌≡◌, ◌≤◌}
 pub use Rattle.bfd_mp.specs.Command.{head_done, head_refusal, tail_done, tail_refusal}
 unfoldable pub use Rattle.bfd_mp.specs.Command.{head_commanded, tail_commanded}
 pub use Rattle.bfd_mp.specs.Sound.{IsHeadSound, IsHeadSteady, IsTailSound}
@@ -18,3 +18,6 @@ pub use Rattle.bfd_rules.specs.Quantities.{is_admin_down, is_up, may_send, tx_in
 pub use Rattle.bfd_rules.specs.declared.commands.Cmd.{Cmd}
 pub use Rattle.bfd_rules.specs.declared.outputs.Out.{Out}
 pub use Rattle.bfd_rules.specs.declared.variables.Vars.{Vars}
+pub use Rattle.std.proofs.lemmas.Grind.{common_steps}
+pub use Rattle.bfd_rules.specs.declared.variables.Mark.{Mark}
+pub use Rattle.bfd_packet.specs.declared.control.State.TheVariants.{AdminDown, Down, Init, Up}

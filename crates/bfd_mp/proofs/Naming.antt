@@ -11,7 +11,7 @@ use Rattle.bfd_rules.specs.Names.{AllNamed}
 
 transmits_names : (c : HeadConfig) (P : Out → Type 0) (poll : Bool) (s : Course) → OfOwn c.discr P → AllByRecursion P s.outs → AllByRecursion P (transmits c poll s).outs
 unfolding transmits
-transmits_names c P poll s own h = sends_names c.discr P _ _ own h
+transmits_names c P poll s own h = sends_names _ P _ _ own h
 
 periodic_packet_names : (c : HeadConfig) (P : Out → Type 0) (eff : ℕ) (s : Course) → OfOwn c.discr P → AllByRecursion P s.outs → AllByRecursion P (head.periodic_packet c eff s).outs
 unfolding head.periodic_packet
@@ -25,12 +25,11 @@ head_settle_names c P limit eff s own h =
 pub head_commanded_names : (c : HeadConfig) (P : Out → Type 0) (cmd : Cmd) (s : Course) → OfOwn c.discr P → AllByRecursion P s.outs → AllByRecursion P (head_commanded c cmd s).outs
 unfolding head_commanded
 head_commanded_names c P cmd s own h =
-    chosen_names P (is_some (head_refusal s.vars cmd)) s (changes c.discr (head_done cmd s.vars) s) h (changes_names c.discr P (head_done cmd s.vars) s own h)
+    chosen_names P (is_some (head_refusal s.vars cmd)) s (changes c.discr (head_done cmd s.vars) s) h (changes_names _ P (head_done cmd s.vars) s own h)
 
 extra_names : (c : HeadConfig) (P : Out → Type 0) (eff : ℕ) (s : Course) → OfOwn c.discr P → AllByRecursion P s.outs → AllByRecursion P (finishing.extra c eff s).outs
 unfolding finishing.extra
-extra_names c P eff s own h =
-    chosen_names P (is_untold true s.mark s.vars) (based eff (transmits c false s)) s (transmits_names c P false s own h) h
+extra_names c P eff s own h = chosen_names P (is_untold true s.mark s.vars) (based eff (transmits c false s)) s (transmits_names c P false s own h) h
 
 pub head_finish_names : (c : HeadConfig) (P : Out → Type 0) (eff : ℕ) (s : Course) → OfOwn c.discr P → AllByRecursion P s.outs → AllByRecursion P (finishing.finish c eff s).outs
 unfolding finishing.finish redrawn
@@ -41,14 +40,14 @@ head_finish_names c P eff s own h = extra_names c P eff s own h
 pub tail_settle_names : (c : TailConfig) (P : Out → Type 0) (limit : ℕ) (s : Course) → OfOwn c.discr P → AllByRecursion P s.outs → AllByRecursion P (tail.settle c limit s).outs
 unfolding tail.settle
 tail_settle_names c P limit s own h =
-    chosen_names P (has_come limit (deadline s.vars)) (changes c.discr (tail.silenced s.vars) s) s (changes_names c.discr P (tail.silenced s.vars) s own h) h
+    chosen_names P (has_come limit (deadline s.vars)) (changes c.discr (tail.silenced s.vars) s) s (changes_names _ P (tail.silenced s.vars) s own h) h
 
 accepted_names : (c : TailConfig) (P : Out → Type 0) (eff : ℕ) (packet : Control) (s : Course) → OfOwn c.discr P → AllByRecursion P s.outs → AllByRecursion P (receiving.accepted c eff packet s).outs
 unfolding receiving.accepted receiving.keeps_fields receiving.moves_state
 accepted_names c P eff packet s own h =
     let t : Course = receiving.keeps_fields eff packet s in
     chosen_names P (is_admin_down t.vars.state) t (receiving.moves_state c packet t) h
-    (changes_names c.discr P (receiving.machine t.vars.state packet.state t.vars) t own h)
+    (changes_names _ P (receiving.machine t.vars.state packet.state t.vars) t own h)
 
 pub received_names : (c : TailConfig) (P : Out → Type 0) (eff : ℕ) (raw : List ℕ) (s : Course) → OfOwn c.discr P → AllByRecursion P s.outs → AllByRecursion P (receiving.received c eff raw s).outs
 unfolding receiving.received
@@ -58,7 +57,7 @@ received_names c P eff raw s own h =
 pub tail_commanded_names : (c : TailConfig) (P : Out → Type 0) (cmd : Cmd) (s : Course) → OfOwn c.discr P → AllByRecursion P s.outs → AllByRecursion P (tail_commanded c cmd s).outs
 unfolding tail_commanded
 tail_commanded_names c P cmd s own h =
-    chosen_names P (is_some (tail_refusal s.vars cmd)) s (changes c.discr (tail_done cmd s.vars) s) h (changes_names c.discr P (tail_done cmd s.vars) s own h)
+    chosen_names P (is_some (tail_refusal s.vars cmd)) s (changes c.discr (tail_done cmd s.vars) s) h (changes_names _ P (tail_done cmd s.vars) s own h)
 
 -- so the discriminators that they name are the session's
 

@@ -5,8 +5,7 @@ use Rattle.bfd_mp.specs.TailReceive as receiving
 
 pub settle-after : (c : TailConfig) (limit : ℕ) (os : List Out) (s : Course) → settling.settle c limit (after os s) ≡ after os (settling.settle c limit s)
 unfolding settling.settle
-settle-after c limit os s =
-    either os (has_come limit (deadline s.vars)) _ s _ _ (changes-after c.discr (settling.silenced s.vars) os s) refl
+settle-after c limit os s = either os (has_come limit (deadline s.vars)) _ s _ _ (changes-after c.discr (settling.silenced s.vars) os s) refl
 
 moves_state-after : (c : TailConfig) (packet : Control) (os : List Out) (s : Course) → receiving.moves_state c packet (after os s) ≡ after os (receiving.moves_state c packet s)
 unfolding receiving.moves_state

@@ -9,7 +9,7 @@ use Rattle.bfd_packet.specs.declared.control.Control.{Control}
 use Rattle.bfd_packet.specs.declared.keys.SeqState.{SeqState}
 use Rattle.bfd_rules.specs.declared.variables.Mark.{Mark}
 use Rattle.bfd_rules.specs.EventFrame.{Course, course, changes, told}
-use Rattle.bfd_rules.specs.Renewal.{is_settled_tx, poll_renewed, used_renewed, demand_renewed, renewed}
+use Rattle.bfd_rules.specs.Renewal.{poll_renewed, used_renewed, demand_renewed, renewed}
 use Rattle.bfd_rules.specs.Sound.{IsRenewed}
 use Rattle.bfd_rules.proofs.Still.{same_itself}
 use Rattle.bfd_p2p.specs.Frame.{moves, renews}
@@ -20,19 +20,18 @@ unfolding poll_renewed
 poll_stands before v adv rx = rw (eq-eqb (adv_tx v) (adv_tx before) adv, eq-eqb v.rx before.rx rx) refl
 
 -- an interval in use that follows is the one that it follows
-tx_stands : (b : Bool) (used adv : ℕ) → (b ≡ true → used ≡ adv) → used ≤ adv → (if b then adv else min used adv) ≡ used
-tx_stands true used adv settled most = sym (settled refl)
-tx_stands false used adv settled most = grind (arith, common_steps)
+tx_stands : (b : Bool) {used adv : ℕ} → (b ≡ true → used ≡ adv) → used ≤ adv → (if b then adv else min used adv) ≡ used
+tx_stands true settled most = sym (settled refl)
+tx_stands false settled most = grind (arith, common_steps)
 
-rx_stands : (b : Bool) (used rx : ℕ) → (b ≡ true → used ≡ rx) → rx ≤ used → (if b then rx else max used rx) ≡ used
-rx_stands true used rx settled least = sym (settled refl)
-rx_stands false used rx settled least = grind (arith, common_steps)
+rx_stands : (b : Bool) {used rx : ℕ} → (b ≡ true → used ≡ rx) → rx ≤ used → (if b then rx else max used rx) ≡ used
+rx_stands true settled least = sym (settled refl)
+rx_stands false settled least = grind (arith, common_steps)
 
-used_stands : (v : Vars) → IsRenewed v → used_renewed v ≡ v
+used_stands : {v : Vars} → IsRenewed v → used_renewed v ≡ v
 unfolding used_renewed
-used_stands v h =
-    ap (λ (n : ℕ). record v { used_tx = n; used_rx = if is_idle v.poll then v.rx else max v.used_rx v.rx }) (tx_stands (is_settled_tx v) v.used_tx (adv_tx v) h.settled_tx h.tx_at_most)
-    ∙ ap (λ (n : ℕ). record v { used_tx = v.used_tx; used_rx = n }) (rx_stands (is_idle v.poll) v.used_rx v.rx h.settled_rx h.rx_at_least)
+used_stands {v} h = ap (λ n. record v { used_tx = n; used_rx = if is_idle v.poll then v.rx else max v.used_rx v.rx }) (tx_stands _ h.settled_tx h.tx_at_most)
+    ∙ ap (λ n. record v { used_tx = v.used_tx; used_rx = n }) (rx_stands _ h.settled_rx h.rx_at_least)
 
 both_stand : (v x y : Vars) (a b : Bool) → b ≡ a → (if a then (if b then v else x) else (if b then y else v)) ≡ v
 both_stand v x y true true e = refl
@@ -42,33 +41,29 @@ both_stand v x y false false e = refl
 
 demand_stands : (eff : ℕ) (before v : Vars) → demand_here v ≡ demand_here before → demand_renewed eff before v ≡ v
 unfolding demand_renewed
-demand_stands eff before v e = both_stand v _ _ (demand_here before) (demand_here v) e
+demand_stands eff before v e = both_stand v _ _ _ _ e
 
-pub renewed_idle : (eff : ℕ) (before v : Vars) → IsRenewed v → adv_tx v ≡ adv_tx before → v.rx ≡ before.rx → demand_here v ≡ demand_here before → renewed eff before v ≡ v
+renewed_idle : (eff : ℕ) (before : Vars) {v : Vars} → IsRenewed v → adv_tx v ≡ adv_tx before → v.rx ≡ before.rx → demand_here v ≡ demand_here before → renewed eff before v ≡ v
 unfolding renewed
-renewed_idle eff before v h adv rx demand =
-    ap (λ (w : Vars). demand_renewed eff before (used_renewed w)) (poll_stands before v adv rx)
-    ∙ (ap (demand_renewed eff before) (used_stands v h) ∙ demand_stands eff before v demand)
+renewed_idle eff before {v} h adv rx demand = cc (poll_stands before v adv rx, used_stands h, demand_stands eff before v demand)
 
 -- variables that stay are not told
 changes_none : (discr : ℕ) (s : Course) → changes discr s.vars s ≡ s
 unfolding changes
 changes_none discr s =
     let untold : told discr s.vars s.vars ≡ [] = rw (same_itself s.vars.state) refl in
-    ap (λ (os : List Out). record s { vars = s.vars; outs = os }) (ap (λ (os : List Out). s.outs ++ os) untold ∙ append-nil s.outs)
+    ap (λ os. record s { vars = s.vars; outs = os }) (ap (λ os. s.outs ++ os) untold ∙ append-nil s.outs)
 
 -- a rule that changes nothing does nothing
 pub moves_none : (discr eff : ℕ) (s : Course) → IsRenewed s.vars → moves discr eff s.vars s ≡ s
 unfolding moves
-moves_none discr eff s h =
-    ap (λ (w : Vars). changes discr w s) (renewed_idle eff s.vars s.vars h refl refl refl) ∙ changes_none discr s
+moves_none discr eff s h = cc (renewed_idle eff s.vars h refl refl refl, changes_none discr s)
 
 -- nor does a periodic packet leave anything to renew
 pub renews_told : (eff : ℕ) (seq : SeqState) (v : Vars) (m : Mark) (os : List Out) → IsRenewed (record v { seq = seq; poll = poll_sent eff v.poll; base = eff })
     → course (record v { seq = seq; poll = poll_sent eff v.poll; base = eff }) m os ≡ renews eff (record v { seq = seq; poll = poll_sent eff v.poll; base = eff }) (course v m os)
 unfolding renews
-renews_told eff seq v m os h =
-    ap (λ (w : Vars). course w m os) (sym (renewed_idle eff v (record v { seq = seq; poll = poll_sent eff v.poll; base = eff }) h refl refl refl))
+renews_told eff seq v m os h = cc (renewed_idle eff v h refl refl refl)
 
 -- nor does the sequence state that a packet leaves
 pub renews_sequence : (eff : ℕ) (seq : SeqState) (heard : Option ℕ) (v : Vars) (m : Mark) (os : List Out) → IsRenewed v
@@ -81,7 +76,7 @@ renews_sequence eff seq heard v m os h =
       settled_rx = h.settled_rx;
       rx_at_least = h.rx_at_least;
     } in
-    ap (λ (w : Vars). course w m os) (sym (renewed_idle eff v (record v { seq = seq; seq_heard = heard }) renewed_still refl refl refl))
+    cc (renewed_idle eff v renewed_still refl refl refl)
 
 -- the variables with the peer's fields
 abbrev heard_from : ℕ → Control → Vars → Vars
@@ -108,4 +103,4 @@ renews_fields eff packet v m os h demand =
       rx_at_least = h.rx_at_least;
     } in
     let inactive : demand_here (heard_from eff packet v) ≡ demand_here v = rw demand refl in
-    ap (λ (w : Vars). course w m os) (sym (renewed_idle eff v (heard_from eff packet v) renewed_still refl refl inactive))
+    cc (renewed_idle eff v renewed_still refl refl inactive)

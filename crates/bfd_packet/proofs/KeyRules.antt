@@ -15,15 +15,13 @@ distinct_ids-push [] key d h = refl
 distinct_ids-push (first ∷ keys) key d h =
     let old = and_parts (not (has_id first.id keys)) (distinct_ids keys) d in
     let new = or_parts (nat_eq key.id first.id) (has_id key.id keys) h in
-    let rest = distinct_ids-push keys key old.1 new.1 in
-    let apart : nat_eq first.id key.id ≡ false = eq_id-comm first.id key.id ∙ new.0 in
-    let seen = list_any-append (λ (other : Key). nat_eq first.id other.id) keys (key ∷ []) in
-    rw (seen, apart, rest) (grind (arith, old.0))
+    let seen = list_any-append (λ other. nat_eq first.id other.id) keys (key ∷ []) in
+    rw (seen, eq_id-comm first.id key.id ∙ new.0, distinct_ids-push keys key old.1 new.1) (grind (arith, old.0))
 
 -- a list that is no list of four and has no such id may gain a key that fits
 stays_key_chain : (keys : KeyChain) (key : Key) → IsKeyChain keys → length keys.list < 4 → has_id key.id keys.list ≡ false → IsTrue (fits_kind keys.kind key.secret) → IsKeyChain (record keys { list = keys.list ++ key ∷ [] })
 stays_key_chain keys key chain room fresh fits =
-    let all = list_all-append (λ (other : Key). fits_kind keys.kind other.secret) keys.list (key ∷ []) in
+    let all = list_all-append (λ other. fits_kind keys.kind other.secret) keys.list (key ∷ []) in
     record {
       some = simp length-append (omega arith);
       few = simp length-append (omega arith);
@@ -35,10 +33,7 @@ stays_key_chain keys key chain room fresh fits =
 pub gains_key : (keys now : KeyChain) (key : Key) → keys ≡ now → IsKeyChain keys → length now.list < 4 → has_id key.id now.list ≡ false → IsTrue (fits_kind now.kind key.secret) → IsKeyChain (record keys { list = keys.list ++ key ∷ [] })
 gains_key keys now key same chain room fresh fits =
     let e = sym same in
-    stays_key_chain keys key chain
-    (subst (λ (k : KeyChain). length k.list < 4) e room)
-    (subst (λ (k : KeyChain). has_id key.id k.list ≡ false) e fresh)
-    (subst (λ (k : KeyChain). IsTrue (fits_kind k.kind key.secret)) e fits)
+    stays_key_chain keys key chain (rw (← e) room) (rw (← e) fresh) (subst (λ (k : KeyChain). IsTrue (fits_kind k.kind key.secret)) e fits)
 
 -- no key of the list has an id that no key has
 other_id : (id : ℕ) (keys : List Key) (place : ℕ) → has_id id keys ≡ false → place < length keys → nat_eq id (key_at place keys).id ≡ false
@@ -54,10 +49,8 @@ key_named-key_at (first ∷ keys) (suc place) d lt =
     let both = and_parts (not (has_id first.id keys)) (distinct_ids keys) d in
     let lower : place < length keys = omega arith in
     let fresh : has_id first.id keys ≡ false = grind (arith, both.0) in
-    let apart : nat_eq (key_at place keys).id first.id ≡ false = eq_id-comm (key_at place keys).id first.id ∙ other_id first.id keys place fresh lower in
-    rw apart (key_named-key_at keys place both.1 lower)
+    rw (eq_id-comm (key_at place keys).id first.id ∙ other_id first.id keys _ fresh lower) (key_named-key_at keys _ both.1 lower)
 
 -- the same of the key that stands there
-pub names_itself : (keys : List Key) (place : ℕ) (key : Key) → distinct_ids keys ≡ true → place < length keys → key ≡ key_at place keys → key_named key.id keys ≡ Some key
-names_itself keys place key ids lt e =
-    subst (λ (k : Key). key_named k.id keys ≡ Some k) (sym e) (key_named-key_at keys place ids lt)
+pub names_itself : (keys : List Key) {place : ℕ} {key : Key} → distinct_ids keys ≡ true → place < length keys → key ≡ key_at place keys → key_named key.id keys ≡ Some key
+names_itself keys {place} ids lt e = rw e (key_named-key_at keys _ ids lt)

@@ -10,7 +10,7 @@ use Rattle.bfd_packet.specs.declared.control.State.TheVariants.{AdminDown, Down,
 use Rattle.bfd_packet.specs.declared.arrival.Port.{Port}
 use Rattle.bfd_packet.specs.declared.discard.Test.TheVariants.{Short, Version, LengthMin, LengthOver, DetectMult, Multipoint, MyDiscr}
 use Rattle.bfd_packet.specs.Layout.{HasWords, as_sent, bit_of, flag_byte, flag_of, fields_of, has_section, state_number, state_of, text_of, word_at}
-use Rattle.bfd_packet.specs.HeaderTests.{PassesHeader, header_fails, read_of, takes_multipoint_of}
+use Rattle.bfd_packet.specs.HeaderTests.{PassesHeader, header_fails, read_of}
 
 -- a flag as a digit
 abbrev digit : Bool → ℕ
@@ -45,9 +45,9 @@ record Digits (n s p f c a d m : ℕ) : Type 0 where
   demand : n / 2 % 2 ≡ d
   multi : n / 1 % 2 ≡ m
 
-digits-sum : (n s p f c a d m : ℕ) → p ≤ 1 → f ≤ 1 → c ≤ 1 → a ≤ 1 → d ≤ 1 → m ≤ 1
+digits-sum : {n : ℕ} (s : ℕ) {p f c a d m : ℕ} → p ≤ 1 → f ≤ 1 → c ≤ 1 → a ≤ 1 → d ≤ 1 → m ≤ 1
     → n ≡ s * 64 + (p * 32 + (f * 16 + (c * 8 + (a * 4 + (d * 2 + m))))) → Digits n s p f c a d m
-digits-sum n s p f c a d m hp hf hc ha hd hm e = record {
+digits-sum s hp hf hc ha hd hm e = record {
   state = omega arith;
   poll = omega arith;
   fin = omega arith;
@@ -59,16 +59,9 @@ digits-sum n s p f c a d m hp hf hc ha hd hm e = record {
 
 -- the flags' byte has the flags as its digits
 digits-flag_byte : (c : Control) (section : List ℕ) → Digits (flag_byte c section) (state_number c.state) (digit c.poll) (digit c.fin) (digit c.cpi) (digit (has_section section)) (digit c.demand) (digit c.multi)
-digits-flag_byte c section =
-    digits-sum _ _ _ _ _ _ _ _
-    (digit-le c.poll) (digit-le c.fin) (digit-le c.cpi) (digit-le (has_section section)) (digit-le c.demand) (digit-le c.multi)
-    (let p = bit_of-digit c.poll 5 in
-    let f = bit_of-digit c.fin 4 in
-    let i = bit_of-digit c.cpi 3 in
-    let a = bit_of-digit (has_section section) 2 in
-    let d = bit_of-digit c.demand 1 in
-    let m = bit_of-digit c.multi 0 in
-    omega (arith, p, f, i, a, d, m))
+digits-flag_byte c section = digits-sum _
+    (digit-le c.poll) (digit-le c.fin) (digit-le c.cpi) (digit-le (has_section section)) (digit-le c.demand) (digit-le c.multi) (
+    omega (arith, bit_of-digit c.poll 5, bit_of-digit c.fin 4, bit_of-digit c.cpi 3, bit_of-digit (has_section section) 2, bit_of-digit c.demand 1, bit_of-digit c.multi 0))
 
 -- a flag of what is written
 flag-of : (n place : ℕ) (b : Bool) → n / 2 ^ place % 2 ≡ digit b → nat_eq (n / 2 ^ place % 2) 1 ≡ b
@@ -90,19 +83,9 @@ fields_of-text_of c section diag words =
     let b = digits-flag_byte c section in
     let n : ℕ = flag_byte c section in
     let first : (32 + c.diag) % 32 ≡ c.diag = omega arith in
-    let state = state-of n c.state b.state in
-    let poll = flag-of n 5 c.poll b.poll in
-    let fin = flag-of n 4 c.fin b.fin in
-    let cpi = flag-of n 3 c.cpi b.cpi in
-    let auth = flag-of n 2 (has_section section) b.auth in
-    let demand = flag-of n 1 c.demand b.demand in
-    let multi = flag-of n 0 c.multi b.multi in
     let my = big_number-reads_back 4 c.my (big_bytes 4 c.your ++ (big_bytes 4 c.min_tx ++ (big_bytes 4 c.min_rx ++ (big_bytes 4 c.min_echo ++ section)))) words.my in
     let your = big_number-reads_back 4 c.your (big_bytes 4 c.min_tx ++ (big_bytes 4 c.min_rx ++ (big_bytes 4 c.min_echo ++ section))) words.your in
-    let min_tx = big_number-reads_back 4 c.min_tx (big_bytes 4 c.min_rx ++ (big_bytes 4 c.min_echo ++ section)) words.min_tx in
-    let min_rx = big_number-reads_back 4 c.min_rx (big_bytes 4 c.min_echo ++ section) words.min_rx in
-    let min_echo = big_number-reads_back 4 c.min_echo section words.min_echo in
-    rw (first, state, poll, fin, cpi, auth, demand, multi, my, your, min_tx, min_rx, min_echo) refl
+    rw (first, state-of n c.state b.state, flag-of n 5 c.poll b.poll, flag-of n 4 c.fin b.fin, flag-of n 3 c.cpi b.cpi, flag-of n 2 (has_section section) b.auth, flag-of n 1 c.demand b.demand, flag-of n 0 c.multi b.multi, my, your, big_number-reads_back 4 c.min_tx (big_bytes 4 c.min_rx ++ (big_bytes 4 c.min_echo ++ section)) words.min_tx, big_number-reads_back 4 c.min_rx (big_bytes 4 c.min_echo ++ section) words.min_rx, big_number-reads_back 4 c.min_echo section words.min_echo) refl
 
 -- Length is at least 24, and 26 where a section follows
 length_min-false : (size : ℕ) → size ≢ 1 → nat_lt (24 + size) (if not (nat_eq size 0) then 26 else 24) ≡ false
@@ -117,14 +100,13 @@ passes takes c section diag words apart mult multi my =
     let same = fields_of-text_of c section diag words in
     let short : nat_lt (length (text_of c section)) 4 ≡ false = grind (arith, nat_tests) in
     let version : nat_eq ((32 + c.diag) / 32) 1 ≡ true = grind (arith, nat_tests) in
-    let a : flag_of 2 (text_of c section) ≡ has_section section = ap (λ (d : Control). d.auth) same in
-    let min = length_min-false (length section) apart in
+    let a = ap (λ d. d.auth) same in
     let over : nat_lt (length (text_of c section)) (24 + length section) ≡ false = grind (arith, nat_tests) in
     let zero_mult : nat_eq c.mult 0 ≡ false = grind (arith, nat_tests) in
-    let m : flag_of 0 (text_of c section) ≡ c.multi = ap (λ (d : Control). d.multi) same in
-    let word : word_at 4 (text_of c section) ≡ c.my = ap (λ (d : Control). d.my) same in
+    let m = ap (λ d. d.multi) same in
+    let word = ap (λ d. d.my) same in
     let zero_my : nat_eq c.my 0 ≡ false = grind (arith, nat_tests) in
-    rw (short, version, a, min, over, zero_mult) (last takes multi m word zero_my)
+    rw (short, version, a, length_min-false _ apart, over, zero_mult) (last takes multi m word zero_my)
   where
     last : (takes : Bool) → (takes ≡ false → c.multi ≡ false) → flag_of 0 (text_of c section) ≡ c.multi
         → word_at 4 (text_of c section) ≡ c.my → nat_eq c.my 0 ≡ false
@@ -133,15 +115,14 @@ passes takes c section diag words apart mult multi my =
     last false multi m word zero_my = rw (m, multi refl, word, zero_my) refl
 
 -- what is written reads back on every port whose tests its fields pass
-read_of-text_of : (c : Control) (section : List ℕ) → c.diag < 32 → HasWords c → (port : Port)
+read_of-text_of : {c : Control} (section : List ℕ) → c.diag < 32 → HasWords c → {port : Port}
     → PassesHeader port c → length section ≢ 1 → read_of port (text_of c section) ≡ Ok (as_sent c section)
-read_of-text_of c section diag words port fields apart =
-    let none = passes (takes_multipoint_of port) c section diag words apart fields.mult fields.multi fields.my in
-    rw none (ap Ok (fields_of-text_of c section diag words))
+read_of-text_of {c} section diag words {port} fields apart =
+    rw (passes _ c section diag words apart fields.mult fields.multi fields.my) (ap Ok (fields_of-text_of c section diag words))
 
 -- the same of equal bytes
-pub read_of-written : (c : Control) (section bytes : List ℕ) → bytes ≡ text_of c section → c.diag < 32 → HasWords c → (port : Port)
+pub read_of-written : {c : Control} (section : List ℕ) {bytes : List ℕ} → bytes ≡ text_of c section → c.diag < 32 → HasWords c → (port : Port)
     → PassesHeader port c → length section ≢ 1 → read_of port bytes ≡ Ok (as_sent c section)
-read_of-written c section bytes same diag words port fields apart =
+read_of-written {c} section same diag words port fields apart =
     let P : List ℕ → Type 0 = λ packet. read_of port packet ≡ Ok (as_sent c section) in
-    subst P (sym same) (read_of-text_of c section diag words port fields apart)
+    subst P (sym same) (read_of-text_of section diag words fields apart)

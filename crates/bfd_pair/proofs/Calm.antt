@@ -1,9 +1,7 @@
 -- Only a packet in Init or Up makes a session tell a change to Up, or leaves one Up that wasn't.
-use Rattle.bfd_pair.proofs.Common.{◌≡◌, inl, inr, ◌++◌, not, ℕ, Bool, true, false, List, [], ◌∷◌, refl, sym, ap, ◌∙◌, Option, None, Some, Result, Ok, Err, if◌then◌else◌, both_ways, not-true, or_from, or_parts, Arrival, Control, State, AdminDown, Down, Init, Up, Test, SeqState, fields_of, is_init_or_up, Cmd, Config, Out, Mark, Vars, is_up, same_state, Course, course, changes, sends, told, transmits, SessionConfig, Pair, Packet, Command, Running, Flow, begun, settled, acted, finished, step, step_from, stepped_flow, tick, tick_from, ticked_flow, next, emits, tick_next, tick_emits, tells_up}
-use Rattle.bfd_rules.specs.declared.outputs.Out.TheVariants.{Changed, Sent}
+use Rattle.bfd_pair.proofs.Common.{◌≡◌, inl, inr, ◌++◌, not, ℕ, Bool, true, false, List, [], ◌∷◌, refl, Option, None, Some, Result, Ok, Err, if◌then◌else◌, both_ways, not-true, or_from, or_parts, Arrival, Control, State, AdminDown, Down, Init, Up, Test, SeqState, fields_of, is_init_or_up, Cmd, Config, Out, Mark, Vars, is_up, same_state, Course, course, changes, sends, told, transmits, SessionConfig, Pair, Packet, Command, Running, Flow, begun, settled, acted, finished, step, step_from, stepped_flow, tick, tick_from, ticked_flow, next, emits, tick_next, tick_emits, tells_up, Changed, Sent, Echo}
 use Rattle.bfd_rules.proofs.Still.{same_itself}
 use Rattle.bfd_p2p.specs.Receive as receiving
-use Rattle.bfd_echo.specs.declared.echo.Echo.{Echo}
 use Rattle.bfd_echo.specs.declared.echo.EchoResult.{EchoResult}
 use Rattle.bfd_echo.specs.declared.echo.EchoResult.TheVariants.{Nothing, Sent as EchoSent, Failed}
 use Rattle.bfd_session.specs.Echoing.{settled_by, settled_running, settles_echo}
@@ -20,13 +18,11 @@ low_state state = not (is_up state)
 
 tells-append : (xs ys : List Out) → tells_up xs ≡ false → tells_up ys ≡ false → tells_up (xs ++ ys) ≡ false
 tells-append [] ys h k = k
-tells-append (Changed discr old new diag ∷ xs) ys h k =
-    or_from (is_up new) (tells_up (xs ++ ys)) (or_parts (is_up new) (tells_up xs) h).0
+tells-append (Changed discr old new diag ∷ xs) ys h k = or_from (is_up new) (tells_up (xs ++ ys)) (or_parts (is_up new) (tells_up xs) h).0
     (tells-append xs ys (or_parts (is_up new) (tells_up xs) h).1 k)
 tells-append (Sent discr datagram ∷ xs) ys h k = tells-append xs ys h k
 
-told_low : (discr diag : ℕ) (a b : State) → not (is_up b) ≡ true → (same : Bool)
-    → tells_up (if same then [] else Changed discr a b diag ∷ []) ≡ false
+told_low : (discr diag : ℕ) (a b : State) → not (is_up b) ≡ true → (same : Bool) → tells_up (if same then [] else Changed discr a b diag ∷ []) ≡ false
 told_low discr diag a AdminDown low true = refl
 told_low discr diag a Down low true = refl
 told_low discr diag a Init low true = refl
@@ -40,17 +36,17 @@ told_calm discr v w (inr allowed) = told_low discr w.diag v.state w.state allowe
 -- what the rules ask
 
 calm_still : (was : Bool) (s : Course) (v : Vars) (m : Mark) → v.state ≡ s.vars.state → Calm was s → Calm was (course v m s.outs)
-calm_still was s v m same h = record { untold = h.untold; low = λ up. h.low (ap is_up (sym same) ∙ up) }
+calm_still was s v m same h = record { untold = h.untold; low = λ up. h.low (cc) }
 
-low_to : (was : Bool) (v w : Vars) → (is_up v.state ≡ true → was ≡ true) → Goes low_state v w → is_up w.state ≡ true → was ≡ true
-low_to was v w low (inl same) up = low (ap is_up (sym same) ∙ up)
-low_to was v w low (inr allowed) up = absurd (both_ways (is_up w.state) (not-true (is_up w.state) allowed) up)
+low_to : {was : Bool} (v w : Vars) → (is_up v.state ≡ true → was ≡ true) → Goes low_state v w → is_up w.state ≡ true → was ≡ true
+low_to v w low (inl same) up = low (cc)
+low_to v w low (inr allowed) up = absurd (both_ways (is_up w.state) (not-true (is_up w.state) allowed) up)
 
 calm_goes : (was : Bool) (discr : ℕ) (v : Vars) (s : Course) → Goes low_state s.vars v → Calm was s → Calm was (changes discr v s)
 unfolding changes
 calm_goes was discr v s to h = record {
   untold = tells-append s.outs (told discr s.vars v) h.untold (told_calm discr s.vars v to);
-  low = low_to was s.vars v h.low to;
+  low = low_to s.vars v h.low to;
 }
 
 calm_puts : (was : Bool) (c : Config) (poll fin : Bool) (s : Course) → Calm was s → Calm was (transmits c poll fin s)
@@ -64,91 +60,78 @@ begun_calm None s = record { untold = refl; low = λ up. up }
 begun_calm (Some eff) s = record { untold = refl; low = λ up. up }
 
 -- the Echo function sends a packet, or the session goes Down
-result_calm : (was : Bool) (c : Config) (eff : ℕ) (result : EchoResult) (after : Echo) (f : Flow) → Calm was f.course
+result_calm : {was : Bool} (c : Config) (eff : ℕ) (result : EchoResult) (after : Echo) (f : Flow) → Calm was f.course
     → Calm was (settled_by c eff result after f).course
 unfolding sends
-result_calm was c eff Nothing after f h = h
-result_calm was c eff (EchoSent bytes) after f h =
-    record { untold = tells-append f.course.outs _ h.untold refl; low = h.low }
-result_calm was c eff Failed after f h =
-    moves_keeps (Calm was) low_state (calm_still was) (calm_goes was) (calm_puts was) refl refl c.discr eff _ f.course (inr refl) h
+result_calm c eff Nothing after f h = h
+result_calm c eff (EchoSent bytes) after f h = record { untold = tells-append f.course.outs _ h.untold refl; low = h.low }
+result_calm {was} c eff Failed after f h =
+    moves_keeps (Calm was) low_state (calm_still was) (calm_goes was) (calm_puts was) refl refl c.discr eff _ (inr refl) h
 
-running_calm : (was : Bool) (c : Config) (limit eff : ℕ) (echo : Option Echo) (f : Flow) → Calm was f.course
+running_calm : {was : Bool} (c : Config) (limit eff : ℕ) (echo : Option Echo) (f : Flow) → Calm was f.course
     → Calm was (settled_running c limit eff echo f).course
-running_calm was c limit eff None f h = h
-running_calm was c limit eff (Some e) f h = result_calm was c eff _ _ f h
+running_calm c limit eff None f h = h
+running_calm c limit eff (Some e) f h = result_calm c eff _ _ f h
 
-echo_calm : (was : Bool) (c : Config) (limit eff : ℕ) (f : Flow) → Calm was f.course → Calm was (settles_echo c limit eff f).course
+echo_calm : {was : Bool} (c : Config) (limit eff : ℕ) (f : Flow) → Calm was f.course → Calm was (settles_echo c limit eff f).course
 unfolding settles_echo
-echo_calm was c limit eff f h = running_calm was c limit eff _ f h
+echo_calm c limit eff f h = running_calm c limit eff _ f h
 
-settled_calm : (was : Bool) (c : SessionConfig) (limit eff : ℕ) (f : Flow) → IsPoint c → Calm was f.course
-    → Calm was (settled c limit eff f).course
-settled_calm was (Pair c) limit eff f p h =
-    echo_calm was c limit eff _
-    (settle_keeps (Calm was) low_state (calm_still was) (calm_goes was) (calm_puts was) refl refl c limit eff f.course h)
-settled_calm was c limit eff f p h = absurd p
+settled_calm : {was : Bool} (c : SessionConfig) (limit eff : ℕ) (f : Flow) → IsPoint c → Calm was f.course → Calm was (settled c limit eff f).course
+settled_calm {was} (Pair c) limit eff f p h = echo_calm c limit eff _
+    (settle_keeps (Calm was) low_state (calm_still was) (calm_goes was) (calm_puts was) refl refl c limit eff _ h)
+settled_calm c limit eff f p h = absurd p
 
-finished_calm : (was : Bool) (c : SessionConfig) (eff : ℕ) (f : Flow) → IsPoint c → Calm was f.course
-    → Calm was (finished c eff f).course
-finished_calm was (Pair c) eff f p h =
-    finish_keeps (Calm was) low_state (calm_still was) (calm_goes was) (calm_puts was) refl refl c eff f.course h
-finished_calm was c eff f p h = absurd p
+finished_calm : {was : Bool} (c : SessionConfig) (eff : ℕ) (f : Flow) → IsPoint c → Calm was f.course → Calm was (finished c eff f).course
+finished_calm {was} (Pair c) eff f p h = finish_keeps (Calm was) low_state (calm_still was) (calm_goes was) (calm_puts was) refl refl c eff _ h
+finished_calm c eff f p h = absurd p
 
-ordered_calm : (was : Bool) (c : SessionConfig) (eff : ℕ) (cmd : Cmd) (f : Flow) → IsPoint c → Calm was f.course
-    → Calm was (acted c eff (Command cmd) f).course
-ordered_calm was (Pair c) eff cmd f p h =
-    commanded_keeps (Calm was) low_state (calm_still was) (calm_goes was) (calm_puts was) refl refl c eff cmd f.course h
-ordered_calm was c eff cmd f p h = absurd p
+ordered_calm : {was : Bool} (c : SessionConfig) (eff : ℕ) (cmd : Cmd) (f : Flow) → IsPoint c → Calm was f.course → Calm was (acted c eff (Command cmd) f).course
+ordered_calm {was} (Pair c) eff cmd f p h = commanded_keeps (Calm was) low_state (calm_still was) (calm_goes was) (calm_puts was) refl refl c eff cmd _ h
+ordered_calm c eff cmd f p h = absurd p
 
-received_calm : (was : Bool) (c : Config) (eff : ℕ) (packet : Control) (judgement : Result SeqState Test) (s : Course)
+received_calm : {was : Bool} (c : Config) (eff : ℕ) (packet : Control) (judgement : Result SeqState Test) {s : Course}
     → is_init_or_up packet.state ≡ false → Calm was s → Calm was (receiving.received_on c eff packet judgement s)
 unfolding receiving.received_on
-received_calm was c eff packet (Ok seq) s low h =
-    low_keeps (Calm was) low_state (calm_still was) (calm_goes was) (calm_puts was) refl refl refl c eff packet seq s low h
-received_calm was c eff packet (Err test) s low h = h
+received_calm {was} c eff packet (Ok seq) low h =
+    low_keeps (Calm was) low_state (calm_still was) (calm_goes was) (calm_puts was) refl refl refl c eff packet seq low h
+received_calm c eff packet (Err test) low h = h
 
-acted_calm : (was : Bool) (c : SessionConfig) (eff : ℕ) (arrival : Arrival) (f : Flow) → IsPoint c
+acted_calm : {was : Bool} (c : SessionConfig) (eff : ℕ) (arrival : Arrival) (f : Flow) → IsPoint c
     → is_init_or_up (fields_of arrival.payload).state ≡ false → Calm was f.course → Calm was (acted c eff (Packet arrival) f).course
 unfolding receiving.received
-acted_calm was (Pair c) eff arrival f p low h = received_calm was c eff (fields_of arrival.payload) _ f.course low h
-acted_calm was c eff arrival f p low h = absurd p
+acted_calm (Pair c) eff arrival f p low h = received_calm c eff (fields_of arrival.payload) _ low h
+acted_calm c eff arrival f p low h = absurd p
 
 tick_calm : (s : Running) (limit eff : ℕ) → IsPoint s.config → Calm (is_up s.vars.state) (tick_from limit eff s []).course
 unfolding tick
-tick_calm s limit eff p = finished_calm _ s.config eff _ p (settled_calm _ s.config limit eff _ p (begun_calm None s))
+tick_calm s limit eff p = finished_calm s.config eff _ p (settled_calm s.config limit eff _ p (begun_calm None s))
 
 pub tick_untold : (s : Running) (limit eff : ℕ) → IsPoint s.config → tells_up (tick_emits limit eff s) ≡ false
 unfolding tick_emits ticked_flow
 tick_untold s limit eff p = (tick_calm s limit eff p).untold
 
-pub tick_low : (s : Running) (limit eff : ℕ) → IsPoint s.config → is_up (tick_next limit eff s).vars.state ≡ true
-    → is_up s.vars.state ≡ true
+pub tick_low : (s : Running) (limit eff : ℕ) → IsPoint s.config → is_up (tick_next limit eff s).vars.state ≡ true → is_up s.vars.state ≡ true
 unfolding ticked_flow
 tick_low s limit eff p = (tick_calm s limit eff p).low
 
-order_calm : (s : Running) (eff : ℕ) (cmd : Cmd) → IsPoint s.config
-    → Calm (is_up s.vars.state) (step_from eff (Command cmd) s []).course
+order_calm : (s : Running) (eff : ℕ) (cmd : Cmd) → IsPoint s.config → Calm (is_up s.vars.state) (step_from eff (Command cmd) s []).course
 unfolding step
-order_calm s eff cmd p =
-    finished_calm _ s.config eff _ p
-    (ordered_calm _ s.config eff cmd _ p (settled_calm _ s.config eff eff _ p (begun_calm (Some eff) s)))
+order_calm s eff cmd p = finished_calm s.config eff _ p (ordered_calm s.config eff cmd _ p (settled_calm s.config eff eff _ p (begun_calm (Some eff) s)))
 
 pub order_untold : (s : Running) (eff : ℕ) (cmd : Cmd) → IsPoint s.config → tells_up (emits eff (Command cmd) s) ≡ false
 unfolding emits stepped_flow
 order_untold s eff cmd p = (order_calm s eff cmd p).untold
 
-pub order_low : (s : Running) (eff : ℕ) (cmd : Cmd) → IsPoint s.config → is_up (next eff (Command cmd) s).vars.state ≡ true
-    → is_up s.vars.state ≡ true
+pub order_low : (s : Running) (eff : ℕ) (cmd : Cmd) → IsPoint s.config → is_up (next eff (Command cmd) s).vars.state ≡ true → is_up s.vars.state ≡ true
 unfolding stepped_flow
 order_low s eff cmd p = (order_calm s eff cmd p).low
 
 packet_calm : (s : Running) (eff : ℕ) (arrival : Arrival) → IsPoint s.config → is_init_or_up (fields_of arrival.payload).state ≡ false
     → Calm (is_up s.vars.state) (step_from eff (Packet arrival) s []).course
 unfolding step
-packet_calm s eff arrival p low =
-    finished_calm _ s.config eff _ p (acted_calm _ s.config eff arrival _ p low
-    (settled_calm _ s.config eff eff _ p (begun_calm (Some eff) s)))
+packet_calm s eff arrival p low = finished_calm s.config eff _ p (acted_calm s.config eff arrival _ p low
+    (settled_calm s.config eff eff _ p (begun_calm (Some eff) s)))
 
 pub packet_untold : (s : Running) (eff : ℕ) (arrival : Arrival) → IsPoint s.config
     → is_init_or_up (fields_of arrival.payload).state ≡ false → tells_up (emits eff (Packet arrival) s) ≡ false
@@ -156,7 +139,6 @@ unfolding emits stepped_flow
 packet_untold s eff arrival p low = (packet_calm s eff arrival p low).untold
 
 pub packet_low : (s : Running) (eff : ℕ) (arrival : Arrival) → IsPoint s.config
-    → is_init_or_up (fields_of arrival.payload).state ≡ false → is_up (next eff (Packet arrival) s).vars.state ≡ true
-    → is_up s.vars.state ≡ true
+    → is_init_or_up (fields_of arrival.payload).state ≡ false → is_up (next eff (Packet arrival) s).vars.state ≡ true → is_up s.vars.state ≡ true
 unfolding stepped_flow
 packet_low s eff arrival p low = (packet_calm s eff arrival p low).low

@@ -37,3 +37,11 @@ unfoldable pub use Rattle.bfd_session.specs.Step.{emits, reply, step, stepped_fl
 pub use Rattle.bfd_session.specs.declared.event.Event.TheVariants.{Command, Packet}
 pub use Rattle.bfd_session.specs.declared.event.SessionConfig.{SessionConfig}
 pub use Rattle.bfd_session.specs.declared.event.SessionConfig.TheVariants.{Pair}
+pub use Rattle.bfd_rules.specs.declared.outputs.Out.TheVariants.{Changed, Sent}
+pub use Rattle.bfd_echo.specs.declared.echo.Echo.{Echo}
+pub use Rattle.bfd_session.specs.declared.event.Answer.{Answer}
+pub use Rattle.bfd_session.specs.declared.event.Answer.TheVariants.{Handled}
+pub use Rattle.bfd_session.specs.Alone.{effective, step_outcome, tick_items}
+pub use Rattle.std.proofs.lemmas.Bool.Decides.{nat_tests}
+pub use Rattle.bfd_demux.specs.Selection.{first_failing_on, first_header_failing, first_table_failing, is_multipoint, table_fails, tests_on_header}
+pub use Rattle.bfd_session.specs.Rows.{kind_of, row_of}

@@ -1,6 +1,5 @@
 -- A side comes to Up by a handshake alone.
-use Rattle.bfd_pair.proofs.Common.{◌≡◌, ◌⊎◌, inl, inr, ◌++◌, ◌*◌, ◌<◌, max, ℕ, Bool, true, false, List, [], ◌∷◌, length, refl, sym, ap, ◌∙◌, Option, None, Some, both_ways, Arrival, Test, fields_of, is_init_or_up, Config, is_up, SessionConfig, Pair, discr_of, Side, Left, Right, PairEvent, Tick, Give, Order, End, Both, Move, other, side_of, items_of, packet_at, arrival_to, screened, judged_move, comes, given_packet, pair_run, turn, Heard, IsHandshake, sent_by_then, tells_up, is_up_after}
-use Rattle.bfd_session.specs.Alone.{effective}
+use Rattle.bfd_pair.proofs.Common.{◌≡◌, ◌⊎◌, inl, inr, ◌++◌, ◌*◌, max, ℕ, Bool, true, false, List, [], ◌∷◌, length, refl, Option, None, Some, both_ways, Arrival, Test, fields_of, is_init_or_up, Config, is_up, SessionConfig, Pair, discr_of, Side, Left, Right, PairEvent, Tick, Give, Order, End, Both, Move, other, side_of, items_of, packet_at, arrival_to, screened, judged_move, comes, given_packet, pair_run, turn, IsHandshake, tells_up, is_up_after, effective}
 use Rattle.bfd_pair.proofs.Points.{IsPoint, way_point, run_point}
 use Rattle.bfd_pair.proofs.Calm.{tick_untold, tick_low, order_untold, order_low, packet_untold, packet_low}
 use Rattle.bfd_pair.proofs.Naming.{names, way_payload}
@@ -21,47 +20,44 @@ record Stays (e : End) (m : Move) : Type 0 where
   untold : tells_up m.items ≡ false
   low : is_up m.end.session.vars.state ≡ true → is_up e.session.vars.state ≡ true
 
-by_test : (w : Both) (side : Side) (moment number : ℕ) (bytes : List ℕ) (arrival : Arrival) (failing : Option Test) (warm : Bool)
+by_test : (w : Both) (side : Side) (moment number : ℕ) {bytes : List ℕ} {arrival : Arrival} (failing : Option Test) (warm : Bool)
     → packet_at number (side_of (other side) w).sent ≡ Some bytes → arrival_to (side_of side w).session.config bytes ≡ Some arrival
     → screened (side_of side w).session.config arrival ≡ failing → is_init_or_up (fields_of bytes).state ≡ warm
     → Rises w (Give side moment number) side ⊎ Stays (side_of side w) (judged_move failing moment w.last arrival (side_of side w))
-by_test w side moment number bytes arrival (Some test) warm sent way is state = inr (record { untold = refl; low = λ up. up })
-by_test w side moment number bytes arrival None true sent way is state = inl (record {
+by_test w side moment number (Some test) warm sent way is state = inr (record { untold = refl; low = λ up. up })
+by_test w side moment number {bytes} None true sent way is state = inl (record {
   moment = moment;
   number = number;
   gives = refl;
   bytes = bytes;
   sent = sent;
   state = state;
-  your = names (side_of side w).session.config bytes arrival way state is;
+  your = names (side_of side w).session.config bytes way state is;
 })
-by_test w side moment number bytes arrival None false sent way is state =
+by_test w side moment number {bytes} {arrival} None false sent way is state =
     let e : End = side_of side w in
-    let p : IsPoint e.session.config = way_point e.session.config bytes arrival way in
+    let p : IsPoint e.session.config = way_point e.session.config bytes way in
     let low : is_init_or_up (fields_of arrival.payload).state ≡ false =
-    ap (λ (raw : List ℕ). is_init_or_up (fields_of raw).state) (way_payload e.session.config bytes arrival way) ∙ state in
+    cc (way_payload e.session.config bytes way) in
     inr (record {
       untold = packet_untold e.session (effective moment w.last e.session) arrival p low;
       low = packet_low e.session (effective moment w.last e.session) arrival p low;
     })
 
-by_arrival : (w : Both) (side : Side) (moment number : ℕ) (bytes : List ℕ) (arrival : Option Arrival)
+by_arrival : (w : Both) (side : Side) (moment number : ℕ) {bytes : List ℕ} (arrival : Option Arrival)
     → packet_at number (side_of (other side) w).sent ≡ Some bytes → arrival_to (side_of side w).session.config bytes ≡ arrival
     → Rises w (Give side moment number) side ⊎ Stays (side_of side w) (comes arrival moment w.last (side_of side w))
-by_arrival w side moment number bytes None sent way = inr (record { untold = refl; low = λ up. up })
-by_arrival w side moment number bytes (Some arrival) sent way = by_test w side moment number bytes arrival _ _ sent way refl refl
+by_arrival w side moment number None sent way = inr (record { untold = refl; low = λ up. up })
+by_arrival w side moment number (Some arrival) sent way = by_test w side moment number _ _ sent way refl refl
 
-by_packet : (w : Both) (side : Side) (moment number : ℕ) (found : Option (List ℕ))
-    → packet_at number (side_of (other side) w).sent ≡ found
-    → Rises w (Give side moment number) side
-    ⊎ Stays (side_of side w) (given_packet found (length (side_of (other side) w).sent) moment w.last (side_of side w))
+by_packet : (w : Both) (side : Side) (moment number : ℕ) (found : Option (List ℕ)) → packet_at number (side_of (other side) w).sent ≡ found
+    → Rises w (Give side moment number) side ⊎ Stays (side_of side w) (given_packet found (length (side_of (other side) w).sent) moment w.last (side_of side w))
 by_packet w side moment number None is = inr (record { untold = refl; low = λ up. up })
-by_packet w side moment number (Some bytes) is = by_arrival w side moment number bytes _ is refl
+by_packet w side moment number (Some bytes) is = by_arrival w side moment number _ is refl
 
 -- what an event is to one side
 abbrev part : Side → PairEvent → Both → Move
-part side event w =
-    record { end = side_of side (turn event w).both; items = items_of side (turn event w); answer = (turn event w).answer }
+part side event w = record { end = side_of side (turn event w).both; items = items_of side (turn event w); answer = (turn event w).answer }
 
 ticks : (w : Both) (t : ℕ) (side : Side) → IsPoint (side_of side w).session.config → Stays (side_of side w) (part side (Tick t) w)
 ticks w t Left p = record {
@@ -89,11 +85,10 @@ rises_or_stays w (Order Right moment cmd) Right p = inr (record {
 rises_or_stays w event side p = inr (record { untold = refl; low = λ up. up })
 
 module _ (left right : SessionConfig) (l : IsPoint left) (r : IsPoint right) where
-  shakes : (past : List PairEvent) (event : PairEvent) (side : Side)
-      → Rises (pair_run left right past) event side → IsHandshake left right side event past
-  shakes past event side rise =
-      let h : (heard : Heard left right (other side) past) × (sent_by_then left right (other side) past heard < rise.number) =
-      packet_heard left right l r (other side) past rise.number rise.bytes rise.sent rise.state in
+  shakes : (past : List PairEvent) {event : PairEvent} {side : Side} → Rises (pair_run left right past) event side → IsHandshake left right side event past
+  shakes past {side} rise =
+      let h =
+      packet_heard left right l r (other side) past rise.number rise.sent rise.state in
       record {
         moment = rise.moment;
         number = rise.number;
@@ -109,24 +104,21 @@ module _ (left right : SessionConfig) (l : IsPoint left) (r : IsPoint right) whe
   pub handshakes : (past : List PairEvent) (event : PairEvent) (side : Side)
       → tells_up (items_of side (turn event (pair_run left right past))) ≡ true → IsHandshake left right side event past
   handshakes past event side up = elim (rises_or_stays (pair_run left right past) event side (run_point left right l r past side)) [
-    | inl rises ↦ shakes past event side rises
+    | inl rises ↦ shakes past rises
     | inr stays ↦ absurd (both_ways _ stays.untold up)
   ]
 
   pub comes_up : (past : List PairEvent) (event : PairEvent) (side : Side)
-      → is_up_after left right side past ≡ false → is_up_after left right side (past ++ event ∷ []) ≡ true
-      → IsHandshake left right side event past
+      → is_up_after left right side past ≡ false → is_up_after left right side (past ++ event ∷ []) ≡ true → IsHandshake left right side event past
   comes_up past event side low up = elim (rises_or_stays (pair_run left right past) event side (run_point left right l r past side)) [
-    | inl rises ↦ shakes past event side rises
-    | inr stays ↦ absurd (both_ways _ low (stays.low
-        (ap (λ (w : Both). is_up (side_of side w).session.vars.state) (sym (run_more left right past event)) ∙ up)))
+    | inl rises ↦ shakes past rises
+    | inr stays ↦ absurd (both_ways _ low (stays.low (cc (run_more left right past event))))
   ]
 
 -- the same of two point-to-point sessions
 
 pub pair_handshakes : (left right : Config) (past : List PairEvent) (event : PairEvent) (side : Side)
-    → tells_up (items_of side (turn event (pair_run (Pair left) (Pair right) past))) ≡ true
-    → IsHandshake (Pair left) (Pair right) side event past
+    → tells_up (items_of side (turn event (pair_run (Pair left) (Pair right) past))) ≡ true → IsHandshake (Pair left) (Pair right) side event past
 pair_handshakes left right past event side up = handshakes (Pair left) (Pair right) tt tt past event side up
 
 pub pair_comes_up : (left right : Config) (past : List PairEvent) (event : PairEvent) (side : Side)

@@ -1,6 +1,5 @@
 -- A side in Init or Up, and each packet in Init or Up that it has sent, come after it handled a packet of the other side.
-use Rattle.bfd_pair.proofs.Common.{◌≡◌, ◌⊎◌, inl, inr, ◌++◌, ◌==◌, ◌-◌, ◌<◌, ◌≤◌, ℕ, Bool, true, false, List, [], ◌∷◌, length, length-append, refl, sym, ap, ◌∙◌, subst, arith, append_assoc, append-nil, None, Some, slice_get, both_ways, fields_of, is_init_or_up, SessionConfig, Pair, started, Side, Left, Right, PairEvent, Give, End, Both, side_of, packet_at, both_after, pair_run, turn, Heard, sent_by_then, drawn_state}
-use Rattle.std.proofs.lemmas.Bool.Decides.{nat_tests}
+use Rattle.bfd_pair.proofs.Common.{◌≡◌, ◌⊎◌, inl, inr, ◌++◌, ◌==◌, ◌-◌, ◌<◌, ◌≤◌, ℕ, Bool, true, false, List, [], ◌∷◌, length, length-append, refl, sym, ap, ◌∙◌, arith, append_assoc, append-nil, Some, slice_get, both_ways, fields_of, is_init_or_up, SessionConfig, Pair, started, Side, Left, Right, PairEvent, Give, End, Both, side_of, packet_at, both_after, pair_run, turn, Heard, sent_by_then, drawn_state, nat_tests}
 use Rattle.bfd_p2p.specs.Machine.{made as pair_made}
 use Rattle.bfd_pair.proofs.Points.{IsPoint, run_point}
 use Rattle.bfd_pair.proofs.Packets.{each_at, Later, first_or_later}
@@ -23,33 +22,32 @@ pub record HeardBy (left right : SessionConfig) (side : Side) (past : List PairE
   pub heard : Heard left right side past
   pub by : sent_by_then left right side past heard ≤ n
 
-heard_still : (left right : SessionConfig) (side : Side) (past : List PairEvent) (event : PairEvent) (m n : ℕ) → m ≤ n
+heard_still : {left right : SessionConfig} {side : Side} {past : List PairEvent} (event : PairEvent) {m n : ℕ} → m ≤ n
     → HeardBy left right side past m → HeardBy left right side (past ++ event ∷ []) n
-heard_still left right side past event m n le h = record {
+heard_still {left} {right} {side} event {m} le h = record {
   heard = record {
     before = h.heard.before;
     later = h.heard.later ++ event ∷ [];
     moment = h.heard.moment;
     number = h.heard.number;
-    split = ap (λ (es : List PairEvent). es ++ event ∷ []) h.heard.split
-        ∙ append_assoc h.heard.before (Give side h.heard.moment h.heard.number ∷ h.heard.later) (event ∷ []);
+    split = cc (append_assoc h.heard.before (Give side h.heard.moment h.heard.number ∷ h.heard.later) (event ∷ []));
     bytes = h.heard.bytes;
     sent = h.heard.sent;
     handled = h.heard.handled;
   };
-  by = (let b : length (side_of side (pair_run left right h.heard.before)).sent ≤ m = h.by in omega arith);
+  by = omega arith;
 }
 
-heard_now : (left right : SessionConfig) (side : Side) (past : List PairEvent) (event : PairEvent) (n : ℕ) (e e2 : End)
+heard_now : (left right : SessionConfig) {side : Side} (past : List PairEvent) {event : PairEvent} {n : ℕ} {e e2 : End}
     → length (side_of side (pair_run left right past)).sent ≤ n → Hears (pair_run left right past) event side e e2
     → HeardBy left right side (past ++ event ∷ []) n
-heard_now left right side past event n e e2 le h = record {
+heard_now left right past le h = record {
   heard = record {
     before = past;
     later = [];
     moment = h.moment;
     number = h.number;
-    split = ap (λ (x : PairEvent). past ++ x ∷ []) h.gives;
+    split = cc;
     bytes = h.bytes;
     sent = h.sent;
     handled = h.handled;
@@ -67,54 +65,49 @@ either : (b : Bool) → (b ≡ false) ⊎ (b ≡ true)
 either true = inr refl
 either false = inl refl
 
-more_sent : (e e2 : End) (g : Grows e e2) → length e.sent ≤ length e2.sent
-more_sent e e2 g =
-    let sum = length-append e.sent g.more in
-    let same = ap (λ (ps : List (List ℕ)). length ps) g.appended in
-    omega arith
+more_sent : {e e2 : End} (g : Grows e e2) → length e.sent ≤ length e2.sent
+more_sent {e} g =
+    let same = ap (λ ps. length ps) g.appended in
+    omega (arith, length-append e.sent g.more)
 
 -- a packet that was sent before the event, or in it
-packet_then : (left right : SessionConfig) (side : Side) (past : List PairEvent) (event : PairEvent) (e e2 : End)
-    → Told left right side past e → (g : Grows e e2)
-    → ((k : ℕ) (bytes : List ℕ) → Later e.sent g.more k bytes → is_init_or_up (fields_of bytes).state ≡ true
+packet_then : {left right : SessionConfig} {side : Side} {past : List PairEvent} (event : PairEvent) {e e2 : End}
+    → Told left right side past e → (g : Grows e e2) → ((k : ℕ) (bytes : List ℕ) → Later e.sent g.more k bytes → is_init_or_up (fields_of bytes).state ≡ true
     → HeardBy left right side (past ++ event ∷ []) k)
     → (k : ℕ) (bytes : List ℕ) → slice_get e2.sent k ≡ Some bytes → is_init_or_up (fields_of bytes).state ≡ true
     → HeardBy left right side (past ++ event ∷ []) k
-packet_then left right side past event e e2 t g now k bytes there warm =
-    elim (first_or_later e.sent g.more k bytes (ap (λ (ps : List (List ℕ)). slice_get ps k) (sym g.appended) ∙ there)) [
-      | inl first ↦ heard_still left right side past event k k (omega arith) (t.packets k bytes first warm)
+packet_then event {e} t g now k bytes there warm =
+    elim (first_or_later e.sent g.more k (ap (λ (ps : List (List ℕ)). slice_get ps k) (sym g.appended) ∙ there)) [
+      | inl first ↦ heard_still event (omega arith) (t.packets k bytes first warm)
       | inr later ↦ now k bytes later warm
     ]
 
 -- who had heard the other side has heard it
-told_warm : (left right : SessionConfig) (side : Side) (past : List PairEvent) (event : PairEvent) (e e2 : End)
-    → Told left right side past e → Grows e e2
-    → ((n : ℕ) → length e.sent ≤ n → HeardBy left right side (past ++ event ∷ []) n)
+told_warm : {left right : SessionConfig} {side : Side} {past : List PairEvent} (event : PairEvent) {e e2 : End}
+    → Told left right side past e → Grows e e2 → ((n : ℕ) → length e.sent ≤ n → HeardBy left right side (past ++ event ∷ []) n)
     → Told left right side (past ++ event ∷ []) e2
-told_warm left right side past event e e2 t g heard = record {
-  state = λ warm. heard (length e2.sent) (more_sent e e2 g);
-  packets = packet_then left right side past event e e2 t g (λ k bytes later warm. heard k later.after);
+told_warm event {e2} t g heard = record {
+  state = λ warm. heard (length e2.sent) (more_sent g);
+  packets = packet_then event t g (λ k bytes later warm. heard k later.after);
 }
 
-told_quiet : (left right : SessionConfig) (side : Side) (past : List PairEvent) (event : PairEvent) (e e2 : End)
+told_quiet : {left right : SessionConfig} {side : Side} {past : List PairEvent} (event : PairEvent) {e e2 : End}
     → Told left right side past e → Quiet e e2 → Told left right side (past ++ event ∷ []) e2
-told_quiet left right side past event e e2 t q = elim (either (is_init_or_up e.session.vars.state)) [
+told_quiet event {e} t q = elim (either (is_init_or_up e.session.vars.state)) [
   | inl low ↦ record {
     state = λ warm. absurd (both_ways _ (q.state low) warm);
-    packets = packet_then left right side past event e e2 t q.grows
-        (λ k bytes later warm. absurd (both_ways _ (each_at IsCold q.grows.more later.place bytes (q.packets low) later.there) warm));
+    packets = packet_then event t q.grows
+        (λ k bytes later warm. absurd (both_ways _ (each_at IsCold q.grows.more later.place (q.packets low) later.there) warm));
   }
-  | inr warm ↦ told_warm left right side past event e e2 t q.grows
-      (λ n le. heard_still left right side past event (length e.sent) n le (t.state warm))
+  | inr warm ↦ told_warm event t q.grows (λ n le. heard_still event le (t.state warm))
 ]
 
 told_step : (left right : SessionConfig) (side : Side) (past : List PairEvent) (event : PairEvent)
-    → IsPoint (side_of side (pair_run left right past)).session.config
-    → Told left right side past (side_of side (pair_run left right past))
+    → IsPoint (side_of side (pair_run left right past)).session.config → Told left right side past (side_of side (pair_run left right past))
     → Told left right side (past ++ event ∷ []) (side_of side (turn event (pair_run left right past)).both)
 told_step left right side past event p t = elim (hears_or_quiet (pair_run left right past) event side p) [
-  | inl quiet ↦ told_quiet left right side past event _ _ t quiet
-  | inr hears ↦ told_warm left right side past event _ _ t hears.grows (λ n le. heard_now left right side past event n _ _ le hears)
+  | inl quiet ↦ told_quiet event t quiet
+  | inr hears ↦ told_warm event t hears.grows (λ n le. heard_now left right past le hears)
 ]
 
 started_cold : (config : SessionConfig) → IsPoint config → is_init_or_up (started config).vars.state ≡ false
@@ -130,13 +123,9 @@ module _ (left right : SessionConfig) (l : IsPoint left) (r : IsPoint right) whe
 
   told_on : (side : Side) (past events : List PairEvent) → Told left right side past (side_of side (pair_run left right past))
       → Told left right side (past ++ events) (side_of side (pair_run left right (past ++ events)))
-  told_on side past [] t =
-      subst (λ (es : List PairEvent). Told left right side es (side_of side (pair_run left right es))) (sym (append-nil past)) t
-  told_on side past (event ∷ events) t =
-      subst (λ (es : List PairEvent). Told left right side es (side_of side (pair_run left right es))) (append_assoc past (event ∷ []) events)
-      (told_on side (past ++ event ∷ []) events
-      (subst (λ (w : Both). Told left right side (past ++ event ∷ []) (side_of side w)) (sym (run_more left right past event))
-      (told_step left right side past event (run_point left right l r past side) t)))
+  told_on side past [] t = rw (append-nil past) t
+  told_on side past (event ∷ events) t = rw (← append_assoc past (event ∷ []) events) (told_on side (past ++ event ∷ []) events
+      (rw (run_more left right past event) (told_step left right side past event (run_point left right l r past side) t)))
 
   told : (side : Side) (past : List PairEvent) → Told left right side past (side_of side (pair_run left right past))
   told side past = told_on side [] past (told_start side)
@@ -147,20 +136,19 @@ pub record At (number : ℕ) (sent : List (List ℕ)) (bytes : List ℕ) : Type 
   pub below : place < number
   pub there : slice_get sent place ≡ Some bytes
 
-place_by : (number : ℕ) (sent : List (List ℕ)) (bytes : List ℕ) (zero : Bool) → (number == 0) ≡ zero
-    → packet_at number sent ≡ Some bytes → At number sent bytes
-place_by number sent bytes true is found = absurd (let none : packet_at number sent ≡ None = rw is refl in cc)
-place_by number sent bytes false is found = record {
+place_by : (number : ℕ) (sent : List (List ℕ)) {bytes : List ℕ} (zero : Bool) → (number == 0) ≡ zero → packet_at number sent ≡ Some bytes → At number sent bytes
+place_by number sent true is found = absurd (cc)
+place_by number sent false is found = record {
   place = number - 1;
   below = grind (arith, nat_tests);
-  there = (let same : packet_at number sent ≡ slice_get sent (number - 1) = rw is refl in sym same ∙ found);
+  there = cc;
 }
 
 -- a packet in Init or Up was sent after its sender had heard the other side
-pub packet_heard : (left right : SessionConfig) → IsPoint left → IsPoint right → (side : Side) (past : List PairEvent) (number : ℕ) (bytes : List ℕ)
+pub packet_heard : (left right : SessionConfig) → IsPoint left → IsPoint right → (side : Side) (past : List PairEvent) (number : ℕ) {bytes : List ℕ}
     → packet_at number (side_of side (pair_run left right past)).sent ≡ Some bytes → is_init_or_up (fields_of bytes).state ≡ true
     → (heard : Heard left right side past) × (sent_by_then left right side past heard < number)
-packet_heard left right l r side past number bytes found warm =
-    let at : At number (side_of side (pair_run left right past)).sent bytes = place_by number _ bytes _ refl found in
-    let h : HeardBy left right side past at.place = (told left right l r side past).packets at.place bytes at.there warm in
-    (h.heard, (let b = h.by in let l = at.below in omega arith))
+packet_heard left right l r side past number {bytes} found warm =
+    let at = place_by number _ _ refl found in
+    let h = (told left right l r side past).packets at.place bytes at.there warm in
+    (h.heard, (omega arith))

@@ -1,8 +1,6 @@
 -- A packet that fails no test up to selection over a session's one row: the session takes it, and in Init or Up it names the session.
-use Rattle.bfd_pair.proofs.Common.{◌≡◌, ◌==◌, ◌&&◌, ◌||◌, ◌++◌, not, ℕ, Bool, true, false, List, [], ◌∷◌, refl, sym, ap, ◌∙◌, subst, None, Some, if◌then◌else◌, arith, find, unwrap_or, Arrival, Test, fields_of, is_init_or_up, Config, SessionConfig, Pair, Packet, discr_of, CanTake, arrival_to, screened}
-use Rattle.std.proofs.lemmas.Bool.Decides.{nat_tests}
+use Rattle.bfd_pair.proofs.Common.{◌≡◌, ◌==◌, ◌&&◌, ◌||◌, ◌++◌, not, ℕ, Bool, true, false, List, [], ◌∷◌, refl, None, Some, if◌then◌else◌, arith, find, Arrival, Test, fields_of, is_init_or_up, Config, SessionConfig, Pair, Packet, discr_of, CanTake, arrival_to, screened, nat_tests, first_header_failing, first_table_failing, first_failing_on, is_multipoint, table_fails, tests_on_header, kind_of, row_of}
 use Rattle.bfd_packet.specs.declared.arrival.Addr.{Addr}
-use Rattle.bfd_packet.specs.declared.arrival.Port.{Port}
 use Rattle.bfd_packet.specs.declared.arrival.Port.TheVariants.{Single as SinglePort, Multi as MultiPort}
 use Rattle.bfd_packet.specs.declared.discard.Test.TheVariants.{Short, Version, LengthMin, LengthOver, DetectMult, Multipoint, MyDiscr, YourUnknown, YourZeroState, NoSession, MultipointYour, NoTail}
 use Rattle.bfd_packet.specs.HeaderTests.{header_fails, first_failing}
@@ -10,8 +8,6 @@ use Rattle.bfd_rules.specs.declared.config.Role.{Role}
 use Rattle.bfd_rules.specs.declared.config.Role.TheVariants.{Single, Multi}
 use Rattle.bfd_p2p.specs.Port.{port_of}
 use Rattle.bfd_demux.specs.declared.row.Row.{Row}
-use Rattle.bfd_demux.specs.Selection.{first_header_failing, first_table_failing, first_failing_on, is_multipoint, table_fails, tests_on_header}
-use Rattle.bfd_session.specs.Rows.{kind_of, row_of}
 use Rattle.bfd_session.proofs.Ports.{each_passes}
 
 never : true ≡ false → ⊥
@@ -28,96 +24,74 @@ named your discr zero unknown = grind (arith, nat_tests)
 single_plain : (discr iface : ℕ) (local remote : Addr) (arrival : Arrival) (m : Bool) → is_multipoint SinglePort arrival ≡ m
     → find (λ test. table_fails SinglePort test (row Single discr iface local remote ∷ []) arrival)
     (Short ∷ Version ∷ LengthMin ∷ LengthOver ∷ DetectMult ∷ MyDiscr ∷ []
-    ++ (if m then MultipointYour ∷ NoTail ∷ [] else YourUnknown ∷ YourZeroState ∷ NoSession ∷ [])) ≡ None
-    → m ≡ false
+    ++ (if m then MultipointYour ∷ NoTail ∷ [] else YourUnknown ∷ YourZeroState ∷ NoSession ∷ [])) ≡ None → m ≡ false
 single_plain discr iface local remote arrival true is h =
     let none = each_passes (λ test. table_fails SinglePort test (row Single discr iface local remote ∷ []) arrival)
     (Short ∷ Version ∷ LengthMin ∷ LengthOver ∷ DetectMult ∷ MyDiscr ∷ MultipointYour ∷ []) NoTail [] h in
-    absurd (never (ap (λ (b : Bool). b && true) (sym is) ∙ none))
+    absurd (never (cc))
 single_plain discr iface local remote arrival false is h = refl
 
-names_single : (discr iface : ℕ) (local remote : Addr) (arrival : Arrival) (m : Bool) → m ≡ false
-    → is_init_or_up (fields_of arrival.payload).state ≡ true
+names_single : (discr iface : ℕ) (local remote : Addr) (arrival : Arrival) (m : Bool) → m ≡ false → is_init_or_up (fields_of arrival.payload).state ≡ true
     → find (λ test. table_fails SinglePort test (row Single discr iface local remote ∷ []) arrival)
     (Short ∷ Version ∷ LengthMin ∷ LengthOver ∷ DetectMult ∷ MyDiscr ∷ []
-    ++ (if m then MultipointYour ∷ NoTail ∷ [] else YourUnknown ∷ YourZeroState ∷ NoSession ∷ [])) ≡ None
-    → (fields_of arrival.payload).your ≡ discr
+    ++ (if m then MultipointYour ∷ NoTail ∷ [] else YourUnknown ∷ YourZeroState ∷ NoSession ∷ [])) ≡ None → (fields_of arrival.payload).your ≡ discr
 names_single discr iface local remote arrival true plain state h = absurd (never plain)
 names_single discr iface local remote arrival false plain state h =
     let fails : Test → Bool = λ test. table_fails SinglePort test (row Single discr iface local remote ∷ []) arrival in
     let zero = each_passes fails (Short ∷ Version ∷ LengthMin ∷ LengthOver ∷ DetectMult ∷ MyDiscr ∷ YourUnknown ∷ []) YourZeroState (NoSession ∷ []) h in
     let unknown = each_passes fails (Short ∷ Version ∷ LengthMin ∷ LengthOver ∷ DetectMult ∷ MyDiscr ∷ []) YourUnknown (YourZeroState ∷ NoSession ∷ []) h in
-    named (fields_of arrival.payload).your discr
-    (ap (λ (b : Bool). ((fields_of arrival.payload).your == 0) && b) (sym state) ∙ zero) unknown
+    named (fields_of arrival.payload).your discr (cc) unknown
 
 names_multi : (discr iface : ℕ) (local remote : Addr) (arrival : Arrival) → is_init_or_up (fields_of arrival.payload).state ≡ true
-    → first_failing_on MultiPort (row Multi discr iface local remote ∷ []) arrival ≡ None
-    → (fields_of arrival.payload).your ≡ discr
+    → first_failing_on MultiPort (row Multi discr iface local remote ∷ []) arrival ≡ None → (fields_of arrival.payload).your ≡ discr
 names_multi discr iface local remote arrival state h =
     let fails : Test → Bool = λ test. table_fails MultiPort test (row Multi discr iface local remote ∷ []) arrival in
     let zero = each_passes fails (Short ∷ Version ∷ LengthMin ∷ LengthOver ∷ DetectMult ∷ Multipoint ∷ MyDiscr ∷ YourUnknown ∷ []) YourZeroState (NoSession ∷ []) h in
     let unknown = each_passes fails (Short ∷ Version ∷ LengthMin ∷ LengthOver ∷ DetectMult ∷ Multipoint ∷ MyDiscr ∷ []) YourUnknown (YourZeroState ∷ NoSession ∷ []) h in
-    named (fields_of arrival.payload).your discr
-    (ap (λ (b : Bool). ((fields_of arrival.payload).your == 0) && b) (sym state) ∙ zero) unknown
+    named (fields_of arrival.payload).your discr (cc) unknown
 
-names_by : (role : Role) (discr iface : ℕ) (local remote : Addr) (arrival : Arrival)
-    → is_init_or_up (fields_of arrival.payload).state ≡ true
-    → first_failing_on (port_of role) (row role discr iface local remote ∷ []) arrival ≡ None
-    → (fields_of arrival.payload).your ≡ discr
-names_by Single discr iface local remote arrival state h =
-    names_single discr iface local remote arrival (is_multipoint SinglePort arrival)
-    (single_plain discr iface local remote arrival (is_multipoint SinglePort arrival) refl h) state h
+names_by : (role : Role) (discr iface : ℕ) (local remote : Addr) (arrival : Arrival) → is_init_or_up (fields_of arrival.payload).state ≡ true
+    → first_failing_on (port_of role) (row role discr iface local remote ∷ []) arrival ≡ None → (fields_of arrival.payload).your ≡ discr
+names_by Single discr iface local remote arrival state h = names_single discr iface local remote arrival _
+    (single_plain discr iface local remote arrival _ refl h) state h
 names_by Multi discr iface local remote arrival state h = names_multi discr iface local remote arrival state h
 
 -- an arrival that is on its way to a session
-same_arrival : (a b : Arrival) → Some a ≡ Some b → a ≡ b
-same_arrival a b e = ap (λ o. unwrap_or o a) e
+same_arrival : {a b : Arrival} → Some a ≡ Some b → a ≡ b
+same_arrival e = cc
 
-pub way_payload : (config : SessionConfig) (bytes : List ℕ) (arrival : Arrival) → arrival_to config bytes ≡ Some arrival
-    → arrival.payload ≡ bytes
-way_payload (Pair c) bytes arrival is = ap (λ (a : Arrival). a.payload) (sym (same_arrival _ arrival is))
-way_payload config bytes arrival is = cc
+pub way_payload : (config : SessionConfig) (bytes : List ℕ) {arrival : Arrival} → arrival_to config bytes ≡ Some arrival → arrival.payload ≡ bytes
+way_payload (Pair c) bytes is = cc (same_arrival is)
+way_payload config bytes is = cc
 
-way_port : (c : Config) (bytes : List ℕ) (arrival : Arrival) → arrival_to (Pair c) bytes ≡ Some arrival → arrival.port ≡ port_of c.role
-way_port c bytes arrival is = ap (λ (a : Arrival). a.port) (sym (same_arrival _ arrival is))
+way_port : (c : Config) {bytes : List ℕ} {arrival : Arrival} → arrival_to (Pair c) bytes ≡ Some arrival → arrival.port ≡ port_of c.role
+way_port c is = cc (same_arrival is)
 
-pub names : (config : SessionConfig) (bytes : List ℕ) (arrival : Arrival) → arrival_to config bytes ≡ Some arrival
+pub names : (config : SessionConfig) (bytes : List ℕ) {arrival : Arrival} → arrival_to config bytes ≡ Some arrival
     → is_init_or_up (fields_of bytes).state ≡ true → screened config arrival ≡ None → (fields_of bytes).your ≡ discr_of config
-names (Pair c) bytes arrival is state h =
-    let payload : arrival.payload ≡ bytes = way_payload (Pair c) bytes arrival is in
-    ap (λ (raw : List ℕ). (fields_of raw).your) (sym payload)
-    ∙ names_by c.role c.discr c.iface c.local c.remote arrival
-    (ap (λ (raw : List ℕ). is_init_or_up (fields_of raw).state) payload ∙ state)
-    (subst (λ (p : Port). first_failing_on p (row_of (Pair c) ∷ []) arrival ≡ None) (way_port c bytes arrival is) h)
-names config bytes arrival is state h = cc
+names (Pair c) bytes {arrival} is state h = cc (names_by c.role c.discr c.iface c.local c.remote arrival (cc) (rw (← way_port c is) h))
+names config bytes is state h = cc
 
 -- the session takes it
 
 plain_by : (role : Role) (discr iface : ℕ) (local remote : Addr) (arrival : Arrival)
-    → first_failing_on (port_of role) (row role discr iface local remote ∷ []) arrival ≡ None
-    → (fields_of arrival.payload).multi ≡ false
-plain_by Single discr iface local remote arrival h =
-    single_plain discr iface local remote arrival (is_multipoint SinglePort arrival) refl h
-plain_by Multi discr iface local remote arrival h =
-    each_passes (λ test. table_fails MultiPort test (row Multi discr iface local remote ∷ []) arrival)
-    (Short ∷ Version ∷ LengthMin ∷ LengthOver ∷ DetectMult ∷ []) Multipoint
-    (MyDiscr ∷ YourUnknown ∷ YourZeroState ∷ NoSession ∷ []) h
+    → first_failing_on (port_of role) (row role discr iface local remote ∷ []) arrival ≡ None → (fields_of arrival.payload).multi ≡ false
+plain_by Single discr iface local remote arrival h = single_plain discr iface local remote arrival _ refl h
+plain_by Multi discr iface local remote arrival h = each_passes (λ test. table_fails MultiPort test (row Multi discr iface local remote ∷ []) arrival)
+    (Short ∷ Version ∷ LengthMin ∷ LengthOver ∷ DetectMult ∷ []) Multipoint (MyDiscr ∷ YourUnknown ∷ YourZeroState ∷ NoSession ∷ []) h
 
 header_by : (role : Role) (payload : List ℕ) → find (λ test. header_fails test payload) (tests_on_header (port_of role)) ≡ None
     → first_failing (port_of role) payload ≡ None
 header_by Single payload h = h
 header_by Multi payload h = h
 
-pub takes : (config : SessionConfig) (arrival : Arrival) → arrival_to config arrival.payload ≡ Some arrival
+pub takes : (config : SessionConfig) {arrival : Arrival} → arrival_to config arrival.payload ≡ Some arrival
     → first_header_failing arrival ≡ None → first_table_failing (row_of config ∷ []) arrival ≡ None → CanTake config (Packet arrival)
-takes (Pair c) arrival is header none =
-    let port : arrival.port ≡ port_of c.role = way_port c arrival.payload arrival is in
+takes (Pair c) {arrival} is header none =
+    let port = way_port c is in
     record {
       port = port;
-      header = subst (λ (p : Port). first_failing p arrival.payload ≡ None) (sym port)
-          (header_by c.role arrival.payload
-          (subst (λ (p : Port). find (λ test. header_fails test arrival.payload) (tests_on_header p) ≡ None) port header));
-      multi = plain_by c.role c.discr c.iface c.local c.remote arrival
-          (subst (λ (p : Port). first_failing_on p (row_of (Pair c) ∷ []) arrival ≡ None) port none);
+      header = rw port (header_by c.role arrival.payload (rw (← port) header));
+      multi = plain_by c.role c.discr c.iface c.local c.remote arrival (rw (← port) none);
     }
-takes config arrival is header none = cc
+takes config is header none = cc

@@ -7,9 +7,9 @@ IsPoint (Pair c) = Unit {0}
 IsPoint _ = ⊥
 
 -- only to such a session a packet is on its way
-pub way_point : (config : SessionConfig) (bytes : List ℕ) (arrival : Arrival) → arrival_to config bytes ≡ Some arrival → IsPoint config
-way_point (Pair c) bytes arrival is = tt
-way_point config bytes arrival is = cc
+pub way_point : (config : SessionConfig) (bytes : List ℕ) {arrival : Arrival} → arrival_to config bytes ≡ Some arrival → IsPoint config
+way_point (Pair c) bytes is = tt
+way_point config bytes is = cc
 
 -- no event changes a configuration
 
@@ -18,18 +18,15 @@ judged_config : (failing : Option Test) (moment last : ℕ) (arrival : Arrival) 
 judged_config (Some test) moment last arrival e = refl
 judged_config None moment last arrival e = refl
 
-comes_config : (arrival : Option Arrival) (moment last : ℕ) (e : End)
-    → (comes arrival moment last e).end.session.config ≡ e.session.config
+comes_config : (arrival : Option Arrival) (moment last : ℕ) (e : End) → (comes arrival moment last e).end.session.config ≡ e.session.config
 comes_config None moment last e = refl
 comes_config (Some arrival) moment last e = judged_config (screened e.session.config arrival) moment last arrival e
 
-given_config : (found : Option (List ℕ)) (count moment last : ℕ) (e : End)
-    → (given_packet found count moment last e).end.session.config ≡ e.session.config
+given_config : (found : Option (List ℕ)) (count moment last : ℕ) (e : End) → (given_packet found count moment last e).end.session.config ≡ e.session.config
 given_config None count moment last e = refl
 given_config (Some bytes) count moment last e = comes_config (arrival_to e.session.config bytes) moment last e
 
-pub turn_config : (event : PairEvent) (w : Both) (side : Side)
-    → (side_of side (turn event w).both).session.config ≡ (side_of side w).session.config
+pub turn_config : (event : PairEvent) (w : Both) (side : Side) → (side_of side (turn event w).both).session.config ≡ (side_of side w).session.config
 turn_config (Tick t) w Left = refl
 turn_config (Give Left moment number) w Left = given_config (packet_at number w.right.sent) (length w.right.sent) moment w.last w.left
 turn_config (Give Right moment number) w Right = given_config (packet_at number w.left.sent) (length w.left.sent) moment w.last w.right
@@ -38,8 +35,7 @@ turn_config (Order Right moment cmd) w Left = refl
 turn_config (Order Left moment cmd) w Right = refl
 turn_config event w side = refl
 
-after_config : (events : List PairEvent) (w : Both) (side : Side)
-    → (side_of side (both_after events w)).session.config ≡ (side_of side w).session.config
+after_config : (events : List PairEvent) (w : Both) (side : Side) → (side_of side (both_after events w)).session.config ≡ (side_of side w).session.config
 after_config [] w side = refl
 after_config (event ∷ events) w side = after_config events (turn event w).both side ∙ turn_config event w side
 

@@ -1,8 +1,5 @@
 -- What an event makes of one side: it handles a packet, or stays as cold as it was.
-use Rattle.bfd_pair.proofs.Common.{◌≡◌, ◌⊎◌, inl, inr, ◌++◌, ◌*◌, max, ℕ, Bool, true, false, List, [], refl, sym, ap, ◌∙◌, append-nil, length, Option, None, Some, Arrival, Test, is_init_or_up, Cmd, Packet, Command, Side, Left, Right, PairEvent, Tick, Give, Order, End, Both, Move, other, side_of, packets_among, packet_at, arrival_to, screened, own_move, judged_move, comes, given_packet, ticking, side_moves, turn}
-use Rattle.bfd_session.specs.declared.event.Answer.{Answer}
-use Rattle.bfd_session.specs.declared.event.Answer.TheVariants.{Handled}
-use Rattle.bfd_session.specs.Alone.{effective, step_outcome, tick_items}
+use Rattle.bfd_pair.proofs.Common.{◌≡◌, ◌⊎◌, inl, inr, ◌++◌, ◌*◌, max, ℕ, Bool, true, false, List, [], refl, sym, ap, append-nil, length, Option, None, Some, Arrival, Test, is_init_or_up, Cmd, Packet, Command, Side, Left, Right, PairEvent, Tick, Give, Order, End, Both, Move, other, side_of, packets_among, packet_at, arrival_to, screened, own_move, judged_move, comes, given_packet, ticking, side_moves, turn, Answer, Handled, effective, step_outcome, tick_items}
 use Rattle.bfd_pair.specs.declared.event.PairAnswer.TheVariants.{Did}
 use Rattle.bfd_pair.proofs.Points.{IsPoint}
 use Rattle.bfd_pair.proofs.Packets.{Each}
@@ -41,8 +38,7 @@ order_quiet moment last cmd e p = record {
 }
 
 packet_grows : (moment last : ℕ) (arrival : Arrival) (e : End) → Grows e (own_move moment last (Packet arrival) e).end
-packet_grows moment last arrival e =
-    record { more = packets_among (step_outcome moment last (Packet arrival) e.session).items; appended = refl }
+packet_grows moment last arrival e = record { more = packets_among (step_outcome moment last (Packet arrival) e.session).items; appended = refl }
 
 packet_quiet : (moment last : ℕ) (arrival : Arrival) (e : End) → IsPoint e.session.config
     → is_handled (step_outcome moment last (Packet arrival) e.session).answer ≡ false → Quiet e (own_move moment last (Packet arrival) e).end
@@ -72,8 +68,7 @@ is_answer Handled h = refl
 is_answer a h = cc
 
 by_answer : (moment last : ℕ) (arrival : Arrival) (e : End) (b : Bool) → IsPoint e.session.config
-    → is_handled (step_outcome moment last (Packet arrival) e.session).answer ≡ b
-    → Quiet e (own_move moment last (Packet arrival) e).end
+    → is_handled (step_outcome moment last (Packet arrival) e.session).answer ≡ b → Quiet e (own_move moment last (Packet arrival) e).end
     ⊎ (((own_move moment last (Packet arrival) e).answer ≡ Did Handled) × Grows e (own_move moment last (Packet arrival) e).end)
 by_answer moment last arrival e true p is = inr (ap Did (is_answer _ is), packet_grows moment last arrival e)
 by_answer moment last arrival e false p is = inl (packet_quiet moment last arrival e p is)
@@ -84,8 +79,7 @@ by_test : (failing : Option Test) (moment last : ℕ) (arrival : Arrival) (e : E
 by_test (Some test) moment last arrival e p = inl (rests_quiet e)
 by_test None moment last arrival e p = by_answer moment last arrival e _ p refl
 
-by_arrival : (arrival : Option Arrival) (moment last : ℕ) (e : End) → IsPoint e.session.config
-    → Quiet e (comes arrival moment last e).end
+by_arrival : (arrival : Option Arrival) (moment last : ℕ) (e : End) → IsPoint e.session.config → Quiet e (comes arrival moment last e).end
     ⊎ (((comes arrival moment last e).answer ≡ Did Handled) × Grows e (comes arrival moment last e).end)
 by_arrival None moment last e p = inl (rests_quiet e)
 by_arrival (Some arrival) moment last e p = by_test (screened e.session.config arrival) moment last arrival e p
@@ -93,8 +87,7 @@ by_arrival (Some arrival) moment last e p = by_test (screened e.session.config a
 by_packet : (w : Both) (side : Side) (moment number : ℕ) (found : Option (List ℕ)) → IsPoint (side_of side w).session.config
     → packet_at number (side_of (other side) w).sent ≡ found
     → Quiet (side_of side w) (given_packet found (length (side_of (other side) w).sent) moment w.last (side_of side w)).end
-    ⊎ Hears w (Give side moment number) side (side_of side w)
-    (given_packet found (length (side_of (other side) w).sent) moment w.last (side_of side w)).end
+    ⊎ Hears w (Give side moment number) side (side_of side w) (given_packet found (length (side_of (other side) w).sent) moment w.last (side_of side w)).end
 by_packet w side moment number None p is = inl (rests_quiet (side_of side w))
 by_packet w side moment number (Some bytes) p is =
     elim (by_arrival (arrival_to (side_of side w).session.config bytes) moment w.last (side_of side w) p) [
@@ -105,15 +98,13 @@ by_packet w side moment number (Some bytes) p is =
         gives = refl;
         bytes = bytes;
         sent = is;
-        handled = moves_answer side _ w
-            ∙ (ap (λ (p : Option (List ℕ)). (given_packet p (length (side_of (other side) w).sent) moment w.last (side_of side w)).answer) is ∙ heard.0);
+        handled = cc (moves_answer side _ w);
         grows = heard.1;
       })
     ]
 
 pub hears_or_quiet : (w : Both) (event : PairEvent) (side : Side) → IsPoint (side_of side w).session.config
-    → Quiet (side_of side w) (side_of side (turn event w).both)
-    ⊎ Hears w event side (side_of side w) (side_of side (turn event w).both)
+    → Quiet (side_of side w) (side_of side (turn event w).both) ⊎ Hears w event side (side_of side w) (side_of side (turn event w).both)
 hears_or_quiet w (Tick t) Left p = inl (ticking_quiet (max w.last t) w.left p)
 hears_or_quiet w (Tick t) Right p = inl (ticking_quiet (max w.last t) w.right p)
 hears_or_quiet w (Give Left moment number) Left p = by_packet w Left moment number _ p refl

@@ -5,6 +5,13 @@ pub use Rattle.std.specs.List.{AllByRecursion, cons_option, filter_map, flat_map
 pub use Rattle.std.specs.Prelude.{slice_get, slice_index_or}
 pub use Rattle.bfd_gather.specs.Happenings.{Among, Apart, Happening, in_shard, numbered, queue, session_event, told_apart}
 pub use Rattle.bfd_line.specs.declared.entries.Line.{Line}
-pub use Rattle.bfd_plan.specs.Planned.{AreQueues, AreRuns, Follow, IsMet, IsPlanOf, IsPlanned, IsRunPlanned, behind, columns_are, events_of_table, happening, happening_by, happenings, reflecting, route_is, run_lines}
+pub use Rattle.bfd_plan.specs.Planned.{AreQueues, AreRuns, Follow, IsMet, IsPlanOf, IsPlanned, IsRunPlanned, behind, columns_are, events_of_table, happening, happening_by, happenings, reflecting, run_lines}
 pub use Rattle.bfd_sbfd.specs.declared.reflecting.Reflector.{Reflector}
 pub use Rattle.bfd_session.specs.declared.event.SessionConfig.{SessionConfig}
+pub use Rattle.std.proofs.lemmas.Grind.{common_steps, flat_map-append}
+pub use Rattle.bfd_gather.specs.declared.queue.Numbered.{Numbered}
+pub use Rattle.bfd_gather.specs.Pieces.{Piece}
+pub use Rattle.bfd_gather.proofs.Histories.{apart_append, left_by, left_runs, queue_append}
+pub use Rattle.bfd_session.specs.declared.event.Event.{Event}
+pub use Rattle.bfd_session.specs.Step.{CanTake, started}
+pub use Rattle.bfd_session.specs.Kinds.{Running, configs_of, discr_of}

@@ -1,11 +1,8 @@
 -- The world of a replay is one shard with every session.
-use Rattle.bfd_plan.proofs.Common.{◌≡◌, ◌∙◌, ℕ, List, [], ◌∷◌, map, refl, sym, ap, Option, None, Some, Result, Ok, Err, slice_get, cons_option, filter_map, Reflector, SessionConfig, Line, Happening, Apart, Among, session_event, events_of_table, happening, happening_by, happenings, reflecting}
+use Rattle.bfd_plan.proofs.Common.{◌≡◌, ◌∙◌, ℕ, List, [], ◌∷◌, map, refl, sym, Option, None, Some, Result, Ok, Err, slice_get, cons_option, filter_map, Reflector, SessionConfig, Line, Happening, Apart, Among, session_event, events_of_table, happening, happening_by, happenings, reflecting, left_by, left_runs, Event, started, Running, configs_of}
 use Rattle.bfd_packet.specs.declared.arrival.Datagram.{Datagram}
 use Rattle.bfd_packet.specs.declared.discard.Test.{Test}
 use Rattle.bfd_sbfd.specs.Reflect.{reflect}
-use Rattle.bfd_session.specs.declared.event.Event.{Event}
-use Rattle.bfd_session.specs.Kinds.{Running, configs_of}
-use Rattle.bfd_session.specs.Step.{started}
 use Rattle.bfd_session.proofs.Starting.{started_configs}
 use Rattle.bfd_shard.specs.declared.entry.ShardEvent.{ShardEvent}
 use Rattle.bfd_shard.specs.declared.entry.ShardEvent.TheVariants.{Own, Tick}
@@ -14,7 +11,6 @@ use Rattle.bfd_script.specs.Doing.{Doing, Rests, Reflects, Happens, Passes, doin
 use Rattle.bfd_script.specs.Reading.{Lists}
 use Rattle.bfd_script.specs.Sound.{IsScript}
 use Rattle.bfd_gather.specs.Happenings as gather
-use Rattle.bfd_gather.proofs.Histories.{left_by, left_runs}
 use Rattle.bfd_replay.specs.World.{World, Turn, own, own_of, ticks, carried_out, happens, outcomes, world_after, reflected, opened, world}
 use Rattle.bfd_replay.specs.World as worlds
 use Rattle.bfd_replay.specs.Stage.{IsTable}
@@ -73,35 +69,31 @@ pub record Stays (cs : List SessionConfig) (pool : List Reflector) (w : World) :
   pub configs : configs_of w.sessions ≡ cs
   pub same_pool : w.pool ≡ pool
 
-stays_on : (cs : List SessionConfig) (pool : List Reflector) (line : Line) (w : World) → Stays cs pool w → Stays cs pool (happens line w).world
-stays_on cs pool line w s = record {
+stays_on : {cs : List SessionConfig} {pool : List Reflector} (line : Line) {w : World} → Stays cs pool w → Stays cs pool (happens line w).world
+stays_on line {w} s = record {
   configs = happens_keeps line w ∙ s.configs;
-  same_pool = ap (λ (t : Turn). t.world.pool) (happens_is line w) ∙ (pool_stays (happening (configs_of w.sessions) w.pool line) w ∙ s.same_pool);
+  same_pool = cc (happens_is line w, pool_stays (happening (configs_of w.sessions) w.pool line) w);
 }
 
-turn_is : (cs : List SessionConfig) (pool : List Reflector) (line : Line) (w : World) → Stays cs pool w → happens line w ≡ turn_of (happening cs pool line) w
-turn_is cs pool line w s = happens_is line w ∙ (ap (λ xs. turn_of (happening xs w.pool line) w) s.configs ∙ ap (λ p. turn_of (happening cs p line) w) s.same_pool)
+turn_is : {cs : List SessionConfig} {pool : List Reflector} (line : Line) {w : World} → Stays cs pool w → happens line w ≡ turn_of (happening cs pool line) w
+turn_is line {w} s = cc (happens_is line w)
 
-pub outcomes_are : (cs : List SessionConfig) (pool : List Reflector) (lines : List Line) (w : World) → Stays cs pool w → outcomes lines w ≡ gather.happening_outcomes w.last (happenings cs pool lines) w.sessions
-outcomes_are cs pool [] w s = refl
-outcomes_are cs pool (line ∷ lines) w s =
-    ap (λ os. (happens line w).outcome ∷ os) (outcomes_are cs pool lines (happens line w).world (stays_on cs pool line w s))
-    ∙ (ap (λ (t : Turn). t.outcome ∷ gather.happening_outcomes t.world.last (happenings cs pool lines) t.world.sessions) (turn_is cs pool line w s)
-    ∙ sym (outcomes_step (happening cs pool line) (happenings cs pool lines) w))
+outcomes_are : (cs : List SessionConfig) (pool : List Reflector) (lines : List Line) {w : World} → Stays cs pool w → outcomes lines w ≡ gather.happening_outcomes w.last (happenings cs pool lines) w.sessions
+outcomes_are cs pool [] s = refl
+outcomes_are cs pool (line ∷ lines) {w} s =
+    cc (outcomes_are cs pool lines (stays_on line s), turn_is line s, outcomes_step (happening cs pool line) (happenings cs pool lines) w)
 
-after_are : (cs : List SessionConfig) (pool : List Reflector) (lines : List Line) (w : World) → Stays cs pool w → (world_after lines w).sessions ≡ left_by w.last (filter_map session_event (happenings cs pool lines)) w.sessions
-after_are cs pool [] w s = refl
-after_are cs pool (line ∷ lines) w s =
-    after_are cs pool lines (happens line w).world (stays_on cs pool line w s)
-    ∙ (ap (λ (t : Turn). left_by t.world.last (filter_map session_event (happenings cs pool lines)) t.world.sessions) (turn_is cs pool line w s)
-    ∙ sym (left_step (happening cs pool line) (filter_map session_event (happenings cs pool lines)) w))
+after_are : (cs : List SessionConfig) (pool : List Reflector) (lines : List Line) {w : World} → Stays cs pool w → (world_after lines w).sessions ≡ left_by w.last (filter_map session_event (happenings cs pool lines)) w.sessions
+after_are cs pool [] s = refl
+after_are cs pool (line ∷ lines) {w} s =
+    cc (after_are cs pool lines (stays_on line s), turn_is line s, left_step (happening cs pool line) (filter_map session_event (happenings cs pool lines)) w)
 
 -- what a script's events give
 pub world_is : (script : Lists) → gather.happening_outcomes 0 (happenings script.configs script.pool script.events) (map started script.configs) ≡ world script
-world_is script = sym (outcomes_are script.configs script.pool script.events (opened script.configs script.pool) (record { configs = started_configs script.configs; same_pool = refl }))
+world_is script = sym (outcomes_are script.configs script.pool script.events {w = opened script.configs script.pool} (record { configs = started_configs script.configs; same_pool = refl }))
 
 -- the sessions that it leaves
 pub left_is : (script : Lists) → (worlds.world_left script).sessions ≡ runs (events_of_table script) script.configs
 left_is script =
-    after_are script.configs script.pool script.events (opened script.configs script.pool) (record { configs = started_configs script.configs; same_pool = refl })
+    after_are script.configs script.pool script.events {w = opened script.configs script.pool} (record { configs = started_configs script.configs; same_pool = refl })
     ∙ left_runs (events_of_table script) script.configs

@@ -1,13 +1,18 @@
 -- Names that proofs of this crate cite, passed on from one place. Declares nothing.
-pub use Rattle.std.proofs.Common.{Err, List, None, Ok, Option, Result, Some, [], add-one, ap, append-nil, append_assoc, arith, drop, false, get_or, length, map, max, refl, rules, set, subst, suc, sym, take, zero, ℕ, ◌*◌, ◌++◌, ◌+◌, ◌<◌, ◌∙◌, ◌∷◌, ◌≡◌, ◌≤◌}
+pub use Rattle.std.proofs.Common.{Err, List, None, Ok, Option, Result, Some, [], add-one, ap, append-nil, append_assoc, arith, drop, false, get_or, length, map, max, refl, rules, set, suc, sym, take, zero, ℕ, ◌*◌, ◌++◌, ◌+◌, ◌<◌, ◌∙◌, ◌∷◌, ◌≡◌, ◌≤◌}
 pub use Rattle.bfd_line.specs.declared.entries.Line.{Line}
-pub use Rattle.bfd_replay.specs.World.{Turn, World, carried_out, happens, outcomes, own_of, reflected, turn_giving, turned, world_of}
+pub use Rattle.bfd_replay.specs.World.{World, carried_out, happens, outcomes, own_of, reflected, turn_giving, turned, world_of}
 unfoldable pub use Rattle.bfd_replay.specs.World.{own, ticks}
 pub use Rattle.bfd_rules.specs.declared.outputs.Out.{Out}
 pub use Rattle.bfd_sbfd.specs.declared.reflecting.Reflector.{Reflector}
 pub use Rattle.bfd_session.specs.Alone.{Outcome, step_outcome, stepped, tick_items, ticked}
 pub use Rattle.bfd_session.specs.Kinds.{Running, configs_of, discr_of}
-pub use Rattle.bfd_session.specs.Rows.{AreFit, Ascends, table_of}
+pub use Rattle.bfd_session.specs.Rows.{AreFit, table_of}
 pub use Rattle.bfd_session.specs.Step.{CanTake, IsSound, started}
 pub use Rattle.bfd_session.specs.declared.event.Answer.{Answer}
 pub use Rattle.bfd_session.specs.declared.event.SessionConfig.{SessionConfig}
+pub use Rattle.std.specs.List.{flat_map}
+pub use Rattle.std.specs.Prelude.{slice_get, slice_set}
+pub use Rattle.bfd_script.specs.Doing.{Doing, Happens, Passes, Reflects, Rests, arriving, doing}
+pub use Rattle.bfd_session.specs.declared.event.Event.{Event}
+pub use Rattle.bfd_rules.specs.EventFrame.{Outputs}

@@ -1,5 +1,5 @@
 -- What was put out before an event's rules: it stays in front of what they put out, and what is true of each output stays true.
-use Rattle.std.proofs.Common.{◌≡◌, ◌++◌, ℕ, Bool, true, false, List, [], ◌∷◌, refl, append_assoc, append-nil, sym, subst, if◌then◌else◌}
+use Rattle.std.proofs.Common.{◌≡◌, ◌++◌, ℕ, Bool, true, false, List, [], ◌∷◌, refl, append_assoc, append-nil, if◌then◌else◌}
 use Rattle.std.specs.List.{AllByRecursion}
 use Rattle.bfd_packet.specs.declared.arrival.Datagram.{Datagram}
 use Rattle.bfd_packet.specs.declared.control.State.{State}
@@ -15,8 +15,7 @@ abbrev pub after : List Out → Course → Course
 after os s = record s { outs = os ++ s.outs }
 
 -- a choice between two courses
-pub either : (os : List Out) (b : Bool) (x y x' y' : Course) → x' ≡ after os x → y' ≡ after os y
-    → (if b then x' else y') ≡ after os (if b then x else y)
+pub either : (os : List Out) (b : Bool) (x y x' y' : Course) → x' ≡ after os x → y' ≡ after os y → (if b then x' else y') ≡ after os (if b then x else y)
 either os true x y x' y' hx hy = hx
 either os false x y x' y' hx hy = hy
 
@@ -39,13 +38,13 @@ pub record OfOwn (discr : ℕ) (P : Out → Type 0) : Type 0 where
 pub own_name : (discr : ℕ) → OfOwn discr (λ out. named out ≡ discr)
 own_name discr = record { of_changes = (λ old new diag. refl); of_packets = (λ datagram. refl) }
 
-one_more : (P : Out → Type 0) (os : List Out) (o : Out) → AllByRecursion P os → P o → AllByRecursion P (os ++ o ∷ [])
-one_more P [] o h own = (own, tt)
-one_more P (x ∷ os) o h own = (h.0, one_more P os o h.1 own)
+one_more : (P : Out → Type 0) (os : List Out) {o : Out} → AllByRecursion P os → P o → AllByRecursion P (os ++ o ∷ [])
+one_more P [] h own = (own, tt)
+one_more P (x ∷ os) h own = (h.0, one_more P os h.1 own)
 
-told_by : (P : Out → Type 0) (os : List Out) (o : Out) (same : Bool) → AllByRecursion P os → P o → AllByRecursion P (os ++ (if same then [] else o ∷ []))
-told_by P os o true h own = subst (λ l. AllByRecursion P l) (sym (append-nil os)) h
-told_by P os o false h own = one_more P os o h own
+told_by : (P : Out → Type 0) (os : List Out) {o : Out} (same : Bool) → AllByRecursion P os → P o → AllByRecursion P (os ++ (if same then [] else o ∷ []))
+told_by P os true h own = rw (append-nil os) h
+told_by P os false h own = one_more P os h own
 
 -- what is true of each output of both courses is true of those of the one that is chosen
 pub chosen_names : (P : Out → Type 0) (b : Bool) (x y : Course) → AllByRecursion P x.outs → AllByRecursion P y.outs → AllByRecursion P (if b then x else y).outs
@@ -55,9 +54,9 @@ chosen_names P false x y hx hy = hy
 -- a change of state names the discriminator, where anything is told of it
 pub changes_names : (discr : ℕ) (P : Out → Type 0) (v : Vars) (s : Course) → OfOwn discr P → AllByRecursion P s.outs → AllByRecursion P (changes discr v s).outs
 unfolding changes
-changes_names discr P v s own h = told_by P s.outs _ (same_state s.vars.state v.state) h (own.of_changes s.vars.state v.state v.diag)
+changes_names discr P v s own h = told_by P s.outs (same_state s.vars.state v.state) h (own.of_changes s.vars.state v.state v.diag)
 
 -- a datagram names the discriminator
 pub sends_names : (discr : ℕ) (P : Out → Type 0) (datagram : Datagram) (s : Course) → OfOwn discr P → AllByRecursion P s.outs → AllByRecursion P (sends discr datagram s).outs
 unfolding sends
-sends_names discr P datagram s own h = one_more P s.outs _ h (own.of_packets datagram)
+sends_names discr P datagram s own h = one_more P s.outs h (own.of_packets datagram)

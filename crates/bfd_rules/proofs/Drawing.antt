@@ -13,19 +13,16 @@ share_most true interval = omega arith
 share_most false interval = omega arith
 
 -- a tick between these two lies below the bound of moments
-between_below : (base interval share j : ℕ) → base < 2 ^ 60 → interval < 2 ^ 32 → share ≤ interval
+between_below : {base interval share : ℕ} (j : ℕ) → base < 2 ^ 60 → interval < 2 ^ 32 → share ≤ interval
     → let e : ℕ = (base + (3 * interval + 3) / 4 + 999) / 1000 in e + j % ((base + share) / 1000 - e + 1) < 2 ^ 60
-between_below base interval share j h few least =
+between_below {base} {interval} {share} j h few least =
     let e : ℕ = (base + (3 * interval + 3) / 4 + 999) / 1000 in
-    let below : j % ((base + share) / 1000 - e + 1) < (base + share) / 1000 - e + 1 = omega arith in
     omega arith
 
 -- a due tick that is drawn lies below the bound of moments
 pub picked_below : (v : Vars) → tx_interval v < 2 ^ 32 → v.base < moment_bound → pick v.base (tx_interval v) v.mult v.j < moment_bound
 unfolding pick ceil_tick floor_tick
-picked_below v few base =
-    between_below v.base (tx_interval v) (if v.mult == 1 then 9 * tx_interval v / 10 else tx_interval v) v.j base few
-    (share_most (v.mult == 1) (tx_interval v))
+picked_below v few base = between_below v.j base few (share_most (v.mult == 1) (tx_interval v))
 
 is_there : (o : Option ℕ) → is_none o ≡ false → IsSome o
 is_there None h = cc

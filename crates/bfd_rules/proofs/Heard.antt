@@ -1,5 +1,5 @@
 -- When the last packet was heard, which the last rules of an event leave.
-use Rattle.std.proofs.Common.{◌≡◌, ◌↔◌, ◌∙◌, ℕ, Bool, true, false, refl, sym, Option, None, Some, IsSome, if◌then◌else◌}
+use Rattle.std.proofs.Common.{◌≡◌, ◌↔◌, ℕ, Bool, true, false, refl, Option, None, Some, IsSome, if◌then◌else◌}
 use Rattle.bfd_num.specs.Numbers.{next_j}
 use Rattle.bfd_rules.specs.declared.variables.Mark.{Mark}
 use Rattle.bfd_rules.specs.declared.variables.Vars.{Vars}
@@ -28,4 +28,4 @@ drawn_heard active m v = by (may_send active v) (draws m v)
 pub exactly : (b : Bool) (heard after : Option ℕ) → after ≡ (if b then None else heard) → IsSome heard → (after ≡ None) ↔ (b ≡ true)
 exactly true heard after is there = (λ _. refl, λ _. is)
 exactly false None after is there = cc
-exactly false (Some m) after is there = (λ none. let some : Some m ≡ None = sym is ∙ none in cc, λ h. cc)
+exactly false (Some m) after is there = (λ none. cc, λ h. cc)

@@ -8,7 +8,7 @@ use Rattle.bfd_rules.specs.Quantities.{may_send, same_state, tx_interval}
 use Rattle.bfd_rules.specs.EventFrame.{begins, is_news, draws, drawn}
 
 -- states that the test finds the same are the same
-pub same_state_is : (a b : State) → same_state a b ≡ true → a ≡ b
+same_state_is : (a b : State) → same_state a b ≡ true → a ≡ b
 same_state_is AdminDown AdminDown h = refl
 same_state_is Down Down h = refl
 same_state_is Init Init h = refl
@@ -43,15 +43,14 @@ some_is_not_none (Some x) h = refl
 draw_stands : (v : Vars) → IsSome v.tx_due → draws (begins v) v ≡ false
 draw_stands v there = rw (some_is_not_none v.tx_due there, eq-eqb (tx_interval v) (tx_interval v) refl, one_stands (v.mult == 1)) refl
 
-gone : (o : Option ℕ) (b : Bool) → (IsSome o ↔ IsTrue b) → b ≡ false → o ≡ None
-gone None b both h = refl
-gone (Some x) b both h = let true_too : b ≡ true = both.0 refl in cc
+gone : (o : Option ℕ) {b : Bool} → (IsSome o ↔ IsTrue b) → b ≡ false → o ≡ None
+gone None both h = refl
+gone (Some x) {b} both h = let true_too = both.0 refl in cc
 
 drawn_by : (active : Bool) (v : Vars) (may : Bool) → may_send active v ≡ may → (IsSome v.tx_due ↔ IsTrue (may_send active v)) → drawn active (begins v) v ≡ v
 unfolding drawn
 drawn_by active v true is due = rw (is, draw_stands v (due.1 is)) refl
-drawn_by active v false is due =
-    rw is (ap (λ (o : Option ℕ). record v { tx_due = o }) (sym (gone v.tx_due (may_send active v) due is)))
+drawn_by active v false is due = rw is (ap (λ o. record v { tx_due = o }) (sym (gone v.tx_due due is)))
 
 -- the due tick stands that is there exactly while packets may be sent
 pub drawn_stands : (active : Bool) (v : Vars) → (IsSome v.tx_due ↔ IsTrue (may_send active v)) → drawn active (begins v) v ≡ v

@@ -19,7 +19,7 @@ unfolding settling.periodic settling.periodic_packet
 periodic_heard c limit eff s =
     alike (has_come (floor_tick limit) s.vars.tx_due && may_send true s.vars) (settling.periodic_packet c eff s) s s.vars.heard refl refl
 
-pub settle_heard : (c : SeekConfig) (limit eff : ℕ) (s : Course)
+settle_heard : (c : SeekConfig) (limit eff : ℕ) (s : Course)
     → (settling.settle c limit eff s).vars.heard ≡ (if has_come limit (deadline s.vars) then None else s.vars.heard)
 unfolding settling.settle
 settle_heard c limit eff s = periodic_heard c limit eff (settling.detection c limit s) ∙ detection_heard c limit s
@@ -28,7 +28,7 @@ extra_heard : (c : SeekConfig) (eff : ℕ) (s : Course) → (finishing.extra c e
 unfolding finishing.extra transmits sends
 extra_heard c eff s = alike (is_untold true s.mark s.vars) _ s s.vars.heard refl refl
 
-pub finish_heard : (c : SeekConfig) (eff : ℕ) (s : Course) → (finishing.finish c eff s).vars.heard ≡ s.vars.heard
+finish_heard : (c : SeekConfig) (eff : ℕ) (s : Course) → (finishing.finish c eff s).vars.heard ≡ s.vars.heard
 unfolding finishing.finish redrawn
 finish_heard c eff s =
     let t : Course = finishing.extra c eff s in drawn_heard true t.mark t.vars ∙ extra_heard c eff s
@@ -42,5 +42,4 @@ tick_heard c limit eff s = finish_heard c eff (settling.settle c limit eff s) �
 -- one that was there is gone exactly where the deadline has come by the limit
 pub expires : (c : SeekConfig) (limit eff : ℕ) (s : Course) → IsSome s.vars.heard
     → ((finishing.finish c eff (settling.settle c limit eff s)).vars.heard ≡ None) ↔ (has_come limit (deadline s.vars) ≡ true)
-expires c limit eff s there =
-    exactly (has_come limit (deadline s.vars)) s.vars.heard (finishing.finish c eff (settling.settle c limit eff s)).vars.heard (tick_heard c limit eff s) there
+expires c limit eff s there = exactly (has_come limit (deadline s.vars)) s.vars.heard _ (tick_heard c limit eff s) there

@@ -1,6 +1,5 @@
 -- What was put out before stays in front of what an initiator's rules put out, and changes nothing else of them.
-use Rattle.bfd_sbfd.proofs.Common.{◌≡◌, ◌&&◌, ℕ, true, List, refl, is_some, Control, fields_of, floor_tick, has_come, Cmd, Out, Vars, may_send, is_admin_down, Course, is_untold, based, redrawn, SeekConfig, deadline, moves, transmits, refusal, commanded, done}
-use Rattle.bfd_rules.proofs.Courses.{after, either, changes-after, sends-after}
+use Rattle.bfd_sbfd.proofs.Common.{◌≡◌, ◌&&◌, ℕ, true, List, refl, is_some, Control, fields_of, floor_tick, has_come, Cmd, Out, Vars, may_send, is_admin_down, Course, is_untold, based, redrawn, SeekConfig, deadline, moves, transmits, refusal, commanded, done, after, either, changes-after, sends-after}
 use Rattle.bfd_sbfd.specs.Settle as settling
 use Rattle.bfd_sbfd.specs.Receive as receiving
 use Rattle.bfd_sbfd.specs.Finish as finishing

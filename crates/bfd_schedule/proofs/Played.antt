@@ -1,5 +1,5 @@
 -- An event of the schedule leaves what the schedule with it makes.
-use Rattle.std.proofs.Common.{◌≡◌, ◌≤◌, ◌+◌, ◌*◌, ◌++◌, ℕ, suc, List, [], ◌∷◌, length, refl, sym, ap, ◌∙◌, subst, arith}
+use Rattle.std.proofs.Common.{◌≡◌, ◌≤◌, ◌+◌, ◌++◌, ℕ, suc, List, [], ◌∷◌, length, refl, sym, ap, ◌∙◌, arith}
 use Rattle.bfd_num.specs.Numbers.{next_j}
 use Rattle.bfd_session.specs.declared.event.SessionConfig.TheVariants.{Pair}
 use Rattle.bfd_pair.specs.declared.event.PairEvent.{PairEvent}
@@ -12,10 +12,10 @@ use Rattle.bfd_schedule.specs.Inside.{IsPlayed}
 use Rattle.bfd_schedule.proofs.Totals.{total_more, length_schedule}
 
 -- at the start nothing was played
-pub starts : (seed : ℕ) (p : Pairing) → p ≡ record { left = Pair (left seed); right = Pair (right seed); past = [] }
+pub starts : {seed : ℕ} {p : Pairing} → p ≡ record { left = Pair (left seed); right = Pair (right seed); past = [] }
     → IsPlayed seed 0 p (record { draw = seed; given = 0; rises = 0 })
 unfolding schedule draw total_over
-starts seed p is = record {
+starts is = record {
   pair = is;
   draw = refl;
   given = refl;
@@ -25,69 +25,56 @@ starts seed p is = record {
 }
 
 -- a sum over the schedule and one event more
-sum_more : (count : PairEvent → PairTurn → ℕ) (seed e sum sum2 : ℕ) (event : PairEvent) (w : Both)
+sum_more : (count : PairEvent → PairTurn → ℕ) (seed e : ℕ) {sum sum2 : ℕ} (event : PairEvent) {w : Both}
     → sum ≡ total_of count seed (schedule seed e) → w ≡ run_of_seed seed (schedule seed e)
-    → schedule seed e ++ event ∷ [] ≡ schedule seed (suc e) → sum2 ≡ sum + count event (turn event w)
-    → sum2 ≡ total_of count seed (schedule seed (suc e))
-sum_more count seed e sum sum2 event w before is past_is more =
-    more
-    ∙ (ap (λ (n : ℕ). n + count event (turn event w)) before
-    ∙ (ap (λ (x : Both). total_of count seed (schedule seed e) + count event (turn event x)) is
-    ∙ (sym (total_more count seed (schedule seed e) event)
-    ∙ ap (λ (es : List PairEvent). total_of count seed es) past_is)))
+    → schedule seed e ++ event ∷ [] ≡ schedule seed (suc e) → sum2 ≡ sum + count event (turn event w) → sum2 ≡ total_of count seed (schedule seed (suc e))
+sum_more count seed e event before is past_is more = cc (total_more count seed (schedule seed e) event)
 
-draw_more : (seed e before after : ℕ) → before ≡ draw seed e → after ≡ next_j before → after ≡ draw seed (suc e)
+draw_more : (seed e : ℕ) {before after : ℕ} → before ≡ draw seed e → after ≡ next_j before → after ≡ draw seed (suc e)
 unfolding draw
-draw_more seed e before after is more = more ∙ ap next_j is
+draw_more seed e is more = cc
 
-schedule_more : (seed e : ℕ) (event : PairEvent) → event ≡ event_by (suc e) (draw seed (suc e)) (run_of_seed seed (schedule seed e))
+schedule_more : (seed e : ℕ) {event : PairEvent} → event ≡ event_by (suc e) (draw seed (suc e)) (run_of_seed seed (schedule seed e))
     → schedule seed e ++ event ∷ [] ≡ schedule seed (suc e)
 unfolding schedule
-schedule_more seed e event is = ap (λ (x : PairEvent). schedule seed e ++ x ∷ []) is
+schedule_more seed e is = cc
 
-plays_next : (seed e : ℕ) (pair pair2 : Pairing) (tally tally2 : Tally) (event : PairEvent) → IsPlayed seed e pair tally
+plays_next : {seed e : ℕ} {pair pair2 : Pairing} {tally tally2 : Tally} {event : PairEvent} → IsPlayed seed e pair tally
     → pair2 ≡ record pair { past = pair.past ++ event ∷ [] } → tally2.draw ≡ next_j tally.draw
     → event ≡ event_by (suc e) tally2.draw (pair_run pair.left pair.right pair.past)
     → tally2.given ≡ tally.given + given_in event (turn event (pair_run pair.left pair.right pair.past))
     → tally2.rises ≡ tally.rises + rises_in event (turn event (pair_run pair.left pair.right pair.past))
     → tally2.given ≤ tally.given + 1 → tally2.rises ≤ tally.rises + 10 → IsPlayed seed (suc e) pair2 tally2
-plays_next seed e pair pair2 tally tally2 event h more draws is given rises few_given few_rises =
+plays_next {seed} {e} {pair} {tally} {tally2} {event} h more draws is given rises few_given few_rises =
     let w : Both = pair_run pair.left pair.right pair.past in
-    let run_is : w ≡ run_of_seed seed (schedule seed e) = ap (λ (p : Pairing). pair_run p.left p.right p.past) h.pair in
-    let draw_is : tally2.draw ≡ draw seed (suc e) = draw_more seed e tally.draw tally2.draw h.draw draws in
-    let past_is : schedule seed e ++ event ∷ [] ≡ schedule seed (suc e) =
-    schedule_more seed e event
-    (is ∙ (ap (λ (j : ℕ). event_by (suc e) j w) draw_is ∙ ap (λ (x : Both). event_by (suc e) (draw seed (suc e)) x) run_is)) in
+    let run_is : w ≡ run_of_seed seed (schedule seed e) = cc in
+    let draw_is = draw_more seed e h.draw draws in
+    let past_is = schedule_more seed e (cc) in
     record {
-      pair = more ∙ (ap (λ (p : Pairing). record p { past = p.past ++ event ∷ [] }) h.pair
-          ∙ ap (λ (es : List PairEvent). record { left = Pair (left seed); right = Pair (right seed); past = es }) past_is);
+      pair = cc;
       draw = draw_is;
-      given = sum_more given_in seed e tally.given tally2.given event w h.given run_is past_is given;
-      rises = sum_more rises_in seed e tally.rises tally2.rises event w h.rises run_is past_is rises;
-      few_given = (let few : tally.given ≤ e = h.few_given in omega arith);
-      few_rises = (let few : tally.rises ≤ 10 * e = h.few_rises in omega arith);
+      given = sum_more given_in seed e event h.given run_is past_is given;
+      rises = sum_more rises_in seed e event h.rises run_is past_is rises;
+      few_given = (let few = h.few_given in omega arith);
+      few_rises = (let few = h.few_rises in omega arith);
     }
 
-pub plays : (seed e : ℕ) (pair pair2 : Pairing) (tally tally2 : Tally) (event : PairEvent) → IsPlayed seed e pair tally
+pub plays : {seed e : ℕ} {pair pair2 : Pairing} {tally tally2 : Tally} {event : PairEvent} → IsPlayed seed e pair tally
     → pair2 ≡ record pair { past = pair.past ++ event ∷ [] } → tally2.draw ≡ next_j tally.draw
     → event ≡ event_by (e + 1) tally2.draw (pair_run pair.left pair.right pair.past)
     → tally2.given ≡ tally.given + given_in event (turn event (pair_run pair.left pair.right pair.past))
     → tally2.rises ≡ tally.rises + rises_in event (turn event (pair_run pair.left pair.right pair.past))
     → tally2.given ≤ tally.given + 1 → tally2.rises ≤ tally.rises + 10 → IsPlayed seed (e + 1) pair2 tally2
-plays seed e pair pair2 tally tally2 event h more draws is given rises few_given few_rises =
+plays {e} h more draws is given rises few_given few_rises =
     let same : suc e ≡ e + 1 = omega arith in
-    let w : Both = pair_run pair.left pair.right pair.past in
-    subst (λ (n : ℕ). IsPlayed seed n pair2 tally2) same
-    (plays_next seed e pair pair2 tally tally2 event h more draws
-    (is ∙ ap (λ (n : ℕ). event_by n tally2.draw w) (sym same)) given rises few_given few_rises)
+    rw (← same) (plays_next h more draws (cc) given rises few_given few_rises)
 
 -- the line of what was played
 pub line_is : (seed e : ℕ) (p : Pairing) (t : Tally) → IsPlayed seed e p t
     → line_by e (sent_in (pair_run p.left p.right p.past)) t.given (pair_run p.left p.right p.past).left.session.vars.state
-    (pair_run p.left p.right p.past).right.session.vars.state t.rises
-    ≡ pair_line seed (schedule seed e)
+    (pair_run p.left p.right p.past).right.session.vars.state t.rises ≡ pair_line seed (schedule seed e)
 line_is seed e p t h =
-    ap (λ (q : Pairing). line_with e (pair_run q.left q.right q.past) t.given t.rises) h.pair
+    ap (λ q. line_with e (pair_run q.left q.right q.past) t.given t.rises) h.pair
     ∙ (ap (λ (n : ℕ). line_with n (run_of_seed seed (schedule seed e)) t.given t.rises) (sym (length_schedule seed e))
     ∙ (ap (λ (n : ℕ). line_with (length (schedule seed e)) (run_of_seed seed (schedule seed e)) n t.rises) h.given
     ∙ ap (λ (n : ℕ). line_with (length (schedule seed e)) (run_of_seed seed (schedule seed e)) (total_of given_in seed (schedule seed e)) n) h.rises))

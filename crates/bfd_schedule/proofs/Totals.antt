@@ -9,7 +9,7 @@ total-append : (count : PairEvent → PairTurn → ℕ) (past : List PairEvent) 
     → total_over count (past ++ event ∷ []) w ≡ total_over count past w + count event (turn event (both_after past w))
 unfolding total_over
 total-append count [] event w = omega arith
-total-append count (x ∷ past) event w = let rest = total-append count past event (turn x w).both in omega arith
+total-append count (x ∷ past) event w = omega (arith, total-append count past event (turn x w).both)
 
 pub total_more : (count : PairEvent → PairTurn → ℕ) (seed : ℕ) (past : List PairEvent) (event : PairEvent)
     → total_of count seed (past ++ event ∷ []) ≡ total_of count seed past + count event (turn event (run_of_seed seed past))

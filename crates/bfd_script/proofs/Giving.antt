@@ -1,15 +1,11 @@
 -- A session of a table becomes another: the entries, the places, and what stays true of the sessions.
-use Rattle.bfd_script.proofs.Common.{◌≡◌, ℕ, ◌<◌, ◌==◌, Bool, true, false, cond, List, [], ◌∷◌, ◌++◌, length, Option, Some, None, refl, sym, ap, ◌∙◌, arith, subst, append_assoc, length-append, find, list_any, AllByRecursion, values_of, lookup, set_value, is_at, nat_cmp, is_eq, nat_level, row_of, Differs, SessionConfig, discr_of, RowKind, by_discr, changed, has_selector, keyed_more, keyed_with, keys_in, keys_of, one_more, AreKeys, AreNext, IsChain, IsKey, IsNext, IsRow, AreConfigs, IsIndexed}
-use Rattle.std.proofs.Common.{append-nil}
-use Rattle.bfd_session.specs.Rows.{Ascends, same_selector}
+use Rattle.bfd_script.proofs.Common.{◌≡◌, ℕ, ◌<◌, ◌==◌, Bool, true, false, cond, List, [], ◌∷◌, ◌++◌, length, Option, Some, None, refl, ◌∙◌, arith, append_assoc, length-append, find, list_any, AllByRecursion, values_of, lookup, set_value, is_at, nat_cmp, is_eq, nat_level, row_of, Differs, SessionConfig, discr_of, RowKind, by_discr, changed, keyed_more, keyed_with, keys_in, keys_of, one_more, AreKeys, AreNext, IsChain, IsKey, IsNext, IsRow, AreConfigs, IsIndexed, Ascends, same_selector, append-nil, IsFit, key_fault}
 use Rattle.bfd_packet.specs.KeyChain.{KeyChain}
 use Rattle.bfd_packet.specs.declared.keys.AuthType.{AuthType}
 use Rattle.bfd_packet.specs.declared.keys.Key.{Key}
 use Rattle.bfd_rules.specs.declared.config.Config.{Config}
 use Rattle.bfd_session.specs.declared.event.SessionConfig.TheVariants.{Pair}
-use Rattle.bfd_session.specs.Step.{IsFit}
 use Rattle.bfd_demux.specs.Rows.{same_selector as same_kind}
-use Rattle.bfd_line.specs.Secrets.{key_fault}
 use Rattle.bfd_script.proofs.Elements.{each_to}
 use Rattle.bfd_script.proofs.Numbered.{values_by}
 
@@ -31,70 +27,65 @@ found k (c ∷ cs) = found_step (is_eq (nat_cmp k (discr_of c))) (k == discr_of 
 
 pub found_at : (k : ℕ) (entries : List (ℕ × SessionConfig)) → entries ≡ by_discr (values_of entries)
     → lookup (is_at (nat_cmp k)) entries ≡ find (λ c. k == discr_of c) (values_of entries)
-found_at k entries keyed = ap (λ es. lookup (is_at (nat_cmp k)) es) keyed ∙ found k (values_of entries)
+found_at k entries keyed = cc (found k (values_of entries))
 
 changed_step : (f : SessionConfig → SessionConfig) → Keeps f → (at same : Bool) (x c : SessionConfig) (cs rest : List SessionConfig) (es : List (ℕ × SessionConfig)) (o : Option SessionConfig)
     → at ≡ same → Some c ≡ cond at (Some x) o → (Some c ≡ o → es ≡ by_discr rest)
     → cond at ((discr_of x, f c) ∷ by_discr cs) ((discr_of x, x) ∷ es) ≡ by_discr (cond same (f x ∷ cs) (x ∷ rest))
-changed_step f kept true true x c cs rest es o e h next = let k = kept.discr x in cc
-changed_step f kept false false x c cs rest es o e h next = ap (λ t. (discr_of x, x) ∷ t) (next h)
+changed_step f kept true true x c cs rest es o e h next = cc (kept.discr x)
+changed_step f kept false false x c cs rest es o e h next = cc (next h)
 changed_step f kept at same x c cs rest es o e h next = cc
 
-set_changed : (f : SessionConfig → SessionConfig) → Keeps f → (k : ℕ) (c : SessionConfig) (cs : List SessionConfig) → Some c ≡ lookup (is_at (nat_cmp k)) (by_discr cs)
+set_changed : {f : SessionConfig → SessionConfig} → Keeps f → (k : ℕ) (c : SessionConfig) (cs : List SessionConfig) → Some c ≡ lookup (is_at (nat_cmp k)) (by_discr cs)
     → set_value (is_at (nat_cmp k)) (by_discr cs) (f c) ≡ by_discr (changed k f cs)
-set_changed f kept k c [] h = refl
-set_changed f kept k c (x ∷ cs) h =
+set_changed kept k c [] h = refl
+set_changed {f} kept k c (x ∷ cs) h =
     changed_step f kept (is_eq (nat_cmp k (discr_of x))) (k == discr_of x) x c cs (changed k f cs) (set_value (is_at (nat_cmp k)) (by_discr cs) (f c))
-    (lookup (is_at (nat_cmp k)) (by_discr cs)) (nat_level k (discr_of x)) h (set_changed f kept k c cs)
+    (lookup (is_at (nat_cmp k)) (by_discr cs)) (nat_level k (discr_of x)) h (set_changed kept k c cs)
 
 -- the map's change is that of the sessions
-pub entries_changed : (f : SessionConfig → SessionConfig) → Keeps f → (k : ℕ) (c w : SessionConfig) (entries more : List (ℕ × SessionConfig)) → entries ≡ by_discr (values_of entries)
-    → Some c ≡ lookup (is_at (nat_cmp k)) entries → w ≡ f c → more ≡ set_value (is_at (nat_cmp k)) entries w
-    → more ≡ by_discr (changed k f (values_of entries))
-entries_changed f kept k c w entries more keyed here e new =
-    new ∙ ap (λ t. set_value (is_at (nat_cmp k)) entries t) e ∙ ap (λ es. set_value (is_at (nat_cmp k)) es (f c)) keyed
-    ∙ set_changed f kept k c (values_of entries) (here ∙ ap (λ es. lookup (is_at (nat_cmp k)) es) keyed)
+pub entries_changed : {f : SessionConfig → SessionConfig} → Keeps f → (k : ℕ) {c w : SessionConfig} {entries more : List (ℕ × SessionConfig)} → entries ≡ by_discr (values_of entries)
+    → Some c ≡ lookup (is_at (nat_cmp k)) entries → w ≡ f c → more ≡ set_value (is_at (nat_cmp k)) entries w → more ≡ by_discr (changed k f (values_of entries))
+entries_changed kept k {c} {entries} keyed here e new = cc (set_changed kept k c (values_of entries) (cc))
 
-lost_step : (same : Bool) (x y : SessionConfig) (cs rest : List SessionConfig) (o : Option SessionConfig)
+lost_step : (same : Bool) (x y : SessionConfig) {cs rest : List SessionConfig} {o : Option SessionConfig}
     → None ≡ cond same (Some x) o → (None ≡ o → rest ≡ cs) → cond same (y ∷ cs) (x ∷ rest) ≡ x ∷ cs
-lost_step true x y cs rest o h next = cc
-lost_step false x y cs rest o h next = ap (λ t. x ∷ t) (next h)
+lost_step true x y h next = cc
+lost_step false x y h next = cc (next h)
 
 lost : (f : SessionConfig → SessionConfig) (k : ℕ) (cs : List SessionConfig) → None ≡ find (λ c. k == discr_of c) cs → changed k f cs ≡ cs
 lost f k [] h = refl
-lost f k (x ∷ cs) h = lost_step (k == discr_of x) x (f x) cs (changed k f cs) (find (λ d. k == discr_of d) cs) h (lost f k cs)
+lost f k (x ∷ cs) h = lost_step (k == discr_of x) x (f x) h (lost f k cs)
 
 -- where no session has the discriminator nothing changes
-pub entries_kept : (f : SessionConfig → SessionConfig) (k : ℕ) (entries : List (ℕ × SessionConfig)) → entries ≡ by_discr (values_of entries)
+pub entries_kept : (f : SessionConfig → SessionConfig) (k : ℕ) {entries : List (ℕ × SessionConfig)} → entries ≡ by_discr (values_of entries)
     → None ≡ lookup (is_at (nat_cmp k)) entries → entries ≡ by_discr (changed k f (values_of entries))
-entries_kept f k entries keyed here =
-    keyed ∙ ap by_discr (sym (lost f k (values_of entries) (here ∙ found_at k entries keyed)))
+entries_kept f k {entries} keyed here = cc (lost f k (values_of entries) (here ∙ found_at k _ keyed))
 
 -- ---- what stays true
 
 -- a fact that the change keeps for the session that it changes
-each_cond : (P : SessionConfig → Type 0) (f : SessionConfig → SessionConfig) (same : Bool) (x : SessionConfig) (cs rest : List SessionConfig) (o : Option SessionConfig)
+each_cond : (P : SessionConfig → Type 0) {f : SessionConfig → SessionConfig} (same : Bool) {x : SessionConfig} (cs rest : List SessionConfig) {o : Option SessionConfig}
     → ((c : SessionConfig) → Some c ≡ cond same (Some x) o → P c → P (f c)) → P x → AllByRecursion P cs
     → (((c : SessionConfig) → Some c ≡ o → P c → P (f c)) → AllByRecursion P rest) → AllByRecursion P (cond same (f x ∷ cs) (x ∷ rest))
-each_cond P f true x cs rest o g here all more = (g x refl here, all)
-each_cond P f false x cs rest o g here all more = (here, more g)
+each_cond P true {x} cs rest g here all more = (g x refl here, all)
+each_cond P false cs rest g here all more = (here, more g)
 
 each_changed : (P : SessionConfig → Type 0) (f : SessionConfig → SessionConfig) (k : ℕ) (cs : List SessionConfig)
     → ((c : SessionConfig) → Some c ≡ find (λ d. k == discr_of d) cs → P c → P (f c)) → AllByRecursion P cs → AllByRecursion P (changed k f cs)
 each_changed P f k [] g all = tt
-each_changed P f k (x ∷ cs) g all =
-    each_cond P f (k == discr_of x) x cs (changed k f cs) (find (λ d. k == discr_of d) cs) g all.0 all.1 (λ h. each_changed P f k cs h all.1)
+each_changed P f k (x ∷ cs) g all = each_cond P (k == discr_of x) cs (changed k f cs) g all.0 all.1 (λ h. each_changed P f k cs h all.1)
 
-any_cond : (test : SessionConfig → Bool) (same : Bool) (x y : SessionConfig) (cs rest : List SessionConfig) → test y ≡ test x → list_any test rest ≡ list_any test cs
+any_cond : (test : SessionConfig → Bool) (same : Bool) {x y : SessionConfig} (cs rest : List SessionConfig) → test y ≡ test x → list_any test rest ≡ list_any test cs
     → list_any test (cond same (y ∷ cs) (x ∷ rest)) ≡ list_any test (x ∷ cs)
-any_cond test true x y cs rest e more = rw e refl
-any_cond test false x y cs rest e more = rw more refl
+any_cond test true cs rest e more = rw e refl
+any_cond test false cs rest e more = rw more refl
 
 -- a test that doesn't look at keys
 pub any_changed : (test : SessionConfig → Bool) (f : SessionConfig → SessionConfig) (k : ℕ) (cs : List SessionConfig) → ((c : SessionConfig) → test (f c) ≡ test c)
     → list_any test (changed k f cs) ≡ list_any test cs
 any_changed test f k [] e = refl
-any_changed test f k (c ∷ cs) e = any_cond test (k == discr_of c) c (f c) cs (changed k f cs) (e c) (any_changed test f k cs e)
+any_changed test f k (c ∷ cs) e = any_cond test (k == discr_of c) cs (changed k f cs) (e c) (any_changed test f k cs e)
 
 length_cond : (same : Bool) (x y : SessionConfig) (cs rest : List SessionConfig) → length rest ≡ length cs → length (cond same (y ∷ cs) (x ∷ rest)) ≡ length (x ∷ cs)
 length_cond true x y cs rest e = refl
@@ -104,64 +95,61 @@ pub length_changed : (f : SessionConfig → SessionConfig) (k : ℕ) (cs : List 
 length_changed f k [] = refl
 length_changed f k (c ∷ cs) = length_cond (k == discr_of c) c (f c) cs (changed k f cs) (length_changed f k cs)
 
-apart_kept : (d : SessionConfig) (f : SessionConfig → SessionConfig) → Keeps f → (c : SessionConfig) → same_selector d c ≡ false → same_selector d (f c) ≡ false
-apart_kept d f kept c h = ap (same_kind (row_of d).kind) (kept.place c) ∙ h
+apart_kept : (d : SessionConfig) {f : SessionConfig → SessionConfig} → Keeps f → (c : SessionConfig) → same_selector d c ≡ false → same_selector d (f c) ≡ false
+apart_kept d kept c h = cc (kept.place c)
 
-ascends_cond : (f : SessionConfig → SessionConfig) → Keeps f → (same : Bool) (x : SessionConfig) (cs rest : List SessionConfig) → Ascends (x ∷ cs)
+ascends_cond : {f : SessionConfig → SessionConfig} → Keeps f → (same : Bool) (x : SessionConfig) (cs rest : List SessionConfig) → Ascends (x ∷ cs)
     → AllByRecursion (λ d. discr_of x < discr_of d) rest → Ascends rest → Ascends (cond same (f x ∷ cs) (x ∷ rest))
-ascends_cond f kept true x cs rest all above more = (subst (λ k. AllByRecursion (λ d. k < discr_of d) cs) (sym (kept.discr x)) all.0, all.1)
-ascends_cond f kept false x cs rest all above more = (above, more)
+ascends_cond kept true x cs rest all above more = (rw (kept.discr x) all.0, all.1)
+ascends_cond kept false x cs rest all above more = (above, more)
 
-pub ascends_changed : (f : SessionConfig → SessionConfig) → Keeps f → (k : ℕ) (cs : List SessionConfig) → Ascends cs → Ascends (changed k f cs)
-ascends_changed f kept k [] all = tt
-ascends_changed f kept k (c ∷ cs) all =
-    ascends_cond f kept (k == discr_of c) c cs (changed k f cs) all
-    (each_changed (λ d. discr_of c < discr_of d) f k cs (λ d here h. subst (λ n. discr_of c < n) (sym (kept.discr d)) h) all.0)
-    (ascends_changed f kept k cs all.1)
+pub ascends_changed : {f : SessionConfig → SessionConfig} → Keeps f → (k : ℕ) (cs : List SessionConfig) → Ascends cs → Ascends (changed k f cs)
+ascends_changed kept k [] all = tt
+ascends_changed {f} kept k (c ∷ cs) all = ascends_cond kept (k == discr_of c) c cs (changed k f cs) all
+    (each_changed _ f k cs (λ d here h. rw (kept.discr d) h) all.0) (ascends_changed kept k cs all.1)
 
-differs_cond : (f : SessionConfig → SessionConfig) → Keeps f → (same : Bool) (x : SessionConfig) (cs rest : List SessionConfig) → Differs (x ∷ cs)
+differs_cond : {f : SessionConfig → SessionConfig} → Keeps f → (same : Bool) (x : SessionConfig) (cs rest : List SessionConfig) → Differs (x ∷ cs)
     → AllByRecursion (λ d. same_selector x d ≡ false) rest → Differs rest → Differs (cond same (f x ∷ cs) (x ∷ rest))
-differs_cond f kept true x cs rest all apart more = (each_to cs (λ d h. ap (λ s. same_kind s (row_of d).kind) (kept.place x) ∙ h) all.0, all.1)
-differs_cond f kept false x cs rest all apart more = (apart, more)
+differs_cond kept true x cs rest all apart more = (each_to cs (λ d h. cc (kept.place x)) all.0, all.1)
+differs_cond kept false x cs rest all apart more = (apart, more)
 
-differs_changed : (f : SessionConfig → SessionConfig) → Keeps f → (k : ℕ) (cs : List SessionConfig) → Differs cs → Differs (changed k f cs)
-differs_changed f kept k [] all = tt
-differs_changed f kept k (c ∷ cs) all =
-    differs_cond f kept (k == discr_of c) c cs (changed k f cs) all (each_changed (λ d. same_selector c d ≡ false) f k cs (λ d here h. apart_kept c f kept d h) all.0)
-    (differs_changed f kept k cs all.1)
+differs_changed : {f : SessionConfig → SessionConfig} → Keeps f → (k : ℕ) (cs : List SessionConfig) → Differs cs → Differs (changed k f cs)
+differs_changed kept k [] all = tt
+differs_changed {f} kept k (c ∷ cs) all =
+    differs_cond kept (k == discr_of c) c cs (changed k f cs) all (each_changed _ f k cs (λ d here h. apart_kept c kept d h) all.0)
+    (differs_changed kept k cs all.1)
 
-configs_changed : (f : SessionConfig → SessionConfig) → Keeps f → (k : ℕ) (cs : List SessionConfig)
+configs_changed : {f : SessionConfig → SessionConfig} → Keeps f → (k : ℕ) {cs : List SessionConfig}
     → ((c : SessionConfig) → Some c ≡ find (λ d. k == discr_of d) cs → IsRow c → IsRow (f c)) → AreConfigs cs → AreConfigs (changed k f cs)
-configs_changed f kept k cs row were = record {
-  ascends = ascends_changed f kept k cs were.ascends;
-  differs = differs_changed f kept k cs were.differs;
-  fit = each_changed IsFit f k cs (λ c here h. kept.fit c h) were.fit;
-  rows = each_changed IsRow f k cs row were.rows;
-  few = let e = length_changed f k cs in let few = were.few in omega arith;
+configs_changed {f} kept k {cs} row were = record {
+  ascends = ascends_changed kept k cs were.ascends;
+  differs = differs_changed kept k cs were.differs;
+  fit = each_changed _ f k cs (λ c here h. kept.fit c h) were.fit;
+  rows = each_changed _ f k cs row were.rows;
+  few = omega (arith, length_changed f k cs, were.few);
 }
 
 -- the sessions of the changed table
-pub rows_changed : (f : SessionConfig → SessionConfig) (k : ℕ) (cs : List SessionConfig) (entries more : List (ℕ × SessionConfig)) → values_of entries ≡ cs
+pub rows_changed : (f : SessionConfig → SessionConfig) (k : ℕ) (cs : List SessionConfig) (entries : List (ℕ × SessionConfig)) {more : List (ℕ × SessionConfig)} → values_of entries ≡ cs
     → more ≡ by_discr (changed k f (values_of entries)) → values_of more ≡ changed k f cs
-rows_changed f k cs entries more view e = ap (λ es. values_of es) e ∙ values_by discr_of (changed k f (values_of entries)) ∙ ap (changed k f) view
+rows_changed f k cs entries view e = cc (values_by discr_of (changed k f (values_of entries)))
 
 -- the whole table
-table_changed : (f : SessionConfig → SessionConfig) → Keeps f → (k : ℕ) (entries more : List (ℕ × SessionConfig)) (has : RowKind → Bool) → IsIndexed entries has
+table_changed : {f : SessionConfig → SessionConfig} → Keeps f → (k : ℕ) {entries more : List (ℕ × SessionConfig)} {has : RowKind → Bool} → IsIndexed entries has
     → ((c : SessionConfig) → Some c ≡ find (λ d. k == discr_of d) (values_of entries) → IsRow c → IsRow (f c))
     → more ≡ by_discr (changed k f (values_of entries)) → IsIndexed more has
-table_changed f kept k entries more has were row e =
-    let are : values_of more ≡ changed k f (values_of entries) = rows_changed f k (values_of entries) entries more refl e in
+table_changed {f} kept k {entries} {more} were row e =
+    let are = rows_changed f k (values_of entries) entries refl e in
     record {
-      keyed = e ∙ ap by_discr (sym are);
-      places = λ q. were.places q ∙ sym (any_changed (λ d. same_kind q (row_of d).kind) f k (values_of entries) (λ c. ap (same_kind q) (kept.place c)))
-          ∙ ap (has_selector q) (sym are);
-      configs = subst (λ xs. AreConfigs xs) (sym are) (configs_changed f kept k (values_of entries) row were.configs);
+      keyed = cc;
+      places = λ q. cc (were.places q, any_changed (λ d. same_kind q (row_of d).kind) f k (values_of entries) (λ c. cc (kept.place c)));
+      configs = rw are (configs_changed kept k row were.configs);
     }
 
 -- ---- keys for a session
 
-fit_keyed : (keys : Option KeyChain) (c : Config) → IsFit (Pair c) → IsFit (Pair (record c { keys = keys }))
-fit_keyed keys c h = record {
+fit_keyed : (keys : Option KeyChain) {c : Config} → IsFit (Pair c) → IsFit (Pair (record c { keys = keys }))
+fit_keyed keys h = record {
   discr = h.discr;
   iface = h.iface;
   tx_least = h.tx_least;
@@ -173,8 +161,8 @@ fit_keyed keys c h = record {
   echo_range = h.echo_range;
 }
 
-row_keyed : (keys : Option KeyChain) (c : Config) → AreKeys keys → IsRow (Pair c) → IsRow (Pair (record c { keys = keys }))
-row_keyed keys c are h = record { discr = h.discr; local = h.local; remote = h.remote; mult = h.mult; seed = h.seed; keys = are }
+row_keyed : (keys : Option KeyChain) {c : Config} → AreKeys keys → IsRow (Pair c) → IsRow (Pair (record c { keys = keys }))
+row_keyed keys are h = record { discr = h.discr; local = h.local; remote = h.remote; mult = h.mult; seed = h.seed; keys = are }
 
 with_discr : (keys : KeyChain) (c : SessionConfig) → discr_of (keyed_with keys c) ≡ discr_of c
 with_discr keys (Pair c) = refl
@@ -185,20 +173,19 @@ with_place keys (Pair c) = refl
 with_place keys c = refl
 
 with_fit : (keys : KeyChain) (c : SessionConfig) → IsFit c → IsFit (keyed_with keys c)
-with_fit keys (Pair c) h = fit_keyed (Some keys) c h
+with_fit keys (Pair c) h = fit_keyed (Some keys) h
 with_fit keys c h = h
 
-with_row : (keys : KeyChain) → IsChain keys → (c : SessionConfig) → IsRow c → IsRow (keyed_with keys c)
-with_row keys are (Pair c) h = row_keyed (Some keys) c are h
-with_row keys are c h = h
+with_row : {keys : KeyChain} → IsChain keys → (c : SessionConfig) → IsRow c → IsRow (keyed_with keys c)
+with_row {keys} are (Pair c) h = row_keyed (Some keys) are h
+with_row are c h = h
 
 pub with_keeps : (keys : KeyChain) → Keeps (keyed_with keys)
 with_keeps keys = record { discr = with_discr keys; place = with_place keys; fit = with_fit keys }
 
-pub table_given : (k : ℕ) (keys : KeyChain) (entries more : List (ℕ × SessionConfig)) (has : RowKind → Bool) → IsIndexed entries has
+pub table_given : (k : ℕ) {keys : KeyChain} {entries more : List (ℕ × SessionConfig)} {has : RowKind → Bool} → IsIndexed entries has
     → IsChain keys → more ≡ by_discr (changed k (keyed_with keys) (values_of entries)) → IsIndexed more has
-table_given k keys entries more has were are e =
-    table_changed (keyed_with keys) (with_keeps keys) k entries more has were (λ c here h. with_row keys are c h) e
+table_given k {keys} were are e = table_changed (with_keeps keys) k were (λ c here h. with_row are c h) e
 
 -- ---- one more key
 
@@ -211,37 +198,34 @@ more_place key (Pair c) = refl
 more_place key c = refl
 
 more_fit : (key : Key) (c : SessionConfig) → IsFit c → IsFit (keyed_more key c)
-more_fit key (Pair c) h = fit_keyed (one_more key c.keys) c h
+more_fit key (Pair c) h = fit_keyed (one_more key c.keys) h
 more_fit key c h = h
 
 pub more_keeps : (key : Key) → Keeps (keyed_more key)
 more_keeps key = record { discr = more_discr key; place = more_place key; fit = more_fit key }
 
 -- the session that a look-up finds is the one whose keys are tested
-pub found_room : (k : ℕ) (key : Key) (c : SessionConfig) (entries : List (ℕ × SessionConfig)) → entries ≡ by_discr (values_of entries)
+pub found_room : (k : ℕ) (key : Key) {c : SessionConfig} {entries : List (ℕ × SessionConfig)} → entries ≡ by_discr (values_of entries)
     → Some c ≡ lookup (is_at (nat_cmp k)) entries → key_fault (keys_of k (values_of entries)) key ≡ None → key_fault (keys_in (Some c)) key ≡ None
-found_room k key c entries keyed here free = ap (λ o. key_fault (keys_in o) key) (here ∙ found_at k entries keyed) ∙ free
+found_room k key {entries} keyed here free = cc (found_at k _ keyed)
 
 -- a key that may come behind all of them
-next_more : (kind : AuthType) (before list : List Key) (key : Key) → AreNext kind before list → IsNext kind (before ++ list) key → AreNext kind before (list ++ key ∷ [])
-next_more kind before [] key all next = (subst (λ t. IsNext kind t key) (append-nil before) next, tt)
-next_more kind before (k ∷ list) key all next =
-    (all.0, next_more kind (before ++ k ∷ []) list key all.1 (subst (λ t. IsNext kind t key) (sym (append_assoc before (k ∷ []) list)) next))
+next_more : {kind : AuthType} (before list : List Key) (key : Key) → AreNext kind before list → IsNext kind (before ++ list) key → AreNext kind before (list ++ key ∷ [])
+next_more before [] key all next = (rw (← append-nil before) next, tt)
+next_more before (k ∷ list) key all next = (all.0, next_more (before ++ k ∷ []) list key all.1 (rw (append_assoc before (k ∷ []) list) next))
 
-more_keys : (keys : Option KeyChain) (key : Key) → key_fault keys key ≡ None → IsKey key → AreKeys keys → AreKeys (one_more key keys)
-more_keys None key free is all = tt
-more_keys (Some keys) key free is all = record {
-  some = let e = length-append keys.list (key ∷ []) in omega arith;
-  list = next_more keys.kind [] keys.list key all.list (record { fits = is; free = free });
+more_keys : (keys : Option KeyChain) {key : Key} → key_fault keys key ≡ None → IsKey key → AreKeys keys → AreKeys (one_more key keys)
+more_keys None free is all = tt
+more_keys (Some keys) {key} free is all = record {
+  some = omega (arith, length-append keys.list (key ∷ []));
+  list = next_more [] keys.list key all.list (record { fits = is; free = free });
 }
 
-more_row : (key : Key) (c : SessionConfig) → key_fault (keys_in (Some c)) key ≡ None → IsKey key → IsRow c → IsRow (keyed_more key c)
-more_row key (Pair c) free is h = row_keyed (one_more key c.keys) c (more_keys c.keys key free is h.keys) h
-more_row key c free is h = h
+more_row : {key : Key} (c : SessionConfig) → key_fault (keys_in (Some c)) key ≡ None → IsKey key → IsRow c → IsRow (keyed_more key c)
+more_row {key} (Pair c) free is h = row_keyed (one_more key c.keys) (more_keys c.keys free is h.keys) h
+more_row c free is h = h
 
-pub table_more_keys : (k : ℕ) (key : Key) (cs : List SessionConfig) (entries more : List (ℕ × SessionConfig)) (has : RowKind → Bool) → IsIndexed entries has
+pub table_more_keys : (k : ℕ) {key : Key} {cs : List SessionConfig} {entries more : List (ℕ × SessionConfig)} {has : RowKind → Bool} → IsIndexed entries has
     → values_of entries ≡ cs → key_fault (keys_of k cs) key ≡ None → IsKey key
     → more ≡ by_discr (changed k (keyed_more key) (values_of entries)) → IsIndexed more has
-table_more_keys k key cs entries more has were view free is e =
-    table_changed (keyed_more key) (more_keeps key) k entries more has were
-    (λ c here h. more_row key c (ap (λ o. key_fault (keys_in o) key) here ∙ ap (λ xs. key_fault (keys_of k xs) key) view ∙ free) is h) e
+table_more_keys k {key} were view free is e = table_changed (more_keeps key) k were (λ c here h. more_row c (cc) is h) e

@@ -1,6 +1,5 @@
 -- One more in an ascending list of things with numbers: the entries of a map, and what stays true of each.
-use Rattle.bfd_script.proofs.Common.{◌≡◌, ℕ, ◌+◌, ◌<◌, ◌==◌, Bool, true, false, ◌||◌, cond, List, [], ◌∷◌, length, Option, Some, refl, ap, ◌∙◌, arith, nat_lt, nat_tests, is_some, list_any, AllByRecursion, values_of, lookup, is_at, insert_entry, nat_cmp, is_eq, match_ordering, or_parts, nat_level, by_number, has_number, insert_by}
-use Rattle.std.specs.declared.cmp.Ordering.TheVariants.{Less, Equal, Greater}
+use Rattle.bfd_script.proofs.Common.{◌≡◌, ℕ, ◌+◌, ◌<◌, ◌==◌, Bool, true, false, ◌||◌, cond, List, [], ◌∷◌, length, Option, Some, refl, arith, nat_lt, nat_tests, is_some, list_any, AllByRecursion, values_of, lookup, is_at, insert_entry, nat_cmp, is_eq, match_ordering, or_parts, nat_level, by_number, has_number, insert_by, Less, Equal, Greater}
 
 -- ---- the entries
 
@@ -14,38 +13,37 @@ known number k [] = refl
 known number k (x ∷ xs) =
     known_step (is_eq (nat_cmp k (number x))) (k == number x) (has_number number k xs) x (lookup (is_at (nat_cmp k)) (by_number number xs)) (nat_level k (number x)) (known number k xs)
 
-pub known_among : {X : Type 0} (number : X → ℕ) (k : ℕ) (entries : List (ℕ × X)) → entries ≡ by_number number (values_of entries)
+pub known_among : {X : Type 0} (number : X → ℕ) (k : ℕ) {entries : List (ℕ × X)} → entries ≡ by_number number (values_of entries)
     → is_some (lookup (is_at (nat_cmp k)) entries) ≡ has_number number k (values_of entries)
-known_among number k entries keyed = ap (λ es. is_some (lookup (is_at (nat_cmp k)) es)) keyed ∙ known number k (values_of entries)
+known_among number k {entries} keyed = cc (known number k (values_of entries))
 
-entry_step : {X : Type 0} (number : X → ℕ) (less same has : Bool) (x y : X) (ys rest : List X) (es : List (ℕ × X))
+entry_step : {X : Type 0} (number : X → ℕ) (less same : Bool) {has : Bool} (x y : X) (ys rest : List X) {es : List (ℕ × X)}
     → (same || has) ≡ false → (has ≡ false → es ≡ by_number number rest)
     → match_ordering (cond less Less (cond same Equal Greater)) ((number x, x) ∷ (number y, y) ∷ by_number number ys) ((number y, x) ∷ by_number number ys) ((number y, y) ∷ es)
     ≡ by_number number (cond less (x ∷ y ∷ ys) (y ∷ rest))
-entry_step number true same has x y ys rest es none next = refl
-entry_step number false true has x y ys rest es none next = cc
-entry_step number false false has x y ys rest es none next = ap (λ t. (number y, y) ∷ t) (next none)
+entry_step number true same x y ys rest none next = refl
+entry_step number false true x y ys rest none next = cc
+entry_step number false false x y ys rest none next = cc (next none)
 
 -- the map's insertion is that of the list
 pub entry_inserted : {X : Type 0} (number : X → ℕ) (x : X) (xs : List X) → has_number number (number x) xs ≡ false
     → insert_entry nat_cmp (by_number number xs) (number x) x ≡ by_number number (insert_by number x xs)
 entry_inserted number x [] none = refl
 entry_inserted number x (y ∷ ys) none =
-    entry_step number (nat_lt (number x) (number y)) (number x == number y) (has_number number (number x) ys) x y ys (insert_by number x ys)
-    (insert_entry nat_cmp (by_number number ys) (number x) x) none (entry_inserted number x ys)
+    entry_step number (nat_lt (number x) (number y)) (number x == number y) x y ys (insert_by number x ys) none (entry_inserted number x ys)
 
 -- the things of entries by number
 pub values_by : {X : Type 0} (number : X → ℕ) (xs : List X) → values_of (by_number number xs) ≡ xs
 values_by number [] = refl
-values_by number (x ∷ xs) = ap (λ t. x ∷ t) (values_by number xs)
+values_by number (x ∷ xs) = cc (values_by number xs)
 
-pub entries_more : {X : Type 0} (number : X → ℕ) (x : X) (entries more : List (ℕ × X)) → entries ≡ by_number number (values_of entries)
+pub entries_more : {X : Type 0} (number : X → ℕ) (x : X) {entries more : List (ℕ × X)} → entries ≡ by_number number (values_of entries)
     → has_number number (number x) (values_of entries) ≡ false → more ≡ insert_entry nat_cmp entries (number x) x
     → (more ≡ by_number number (insert_by number x (values_of entries))) × (values_of more ≡ insert_by number x (values_of entries))
-entries_more number x entries more keyed none e =
+entries_more number x {entries} {more} keyed none e =
     let by : more ≡ by_number number (insert_by number x (values_of entries)) =
-    e ∙ ap (λ es. insert_entry nat_cmp es (number x) x) keyed ∙ entry_inserted number x (values_of entries) none in
-    (by, ap (λ es. values_of es) by ∙ values_by number (insert_by number x (values_of entries)))
+    cc (entry_inserted number x (values_of entries) none) in
+    (by, cc (values_by number (insert_by number x (values_of entries))))
 
 -- ---- what stays true
 
@@ -65,15 +63,15 @@ pub any_inserted : {X : Type 0} (number : X → ℕ) (test : X → Bool) (x : X)
 any_inserted number test x [] = refl
 any_inserted number test x (y ∷ ys) = any_cond test (nat_lt (number x) (number y)) x y ys (insert_by number x ys) (any_inserted number test x ys)
 
-each_cond : {X : Type 0} (P : X → Type 0) (b : Bool) (c d : X) (ds rest : List X) → P c → P d → AllByRecursion P ds → AllByRecursion P rest
+each_cond : {X : Type 0} (P : X → Type 0) (b : Bool) {c d : X} (ds rest : List X) → P c → P d → AllByRecursion P ds → AllByRecursion P rest
     → AllByRecursion P (cond b (c ∷ d ∷ ds) (d ∷ rest))
-each_cond P true c d ds rest new here all more = (new, (here, all))
-each_cond P false c d ds rest new here all more = (here, more)
+each_cond P true ds rest new here all more = (new, (here, all))
+each_cond P false ds rest new here all more = (here, more)
 
-pub each_inserted : {X : Type 0} (number : X → ℕ) (P : X → Type 0) (x : X) (xs : List X) → P x → AllByRecursion P xs → AllByRecursion P (insert_by number x xs)
-each_inserted number P x [] new all = (new, tt)
-each_inserted number P x (y ∷ ys) new all =
-    each_cond P (nat_lt (number x) (number y)) x y ys (insert_by number x ys) new all.0 all.1 (each_inserted number P x ys new all.1)
+pub each_inserted : {X : Type 0} (number : X → ℕ) (P : X → Type 0) {x : X} (xs : List X) → P x → AllByRecursion P xs → AllByRecursion P (insert_by number x xs)
+each_inserted number P [] new all = (new, tt)
+each_inserted number P {x} (y ∷ ys) new all =
+    each_cond P (nat_lt (number x) (number y)) ys (insert_by number x ys) new all.0 all.1 (each_inserted number P ys new all.1)
 
 length_cond : {X : Type 0} (b : Bool) (c d : X) (ds rest : List X) → length rest ≡ 1 + length ds → length (cond b (c ∷ d ∷ ds) (d ∷ rest)) ≡ 1 + length (d ∷ ds)
 length_cond true c d ds rest e = omega arith

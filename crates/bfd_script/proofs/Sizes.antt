@@ -1,10 +1,9 @@
 -- Each packet that a report counts has text of its own.
-use Rattle.bfd_script.proofs.Common.{◌≤◌, ◌++◌, ℕ, List, [], ◌∷◌, length, arith, length-append, sum_by, flat_map}
+use Rattle.bfd_script.proofs.Common.{◌≤◌, ◌++◌, ℕ, List, [], ◌∷◌, length, arith, length-append, sum_by, flat_map, packets_sent_by, item_line}
 use Rattle.std.specs.Fmt.{decimal}
 use Rattle.std.proofs.lemmas.List.Sums.{sum_by-cons}
 use Rattle.bfd_rules.specs.declared.outputs.Out.{Out}
 use Rattle.bfd_rules.specs.declared.outputs.Out.TheVariants.{Changed, Sent}
-use Rattle.bfd_script.specs.Report.{packets_sent_by, item_line}
 
 -- a text with a byte in it has one
 pub some_after : (a b : List ℕ) (x : ℕ) → 1 ≤ length (a ++ (x ∷ b))

@@ -1,5 +1,5 @@
 -- Names that proofs of this crate cite, passed on from one place. Declares nothing.
-pub use Rattle.std.proofs.Common.{Bool, Err, None, Ok, Option, Result, Some, ap, append-nil, append_assoc, ap₂, arith, cond, drop, false, get_or, inl, inr, le_refl, length, length-append, map, refl, rules, slice_get, slice_index_or, subst, suc, sym, take, take_all, true, vec_capacity, zero, ◌*◌, ◌++◌, ◌+◌, ◌-◌, ◌<◌, ◌==◌, ◌∙◌, ◌≡◌, ◌≢◌, ◌≤◌, ◌⊎◌}
+pub use Rattle.std.proofs.Common.{Bool, Err, List, None, Ok, Option, Result, Some, [], ap, append-nil, append_assoc, ap₂, arith, cond, drop, false, get_or, inl, inr, le_refl, length, length-append, map, refl, rules, slice_get, slice_index_or, subst, suc, sym, take, take_all, true, vec_capacity, zero, ℕ, ◌*◌, ◌++◌, ◌+◌, ◌-◌, ◌<◌, ◌==◌, ◌∙◌, ◌∷◌, ◌≡◌, ◌≢◌, ◌≤◌, ◌⊎◌}
 pub use Rattle.std.proofs.lemmas.Bool.Decides.{nat_tests}
 pub use Rattle.std.proofs.lemmas.List.{drop-drop, get_or-map, get_or_append_left, get_or_default, length-map, map-append, nil_from_length, same_lists, take-append-drop, take_more}
 pub use Rattle.std.proofs.lemmas.List.Elements.{All-cons, All-get_or, All-head, All-nil, All-pop, All-push, All-tail, All-weaker, filter-append, filter_map-append}
@@ -8,9 +8,9 @@ pub use Rattle.std.specs.List.{All, remove, sum, sum_by}
 pub use Rattle.bfd_edge.specs.Faults.{risen}
 pub use Rattle.bfd_edge.specs.Links.{LinkTold, Traffic, after_receive, after_send, more_traffic}
 pub use Rattle.bfd_edge.specs.Tickers.{TickerTold, Ticks, after_next, one_given}
-pub use Rattle.bfd_engine.specs.Calls.{Act, IsCall, IsCause, IsDone, IsFailed, Rests, Turned, Turns, kept_at, kept_of, made_of, met_word, met_word_of, mine, seen_at, seen_of, taken_at, taken_of}
-pub use Rattle.bfd_engine.specs.Engines.{AllThere, Held, IsOf, Knows, Shards, configs_at}
-pub use Rattle.bfd_engine.specs.Turned.{by, entry_of, given_after}
+pub use Rattle.bfd_engine.specs.Calls.{Act, IsCall, IsCause, IsDone, IsFailed, Rests, Turned, Turns, kept_at, met_word, met_word_of, mine, seen_at, seen_of, taken_at}
+pub use Rattle.bfd_engine.specs.Engines.{AllThere, IsOf, Knows, Shards, configs_at}
+pub use Rattle.bfd_engine.specs.Turned.{by, entry_of}
 pub use Rattle.bfd_line.specs.declared.entries.Line.{Line}
 pub use Rattle.bfd_packet.specs.declared.arrival.Arrival.{Arrival}
 pub use Rattle.bfd_packet.specs.declared.arrival.Datagram.{Datagram}
@@ -28,3 +28,12 @@ pub use Rattle.bfd_turn.proofs.Beginnings.{begins_itself, begins_length, begins_
 pub use Rattle.bfd_turn.specs.Lists.{Begins, calls, numbers_of}
 pub use mathlib.Core.Logic.{dite}
 pub use native.Mathlib.Decide.{dec_lt, ℕ_discrete}
+pub use Rattle.bfd_rules.specs.declared.outputs.Out.{Out}
+pub use Rattle.bfd_engine.specs.Passes.{Joined, Parted}
+pub use Rattle.bfd_serve.specs.declared.jobs.Job.{Job}
+pub use Rattle.bfd_serve.specs.Serves.{HasDone, HasServed, IsServedBy, IsTended, TimerDid, WorkerDid}
+pub use Rattle.bfd_shard.proofs.Lists.{all_next, whole_back}
+pub use denote.Builtin.{u64}
+pub use denote.Param.{arg, param}
+pub use denote.Param.Send.{IsSend, IsSync, arg_send, mut_send, param_send, sendable, shr_send, shr_slice_send}
+pub use Rattle.bfd_engine.proofs.Crossing.{engine_sync}

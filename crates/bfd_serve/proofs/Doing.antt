@@ -1,8 +1,6 @@
 -- What a caller did, act after act.
-use Rattle.bfd_serve.proofs.Common.{◌≡◌, ◌+◌, ◌≤◌, ◌++◌, length, Result, Ok, Err, refl, ap, ap₂, sym, ◌∙◌, subst, append_assoc, append-nil, length-append, le_refl, arith, Arrival, Datagram, Entry, ShardEvent, Begins, calls, risen, LinkTold, more_traffic, by, entry_of, given_after, Shards, Knows, configs_at, Act, Turns, Rests, seen_at, met_word, mine, IsDone, IsCall, IsFailed, IsCause, End, Full, Spent, Memory, calls_of, entries, until, datagrams, given_by, sends_of_acts, HasSent, IsSentAfter, Did, Stops, IsAside, IsStopped, IsWhole, AreDone, end_of}
-use Rattle.std.proofs.Common.{ℕ, List, [], ◌∷◌}
+use Rattle.bfd_serve.proofs.Common.{◌≡◌, ◌+◌, ◌≤◌, ◌++◌, length, Result, Ok, Err, refl, ap, ap₂, sym, ◌∙◌, subst, append_assoc, append-nil, length-append, le_refl, arith, Arrival, Datagram, Entry, ShardEvent, Begins, calls, LinkTold, more_traffic, by, entry_of, Shards, Knows, Act, Turns, Rests, seen_at, met_word, mine, IsDone, IsCall, IsFailed, IsCause, End, Full, Spent, Memory, calls_of, entries, until, datagrams, given_by, sends_of_acts, HasSent, IsSentAfter, Did, Stops, IsAside, IsStopped, IsWhole, AreDone, end_of, ℕ, List, [], ◌∷◌, Out}
 use Rattle.bfd_session.specs.declared.event.Answer.{Answer}
-use Rattle.bfd_rules.specs.declared.outputs.Out.{Out}
 use Rattle.bfd_engine.specs.declared.fault.EngineFault.{EngineFault}
 use Rattle.bfd_engine.specs.declared.fault.EngineFault.TheVariants as fault
 use Rattle.bfd_serve.proofs.Packets.{traffic_same, traffic_join, risen_same, risen_join, lacks_append}
@@ -35,49 +33,45 @@ module _ (engine : Shards) where
   did_none k t lost = did_hear k t t [] lost (sym (traffic_same t.traffic)) refl
 
   -- how many calls a caller has on a shard afterwards
-  count_of : (k l : Knows) (t u : LinkTold) (hs : List (ℕ × Arrival)) (xs cut : List Act) (untried : List Datagram) (a b : ℕ) → Did engine k l t u hs xs cut untried a b
+  count_of : {k l : Knows} {t u : LinkTold} {hs : List (ℕ × Arrival)} {xs cut : List Act} {untried : List Datagram} {a b : ℕ} → Did engine k l t u hs xs cut untried a b
       → (s : ℕ) → length (mine l s) ≡ length (mine k s) + length (entries k.0 s (calls_of xs))
-  count_of k l t u hs xs cut untried a b d s = ap length (d.gains s) ∙ length-append (mine k s) (entries k.0 s (calls_of xs))
+  count_of {k} {xs} d s = cc (d.gains s, length-append (mine k s) (entries k.0 s (calls_of xs)))
 
   -- the sends are the same where the histories grow
-  pub sends_later : (k l : Knows) (t u : LinkTold) (hs : List (ℕ × Arrival)) (xs cut : List Act) (untried : List Datagram) (a b : ℕ) (h : ℕ → List Entry) → ((s : ℕ) → Begins (seen_at l s) (h s))
+  pub sends_later : (k l : Knows) (t u : LinkTold) (hs : List (ℕ × Arrival)) (xs cut : List Act) (untried : List Datagram) (a b : ℕ) {h : ℕ → List Entry} → ((s : ℕ) → Begins (seen_at l s) (h s))
       → (d : Did engine k l t u hs xs cut untried a b) → sends_of_acts engine k.0 h (λ i. length (mine k i)) [] xs ≡ d.tried ++ untried
-  sends_later k l t u hs xs cut untried a b h longer d = sends_grow engine k.0 (seen_at l) h (λ i. length (mine k i)) [] xs longer
-      (λ i. (let c = count_of k l t u hs xs cut untried a b d i in let z = ap (λ n. length (calls by n (seen_at l i))) d.number in omega arith)) ∙ d.sends_are
+  sends_later k l t u hs xs cut untried a b longer d = sends_grow engine k.0 (seen_at l) (λ i. length (mine k i)) [] xs longer
+      (λ i. (let z = ap (λ n. length (calls by n (seen_at l i))) d.number in omega (arith, count_of d i))) ∙ d.sends_are
 
-  pub did_then : (k l m : Knows) (t u v : LinkTold) (hs hs2 : List (ℕ × Arrival)) (xs ys cut : List Act) (untried : List Datagram) (a b c : ℕ)
+  pub did_then : {k l m : Knows} {t u v : LinkTold} {hs hs2 : List (ℕ × Arrival)} {xs ys cut : List Act} {untried : List Datagram} {a b c : ℕ}
       → Did engine k l t u hs xs [] [] a b → Did engine l m u v hs2 ys cut untried b c → Did engine k m t v (hs ++ hs2) (xs ++ ys) cut untried a c
-  did_then k l m t u v hs hs2 xs ys cut untried a b c d f =
+  did_then {k} {l} {m} {t} {u} {hs} {hs2} {xs} {ys} {cut} {untried} {a} {b} d f =
       let had : ℕ → ℕ = λ i. length (mine k i) in
-      let old : sends_of_acts engine k.0 (seen_at m) had [] xs ≡ d.tried = sends_later k l t u hs xs [] [] a b (seen_at m) f.grows d ∙ append-nil d.tried in
+      let old = sends_later k l t u hs xs [] [] a b f.grows d ∙ append-nil d.tried in
       let new : sends_of_acts engine k.0 (seen_at m) had (calls_of xs) ys ≡ f.tried ++ untried =
-      sym (sends_base engine k.0 (seen_at m) had (λ i. length (mine l i)) (calls_of xs) [] ys (λ i. let e = count_of k l t u hs xs [] [] a b d i in omega arith))
-      ∙ (ap (λ n. sends_of_acts engine n (seen_at m) (λ i. length (mine l i)) [] ys) (sym d.number) ∙ f.sends_are) in
+      cc (sends_base engine k.0 (seen_at m) had (λ i. length (mine l i)) (calls_of xs) [] ys (λ i. omega (arith, count_of d i))) in
       record {
-        number = f.number ∙ d.number;
-        used = f.used ∙ d.used;
-        gains = λ i. f.gains i ∙ (ap₂ (λ x n. x ++ entries n i (calls_of ys)) (d.gains i) d.number
-            ∙ (append_assoc (mine k i) (entries k.0 i (calls_of xs)) (entries k.0 i (calls_of ys))
-            ∙ ap (λ x. mine k i ++ x) (sym (entries_append k.0 i (calls_of xs) (calls_of ys)) ∙ ap (entries k.0 i) (sym (calls_of_append xs ys)))));
-        grows = λ i. begins_trans (seen_at k i) (seen_at l i) (seen_at m i) (d.grows i) (f.grows i);
-        words = λ i. (let p = d.words i in let q = f.words i in omega arith);
-        taken = λ i. (let p = d.taken i in let q = f.taken i in let n = ap (λ n. weight n i (ys ++ cut)) d.number in
-            let e = weight_append k.0 i xs [] in let e2 = weight_append k.0 i (xs ++ ys) cut in let e3 = weight_append k.0 i xs ys in let e4 = weight_append k.0 i ys cut in omega arith);
+        number = cc;
+        used = cc;
+        gains = λ i. cc (f.gains i, ap₂ (λ x n. x ++ entries n i (calls_of ys)) (d.gains i) d.number, append_assoc (mine k i) (entries k.0 i (calls_of xs)) (entries k.0 i (calls_of ys)), entries_append k.0 i (calls_of xs) (calls_of ys), calls_of_append xs ys);
+        grows = λ i. begins_trans (seen_at k i) (d.grows i) (f.grows i);
+        words = λ i. (omega (arith, d.words i, f.words i));
+        taken = λ i. (let n = ap (λ n. weight n i (ys ++ cut)) d.number in omega (arith, d.taken i, f.taken i, weight_append k.0 i xs [], weight_append k.0 i (xs ++ ys) cut, weight_append k.0 i xs ys, weight_append k.0 i ys cut));
         made = λ i. f.made i ∙ d.made i;
         keeps = λ i. f.keeps i ∙ d.keeps i;
         tried = d.tried ++ f.tried;
         kept = d.kept ++ f.kept;
         missing = d.missing + f.missing;
-        sends_are = sends_append engine k.0 (seen_at m) had [] xs ys ∙ (ap₂ ◌++◌ old new ∙ sym (append_assoc d.tried f.tried untried));
+        sends_are = cc (sends_append engine k.0 (seen_at m) had [] xs ys, append_assoc d.tried f.tried untried);
         lacks = lacks_append d.tried d.kept f.tried f.kept d.missing f.missing d.lacks f.lacks;
-        traffic = f.traffic ∙ (ap (more_traffic hs2 f.kept) d.traffic ∙ traffic_join hs d.kept hs2 f.kept t.traffic);
-        send_faults = f.send_faults ∙ (ap (λ x. risen x f.missing) d.send_faults ∙ risen_join t.counts.send_faults d.missing f.missing);
-        lost_is = f.lost_is ∙ (ap (λ x. risen x f.missing) d.lost_is ∙ risen_join a d.missing f.missing);
+        traffic = cc (traffic_join hs d.kept hs2 f.kept t.traffic);
+        send_faults = cc (risen_join t.counts.send_faults d.missing f.missing);
+        lost_is = cc (risen_join a d.missing f.missing);
       }
 
   -- more is left out
-  pub did_less : (k l : Knows) (t u : LinkTold) (hs : List (ℕ × Arrival)) (xs cut more : List Act) (untried : List Datagram) (a b : ℕ) → Did engine k l t u hs xs cut untried a b → Did engine k l t u hs xs (cut ++ more) untried a b
-  did_less k l t u hs xs cut more untried a b d = record {
+  pub did_less : {k l : Knows} {t u : LinkTold} {hs : List (ℕ × Arrival)} {xs cut : List Act} (more : List Act) {untried : List Datagram} {a b : ℕ} → Did engine k l t u hs xs cut untried a b → Did engine k l t u hs xs (cut ++ more) untried a b
+  did_less {k} {xs} {cut} more d = record {
     number = d.number;
     used = d.used;
     gains = d.gains;
@@ -85,7 +79,7 @@ module _ (engine : Shards) where
     words = d.words;
     made = d.made;
     keeps = d.keeps;
-    taken = λ i. (let p = d.taken i in let e = weight_append k.0 i xs cut in let e2 = weight_append k.0 i xs (cut ++ more) in let e3 = weight_append k.0 i cut more in omega arith);
+    taken = λ i. (omega (arith, d.taken i, weight_append k.0 i xs cut, weight_append k.0 i xs (cut ++ more), weight_append k.0 i cut more));
     tried = d.tried;
     kept = d.kept;
     missing = d.missing;
@@ -96,37 +90,35 @@ module _ (engine : Shards) where
     lost_is = d.lost_is;
   }
 
-  did_call : (l m : Knows) (u v : LinkTold) (shard : ℕ) (event : ShardEvent) (outs : List Out) (answer : Answer) (untried : List Datagram) (a b : ℕ)
+  did_call : {l m : Knows} {u v : LinkTold} {shard : ℕ} {event : ShardEvent} {outs : List Out} {answer : Answer} {untried : List Datagram} {a b : ℕ}
       → IsCall engine shard event l m [] outs answer → HasSent (datagrams outs) untried u v a b → Did engine l m u v [] (Turns shard event ∷ []) [] untried a b
-  did_call l m u v shard event outs answer untried a b c s =
-      let older : calls by l.0 (seen_at l shard ++ c.between) ≡ mine l shard = calls_append l.0 (seen_at l shard) c.between ∙ (ap (λ w. mine l shard ++ w) c.turned.others ∙ append-nil (mine l shard)) in
+  did_call {l} {m} {shard} {event} c s =
+      let older : calls by l.0 (seen_at l shard ++ c.between) ≡ mine l shard = cc (calls_append l.0 (seen_at l shard) c.between, append-nil (mine l shard)) in
       let before : until l.0 (length (mine l shard) + 0) (seen_at m shard) ≡ seen_at l shard ++ c.between =
-      ap (until l.0 (length (mine l shard) + 0)) c.turned.here
-      ∙ until_last l.0 (length (mine l shard) + 0) (seen_at l shard ++ c.between) (entry_of l.0 event) (let e = ap length older in omega arith) refl in
+      cc (until_last l.0 (length (mine l shard) + 0) (seen_at l shard ++ c.between) (entry_of l.0 event) (omega (arith, ap length older)) refl) in
       let new : List Entry = entry_of l.0 event ∷ [] in
       record {
         number = c.turned.number;
         used = c.turned.used;
-        gains = λ i. mine_call l m shard c.between event c.turned i;
-        grows = λ i. grows l m shard c.between new c.turned i;
-        words = λ i. words l m shard c.between new c.turned i;
-        taken = λ i. taken_call l m shard c.between event new c.turned i;
+        gains = λ i. mine_call l m shard c.between c.turned i;
+        grows = λ i. grows l m shard c.between c.turned i;
+        words = λ i. words l m shard c.between c.turned i;
+        taken = λ i. taken_call l m shard c.between event c.turned i;
         made = c.turned.made;
         keeps = c.turned.kept;
         tried = s.tried;
         kept = s.kept;
         missing = s.missing;
-        sends_are = append-nil (datagrams (given_by engine l.0 (seen_at m) (λ i. length (mine l i)) [] (Turns shard event)))
-            ∙ (ap (λ w. datagrams (given_after (configs_at engine shard) w event).items) before ∙ (ap datagrams (sym c.told) ∙ s.parts));
+        sends_are = cc (append-nil (datagrams (given_by engine l.0 (seen_at m) (λ i. length (mine l i)) [] (Turns shard event))));
         lacks = s.lacks;
-        traffic = ap (λ (x : LinkTold). x.traffic) s.told;
-        send_faults = ap (λ (x : LinkTold). x.counts.send_faults) s.told;
+        traffic = cc;
+        send_faults = ap (λ x. x.counts.send_faults) s.told;
         lost_is = s.lost_is;
       }
 
   -- an act with no turn
-  did_still : (l : Knows) (u v : LinkTold) (told outs : List Out) (answer : Answer) (untried : List Datagram) (a b : ℕ) → outs ≡ told → HasSent (datagrams outs) untried u v a b → Did engine l l u v [] (Rests told answer ∷ []) [] untried a b
-  did_still l u v told outs answer untried a b is s = record {
+  did_still : (l : Knows) {u v : LinkTold} {told outs : List Out} (answer : Answer) {untried : List Datagram} {a b : ℕ} → outs ≡ told → HasSent (datagrams outs) untried u v a b → Did engine l l u v [] (Rests told answer ∷ []) [] untried a b
+  did_still l {told} answer is s = record {
     number = refl;
     used = refl;
     gains = λ i. sym (append-nil (mine l i));
@@ -138,26 +130,26 @@ module _ (engine : Shards) where
     tried = s.tried;
     kept = s.kept;
     missing = s.missing;
-    sends_are = append-nil (datagrams told) ∙ (ap datagrams (sym is) ∙ s.parts);
+    sends_are = cc (append-nil (datagrams told));
     lacks = s.lacks;
-    traffic = ap (λ (x : LinkTold). x.traffic) s.told;
-    send_faults = ap (λ (x : LinkTold). x.counts.send_faults) s.told;
+    traffic = cc;
+    send_faults = ap (λ x. x.counts.send_faults) s.told;
     lost_is = s.lost_is;
   }
 
-  did_step : (l m : Knows) (u v : LinkTold) (x : Act) (outs : List Out) (answer : Answer) (untried : List Datagram) (a b : ℕ)
+  did_step : (l m : Knows) {u v : LinkTold} (x : Act) (outs : List Out) (answer : Answer) {untried : List Datagram} {a b : ℕ}
       → IsDone x engine l m [] outs (Ok answer) → HasSent (datagrams outs) untried u v a b → Did engine l m u v [] (x ∷ []) [] untried a b
-  did_step l m u v (Rests told says) outs answer untried a b r s = subst (λ y. Did engine l y u v [] (Rests told says ∷ []) [] untried a b) (sym r.1) (did_still l u v told outs says untried a b r.2 s)
-  did_step l m u v (Turns shard event) outs answer untried a b r s = did_call l m u v shard event outs answer untried a b r s
+  did_step l m (Rests told says) outs answer r s = rw r.1 (did_still l says r.2 s)
+  did_step l m (Turns shard event) outs answer r s = did_call r s
 
-  did_refused : (l m : Knows) (u : LinkTold) (shard : ℕ) (event : ShardEvent) (outs : List Out) (f : EngineFault) (a : ℕ) → IsFailed engine shard l m [] outs f → Did engine l m u u [] [] (Turns shard event ∷ []) [] a a
-  did_refused l m u shard event outs f a c = record {
+  did_refused : {l m : Knows} (u : LinkTold) {shard : ℕ} (event : ShardEvent) {outs : List Out} {f : EngineFault} (a : ℕ) → IsFailed engine shard l m [] outs f → Did engine l m u u [] [] (Turns shard event ∷ []) [] a a
+  did_refused {l} {m} u {shard} event a c = record {
     number = c.turned.number;
     used = c.turned.used;
     gains = λ s. mine_fault l m shard c.between c.turned s ∙ sym (append-nil (mine l s));
-    grows = λ i. grows l m shard c.between [] c.turned i;
-    words = λ i. words l m shard c.between [] c.turned i;
-    taken = λ i. taken_call l m shard c.between event [] c.turned i;
+    grows = λ i. grows l m shard c.between c.turned i;
+    words = λ i. words l m shard c.between c.turned i;
+    taken = λ i. taken_call l m shard c.between event c.turned i;
     made = c.turned.made;
     keeps = c.turned.kept;
     tried = [];
@@ -172,81 +164,80 @@ module _ (engine : Shards) where
 
   stops_of : (m : Knows) (shard : ℕ) (event : ShardEvent) (f : EngineFault) → IsCause f engine shard m → Stops engine (seen_at m) (met_word m) (Turns shard event ∷ []) [] (end_of f)
   stops_of m shard event fault.Memory i = tt
-  stops_of m shard event (fault.Full at n) i = (refl, (let e = i.2 in subst (λ s. n ≤ length (seen_at m s)) (sym i.0) (omega arith)), (event, [], ap (λ s. Turns s event ∷ []) (sym i.0)), i.1)
-  stops_of m shard event (fault.Spent at word) i = (refl, i.1, (let e = i.2 in subst (λ s. word ≤ met_word m s) (sym i.0) (omega arith)), (event, [], ap (λ s. Turns s event ∷ []) (sym i.0)))
+  stops_of m shard event (fault.Full at n) i = (refl, (rw i.0 (omega arith)), (event, [], cc), i.1)
+  stops_of m shard event (fault.Spent at word) i = (refl, i.1, (rw i.0 (omega arith)), (event, [], cc))
 
   pub aside_same : (t : LinkTold) → IsAside t t
   aside_same t = record { over = refl; receive_faults = refl; gave = refl }
 
-  pub aside_then : (t u v : LinkTold) → IsAside t u → IsAside u v → IsAside t v
-  aside_then t u v p q = record { over = q.over ∙ p.over; receive_faults = q.receive_faults ∙ p.receive_faults; gave = q.gave ∙ p.gave }
+  aside_then : {t u v : LinkTold} → IsAside t u → IsAside u v → IsAside t v
+  aside_then p q = record { over = cc; receive_faults = cc; gave = cc }
 
   -- sending tells nothing of receiving
-  aside_sent : (packets untried : List Datagram) (u v : LinkTold) (a b : ℕ) → HasSent packets untried u v a b → IsAside u v
-  aside_sent packets untried u v a b s = record { over = ap (λ (x : LinkTold). x.counts.over) s.told; receive_faults = ap (λ (x : LinkTold). x.counts.receive_faults) s.told; gave = ap (λ (x : LinkTold). x.counts.gave) s.told }
+  aside_sent : {packets untried : List Datagram} {u v : LinkTold} {a b : ℕ} → HasSent packets untried u v a b → IsAside u v
+  aside_sent s = record { over = ap (λ x. x.counts.over) s.told; receive_faults = ap (λ x. x.counts.receive_faults) s.told; gave = ap (λ x. x.counts.gave) s.told }
 
   refused_one : (x : Act) (l m : Knows) (u : LinkTold) (a : ℕ) (outs : List Out) (f : EngineFault) → IsDone x engine l m [] outs (Err f) → IsStopped engine (x ∷ []) l m u u a a (end_of f)
   refused_one (Rests told answer) l m u a outs f r = absurd (cc (r.0))
-  refused_one (Turns shard event) l m u a outs f r = record { done = []; cut = Turns shard event ∷ []; untried = []; all = refl; did = did_refused l m u shard event outs f a r; aside = aside_same u; stops = stops_of m shard event f r.cause }
+  refused_one (Turns shard event) l m u a outs f r = record { done = []; cut = Turns shard event ∷ []; untried = []; all = refl; did = did_refused u event a r; aside = aside_same u; stops = stops_of m shard event f r.cause }
 
   -- one call of the engine, and its sends
   pub done_one : (x : Act) (l m : Knows) (u v : LinkTold) (a b : ℕ) (outs : List Out) (q : Result Answer EngineFault) (r : Result (Unit {0}) End)
       → IsDone x engine l m [] outs q → IsSentAfter q outs u v a b r → AreDone engine (x ∷ []) l m u v a b r
-  done_one x l m u v a b outs (Err f) r d s = subst (λ z. AreDone engine (x ∷ []) l m u v a b z) (sym s.0)
-      (subst (λ (y : LinkTold × ℕ). IsStopped engine (x ∷ []) l m u y.0 a y.1 (end_of f)) (λ i. (sym s.1 i, sym s.2 i)) (refused_one x l m u a outs f d))
-  done_one x l m u v a b outs (Ok answer) (Ok z) d s = record { did = did_step l m u v x outs answer [] a b d s; aside = aside_sent (datagrams outs) [] u v a b s }
+  done_one x l m u v a b outs (Err f) r d s = rw s.0 (subst (λ (y : LinkTold × ℕ). IsStopped engine (x ∷ []) l m u y.0 a y.1 (end_of f)) (λ i. (sym s.1 i, sym s.2 i)) (refused_one x l m u a outs f d))
+  done_one x l m u v a b outs (Ok answer) (Ok z) d s = record { did = did_step l m x outs answer d s; aside = aside_sent s }
   done_one x l m u v a b outs (Ok answer) (Err end) d s = record {
     done = x ∷ [];
     cut = [];
     untried = s.0;
     all = refl;
-    did = did_step l m u v x outs answer s.0 a b d s.1;
-    aside = aside_sent (datagrams outs) s.0 u v a b s.1;
-    stops = subst (λ z. Stops engine (seen_at m) (met_word m) [] s.0 z) (sym s.2) tt;
+    did = did_step l m x outs answer d s.1;
+    aside = aside_sent s.1;
+    stops = rw s.2 tt;
   }
 
   pub whole_none : (k : Knows) (t : LinkTold) (a : ℕ) → IsWhole engine [] k k t t a a
   whole_none k t a = record { did = did_none k t a; aside = aside_same t }
 
-  pub whole_then : (xs ys : List Act) (k l m : Knows) (t u v : LinkTold) (a b c : ℕ) → IsWhole engine xs k l t u a b → IsWhole engine ys l m u v b c → IsWhole engine (xs ++ ys) k m t v a c
-  whole_then xs ys k l m t u v a b c p q = record { did = did_then k l m t u v [] [] xs ys [] [] a b c p.did q.did; aside = aside_then t u v p.aside q.aside }
+  pub whole_then : {xs ys : List Act} {k l m : Knows} {t u v : LinkTold} {a b c : ℕ} → IsWhole engine xs k l t u a b → IsWhole engine ys l m u v b c → IsWhole engine (xs ++ ys) k m t v a c
+  whole_then p q = record { did = did_then p.did q.did; aside = aside_then p.aside q.aside }
 
-  pub stopped_then : (xs ys : List Act) (k l m : Knows) (t u v : LinkTold) (a b c : ℕ) (end : End) → IsWhole engine xs k l t u a b → IsStopped engine ys l m u v b c end → IsStopped engine (xs ++ ys) k m t v a c end
-  stopped_then xs ys k l m t u v a b c end p q = record {
+  pub stopped_then : {xs ys : List Act} {k l m : Knows} {t u v : LinkTold} {a b c : ℕ} {end : End} → IsWhole engine xs k l t u a b → IsStopped engine ys l m u v b c end → IsStopped engine (xs ++ ys) k m t v a c end
+  stopped_then {xs} p q = record {
     done = xs ++ q.done;
     cut = q.cut;
     untried = q.untried;
-    all = append_assoc xs q.done q.cut ∙ ap (λ w. xs ++ w) q.all;
-    did = did_then k l m t u v [] [] xs q.done q.cut q.untried a b c p.did q.did;
-    aside = aside_then t u v p.aside q.aside;
+    all = cc (append_assoc xs q.done q.cut);
+    did = did_then p.did q.did;
+    aside = aside_then p.aside q.aside;
     stops = q.stops;
   }
 
   stops_less : (h : ℕ → List Entry) (w : ℕ → ℕ) (cut more : List Act) (untried : List Datagram) (end : End) → Stops engine h w cut untried end → Stops engine h w (cut ++ more) untried end
-  stops_less h w cut more untried (Full shard n) s = (s.0, s.1, (s.2.0, s.2.1 ++ more, ap (λ x. x ++ more) s.2.2), s.3)
-  stops_less h w cut more untried (Spent shard word) s = (s.0, s.1, s.2, (s.3.0, s.3.1 ++ more, ap (λ x. x ++ more) s.3.2))
+  stops_less h w cut more untried (Full shard n) s = (s.0, s.1, (s.2.0, s.2.1 ++ more, cc), s.3)
+  stops_less h w cut more untried (Spent shard word) s = (s.0, s.1, s.2, (s.3.0, s.3.1 ++ more, cc))
   stops_less h w cut more untried Memory s = tt
   stops_less h w cut more untried end s = s
 
   -- the acts that follow are left out too
-  pub stopped_less : (xs more : List Act) (k l : Knows) (t u : LinkTold) (a b : ℕ) (end : End) → IsStopped engine xs k l t u a b end → IsStopped engine (xs ++ more) k l t u a b end
-  stopped_less xs more k l t u a b end q = record {
+  pub stopped_less : {xs : List Act} (more : List Act) {k l : Knows} {t u : LinkTold} {a b : ℕ} {end : End} → IsStopped engine xs k l t u a b end → IsStopped engine (xs ++ more) k l t u a b end
+  stopped_less more {l} {end} q = record {
     done = q.done;
     cut = q.cut ++ more;
     untried = q.untried;
-    all = sym (append_assoc q.done q.cut more) ∙ ap (λ w. w ++ more) q.all;
-    did = did_less k l t u [] q.done q.cut more q.untried a b q.did;
+    all = cc (append_assoc q.done q.cut more);
+    did = did_less more q.did;
     aside = q.aside;
     stops = stops_less (seen_at l) (met_word l) q.cut more q.untried end q.stops;
   }
 
   -- histories and words that grow make no end untrue
-  pub stops_grow : (h h2 : ℕ → List Entry) (w w2 : ℕ → ℕ) (cut : List Act) (untried : List Datagram) (end : End) → ((s : ℕ) → length (h s) ≤ length (h2 s)) → ((s : ℕ) → w s ≤ w2 s) → Stops engine h w cut untried end → Stops engine h2 w2 cut untried end
-  stops_grow h h2 w w2 cut untried (Full shard n) longer more s = (s.0, (let a = longer shard in let b = s.1 in omega arith), s.2, s.3)
-  stops_grow h h2 w w2 cut untried (Spent shard word) longer more s = (s.0, s.1, (let a = more shard in let b = s.2 in omega arith), s.3)
-  stops_grow h h2 w w2 cut untried Memory longer more s = tt
-  stops_grow h h2 w w2 cut untried end longer more s = s
+  pub stops_grow : (h h2 : ℕ → List Entry) {w w2 : ℕ → ℕ} (cut : List Act) (untried : List Datagram) (end : End) → ((s : ℕ) → length (h s) ≤ length (h2 s)) → ((s : ℕ) → w s ≤ w2 s) → Stops engine h w cut untried end → Stops engine h2 w2 cut untried end
+  stops_grow h h2 cut untried (Full shard n) longer more s = (s.0, (omega arith), s.2, s.3)
+  stops_grow h h2 cut untried (Spent shard word) longer more s = (s.0, s.1, (omega arith), s.3)
+  stops_grow h h2 cut untried Memory longer more s = tt
+  stops_grow h h2 cut untried end longer more s = s
 
-  pub done_then : (xs ys : List Act) (k l m : Knows) (t u v : LinkTold) (a b c : ℕ) (r : Result (Unit {0}) End) → IsWhole engine xs k l t u a b → AreDone engine ys l m u v b c r → AreDone engine (xs ++ ys) k m t v a c r
-  done_then xs ys k l m t u v a b c (Ok x) p q = whole_then xs ys k l m t u v a b c p q
-  done_then xs ys k l m t u v a b c (Err end) p q = stopped_then xs ys k l m t u v a b c end p q
+  pub done_then : {xs : List Act} (ys : List Act) {k l : Knows} (m : Knows) {t u : LinkTold} (v : LinkTold) {a b : ℕ} (c : ℕ) (r : Result (Unit {0}) End) → IsWhole engine xs k l t u a b → AreDone engine ys l m u v b c r → AreDone engine (xs ++ ys) k m t v a c r
+  done_then ys m v c (Ok x) p q = whole_then p q
+  done_then ys m v c (Err end) p q = stopped_then p q

@@ -1,7 +1,5 @@
 -- What a link tells after several sends.
-use Rattle.bfd_serve.proofs.Common.{◌≡◌, ◌+◌, ◌<◌, ◌≤◌, ◌++◌, take, take_all, drop, length, slice_index_or, Option, Some, None, Ok, Err, refl, ap, ap₂, sym, ◌∙◌, subst, inl, inr, append_assoc, append-nil, arith, take_more, take-append-drop, filter_map-append, Arrival, Datagram, risen, Traffic, LinkTold, more_traffic, after_send, datagram_in, datagrams, Lacks, HasSent}
-use Rattle.std.proofs.Common.{ℕ, List, [], ◌∷◌}
-use Rattle.bfd_rules.specs.declared.outputs.Out.{Out}
+use Rattle.bfd_serve.proofs.Common.{◌≡◌, ◌+◌, ◌<◌, ◌≤◌, ◌++◌, take, take_all, drop, length, slice_index_or, Option, Some, None, Ok, Err, refl, ap, ap₂, sym, ◌∙◌, subst, inl, inr, append_assoc, append-nil, arith, take_more, take-append-drop, filter_map-append, Arrival, Datagram, risen, Traffic, LinkTold, more_traffic, after_send, datagram_in, datagrams, Lacks, HasSent, ℕ, List, [], ◌∷◌, Out}
 use Rattle.bfd_edge.specs.declared.fault.Fault.TheVariants as fault
 
 pub traffic_same : (x : Option Traffic) → more_traffic [] [] x ≡ x
@@ -21,7 +19,7 @@ risen_join a j k = omega arith
 
 pub lacks_append : (xs ys xs2 ys2 : List Datagram) (m m2 : ℕ) → Lacks xs ys m → Lacks xs2 ys2 m2 → Lacks (xs ++ xs2) (ys ++ ys2) (m + m2)
 lacks_append [] ys xs2 ys2 m m2 (a, b) l = subst (λ (t : List Datagram × ℕ). Lacks xs2 t.0 t.1) (λ k. (sym (ap (λ w. w ++ ys2) a) k, (let e : m2 ≡ m + m2 = omega (arith, b) in e) k)) l
-lacks_append (x ∷ xs) ys xs2 ys2 m m2 (inl (rest, e, l)) l2 = inl (rest ++ ys2, ap (λ w. w ++ ys2) e, lacks_append xs rest xs2 ys2 m m2 l l2)
+lacks_append (x ∷ xs) ys xs2 ys2 m m2 (inl (rest, e, l)) l2 = inl (rest ++ ys2, cc, lacks_append xs rest xs2 ys2 m m2 l l2)
 lacks_append (x ∷ xs) ys xs2 ys2 m m2 (inr (j, e, l)) l2 = inr (j + m2, omega (arith, e), lacks_append xs ys xs2 ys2 j m2 l l2)
 
 -- nothing to send
@@ -32,7 +30,7 @@ sent_none t lost = record {
   missing = 0;
   parts = refl;
   lacks = (refl, refl);
-  told = (ap₂ (λ a b. record { traffic = a; counts = record t.counts { send_faults = b } }) (sym (traffic_same t.traffic)) (risen_same t.counts.send_faults));
+  told = ap₂ (λ a b. record { traffic = a; counts = record t.counts { send_faults = b } }) (sym (traffic_same t.traffic)) (risen_same t.counts.send_faults);
   lost_is = risen_same lost;
 }
 
@@ -57,33 +55,30 @@ pub unsent : (d : Datagram) (t u : LinkTold) → u ≡ after_send d (Err fault.M
 unsent d t u is = is ∙ ap (λ a. record { traffic = a; counts = t.counts }) (traffic_same t.traffic)
 
 -- packets that were sent after others
-pub sent_then : (xs ys : List Datagram) (t u v : LinkTold) (a b c : ℕ) → HasSent xs [] t u a b → HasSent ys [] u v b c → HasSent (xs ++ ys) [] t v a c
-sent_then xs ys t u v a b c p q = record {
+sent_then : {xs ys : List Datagram} {t u v : LinkTold} {a b c : ℕ} → HasSent xs [] t u a b → HasSent ys [] u v b c → HasSent (xs ++ ys) [] t v a c
+sent_then {t} {a} {b} p q = record {
   tried = p.tried ++ q.tried;
   kept = p.kept ++ q.kept;
   missing = p.missing + q.missing;
   parts = ap₂ ◌++◌ (p.parts ∙ append-nil p.tried) (q.parts ∙ append-nil q.tried) ∙ sym (append-nil (p.tried ++ q.tried));
   lacks = lacks_append p.tried p.kept q.tried q.kept p.missing q.missing p.lacks q.lacks;
-  told = q.told ∙ (ap (λ (x : LinkTold). record { traffic = more_traffic [] q.kept x.traffic; counts = record x.counts { send_faults = risen x.counts.send_faults q.missing } }) p.told
+  told = q.told ∙ (ap (λ x. record { traffic = more_traffic [] q.kept x.traffic; counts = record x.counts { send_faults = risen x.counts.send_faults q.missing } }) p.told
       ∙ ap₂ (λ a b. record { traffic = a; counts = record t.counts { send_faults = b } }) (traffic_join [] p.kept [] q.kept t.traffic) (risen_join t.counts.send_faults p.missing q.missing));
-  lost_is = q.lost_is ∙ (ap (λ n. risen n q.missing) p.lost_is ∙ risen_join a p.missing q.missing);
+  lost_is = cc (risen_join a p.missing q.missing);
 }
 
 -- some packets more weren't tried
-pub sent_stopped : (xs rest : List Datagram) (t u : LinkTold) (lost after : ℕ) → HasSent xs [] t u lost after → HasSent (xs ++ rest) rest t u lost after
-sent_stopped xs rest t u lost after s = record { tried = s.tried; kept = s.kept; missing = s.missing; parts = ap (λ l. l ++ rest) (s.parts ∙ append-nil s.tried); lacks = s.lacks; told = s.told; lost_is = s.lost_is }
+sent_stopped : {xs : List Datagram} (rest : List Datagram) {t u : LinkTold} {lost after : ℕ} → HasSent xs [] t u lost after → HasSent (xs ++ rest) rest t u lost after
+sent_stopped rest s = record { tried = s.tried; kept = s.kept; missing = s.missing; parts = cc (append-nil s.tried); lacks = s.lacks; told = s.told; lost_is = s.lost_is }
 
 -- after one output more
-pub sent_upto : (outs : List Out) (i : ℕ) (d : Out) (t u v : LinkTold) (a b c : ℕ) → i < length outs
+pub sent_upto : (outs : List Out) {i : ℕ} (d : Out) {t u v : LinkTold} {a b c : ℕ} → i < length outs
     → HasSent (datagrams (take i outs)) [] t u a b → HasSent (datagrams (slice_index_or outs i d ∷ [])) [] u v b c → HasSent (datagrams (take (i + 1) outs)) [] t v a c
-sent_upto outs i d t u v a b c h p q = subst (λ l. HasSent l [] t v a c) (sym (ap datagrams (take_more outs i d h) ∙ filter_map-append datagram_in (take i outs) (slice_index_or outs i d ∷ [])))
-    (sent_then (datagrams (take i outs)) (datagrams (slice_index_or outs i d ∷ [])) t u v a b c p q)
+sent_upto outs {i} d h p q = rw (ap datagrams (take_more outs i d h) ∙ filter_map-append datagram_in (take i outs) (slice_index_or outs i d ∷ [])) (sent_then p q)
 
 -- before the outputs that are left
-pub sent_cut : (outs : List Out) (i : ℕ) (t u : LinkTold) (lost after : ℕ) → HasSent (datagrams (take i outs)) [] t u lost after → HasSent (datagrams outs) (datagrams (drop i outs)) t u lost after
-sent_cut outs i t u lost after s = subst (λ l. HasSent l (datagrams (drop i outs)) t u lost after)
-    (sym (filter_map-append datagram_in (take i outs) (drop i outs)) ∙ ap datagrams (take-append-drop i outs))
-    (sent_stopped (datagrams (take i outs)) (datagrams (drop i outs)) t u lost after s)
+pub sent_cut : (outs : List Out) (i : ℕ) {t u : LinkTold} {lost after : ℕ} → HasSent (datagrams (take i outs)) [] t u lost after → HasSent (datagrams outs) (datagrams (drop i outs)) t u lost after
+sent_cut outs i s = rw (← sym (filter_map-append datagram_in (take i outs) (drop i outs)) ∙ ap datagrams (take-append-drop i outs)) (sent_stopped (datagrams (drop i outs)) s)
 
-pub sent_whole : (outs : List Out) (i : ℕ) (t u : LinkTold) (lost after : ℕ) → length outs ≤ i → HasSent (datagrams (take i outs)) [] t u lost after → HasSent (datagrams outs) [] t u lost after
-sent_whole outs i t u lost after h s = subst (λ l. HasSent (datagrams l) [] t u lost after) (take_all i outs h) s
+pub sent_whole : (outs : List Out) {i : ℕ} {t u : LinkTold} {lost after : ℕ} → length outs ≤ i → HasSent (datagrams (take i outs)) [] t u lost after → HasSent (datagrams outs) [] t u lost after
+sent_whole outs {i} h s = rw (← take_all i outs h) s

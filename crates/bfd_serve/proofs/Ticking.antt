@@ -1,6 +1,5 @@
 -- The timer's ticks, one after another.
-use Rattle.bfd_serve.proofs.Common.{◌≡◌, ◌⊎◌, ◌+◌, ◌<◌, ◌≤◌, Bool, true, false, ◌++◌, length, drop, Option, Some, None, refl, ap, ap₂, sym, ◌∙◌, subst, inl, inr, append_assoc, append-nil, length-append, arith, drop-drop, Datagram, Entry, Line, risen, LinkTold, Ticks, TickerTold, after_next, one_given, Shards, Knows, Act, seen_at, met_word, End, ClockFault, Full, Spent, Memory, orders_due, orders_acts, tick_acts, ticks_acts, orders_left, timer_acts, Stops, IsStopped, IsWhole, more_given, IsTimerEnd, is_clock_fault, HasTimed, IsTicking, IsFinished}
-use Rattle.std.proofs.Common.{ℕ, List, [], ◌∷◌}
+use Rattle.bfd_serve.proofs.Common.{◌≡◌, ◌⊎◌, ◌+◌, ◌<◌, ◌≤◌, Bool, true, false, ◌++◌, length, drop, Option, Some, None, refl, ap, ap₂, sym, ◌∙◌, inl, inr, append_assoc, append-nil, length-append, arith, drop-drop, Datagram, Entry, Line, risen, LinkTold, Ticks, TickerTold, after_next, one_given, Shards, Knows, Act, seen_at, met_word, End, ClockFault, Full, Spent, Memory, orders_due, orders_acts, tick_acts, ticks_acts, orders_left, timer_acts, Stops, IsStopped, IsWhole, more_given, IsTimerEnd, is_clock_fault, HasTimed, IsTicking, IsFinished, ℕ, List, [], ◌∷◌}
 use Rattle.bfd_edge.specs.declared.ticker.Next.TheVariants as next
 use Rattle.bfd_serve.proofs.Packets.{risen_same, risen_join}
 use Rattle.bfd_serve.proofs.Doing.{did_none, did_less, aside_same, whole_none, whole_then, stopped_then, stopped_less}
@@ -13,24 +12,23 @@ given_none (Some t) = ap (λ g. Some (record { given = g; left = t.left })) (sym
 given_one : (got : List ℕ) (t : ℕ) (x : Option Ticks) → one_given t (more_given got x) ≡ more_given (got ++ t ∷ []) x
 given_one got t None = refl
 given_one got t (Some x) = ap₂ (λ g l. Some (record { given = g; left = l })) (append_assoc x.given got (t ∷ []))
-    (drop-drop 1 (length got) x.left ∙ ap (λ n. drop n x.left) (sym (length-append got (t ∷ []))))
+    (cc (drop-drop 1 (length got) x.left, length-append got (t ∷ [])))
 
 module _ (engine : Shards) where
   pub ticking_start : (k : Knows) (t : LinkTold) (c : TickerTold) (orders : List Line) → c.over ≡ false → IsTicking engine k k t t c c orders orders 0 0
   ticking_start k t c orders over = record { got = []; whole = whole_none engine k t 0; left_is = refl; given = given_none c.ticks; count_is = refl; gave = risen_same c.gave; no_fault = refl; over = over }
 
-  pub ticking_more : (k l m : Knows) (t u v : LinkTold) (c d f : TickerTold) (orders left rest : List Line) (n tick lost after : ℕ) → IsTicking engine k l t u c d orders left n lost → f ≡ after_next (next.Got tick) d
+  pub ticking_more : {k l m : Knows} {t u v : LinkTold} {c d f : TickerTold} {orders left rest : List Line} {n : ℕ} (tick : ℕ) {lost after : ℕ} → IsTicking engine k l t u c d orders left n lost → f ≡ after_next (next.Got tick) d
       → IsWhole engine (tick_acts engine left tick) l m u v lost after → rest ≡ drop (orders_due tick left) left → IsTicking engine k m t v c f orders rest (n + 1) after
-  ticking_more k l m t u v c d f orders left rest n tick lost after g is w rest_is = record {
+  ticking_more {c} {orders} {n} tick g is w rest_is = record {
     got = g.got ++ tick ∷ [];
-    whole = subst (λ xs. IsWhole engine xs k m t v 0 after) (ap (λ os. ticks_acts engine orders g.got ++ tick_acts engine os tick) g.left_is ∙ sym (ticks_snoc engine orders g.got tick))
-        (whole_then engine (ticks_acts engine orders g.got) (tick_acts engine left tick) k l m t u v 0 lost after g.whole w);
-    left_is = rest_is ∙ (ap (λ os. drop (orders_due tick os) os) g.left_is ∙ sym (left_snoc orders g.got tick));
-    given = ap (λ (x : TickerTold). x.ticks) is ∙ (ap (one_given tick) g.given ∙ given_one g.got tick c.ticks);
-    count_is = length-append g.got (tick ∷ []) ∙ ap (λ x. x + 1) g.count_is;
-    gave = ap (λ (x : TickerTold). x.gave) is ∙ (ap (λ x. risen x 1) g.gave ∙ risen_join c.gave n 1);
-    no_fault = ap (λ (x : TickerTold). x.faults) is ∙ g.no_fault;
-    over = ap (λ (x : TickerTold). x.over) is ∙ g.over;
+    whole = rw (← ap (λ os. ticks_acts engine orders g.got ++ tick_acts engine os tick) g.left_is ∙ sym (ticks_snoc engine orders g.got tick)) (whole_then engine g.whole w);
+    left_is = cc (left_snoc orders g.got tick);
+    given = cc (given_one g.got tick c.ticks);
+    count_is = cc (length-append g.got (tick ∷ []));
+    gave = cc (risen_join c.gave n 1);
+    no_fault = cc;
+    over = cc;
   }
 
   no_clock_fault : (h : ℕ → List Entry) (w : ℕ → ℕ) (cut : List Act) (untried : List Datagram) (end : End) → Stops engine h w cut untried end → is_clock_fault end ≡ false
@@ -46,14 +44,14 @@ module _ (engine : Shards) where
   timer_end h w c d got ticks cut untried end s none = absurd s
 
   -- the acts were stopped
-  timed_stop : (k l : Knows) (t u : LinkTold) (c d : TickerTold) (orders : List Line) (ticks : ℕ) (end : End) (lost : ℕ) (got : List ℕ) → IsStopped engine (timer_acts engine orders got false) k l t u 0 lost end
+  timed_stop : {k l : Knows} {t u : LinkTold} (c d : TickerTold) (orders : List Line) {ticks : ℕ} {end : End} {lost : ℕ} (got : List ℕ) → IsStopped engine (timer_acts engine orders got false) k l t u 0 lost end
       → d.ticks ≡ more_given got c.ticks → d.gave ≡ risen c.gave (length got) → length got ≤ ticks → d.faults ≡ c.faults → HasTimed engine k l t u c d orders ticks end lost
-  timed_stop k l t u c d orders ticks end lost got s given gave few none = record {
+  timed_stop {l} c d orders {ticks} {end} got s given gave few none = record {
     got = got;
     done = s.done;
     cut = s.cut;
     untried = s.untried;
-    all = s.all ∙ ap (timer_acts engine orders got) (sym (no_clock_fault (seen_at l) (met_word l) s.cut s.untried end s.stops));
+    all = cc (no_clock_fault (seen_at l) (met_word l) s.cut s.untried end s.stops);
     did = s.did;
     aside = s.aside;
     given = given;
@@ -63,24 +61,20 @@ module _ (engine : Shards) where
   }
 
   -- a tick was stopped, or the orders before it
-  pub timed_cut : (k l m : Knows) (t u v : LinkTold) (c d f : TickerTold) (orders left : List Line) (n tick ticks lost after : ℕ) (end : End) → IsTicking engine k l t u c d orders left n lost → f ≡ after_next (next.Got tick) d
+  pub timed_cut : {k l m : Knows} {t u v : LinkTold} {c d f : TickerTold} {orders left : List Line} {n : ℕ} (tick : ℕ) {ticks lost after : ℕ} {end : End} → IsTicking engine k l t u c d orders left n lost → f ≡ after_next (next.Got tick) d
       → IsStopped engine (tick_acts engine left tick) l m u v lost after end → n < ticks → HasTimed engine k m t v c f orders ticks end after
-  timed_cut k l m t u v c d f orders left n tick ticks lost after end g is s less =
+  timed_cut {k} {m} {t} {v} {c} {f} {orders} {n} tick {after} {end} g is s less =
       let got = g.got ++ tick ∷ [] in
-      let one = stopped_then engine (ticks_acts engine orders g.got) (tick_acts engine left tick) k l m t u v 0 lost after end g.whole s in
       let two : IsStopped engine (ticks_acts engine orders got) k m t v 0 after end =
-      subst (λ xs. IsStopped engine xs k m t v 0 after end) (ap (λ os. ticks_acts engine orders g.got ++ tick_acts engine os tick) g.left_is ∙ sym (ticks_snoc engine orders g.got tick)) one in
-      let count : length got ≡ n + 1 = length-append g.got (tick ∷ []) ∙ ap (λ x. x + 1) g.count_is in
-      timed_stop k m t v c f orders ticks end after got (stopped_less engine (ticks_acts engine orders got) (orders_acts engine (orders_left orders got)) k m t v 0 after end two)
-      (ap (λ (x : TickerTold). x.ticks) is ∙ (ap (one_given tick) g.given ∙ given_one g.got tick c.ticks))
-      (ap (λ (x : TickerTold). x.gave) is ∙ (ap (λ x. risen x 1) g.gave ∙ (risen_join c.gave n 1 ∙ ap (risen c.gave) (sym count))))
-      (omega (arith, count))
-      (ap (λ (x : TickerTold). x.faults) is ∙ g.no_fault)
+      rw (← ap (λ os. ticks_acts engine orders g.got ++ tick_acts engine os tick) g.left_is ∙ sym (ticks_snoc engine orders g.got tick)) (stopped_then engine g.whole s) in
+      let count : length got ≡ n + 1 = cc (length-append g.got (tick ∷ [])) in
+      timed_stop c f orders got (stopped_less engine (orders_acts engine (orders_left orders got)) two) (cc (given_one g.got tick c.ticks))
+      (cc (risen_join c.gave n 1)) (omega (arith, count)) (cc)
 
   -- the ticker failed
-  pub timed_fault : (k l : Knows) (t u : LinkTold) (c d f : TickerTold) (orders left : List Line) (n ticks lost : ℕ) → IsTicking engine k l t u c d orders left n lost → f ≡ after_next next.Failed d → n < ticks
+  pub timed_fault : {k l : Knows} {t u : LinkTold} {c d f : TickerTold} {orders left : List Line} {n ticks lost : ℕ} → IsTicking engine k l t u c d orders left n lost → f ≡ after_next next.Failed d → n < ticks
       → HasTimed engine k l t u c f orders ticks ClockFault lost
-  timed_fault k l t u c d f orders left n ticks lost g is less = record {
+  timed_fault {orders} g is less = record {
     got = g.got;
     done = ticks_acts engine orders g.got;
     cut = [];
@@ -88,23 +82,22 @@ module _ (engine : Shards) where
     all = refl;
     did = g.whole.did;
     aside = g.whole.aside;
-    given = ap (λ (x : TickerTold). x.ticks) is ∙ g.given;
-    gave = ap (λ (x : TickerTold). x.gave) is ∙ (g.gave ∙ ap (risen c.gave) (sym g.count_is));
-    few = (let a = g.count_is in omega arith);
-    ends = (refl, refl, ap (λ (x : TickerTold). x.faults) is ∙ ap (λ x. risen x 1) g.no_fault, ap (λ (x : TickerTold). x.over) is ∙ g.over);
+    given = cc;
+    gave = cc;
+    few = omega arith;
+    ends = (refl, refl, cc, cc);
   }
 
-  why_of : (over : Bool) (a n ticks : ℕ) → a ≡ n → (over ≡ true) ⊎ (n ≡ ticks) → (over ≡ true) ⊎ (a ≡ ticks)
-  why_of over a n ticks is (inl x) = inl x
-  why_of over a n ticks is (inr x) = inr (is ∙ x)
+  why_of : {over : Bool} {a n ticks : ℕ} → a ≡ n → (over ≡ true) ⊎ (n ≡ ticks) → (over ≡ true) ⊎ (a ≡ ticks)
+  why_of is (inl x) = inl x
+  why_of is (inr x) = inr (cc)
 
   -- the orders that were left were given, or some of them
-  pub timed_finish : (k l m : Knows) (t u v : LinkTold) (c d f : TickerTold) (orders left : List Line) (n ticks lost after : ℕ) (end : End) → IsTicking engine k l t u c d orders left n lost → f.ticks ≡ d.ticks → f.gave ≡ d.gave → f.faults ≡ d.faults → n ≤ ticks
+  pub timed_finish : {k l m : Knows} {t u v : LinkTold} {c d f : TickerTold} {orders left : List Line} {n ticks lost after : ℕ} {end : End} → IsTicking engine k l t u c d orders left n lost → f.ticks ≡ d.ticks → f.gave ≡ d.gave → f.faults ≡ d.faults → n ≤ ticks
       → (f.over ≡ true) ⊎ (n ≡ ticks) → IsFinished engine (orders_acts engine left) l m u v lost after end → HasTimed engine k m t v c f orders ticks end after
-  timed_finish k l m t u v c d f orders left n ticks lost after end g given gave faults few why (inl (is, w)) =
-      let both = whole_then engine (ticks_acts engine orders g.got) (orders_acts engine left) k l m t u v 0 lost after g.whole w in
-      let all : IsWhole engine (timer_acts engine orders g.got false) k m t v 0 after = subst (λ os. IsWhole engine (ticks_acts engine orders g.got ++ orders_acts engine os) k m t v 0 after) g.left_is both in
-      subst (λ x. HasTimed engine k m t v c f orders ticks x after) (sym is) (record {
+  timed_finish {k} {m} {t} {v} {orders} {after} g given gave faults few why (inl (is, w)) =
+      let all : IsWhole engine (timer_acts engine orders g.got false) k m t v 0 after = rw (← g.left_is) (whole_then engine g.whole w) in
+      rw is (record {
         got = g.got;
         done = timer_acts engine orders g.got false;
         cut = [];
@@ -112,20 +105,18 @@ module _ (engine : Shards) where
         all = append-nil (timer_acts engine orders g.got false);
         did = all.did;
         aside = all.aside;
-        given = given ∙ g.given;
-        gave = gave ∙ (g.gave ∙ ap (risen c.gave) (sym g.count_is));
-        few = (let a = g.count_is in omega arith);
-        ends = (refl, refl, faults ∙ g.no_fault, why_of f.over (length g.got) n ticks g.count_is why);
+        given = cc;
+        gave = cc;
+        few = omega arith;
+        ends = (refl, refl, cc, why_of g.count_is why);
       })
-  timed_finish k l m t u v c d f orders left n ticks lost after end g given gave faults few why (inr s) =
-      let both = stopped_then engine (ticks_acts engine orders g.got) (orders_acts engine left) k l m t u v 0 lost after end g.whole s in
-      timed_stop k m t v c f orders ticks end after g.got (subst (λ os. IsStopped engine (ticks_acts engine orders g.got ++ orders_acts engine os) k m t v 0 after end) g.left_is both)
-      (given ∙ g.given) (gave ∙ (g.gave ∙ ap (risen c.gave) (sym g.count_is))) (let a = g.count_is in omega arith) (faults ∙ g.no_fault)
+  timed_finish {c} {f} {orders} g given gave faults few why (inr s) =
+      timed_stop c f orders g.got (rw (← g.left_is) (stopped_then engine g.whole s)) (cc) (cc) (omega arith) (cc)
 
   -- nothing was done
   stopped_all : (xs : List Act) (k : Knows) (t : LinkTold) → IsStopped engine xs k k t t 0 0 Memory
-  stopped_all xs k t = record { done = []; cut = xs; untried = []; all = refl; did = did_less engine k k t t [] [] [] xs [] 0 0 (did_none engine k t 0); aside = aside_same engine t; stops = tt }
+  stopped_all xs k t = record { done = []; cut = xs; untried = []; all = refl; did = did_less engine xs (did_none engine k t 0); aside = aside_same engine t; stops = tt }
 
   pub timed_without : (k : Knows) (t : LinkTold) (c : TickerTold) (orders : List Line) (ticks : ℕ) → HasTimed engine k k t t c c orders ticks Memory 0
-  timed_without k t c orders ticks = timed_stop k k t t c c orders ticks Memory 0 []
+  timed_without k t c orders ticks = timed_stop c c orders []
       (stopped_all (timer_acts engine orders [] false) k t) (given_none c.ticks) (risen_same c.gave) (omega arith) refl

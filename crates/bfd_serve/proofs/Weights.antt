@@ -1,6 +1,5 @@
 -- How many turns on one shard some acts can take.
-use Rattle.bfd_serve.proofs.Common.{◌≡◌, ◌≢◌, zero, suc, ◌+◌, ◌≤◌, ◌==◌, Bool, true, false, length, take, drop, refl, ap, ◌∙◌, le_refl, length-append, arith, length-map, take-append-drop, dite, ℕ_discrete, nat_tests, Arrival, ShardEvent, Line, Shards, Act, Turns, Rests, act_at, worker_acts, orders_due, order_act, orders_acts, advances, tick_acts, ticks_acts, orders_left, timer_acts}
-use Rattle.std.proofs.Common.{ℕ, List, [], ◌∷◌}
+use Rattle.bfd_serve.proofs.Common.{◌≡◌, ◌≢◌, zero, suc, ◌+◌, ◌≤◌, ◌==◌, Bool, true, false, length, take, drop, refl, ap, ◌∙◌, le_refl, length-append, arith, length-map, take-append-drop, dite, ℕ_discrete, nat_tests, Arrival, ShardEvent, Line, Shards, Act, Turns, Rests, act_at, worker_acts, orders_due, order_act, orders_acts, advances, tick_acts, ticks_acts, orders_left, timer_acts, ℕ, List, [], ◌∷◌}
 use Rattle.bfd_shard.specs.declared.entry.ShardEvent.TheVariants.{Tick as TickEvent}
 use Rattle.bfd_serve.proofs.Histories.{weight, weight_append}
 
@@ -18,7 +17,7 @@ module _ (n s : ℕ) where
 
   acts_weight : (xs : List Act) → weight n s xs ≤ length xs
   acts_weight [] = omega arith
-  acts_weight (x ∷ xs) = let a = act_weight x in let b = acts_weight xs in let d = weight_append n s (x ∷ []) xs in omega arith
+  acts_weight (x ∷ xs) = omega (arith, act_weight x, acts_weight xs, weight_append n s (x ∷ []) xs)
 
   advances_none : (m t : ℕ) → m ≤ s → weight n s (advances m t) ≡ 0
   advances_none zero t h = refl
@@ -27,26 +26,23 @@ module _ (n s : ℕ) where
   advances_weight : (m t : ℕ) → weight n s (advances m t) ≤ 1
   advances_weight zero t = omega arith
   advances_weight (suc m) t = let all = weight_append n s (advances m t) (Turns m (TickEvent t) ∷ []) in dite (ℕ_discrete m s)
-      (λ is. let a = advances_none m t (omega arith) in let b = turn_weight m (TickEvent t) (m == s) refl in omega arith)
-      (λ other. let a = advances_weight m t in let b = turn_elsewhere m (TickEvent t) other in omega arith)
+      (λ is. omega (arith, advances_none m t (omega arith), turn_weight m (TickEvent t) (m == s) refl))
+      (λ other. omega (arith, advances_weight m t, turn_elsewhere m (TickEvent t) other))
 
   module _ (engine : Shards) where
     -- a worker takes at most one turn for each arrival
     pub arrivals_weight : (heard : List (ℕ × Arrival)) → weight n s (worker_acts engine heard) ≤ length heard
-    arrivals_weight heard = let a = acts_weight (worker_acts engine heard) in let b = length-map heard (act_at engine) in omega arith
+    arrivals_weight heard = omega (arith, acts_weight (worker_acts engine heard), length-map heard (act_at engine))
 
     orders_weight : (orders : List Line) → weight n s (orders_acts engine orders) ≤ length orders
-    orders_weight orders = let a = acts_weight (orders_acts engine orders) in let b = length-map orders (order_act engine) in omega arith
+    orders_weight orders = omega (arith, acts_weight (orders_acts engine orders), length-map orders (order_act engine))
 
     ticks_weight : (orders : List Line) (ts : List ℕ) → weight n s (ticks_acts engine orders ts) + length (orders_left orders ts) ≤ length ts + length orders
     ticks_weight orders [] = omega arith
     ticks_weight orders (t ∷ ts) =
-        let first : List Line = take (orders_due t orders) orders in let rest : List Line = drop (orders_due t orders) orders in
-        let a = orders_weight first in let b = advances_weight (length engine.locks) t in let d = weight_append n s (orders_acts engine first) (advances (length engine.locks) t) in
-        let f = weight_append n s (tick_acts engine orders t) (ticks_acts engine rest ts) in let g = ticks_weight rest ts in
-        let h = ap length (take-append-drop (orders_due t orders) orders) in let i = length-append first rest in omega arith
+        let first : List Line = take (orders_due t orders) orders in let rest : List Line = drop (orders_due t orders) orders in omega (arith, orders_weight first, advances_weight (length engine.locks) t, weight_append n s (orders_acts engine first) (advances (length engine.locks) t), weight_append n s (tick_acts engine orders t) (ticks_acts engine rest ts), ticks_weight rest ts, ap length (take-append-drop (orders_due t orders) orders), length-append first rest)
 
     -- the timer takes at most one turn for each tick and each order
     pub timer_weight : (orders : List Line) (ts : List ℕ) (failed : Bool) → weight n s (timer_acts engine orders ts failed) ≤ length ts + length orders
-    timer_weight orders ts true = let a = ticks_weight orders ts in let b = weight_append n s (ticks_acts engine orders ts) [] in omega arith
-    timer_weight orders ts false = let a = ticks_weight orders ts in let b = weight_append n s (ticks_acts engine orders ts) (orders_acts engine (orders_left orders ts)) in let d = orders_weight (orders_left orders ts) in omega arith
+    timer_weight orders ts true = omega (arith, ticks_weight orders ts, weight_append n s (ticks_acts engine orders ts) [])
+    timer_weight orders ts false = omega (arith, ticks_weight orders ts, weight_append n s (ticks_acts engine orders ts) (orders_acts engine (orders_left orders ts)), orders_weight (orders_left orders ts))

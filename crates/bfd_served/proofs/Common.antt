@@ -10,3 +10,6 @@ pub use Rattle.bfd_session.specs.Kinds.{Running, configs_of, discr_of}
 pub use Rattle.bfd_session.specs.declared.event.SessionConfig.{SessionConfig}
 pub use Rattle.bfd_shard.specs.Shard.{CanHappen, IsHistory, Shard}
 pub use Rattle.bfd_shard.specs.declared.entry.Entry.{Entry}
+pub use Rattle.bfd_session.specs.Alone.{Outcome}
+pub use Rattle.bfd_shard.specs.History.{events_of}
+pub use Rattle.bfd_session.specs.Rows.{AreFit}

@@ -7,7 +7,7 @@ pub use Rattle.std.proofs.lemmas.Option.{get_or_from_slice_get, same_Some, slice
 pub use Rattle.std.specs.List.{All, AllByRecursion}
 pub use Rattle.bfd_edge.specs.Links.{IsNewLink, LinkTold}
 pub use Rattle.bfd_edge.specs.Tickers.{TickerTold}
-pub use Rattle.bfd_engine.specs.Calls.{Act, Rests, ask_act, coming_act, kept_at, made_at, met_word, met_word_of, reflect_act, seen_at, seen_of}
+pub use Rattle.bfd_engine.specs.Calls.{Act, Rests, ask_act, coming_act, kept_at, made_at, met_word, met_word_of, reflect_act, seen_at}
 pub use Rattle.bfd_engine.specs.Engines.{IsOf, Knows, Shards, configs_at}
 pub use Rattle.bfd_engine.specs.Turned.{by, entry_of}
 pub use Rattle.bfd_line.specs.declared.entries.Line.{Line}
@@ -22,8 +22,15 @@ pub use Rattle.bfd_session.specs.Kinds.{Running, configs_of}
 pub use Rattle.bfd_session.specs.Rows.{AreFit, place_of, table_of}
 pub use Rattle.bfd_session.specs.declared.event.SessionConfig.{SessionConfig}
 unfoldable pub use Rattle.bfd_shard.specs.Dealing.{share}
-pub use Rattle.bfd_shard.specs.Shard.{CanHappen, IsHistory, IsOnTime, IsShard, IsTaken, NoneDue, Shard}
+pub use Rattle.bfd_shard.specs.Shard.{CanHappen, IsHistory, IsOnTime, IsShard, IsTaken, Shard}
 pub use Rattle.bfd_shard.specs.declared.entry.Entry.{Entry}
 pub use Rattle.bfd_turn.specs.Lists.{calls, has, numbers_of}
 pub use mathlib.Core.Logic.{dite}
 pub use native.Mathlib.Decide.{dec_lt, ℕ_discrete}
+pub use Rattle.bfd_serve.specs.Works.{IsWorkerEnd, StartsOn}
+pub use Rattle.bfd_serve.specs.Orders.{advances, order_act, orders_acts, orders_due, orders_left, ticks_acts, timer_acts}
+pub use Rattle.bfd_serving.specs.declared.finish.Finish.{Finish}
+pub use Rattle.bfd_packet.specs.declared.arrival.Datagram.{Datagram}
+pub use Rattle.bfd_session.specs.Step.{IsFit, reply}
+pub use Rattle.bfd_edge.specs.Ports.{PortsTold, after_open}
+pub use Rattle.bfd_script.specs.Reading.{Lists}

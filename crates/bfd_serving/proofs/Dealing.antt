@@ -1,6 +1,5 @@
 -- Sessions that are copied and dealt out.
-use Rattle.bfd_serving.proofs.Common.{◌≡◌, ℕ, zero, suc, ◌+◌, ◌-◌, ◌<◌, ◌≤◌, List, [], ◌∷◌, ◌++◌, length, map, drop, get_or, refl, ap, sym, ◌∙◌, subst, append_assoc, append-nil, arith, AllByRecursion, recursion_from_All, drop_more, drop_all, length-map, get_or-map, same_lists, get_or_default, drop-drop, get_or_from_slice_get, SessionConfig, configs_of, AreFit, Shard, share, Shards, AreDealt, AreClosedShards}
-use Rattle.bfd_session.specs.Step.{IsFit}
+use Rattle.bfd_serving.proofs.Common.{◌≡◌, ℕ, zero, suc, ◌+◌, ◌-◌, ◌<◌, ◌≤◌, List, [], ◌∷◌, ◌++◌, length, map, drop, get_or, refl, sym, ◌∙◌, subst, append_assoc, append-nil, arith, AllByRecursion, recursion_from_All, drop_more, drop_all, length-map, get_or-map, same_lists, get_or_default, drop-drop, get_or_from_slice_get, SessionConfig, configs_of, AreFit, Shard, share, Shards, AreDealt, AreClosedShards, IsFit}
 use Rattle.bfd_shard.proofs.Sharing.{all_share}
 use Rattle.bfd_serving.proofs.Closings.{there_is}
 
@@ -20,11 +19,11 @@ module _ {A : Type 0} where
   pub share_more : (n c at next : ℕ) (xs part more : List A) (x : A) → 0 < n → at < length xs → next ≡ at + n → x ≡ get_or xs at x → more ≡ part ++ x ∷ []
       → part ++ share n 0 (drop at xs) ≡ share n c xs → more ++ share n 0 (drop next xs) ≡ share n c xs
   share_more n c at next xs part more x some inside next_is is pushed whole =
-      let split : drop at xs ≡ x ∷ drop (at + 1) xs = drop_more xs at x inside ∙ ap (λ y. y ∷ drop (at + 1) xs) (sym is) in
-      let far : drop (n - 1) (drop (at + 1) xs) ≡ drop next xs = (let e : at + 1 + (n - 1) ≡ next = omega (arith, some, next_is) in drop-drop (n - 1) (at + 1) xs ∙ ap (λ k. drop k xs) e) in
+      let split : drop at xs ≡ x ∷ drop (at + 1) xs = cc (drop_more xs at x inside) in
+      let far : drop (n - 1) (drop (at + 1) xs) ≡ drop next xs = (let e : at + 1 + (n - 1) ≡ next = omega (arith, some, next_is) in cc (drop-drop (n - 1) (at + 1) xs)) in
       let one : share n 0 (drop at xs) ≡ x ∷ share n 0 (drop next xs) =
-      ap (share n 0) split ∙ (share_one n x (drop (at + 1) xs) ∙ ap (λ ys. x ∷ ys) (sym (share_from n (n - 1) (drop (at + 1) xs)) ∙ ap (share n 0) far)) in
-      ap (λ ys. ys ++ share n 0 (drop next xs)) pushed ∙ (append_assoc part (x ∷ []) (share n 0 (drop next xs)) ∙ (ap (λ ys. part ++ ys) (sym one) ∙ whole))
+      cc (share_one n x (drop (at + 1) xs), share_from n (n - 1) (drop (at + 1) xs)) in
+      cc (append_assoc part (x ∷ []) (share n 0 (drop next xs)))
 
   share_nothing : (n : ℕ) (xs : List A) → xs ≡ [] → share n 0 xs ≡ []
   unfolding share
@@ -32,28 +31,23 @@ module _ {A : Type 0} where
   share_nothing n (x ∷ xs) e = cc
 
   pub share_over : (n c at : ℕ) (xs part : List A) → length xs ≤ at → part ++ share n 0 (drop at xs) ≡ share n c xs → part ≡ share n c xs
-  share_over n c at xs part over whole = sym (append-nil part) ∙ (ap (λ ys. part ++ ys) (sym (share_nothing n (drop at xs) (drop_all at xs over))) ∙ whole)
+  share_over n c at xs part over whole = cc (append-nil part, share_nothing n _ (drop_all at xs over))
 
-own_share : (engine : Shards) (shards : ℕ) (configs : List SessionConfig) (k : ℕ) (states : List Shard) (d : List SessionConfig) → length engine.locks ≡ shards → engine.configs ≡ configs → AreClosedShards engine states → k < length states
+own_share : {engine : Shards} {shards : ℕ} {configs : List SessionConfig} {k : ℕ} {states : List Shard} (d : List SessionConfig) → length engine.locks ≡ shards → engine.configs ≡ configs → AreClosedShards engine states → k < length states
     → share shards k configs ≡ get_or (map (λ (state : Shard). configs_of state.sessions) states) k d
-own_share engine shards configs k states d locks same closed inside =
+own_share {k} {states} d locks same closed inside =
     let x = there_is states k inside in
-    sym (get_or-map (λ (state : Shard). configs_of state.sessions) states k x.0 d inside
-    ∙ (ap (λ (state : Shard). configs_of state.sessions) (get_or_from_slice_get states k x.0 x.0 x.1)
-    ∙ ((closed.each k x.0 x.1).configs ∙ (ap (λ n. share n k engine.configs) locks ∙ ap (share shards k) same))))
+    sym (cc (get_or-map (λ state. configs_of state.sessions) states k x.0 d inside, get_or_from_slice_get states k x.0 x.0 x.1, (closed.each k x.0 x.1).configs))
 
 -- the parts are what the shards were made of
-pub parts_are : (engine : Shards) (shards : ℕ) (configs : List SessionConfig) (parts : List (List SessionConfig)) (states : List Shard) → length engine.locks ≡ shards → engine.configs ≡ configs → AreDealt shards shards configs parts → AreClosedShards engine states
+pub parts_are : {engine : Shards} {shards : ℕ} {configs : List SessionConfig} {parts : List (List SessionConfig)} {states : List Shard} → length engine.locks ≡ shards → engine.configs ≡ configs → AreDealt shards shards configs parts → AreClosedShards engine states
     → parts ≡ map (λ state. configs_of state.sessions) states
-parts_are engine shards configs parts states locks same dealt closed =
-    let long : length parts ≡ length (map (λ (state : Shard). configs_of state.sessions) states) = dealt.long ∙ (sym locks ∙ (sym closed.long ∙ sym (length-map states (λ (state : Shard). configs_of state.sessions)))) in
-    same_lists parts (map (λ state. configs_of state.sessions) states) long
-    (λ k d h. let few : k < shards = (let a = dealt.long in omega (arith, a, h)) in
-    let in_states : k < length states = (let a = closed.long in omega (arith, a, few, locks)) in
-    get_or_default parts k d [] h ∙ (dealt.each k few ∙ own_share engine shards configs k states d locks same closed in_states))
+parts_are {shards} {parts} {states} locks same dealt closed =
+    let long : length parts ≡ length (map (λ (state : Shard). configs_of state.sessions) states) = cc (length-map states (λ state. configs_of state.sessions)) in
+    same_lists parts (map (λ state. configs_of state.sessions) states) long (λ k d h. let few : k < shards = omega (arith, dealt.long, h) in
+    get_or_default parts k d [] h ∙ (dealt.each k few ∙ own_share d locks same closed (omega (arith, closed.long, few, locks))))
 
 -- each part is within its ranges
-pub parts_fit : (shards : ℕ) (configs : List SessionConfig) (parts : List (List SessionConfig)) → AreFit configs → AreDealt shards shards configs parts → AllByRecursion AreFit parts
-parts_fit shards configs parts fit dealt = recursion_from_All AreFit parts
-    (λ k d h. let few : k < shards = (let a = dealt.long in omega (arith, a, h)) in
-    subst AreFit (sym (get_or_default parts k d [] h ∙ dealt.each k few)) (all_share IsFit shards k configs fit))
+pub parts_fit : {shards : ℕ} {configs : List SessionConfig} {parts : List (List SessionConfig)} → AreFit configs → AreDealt shards shards configs parts → AllByRecursion AreFit parts
+parts_fit {shards} {configs} {parts} fit dealt = recursion_from_All AreFit parts (λ k d h.
+    subst AreFit (sym (get_or_default parts k d [] h ∙ dealt.each k (omega (arith, dealt.long, h)))) (all_share IsFit shards k configs fit))

@@ -1,8 +1,7 @@
 -- What each entry of the closed shards did.
-use Rattle.bfd_serving.proofs.Common.{◌≡◌, ◌<◌, ◌+◌, ◌++◌, ◌∷◌, [], ◌==◌, ℕ, zero, suc, Bool, true, false, cond, List, Option, None, Some, Result, Ok, Err, refl, sym, ap, ◌∙◌, subst, length, take, drop, arith, slice_get, AllByRecursion, nat_tests, map-append, slice_get_within, dite, dec_lt, SessionConfig, Running, table_of, place_of, Entry, Shard, CanHappen, IsHistory, IsOnTime, IsTaken, NoneDue, Line, calls, LinkTold, TickerTold, by, entry_of, Shards, configs_at, Act, Rests, ask_act, coming_act, reflect_act, End, Limits, calls_of, entries, worker_acts, is_clock_fault, journal_in, history_at, HaveRun, AreClosedShards}
+use Rattle.bfd_serving.proofs.Common.{◌≡◌, ◌<◌, ◌+◌, ◌++◌, ◌∷◌, [], ◌==◌, ℕ, zero, suc, Bool, true, false, cond, List, Option, None, Some, Result, Ok, Err, refl, sym, ap, ◌∙◌, subst, length, take, drop, arith, slice_get, AllByRecursion, nat_tests, map-append, slice_get_within, dite, dec_lt, SessionConfig, Running, table_of, place_of, Entry, Shard, CanHappen, IsHistory, IsOnTime, IsTaken, Line, calls, LinkTold, TickerTold, by, entry_of, Shards, configs_at, Act, Rests, ask_act, coming_act, reflect_act, End, Limits, calls_of, entries, worker_acts, is_clock_fault, journal_in, history_at, HaveRun, AreClosedShards, advances, orders_due, order_act, orders_acts, orders_left, ticks_acts, timer_acts, Datagram, reply}
 use Rattle.bfd_script.proofs.Elements.{each_more}
 use Rattle.bfd_packet.specs.declared.arrival.Arrival.{Arrival}
-use Rattle.bfd_packet.specs.declared.arrival.Datagram.{Datagram}
 use Rattle.bfd_packet.specs.declared.discard.Test.{Test}
 use Rattle.bfd_rules.specs.declared.commands.Cmd.{Cmd}
 use Rattle.bfd_demux.specs.declared.target.Target.{Target}
@@ -14,16 +13,13 @@ use Rattle.bfd_session.specs.declared.event.Event.{Event}
 use Rattle.bfd_session.specs.declared.event.Event.TheVariants.{Packet, Returned, Command, Show as Showing}
 use Rattle.bfd_session.specs.Alone.{effective}
 use Rattle.bfd_session.specs.Arrivals.{coming_by}
-use Rattle.bfd_session.specs.Step.{reply}
 use Rattle.bfd_shard.specs.declared.entry.ShardEvent.{ShardEvent}
 use Rattle.bfd_shard.specs.declared.entry.ShardEvent.TheVariants.{Own, Tick as TickEvent}
-use Rattle.bfd_shard.specs.Expired.{expired, forgotten}
 use Rattle.bfd_shard.specs.History.{events_of, last_tick, runs}
 use Rattle.bfd_line.specs.declared.entries.Line.TheVariants.{Cmd as CmdLine, Show}
 use Rattle.bfd_engine.specs.Calls.{Turns}
 use Rattle.bfd_engine.specs.Judging.{packet_answer, return_answer}
 use Rattle.bfd_engine.proofs.Verdicts.{own_answer, packet_is, return_is, runs_there}
-use Rattle.bfd_serve.specs.Orders.{advances, orders_due, order_act, orders_acts, orders_left, ticks_acts, timer_acts}
 use Rattle.bfd_serving.specs.Entered.{AreTimely, AreJudged, HasAnswer}
 
 -- the shard whose history has an entry
@@ -38,23 +34,23 @@ shard_with states number None before after x is h = absurd (none_there before af
 shard_with states number (Some shard) before after x is h = (shard, is, h)
 
 split : (before after : List Entry) (x : Entry) → events_of (before ++ x ∷ after) ≡ events_of before ++ x.event ∷ events_of after
-split before after x = map-append (λ (e : Entry). e.event) before (x ∷ after)
+split before after x = map-append (λ e. e.event) before (x ∷ after)
 
 -- every tick is on time
-pub timely : (engine : Shards) (states : List Shard) → AreClosedShards engine states → AreTimely engine (history_at states)
-timely engine states closed number caller t before after h =
+pub timely : {engine : Shards} {states : List Shard} → AreClosedShards engine states → AreTimely engine (history_at states)
+timely {engine} {states} closed number caller t before after h =
     let x : Entry = entry_of caller (TickEvent t) in
     let cs : List SessionConfig = configs_at engine number in
-    let s = shard_with states number (slice_get states number) before after x refl h in
+    let s = shard_with states number _ before after x refl h in
     let made = closed.each number s.0 s.1 in
-    let on : IsOnTime cs (events_of before ++ TickEvent t ∷ events_of after) =
-    subst (IsOnTime cs) (ap events_of s.2 ∙ split before after x) (subst (λ (ks : List SessionConfig). IsOnTime ks (events_of s.0.journal)) made.configs made.kept.timely) in
-    let told : events_of before ++ TickEvent t ∷ [] ≡ events_of (before ++ x ∷ []) = sym (split before [] x) in
+    let on =
+    subst (IsOnTime cs) (ap events_of s.2 ∙ split before after x) (rw (← made.configs) made.kept.timely) in
+    let told = sym (split before [] x) in
     record {
       before = before;
       last = refl;
-      exact = subst (λ (es : List ShardEvent). forgotten (runs (events_of before) cs) (runs es cs) ≡ expired cs (events_of before) t) told (on.exact (events_of before) (events_of after) t refl);
-      none_due = subst (λ (es : List ShardEvent). NoneDue (last_tick es) (runs es cs)) told (on.none_due (events_of before) (events_of after) t refl);
+      exact = rw (← told) (on.exact (events_of before) (events_of after) t refl);
+      none_due = rw (← told) (on.none_due (events_of before) (events_of after) t refl);
     }
 
 -- lists of which all elements are of a kind
@@ -158,13 +154,11 @@ module _ (engine : Shards) where
 -- every packet in the histories of a run fits
 module _ (engine : Shards) (states : List Shard) (orders : List Line) (workers : ℕ) (limits : Limits) (before after : ℕ → LinkTold) (c d : TickerTold) (ends : List End) (lost : ℕ)
     (closed : AreClosedShards engine states) (run : HaveRun engine (history_at states) orders workers limits before after c d ends lost) where
-  timer_own : (shard : ℕ) → shard < length engine.locks → AllByRecursion (EntryFits engine) (calls by 0 (history_at states shard))
-  timer_own shard inside =
+  timer_own : {shard : ℕ} → shard < length engine.locks → AllByRecursion (EntryFits engine) (calls by 0 (history_at states shard))
+  timer_own {shard} inside =
       let did = run.timer.did in
-      let all : AllByRecursion (ActFits engine) (did.done ++ did.cut) =
-      subst (AllByRecursion (ActFits engine)) (sym did.all) (timer_fits engine orders did.got (is_clock_fault run.timer_end)) in
       subst (AllByRecursion (EntryFits engine)) (sym (run.timer.own_is shard inside ∙ did.did.gains shard))
-      (entries_fit engine 0 shard did.done (all_front (ActFits engine) did.done did.cut all))
+      (entries_fit engine 0 shard did.done (all_front (ActFits engine) did.done did.cut (subst (AllByRecursion (ActFits engine)) (sym did.all) (timer_fits engine orders did.got (is_clock_fault run.timer_end)))))
 
   worker_own : (at shard : ℕ) → at < workers → shard < length engine.locks → AllByRecursion (EntryFits engine) (calls by (at + 1) (history_at states shard))
   worker_own at shard less inside =
@@ -172,19 +166,18 @@ module _ (engine : Shards) (states : List Shard) (orders : List Line) (workers :
       subst (AllByRecursion (EntryFits engine)) (sym (ran.own_is shard inside ∙ ran.did.did.gains shard))
       (entries_fit engine (at + 1) shard (worker_acts engine ran.did.done) (worker_fits engine ran.did.done))
 
-  own_fits : (shard n : ℕ) → shard < length engine.locks → AllByRecursion (EntryFits engine) (calls by n (history_at states shard))
-  own_fits shard zero inside = timer_own shard inside
-  own_fits shard (suc at) inside = dite (dec_lt at workers)
-      (λ less. let next : at + 1 ≡ suc at = omega arith in
-      subst (λ (n : ℕ). AllByRecursion (EntryFits engine) (calls by n (history_at states shard))) next (worker_own at shard less inside))
+  own_fits : {shard : ℕ} (n : ℕ) → shard < length engine.locks → AllByRecursion (EntryFits engine) (calls by n (history_at states shard))
+  own_fits zero inside = timer_own inside
+  own_fits {shard} (suc at) inside = dite (dec_lt at workers) (λ less. let next : at + 1 ≡ suc at = omega arith in
+      rw (← next) (worker_own at shard less inside))
       (λ far. subst (AllByRecursion (EntryFits engine)) (sym (run.others (suc at) shard inside (omega (arith, far)))) tt)
 
-  packet_fits : (number caller place moment : ℕ) (arrival : Arrival) (seen rest : List Entry) → number < length engine.locks
+  packet_fits : {number : ℕ} (caller place moment : ℕ) (arrival : Arrival) (seen rest : List Entry) → number < length engine.locks
       → history_at states number ≡ seen ++ entry_of caller (Own place moment (Packet arrival)) ∷ rest
       → None ≡ first_table_failing (table_of engine.configs engine.pool) arrival
-  packet_fits number caller place moment arrival seen rest inside h =
+  packet_fits {number} caller place moment arrival seen rest inside h =
       all_at (EntryFits engine) seen rest (entry_of caller (Own place moment (Packet arrival)))
-      (subst (AllByRecursion (EntryFits engine)) h (history_fits engine (history_at states number) (λ n. own_fits number n inside)))
+      (subst (AllByRecursion (EntryFits engine)) h (history_fits engine (history_at states number) (λ n. own_fits n inside)))
 
   -- the session of an own event takes it
   own_taken : (number caller place moment : ℕ) (event : Event) (seen rest : List Entry)
@@ -192,21 +185,20 @@ module _ (engine : Shards) (states : List Shard) (orders : List Line) (workers :
       → (number < length engine.locks) × IsTaken (configs_at engine number) place event
   own_taken number caller place moment event seen rest h =
       let x : Entry = entry_of caller (Own place moment event) in
-      let s = shard_with states number (slice_get states number) seen rest x refl h in
+      let s = shard_with states number _ seen rest x refl h in
       let made = closed.each number s.0 s.1 in
-      let inside = slice_get_within states number s.0 s.1 in
       let history : IsHistory (configs_at engine number) (events_of seen ++ Own place moment event ∷ events_of rest) =
-      subst (IsHistory (configs_at engine number)) (ap events_of s.2 ∙ split seen rest x) (subst (λ (ks : List SessionConfig). IsHistory ks (events_of s.0.journal)) made.configs made.kept.history) in (
-        let long = closed.long in omega (arith, inside, long),
+      rw (← ap events_of s.2 ∙ split seen rest x) (rw (← made.configs) made.kept.history) in (
+        omega (arith, slice_get_within states number s.0 s.1, closed.long),
         all_at (CanHappen (configs_at engine number)) (events_of seen) (events_of rest) (Own place moment event) history,
       )
 
-  answered : (expected : ℕ → Running → Answer) (number caller place moment : ℕ) (event : Event) (seen : List Entry)
+  answered : (expected : ℕ → Running → Answer) (number caller : ℕ) {place : ℕ} (moment : ℕ) {event : Event} (seen : List Entry)
       → ((eff : ℕ) (s : Running) → reply eff event s ≡ expected eff s) → IsTaken (configs_at engine number) place event
       → HasAnswer expected engine number caller place moment event seen
-  answered expected number caller place moment event seen is taken =
+  answered expected number caller {place} moment {event} seen is taken =
       let cs : List SessionConfig = configs_at engine number in
-      let s = runs_there 0 (events_of seen) cs place taken.config taken.there in
+      let s = runs_there 0 (events_of seen) cs place _ taken.there in
       record {
         before = seen;
         last = refl;
@@ -220,9 +212,8 @@ module _ (engine : Shards) (states : List Shard) (orders : List Line) (workers :
   judged = record {
     packets = λ number caller place moment arrival seen rest h.
         let own = own_taken number caller place moment (Packet arrival) seen rest h in
-        answered (packet_answer engine arrival) number caller place moment (Packet arrival) seen
-        (λ eff s. packet_is engine arrival eff s (packet_fits number caller place moment arrival seen rest own.0 h)) own.1;
-    returns = λ number caller place moment sequence seen rest h.
-        answered (return_answer sequence) number caller place moment (Returned sequence) seen
+        answered (packet_answer engine arrival) number caller moment seen
+        (λ eff s. packet_is engine arrival eff s (packet_fits caller place moment arrival seen rest own.0 h)) own.1;
+    returns = λ number caller place moment sequence seen rest h. answered (return_answer sequence) number caller moment seen
         (λ eff s. return_is sequence eff s) (own_taken number caller place moment (Returned sequence) seen rest h).1;
   }

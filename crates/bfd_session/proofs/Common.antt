@@ -1,5 +1,5 @@
 -- Names that proofs of this crate cite, passed on from one place. Declares nothing.
-pub use Rattle.std.proofs.Common.{Bool, Err, IfSome, IsSome, IsTrue, List, None, Ok, Option, Result, Some, [], ap, append-nil, arith, cond, false, get_or, if◌then◌else◌, inl, inr, is_none, is_some, length, map, not, refl, rules, subst, suc, sym, take, true, zero, ℕ, ◌&&◌, ◌*◌, ◌++◌, ◌+◌, ◌-◌, ◌<◌, ◌==◌, ◌^◌, ◌||◌, ◌↔◌, ◌∙◌, ◌∷◌, ◌≡◌, ◌≤◌}
+pub use Rattle.std.proofs.Common.{Bool, Err, IfSome, IsSome, IsTrue, List, None, Ok, Option, Result, Some, [], ap, append-nil, arith, cond, false, get_or, if◌then◌else◌, inl, inr, is_none, is_some, length, map, not, option_map, refl, rules, subst, suc, sym, take, true, zero, ℕ, ◌&&◌, ◌*◌, ◌++◌, ◌+◌, ◌-◌, ◌<◌, ◌==◌, ◌^◌, ◌||◌, ◌↔◌, ◌∙◌, ◌∷◌, ◌≡◌, ◌≤◌}
 pub use Rattle.std.proofs.lemmas.Bool.{and_parts, eq-eqb, leb-false, ne_eqb, or_parts}
 pub use Rattle.std.proofs.lemmas.Bool.Decides.{nat_tests}
 pub use Rattle.std.proofs.lemmas.Grind.{common_steps}
@@ -50,9 +50,19 @@ unfoldable pub use Rattle.bfd_session.specs.Echoing.{settles_echo}
 pub use Rattle.bfd_session.specs.Inside.{head_of, pair_of, running_of, seek_of, tail_of}
 pub use Rattle.bfd_session.specs.Kinds.{Flow, Running, along, configs_of, discr_of, flow, left_by}
 pub use Rattle.bfd_session.specs.Rows.{AreFit, Ascends, Differs, kind_of, row_of, row_of_reflector, rows_of, same_selector, table_of}
-pub use Rattle.bfd_session.specs.Step.{CanTake, HasSize, IsFit, IsFor, IsPairSound, TakesPacket, acted, answer_of, answer_to_packet, begun, finished, next, reply_from, sound_by, started, step_from, tick_from, tick_next}
+pub use Rattle.bfd_session.specs.Step.{CanTake, HasSize, IsFit, IsFor, IsPairSound, IsSound, TakesPacket, acted, answer_of, answer_to_packet, begun, finished, next, reply_from, settled, sound_by, started, step_from, tick_from, tick_next}
 unfoldable pub use Rattle.bfd_session.specs.Step.{emits, reply, step, stepped_flow, tick, tick_emits, ticked_flow}
 pub use Rattle.bfd_session.specs.declared.event.Event.{Event}
 pub use Rattle.bfd_session.specs.declared.event.Event.TheVariants.{Command, Packet, Returned, Show}
 pub use Rattle.bfd_session.specs.declared.event.SessionConfig.{SessionConfig}
-pub use Rattle.bfd_session.specs.declared.event.SessionConfig.TheVariants.{Pair}
+pub use Rattle.bfd_session.specs.declared.event.SessionConfig.TheVariants.{Head, Pair, Seek, Tail}
+pub use Rattle.bfd_packet.specs.KeyChain.{KeyChain, no_key, place_of}
+pub use Rattle.bfd_p2p.specs.Receive.{authenticated, is_single, judged_by, session_fails, session_tests, verdict_by, verdict_on}
+pub use Rattle.bfd_rules.specs.Jitter.{pick}
+pub use Rattle.bfd_rules.specs.declared.outputs.Out.{Out}
+pub use Rattle.bfd_rules.proofs.Courses.{after, changes-after, changes_names, either, own_name, sends-after, sends_names}
+pub use Rattle.bfd_echo.proofs.Moments.{begun_moments, returned_moments, settled_moments}
+pub use Rattle.bfd_packet.specs.declared.arrival.Addr.{Addr}
+pub use Rattle.bfd_rules.specs.declared.config.Role.{Role}
+pub use Rattle.bfd_rules.specs.declared.config.Role.TheVariants.{Multi, Single}
+pub use Rattle.bfd_session.specs.Reaching.{Reaches, Stands}

@@ -1,26 +1,23 @@
 -- The one list of tests that may discard an arrival is the table's and then the session's, and a session's verdict tells of
 -- the first of its own that fails.
-use Rattle.bfd_session.proofs.Common.{◌≡◌, ◌||◌, ◌++◌, ◌∷◌, not, ℕ, Bool, true, false, List, [], refl, sym, ap, ◌∙◌, Option, None, Some, Result, cond, if◌then◌else◌, take, find, and_parts, list_all, Arrival, Port, State, Test, Ttl, AuthUnexpected, AuthMissing, AuthType, AuthKey, AuthLen, AuthSeq, AuthDigest, SeqState, unless, fields_of, Config, Vars, is_admin_down, Row, is_multipoint, table_fails, tests_on_header, tests_on_table, first_table_failing, SessionConfig, Pair, Packet, Running, reply, answer_to_packet}
+use Rattle.bfd_session.proofs.Common.{◌≡◌, ◌||◌, ◌++◌, ◌∷◌, not, ℕ, Bool, true, false, List, [], refl, sym, ap, ◌∙◌, Option, None, Some, Result, cond, if◌then◌else◌, take, find, and_parts, list_all, Arrival, Port, State, Test, Ttl, AuthUnexpected, AuthMissing, AuthType, AuthKey, AuthLen, AuthSeq, AuthDigest, SeqState, unless, fields_of, Config, Vars, is_admin_down, Row, is_multipoint, table_fails, tests_on_header, tests_on_table, first_table_failing, SessionConfig, Pair, Packet, Running, reply, answer_to_packet, Head, KeyChain, session_fails, session_tests, authenticated, judged_by, verdict_by, verdict_on}
 use Rattle.std.proofs.lemmas.List.Folds.{find-append}
 use Rattle.std.specs.Option.{option_or}
 use Rattle.bfd_packet.specs.declared.arrival.Port.TheVariants.{Single, Multi, Answer as AnswerPort}
 use Rattle.bfd_packet.specs.declared.discard.Test.TheVariants.{AdminDown}
-use Rattle.bfd_packet.specs.KeyChain.{KeyChain}
 use Rattle.bfd_auth.specs.Verdict.{verdict, section_fails, section_tests}
 use Rattle.bfd_rules.specs.declared.verdict.Verdict.{Verdict}
 use Rattle.bfd_rules.specs.declared.verdict.Verdict.TheVariants.{Accepted, Dropped}
-use Rattle.bfd_p2p.specs.Receive.{session_fails, session_tests, authenticated, judged_by, verdict_by, verdict_on}
-use Rattle.bfd_session.specs.declared.event.SessionConfig.TheVariants.{Head}
 use Rattle.bfd_session.specs.Step.{verdict_by as verdict_of}
 use Rattle.bfd_session.specs.Discards.{unauthentic, pair_fails, plain_fails, own_fails, own_tests, first_own_failing, discards, first_discarding, test_of, judging, answer_by}
 
 -- two sentences that agree on the tests of a list find the same
-find_same : (p q keep : Test → Bool) → ((test : Test) → keep test ≡ true → p test ≡ q test)
+find_same : (p : Test → Bool) {q keep : Test → Bool} → ((test : Test) → keep test ≡ true → p test ≡ q test)
     → (tests : List Test) → list_all keep tests ≡ true → find p tests ≡ find q tests
-find_same p q keep agree [] all = refl
-find_same p q keep agree (test ∷ tests) all =
+find_same p agree [] all = refl
+find_same p {keep} agree (test ∷ tests) all =
     let both = and_parts (keep test) (list_all keep tests) all in
-    rw (agree test both.0, find_same p q keep agree tests both.1) refl
+    rw (agree test both.0, find_same p agree tests both.1) refl
 
 -- the tests of the authentication section
 abbrev is_section : Test → Bool
@@ -84,16 +81,15 @@ tests_shared Multi true = refl
 tests_shared AnswerPort true = refl
 tests_shared port multipoint = refl
 
-or_nothing : (a b : Bool) → b ≡ false → (a || b) ≡ a
-or_nothing true b h = refl
-or_nothing false b h = h
+or_nothing : (a : Bool) {b : Bool} → b ≡ false → (a || b) ≡ a
+or_nothing true h = refl
+or_nothing false h = h
 
 table_first : (rows : List Row) (c : SessionConfig) (v : Vars) (arrival : Arrival)
     → find (discards rows c v arrival) (tests_on_header arrival.port ++ tests_on_table arrival.port (is_multipoint arrival.port arrival))
     ≡ first_table_failing rows arrival
-table_first rows c v arrival =
-    find_same (discards rows c v arrival) (λ test. table_fails arrival.port test rows arrival) is_shared
-    (λ test shared. or_nothing (table_fails arrival.port test rows arrival) (own_fails c v arrival test) (own_not c v arrival test shared))
+table_first rows c v arrival = find_same (discards rows c v arrival) {q = λ test. table_fails arrival.port test rows arrival}
+    (λ test shared. or_nothing (table_fails arrival.port test rows arrival) (own_not c v arrival test shared))
     (tests_on_header arrival.port ++ tests_on_table arrival.port (is_multipoint arrival.port arrival))
     (tests_shared arrival.port (is_multipoint arrival.port arrival))
 
@@ -106,9 +102,7 @@ own_first rows c v arrival = refl
 pub discards_first : (rows : List Row) (c : SessionConfig) (v : Vars) (arrival : Arrival)
     → first_discarding rows c v arrival ≡ option_or (first_table_failing rows arrival) (first_own_failing c v arrival)
 discards_first rows c v arrival =
-    find-append (discards rows c v arrival) (tests_on_header arrival.port ++ tests_on_table arrival.port (is_multipoint arrival.port arrival)) (own_tests c)
-    ∙ ap (λ (o : Option Test). option_or o (find (discards rows c v arrival) (own_tests c))) (table_first rows c v arrival)
-    ∙ ap (λ (o : Option Test). option_or (first_table_failing rows arrival) o) (own_first rows c v arrival)
+    cc (find-append (discards rows c v arrival) (tests_on_header arrival.port ++ tests_on_table arrival.port (is_multipoint arrival.port arrival)) (own_tests c), table_first rows c v arrival, own_first rows c v arrival)
 
 -- the verdict of a point-to-point session
 
@@ -138,23 +132,19 @@ told_judged state (Some test) verified = refl
 -- no packet fails one of the tests on the configuration for its authentication section
 pair_same : (c : Config) (v : Vars) (ttl : ℕ) (raw : List ℕ) (test : Test) → is_first test ≡ true
     → pair_fails c v ttl raw test ≡ session_fails c ttl (fields_of raw) test
-pair_same c v ttl raw Ttl first = or_nothing _ _ (unauthentic_not c.keys v.seq (take (fields_of raw).length raw) Ttl refl)
-pair_same c v ttl raw AuthUnexpected first = or_nothing _ _ (unauthentic_not c.keys v.seq (take (fields_of raw).length raw) AuthUnexpected refl)
-pair_same c v ttl raw AuthMissing first = or_nothing _ _ (unauthentic_not c.keys v.seq (take (fields_of raw).length raw) AuthMissing refl)
+pair_same c v ttl raw Ttl first = or_nothing _ (unauthentic_not c.keys v.seq (take (fields_of raw).length raw) Ttl refl)
+pair_same c v ttl raw AuthUnexpected first = or_nothing _ (unauthentic_not c.keys v.seq (take (fields_of raw).length raw) AuthUnexpected refl)
+pair_same c v ttl raw AuthMissing first = or_nothing _ (unauthentic_not c.keys v.seq (take (fields_of raw).length raw) AuthMissing refl)
 pair_same c v ttl raw _ first = cc
 
-pair_first : (c : Config) (v : Vars) (arrival : Arrival)
-    → first_own_failing (Pair c) v arrival ≡ test_of (verdict_on c arrival.ttl arrival.payload v)
+pair_first : (c : Config) (v : Vars) (arrival : Arrival) → first_own_failing (Pair c) v arrival ≡ test_of (verdict_on c arrival.ttl arrival.payload v)
 pair_first c v arrival =
     let raw : List ℕ = arrival.payload in
-    let fails : Test → Bool = pair_fails c v arrival.ttl raw in
+    let fails = pair_fails c v arrival.ttl raw in
     let first : Option Test = find (session_fails c arrival.ttl (fields_of raw)) session_tests in
-    let verified : Result SeqState Test = authenticated c.keys v.seq (fields_of raw) raw in
-    find-append fails session_tests (section_tests ++ AdminDown ∷ [])
-    ∙ ap (λ (o : Option Test). option_or o (find fails (section_tests ++ AdminDown ∷ [])))
-    (find_same fails (session_fails c arrival.ttl (fields_of raw)) is_first (pair_same c v arrival.ttl raw) session_tests refl)
-    ∙ ap (λ (o : Option Test). option_or first o) (find-append fails section_tests (AdminDown ∷ []))
-    ∙ sym (told_judged v.state first verified ∙ ap (λ (o : Option Test). option_or first o) (section_first c.keys v.state v.seq raw))
+    find-append fails session_tests (section_tests ++ AdminDown ∷ []) ∙ ap (λ o. option_or o (find fails (section_tests ++ AdminDown ∷ [])))
+    (find_same _ (pair_same c v arrival.ttl raw) session_tests refl) ∙ ap (λ o. option_or first o) (find-append fails section_tests (AdminDown ∷ []))
+    ∙ sym (told_judged v.state first (authenticated c.keys v.seq (fields_of raw) raw) ∙ ap (λ o. option_or first o) (section_first c.keys v.state v.seq raw))
 
 -- the verdict of a session without authentication
 
@@ -175,9 +165,6 @@ answered : (verdict : Verdict) → answer_to_packet verdict ≡ answer_by (test_
 answered Accepted = refl
 answered (Dropped test) = refl
 
-pub reply_first : (s : Running) (eff : ℕ) (arrival : Arrival)
-    → reply eff (Packet arrival) s ≡ answer_by (first_own_failing s.config (judging eff s) arrival)
+pub reply_first : (s : Running) (eff : ℕ) (arrival : Arrival) → reply eff (Packet arrival) s ≡ answer_by (first_own_failing s.config (judging eff s) arrival)
 unfolding reply
-reply_first s eff arrival =
-    answered (verdict_of s.config arrival (judging eff s))
-    ∙ ap (λ (o : Option Test). answer_by o) (sym (verdict_first s.config (judging eff s) arrival))
+reply_first s eff arrival = cc (answered (verdict_of s.config arrival (judging eff s)), verdict_first s.config (judging eff s) arrival)

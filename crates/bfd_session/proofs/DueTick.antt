@@ -8,7 +8,7 @@ use Rattle.bfd_mp.specs.Machine as tree
 use Rattle.bfd_mp.specs.Over.{IsHeadOver, IsTailOver}
 
 -- the sooner of two has come where one of them has
-pub has_come-sooner : (t : ℕ) (a b : Option ℕ) → has_come t (sooner a b) ≡ (has_come t a || has_come t b)
+has_come-sooner : (t : ℕ) (a b : Option ℕ) → has_come t (sooner a b) ≡ (has_come t a || has_come t b)
 has_come-sooner t None b = refl
 has_come-sooner t (Some a) None = grind (arith, nat_tests)
 has_come-sooner t (Some a) (Some b) = grind (arith, nat_tests)
@@ -18,11 +18,11 @@ unfolding ceil_tick
 rounded t m = grind (arith, nat_tests)
 
 -- the tick of a moment has come by t where the moment has come by that of t
-pub has_come-ceil : (t : ℕ) (m : Option ℕ) → has_come t (tick_of m) ≡ has_come (1000 * t) m
+has_come-ceil : (t : ℕ) (m : Option ℕ) → has_come t (tick_of m) ≡ has_come (1000 * t) m
 has_come-ceil t None = refl
 has_come-ceil t (Some m) = rounded t m
 
-pub floor-tick : (t : ℕ) → floor_tick (1000 * t) ≡ t
+floor-tick : (t : ℕ) → floor_tick (1000 * t) ≡ t
 unfolding floor_tick
 floor-tick t = omega arith
 
@@ -37,30 +37,29 @@ pub record NeitherCame (t : ℕ) (a b : Option ℕ) : Type 0 where
 
 pub parts : (t : ℕ) (a b : Option ℕ) → has_come t (sooner a b) ≡ false → NeitherCame t a b
 parts t a b h =
-    let both = or_parts (has_come t a) (has_come t b) (sym (has_come-sooner t a b) ∙ h) in record { first = both.0; second = both.1 }
+    let both = or_parts (has_come t a) (has_come t b) (cc (has_come-sooner t a b)) in record { first = both.0; second = both.1 }
 
 -- the same with the tick's own limit
 
 pub not_late : (t : ℕ) (m : Option ℕ) → has_come t (tick_of m) ≡ false → has_come (1000 * t) m ≡ false
-not_late t m h = sym (has_come-ceil t m) ∙ h
+not_late t m h = cc (has_come-ceil t m)
 
 pub not_due : (t : ℕ) (m : Option ℕ) → has_come t m ≡ false → has_come (floor_tick (1000 * t)) m ≡ false
-not_due t m h = ap (λ (k : ℕ). has_come k m) (floor-tick t) ∙ h
+not_due t m h = cc (floor-tick t)
 
 -- a moment that hasn't come by the limit of a tick is of a later tick, and so is a due tick that hasn't come
 
 later : (limit t : ℕ) (m : Option ℕ) → limit ≡ 1000 * t → has_come limit m ≡ false → has_come t (tick_of m) ≡ false
-later limit t m at h = has_come-ceil t m ∙ (ap (λ (l : ℕ). has_come l m) (sym at) ∙ h)
+later limit t m at h = cc (has_come-ceil t m, sym at)
 
 due_later : (limit t : ℕ) (m : Option ℕ) → limit ≡ 1000 * t → has_come (floor_tick limit) m ≡ false → has_come t m ≡ false
-due_later limit t m at h = ap (λ (k : ℕ). has_come k m) (sym (ap (λ (l : ℕ). floor_tick l) at ∙ floor-tick t)) ∙ h
+due_later limit t m at h = cc (ap (λ (l : ℕ). floor_tick l) at, floor-tick t)
 
 -- what a tick leaves of each kind of session is not due by it
 
 pub pair_over : (m : pair.Machine) (echo : Option Echo) (next limit t : ℕ) → limit ≡ 1000 * t → IsOver limit m.vars
     → IsEchoOver limit m.config m.vars echo → has_come t (due (pair_of m echo next)) ≡ false
-pair_over m echo next limit t at over echo_over =
-    neither t _ _ (later limit t _ at over.late)
+pair_over m echo next limit t at over echo_over = neither t _ _ (later limit t _ at over.late)
     (neither t _ _ (later limit t _ at over.seq_late) (neither t _ _ (due_later limit t _ at over.due_later) (due_later limit t _ at echo_over)))
 
 pub seek_over : (m : seek.Machine) (limit t : ℕ) → limit ≡ 1000 * t → seek_left.IsOver limit m.vars → has_come t (due (seek_of m)) ≡ false

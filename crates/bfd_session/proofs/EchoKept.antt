@@ -1,6 +1,5 @@
 -- The end of a point-to-point session's event leaves what its Echo function runs by.
-use Rattle.bfd_session.proofs.Common.{◌≡◌, ℕ, Bool, true, false, refl, ap, ◌∙◌, Option, None, Some, if◌then◌else◌, floor_tick, next_j, has_come, Config, Mark, Vars, may_send, tx_interval, Course, sends, is_untold, based, draws, drawn, redrawn, transmits, Echo, echo_due, IsEchoOver}
-use Rattle.bfd_rules.specs.Jitter.{pick}
+use Rattle.bfd_session.proofs.Common.{◌≡◌, ℕ, Bool, true, false, refl, Option, None, Some, if◌then◌else◌, next_j, Config, Mark, Vars, may_send, tx_interval, Course, sends, is_untold, based, draws, drawn, redrawn, transmits, Echo, echo_due, IsEchoOver, pick}
 use Rattle.bfd_p2p.specs.Finish.{extra, finish}
 
 -- the variables that it runs by are the same
@@ -13,17 +12,17 @@ pub record IsEchoKept (v w : Vars) : Type 0 where
 kept_itself : (v : Vars) → IsEchoKept v v
 kept_itself v = record { state = refl; echo_every = refl; remote_min_echo = refl; mult = refl }
 
-then_kept : (u v w : Vars) → IsEchoKept u v → IsEchoKept v w → IsEchoKept u w
-then_kept u v w h k = record {
-  state = k.state ∙ h.state;
-  echo_every = k.echo_every ∙ h.echo_every;
-  remote_min_echo = k.remote_min_echo ∙ h.remote_min_echo;
-  mult = k.mult ∙ h.mult;
+then_kept : {u v w : Vars} → IsEchoKept u v → IsEchoKept v w → IsEchoKept u w
+then_kept h k = record {
+  state = cc;
+  echo_every = cc;
+  remote_min_echo = cc;
+  mult = cc;
 }
 
 -- so it is due at the same tick
-pub due_kept : (c : Config) (v w : Vars) (echo : Option Echo) → IsEchoKept v w → echo_due c w echo ≡ echo_due c v echo
-due_kept c v w echo h = rw (h.state, h.echo_every, h.remote_min_echo, h.mult) refl
+due_kept : (c : Config) {v w : Vars} (echo : Option Echo) → IsEchoKept v w → echo_due c w echo ≡ echo_due c v echo
+due_kept c echo h = rw (h.state, h.echo_every, h.remote_min_echo, h.mult) refl
 
 -- the end of an event keeps them
 
@@ -46,13 +45,11 @@ drawn_kept active m v = by (may_send active v) (draws m v)
     by true false = kept_itself v
     by false _ = record { state = refl; echo_every = refl; remote_min_echo = refl; mult = refl }
 
-pub finish_kept : (c : Config) (eff : ℕ) (s : Course) → IsEchoKept s.vars (finish c eff s).vars
+finish_kept : (c : Config) (eff : ℕ) (s : Course) → IsEchoKept s.vars (finish c eff s).vars
 unfolding finish redrawn
-finish_kept c eff s =
-    then_kept s.vars (extra c eff s).vars _ (extra_kept c eff s) (drawn_kept c.active (extra c eff s).mark (extra c eff s).vars)
+finish_kept c eff s = then_kept (extra_kept c eff s) (drawn_kept c.active (extra c eff s).mark (extra c eff s).vars)
 
 -- and so nothing of it comes due by the end of an event
 pub finish_keeps_echo : (c : Config) (limit eff : ℕ) (s : Course) (echo : Option Echo) → IsEchoOver limit c s.vars echo
     → IsEchoOver limit c (finish c eff s).vars echo
-finish_keeps_echo c limit eff s echo over =
-    ap (λ (o : Option ℕ). has_come (floor_tick limit) o) (due_kept c s.vars (finish c eff s).vars echo (finish_kept c eff s)) ∙ over
+finish_keeps_echo c limit eff s echo over = cc (due_kept c echo (finish_kept c eff s))

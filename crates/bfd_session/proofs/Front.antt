@@ -1,16 +1,12 @@
 -- What was put out before an event stays in front of what the event puts out, and changes nothing else of it; and an event
 -- of a session of another kind than a point-to-point one leaves the Echo function.
-use Rattle.bfd_session.proofs.Common.{◌≡◌, ◌++◌, ◌&&◌, ℕ, Bool, true, false, List, [], refl, sym, ap, ◌∙◌, append-nil, Option, None, Some, is_some, Result, Ok, Err, Control, Test, SeqState, Cmd, Config, Vars, floor_tick, has_come, may_send, deadline, seq_deadline, is_admin_down, Course, is_untold, based, redrawn, renews, moves, transmits, refusal, commanded, done, Echo, EchoResult, Nothing, Sent, Failed, SessionConfig, Pair, Event, Packet, Returned, Command, Show, Running, Flow, along, settled_by, settled_running, settles_echo, echoing, turns_echo, step, tick, acted, finished, begun, step_from, stepped_flow, emits, answer_of, reply, reply_from, tick_from, ticked_flow, tick_emits}
-use Rattle.bfd_rules.specs.declared.outputs.Out.{Out}
-use Rattle.bfd_rules.proofs.Courses.{after, either, changes-after, sends-after}
+use Rattle.bfd_session.proofs.Common.{◌≡◌, ◌++◌, ◌&&◌, ℕ, Bool, true, false, List, [], refl, ap, append-nil, Option, None, Some, is_some, Result, Ok, Err, Control, Test, SeqState, Cmd, Config, Vars, floor_tick, has_come, may_send, deadline, seq_deadline, is_admin_down, Course, is_untold, based, redrawn, renews, moves, transmits, refusal, commanded, done, Echo, EchoResult, Nothing, Sent, Failed, SessionConfig, Pair, Event, Packet, Returned, Command, Show, Running, Flow, along, settled_by, settled_running, settles_echo, echoing, step, tick, acted, finished, begun, step_from, stepped_flow, emits, answer_of, reply, reply_from, tick_from, ticked_flow, tick_emits, Seek, Head, Tail, settled, Out, after, either, changes-after, sends-after}
 use Rattle.bfd_p2p.specs.Settle as settling
 use Rattle.bfd_p2p.specs.Receive as receiving
 use Rattle.bfd_p2p.specs.Finish as finishing
 use Rattle.bfd_sbfd.proofs.Front as seek
 use Rattle.bfd_mp.proofs.HeadFront as head
 use Rattle.bfd_mp.proofs.TailFront as tail
-use Rattle.bfd_session.specs.declared.event.SessionConfig.TheVariants.{Seek, Head, Tail}
-use Rattle.bfd_session.specs.Step.{settled}
 
 renews-after : (eff : ℕ) (v : Vars) (os : List Out) (s : Course) → renews eff v (after os s) ≡ after os (renews eff v s)
 unfolding renews
@@ -115,17 +111,15 @@ ahead os f = record f { course = after os f.course }
 settled_by-after : (c : Config) (eff : ℕ) (result : EchoResult) (e : Echo) (os : List Out) (f : Flow)
     → settled_by c eff result e (ahead os f) ≡ ahead os (settled_by c eff result e f)
 settled_by-after c eff Nothing e os f = refl
-settled_by-after c eff (Sent bytes) e os f =
-    ap (λ (s : Course). record f { course = s; echo = Some e }) (sends-after c.discr _ os f.course)
-settled_by-after c eff Failed e os f = ap (λ (s : Course). along f s) (moves-after c.discr eff _ os f.course)
+settled_by-after c eff (Sent bytes) e os f = cc (sends-after c.discr _ os f.course)
+settled_by-after c eff Failed e os f = cc (moves-after c.discr eff _ os f.course)
 
 settled_running-after : (c : Config) (limit eff : ℕ) (echo : Option Echo) (os : List Out) (f : Flow)
     → settled_running c limit eff echo (ahead os f) ≡ ahead os (settled_running c limit eff echo f)
 settled_running-after c limit eff None os f = refl
 settled_running-after c limit eff (Some e) os f = settled_by-after c eff _ _ os f
 
-settles_echo-after : (c : Config) (limit eff : ℕ) (os : List Out) (f : Flow)
-    → settles_echo c limit eff (ahead os f) ≡ ahead os (settles_echo c limit eff f)
+settles_echo-after : (c : Config) (limit eff : ℕ) (os : List Out) (f : Flow) → settles_echo c limit eff (ahead os f) ≡ ahead os (settles_echo c limit eff f)
 unfolding settles_echo
 settles_echo-after c limit eff os f = settled_running-after c limit eff (echoing c f.course.vars f.echo) os f
 
@@ -133,28 +127,27 @@ settles_echo-after c limit eff os f = settled_running-after c limit eff (echoing
 
 settled-after : (c : SessionConfig) (limit eff : ℕ) (os : List Out) (f : Flow) → settled c limit eff (ahead os f) ≡ ahead os (settled c limit eff f)
 settled-after (Pair c) limit eff os f =
-    ap (λ (s : Course). settles_echo c limit eff (along f s)) (settle-after c limit eff os f.course)
-    ∙ settles_echo-after c limit eff os (along f (settling.settle c limit eff f.course))
-settled-after (Seek c) limit eff os f = ap (λ (s : Course). along f s) (seek.settle-after c limit eff os f.course)
-settled-after (Head c) limit eff os f = ap (λ (s : Course). along f s) (head.settle-after c limit eff os f.course)
-settled-after (Tail c) limit eff os f = ap (λ (s : Course). along f s) (tail.settle-after c limit os f.course)
+    cc (settle-after c limit eff os f.course, settles_echo-after c limit eff os (along f (settling.settle c limit eff f.course)))
+settled-after (Seek c) limit eff os f = cc (seek.settle-after c limit eff os f.course)
+settled-after (Head c) limit eff os f = cc (head.settle-after c limit eff os f.course)
+settled-after (Tail c) limit eff os f = cc (tail.settle-after c limit os f.course)
 
 acted-after : (c : SessionConfig) (eff : ℕ) (event : Event) (os : List Out) (f : Flow) → acted c eff event (ahead os f) ≡ ahead os (acted c eff event f)
-acted-after (Pair c) eff (Packet arrival) os f = ap (λ (s : Course). along f s) (received-after c eff _ _ os f.course)
+acted-after (Pair c) eff (Packet arrival) os f = cc (received-after c eff _ _ os f.course)
 acted-after (Pair c) eff (Returned sequence) os f = refl
-acted-after (Pair c) eff (Command cmd) os f = ap (λ (s : Course). along f s) (commanded-after c eff cmd os f.course)
+acted-after (Pair c) eff (Command cmd) os f = cc (commanded-after c eff cmd os f.course)
 acted-after (Pair c) eff Show os f = refl
-acted-after (Seek c) eff (Packet arrival) os f = ap (λ (s : Course). along f s) (seek.received-after c eff _ os f.course)
-acted-after (Seek c) eff (Command cmd) os f = ap (λ (s : Course). along f s) (seek.commanded-after c cmd os f.course)
-acted-after (Head c) eff (Command cmd) os f = ap (λ (s : Course). along f s) (head.commanded-after c cmd os f.course)
-acted-after (Tail c) eff (Packet arrival) os f = ap (λ (s : Course). along f s) (tail.received-after c eff _ os f.course)
-acted-after (Tail c) eff (Command cmd) os f = ap (λ (s : Course). along f s) (tail.commanded-after c cmd os f.course)
+acted-after (Seek c) eff (Packet arrival) os f = cc (seek.received-after c eff _ os f.course)
+acted-after (Seek c) eff (Command cmd) os f = cc (seek.commanded-after c cmd os f.course)
+acted-after (Head c) eff (Command cmd) os f = cc (head.commanded-after c cmd os f.course)
+acted-after (Tail c) eff (Packet arrival) os f = cc (tail.received-after c eff _ os f.course)
+acted-after (Tail c) eff (Command cmd) os f = cc (tail.commanded-after c cmd os f.course)
 acted-after c eff event os f = refl
 
 finished-after : (c : SessionConfig) (eff : ℕ) (os : List Out) (f : Flow) → finished c eff (ahead os f) ≡ ahead os (finished c eff f)
-finished-after (Pair c) eff os f = ap (λ (s : Course). turns_echo c eff (along f s)) (finish-after c eff os f.course)
-finished-after (Seek c) eff os f = ap (λ (s : Course). along f s) (seek.finish-after c eff os f.course)
-finished-after (Head c) eff os f = ap (λ (s : Course). along f s) (head.finish-after c eff os f.course)
+finished-after (Pair c) eff os f = cc (finish-after c eff os f.course)
+finished-after (Seek c) eff os f = cc (seek.finish-after c eff os f.course)
+finished-after (Head c) eff os f = cc (head.finish-after c eff os f.course)
 finished-after (Tail c) eff os f = refl
 
 step-after : (c : SessionConfig) (eff : ℕ) (event : Event) (os : List Out) (f : Flow) → step c eff event (ahead os f) ≡ ahead os (step c eff event f)
@@ -168,48 +161,41 @@ tick-after c limit eff os f = rw (settled-after, finished-after) refl
 -- an event that began with outputs is one that began with none, with these in front
 
 begun-after : (own : Option ℕ) (s : Running) (os : List Out) → begun own s os ≡ ahead os (begun own s [])
-begun-after own s os =
-    ap (λ (zs : List Out). along (begun own s []) (record (begun own s []).course { outs = zs })) (sym (append-nil os))
+begun-after own s os = cc (append-nil os)
 
 step-from : (s : Running) (eff : ℕ) (event : Event) (os : List Out) → step_from eff event s os ≡ ahead os (stepped_flow eff event s)
 unfolding stepped_flow
-step-from s eff event os =
-    ap (λ (f : Flow). step s.config eff event f) (begun-after (Some eff) s os) ∙ step-after s.config eff event os (begun (Some eff) s [])
+step-from s eff event os = cc (begun-after (Some eff) s os, step-after s.config eff event os (begun (Some eff) s []))
 
-pub step_vars : (s : Running) (eff : ℕ) (event : Event) (os : List Out)
-    → (step_from eff event s os).course.vars ≡ (stepped_flow eff event s).course.vars
-step_vars s eff event os = ap (λ (f : Flow). f.course.vars) (step-from s eff event os)
+pub step_vars : (s : Running) (eff : ℕ) (event : Event) (os : List Out) → (step_from eff event s os).course.vars ≡ (stepped_flow eff event s).course.vars
+step_vars s eff event os = ap (λ f. f.course.vars) (step-from s eff event os)
 
 pub step_echo : (s : Running) (eff : ℕ) (event : Event) (os : List Out) → (step_from eff event s os).echo ≡ (stepped_flow eff event s).echo
-step_echo s eff event os = ap (λ (f : Flow). f.echo) (step-from s eff event os)
+step_echo s eff event os = cc (step-from s eff event os)
 
-pub step_number : (s : Running) (eff : ℕ) (event : Event) (os : List Out)
-    → (step_from eff event s os).echo_next ≡ (stepped_flow eff event s).echo_next
-step_number s eff event os = ap (λ (f : Flow). f.echo_next) (step-from s eff event os)
+pub step_number : (s : Running) (eff : ℕ) (event : Event) (os : List Out) → (step_from eff event s os).echo_next ≡ (stepped_flow eff event s).echo_next
+step_number s eff event os = cc (step-from s eff event os)
 
-pub step_outs : (s : Running) (eff : ℕ) (event : Event) (os : List Out)
-    → (step_from eff event s os).course.outs ≡ os ++ emits eff event s
+pub step_outs : (s : Running) (eff : ℕ) (event : Event) (os : List Out) → (step_from eff event s os).course.outs ≡ os ++ emits eff event s
 unfolding emits
-step_outs s eff event os = ap (λ (f : Flow). f.course.outs) (step-from s eff event os)
+step_outs s eff event os = ap (λ f. f.course.outs) (step-from s eff event os)
 
 tick-from : (s : Running) (limit eff : ℕ) (os : List Out) → tick_from limit eff s os ≡ ahead os (ticked_flow limit eff s)
 unfolding ticked_flow
-tick-from s limit eff os =
-    ap (λ (f : Flow). tick s.config limit eff f) (begun-after None s os) ∙ tick-after s.config limit eff os (begun None s [])
+tick-from s limit eff os = cc (begun-after None s os, tick-after s.config limit eff os (begun None s []))
 
-pub tick_vars : (s : Running) (limit eff : ℕ) (os : List Out)
-    → (tick_from limit eff s os).course.vars ≡ (ticked_flow limit eff s).course.vars
-tick_vars s limit eff os = ap (λ (f : Flow). f.course.vars) (tick-from s limit eff os)
+pub tick_vars : (s : Running) (limit eff : ℕ) (os : List Out) → (tick_from limit eff s os).course.vars ≡ (ticked_flow limit eff s).course.vars
+tick_vars s limit eff os = ap (λ f. f.course.vars) (tick-from s limit eff os)
 
 pub tick_echo : (s : Running) (limit eff : ℕ) (os : List Out) → (tick_from limit eff s os).echo ≡ (ticked_flow limit eff s).echo
-tick_echo s limit eff os = ap (λ (f : Flow). f.echo) (tick-from s limit eff os)
+tick_echo s limit eff os = cc (tick-from s limit eff os)
 
 pub tick_number : (s : Running) (limit eff : ℕ) (os : List Out) → (tick_from limit eff s os).echo_next ≡ (ticked_flow limit eff s).echo_next
-tick_number s limit eff os = ap (λ (f : Flow). f.echo_next) (tick-from s limit eff os)
+tick_number s limit eff os = cc (tick-from s limit eff os)
 
 pub tick_outs : (s : Running) (limit eff : ℕ) (os : List Out) → (tick_from limit eff s os).course.outs ≡ os ++ tick_emits limit eff s
 unfolding tick_emits
-tick_outs s limit eff os = ap (λ (f : Flow). f.course.outs) (tick-from s limit eff os)
+tick_outs s limit eff os = ap (λ f. f.course.outs) (tick-from s limit eff os)
 
 -- the reply is that of the event after settling, whatever was put out before
 
@@ -221,9 +207,7 @@ answer_of-after c event os f = refl
 pub reply_law : (s : Running) (eff : ℕ) (event : Event) (os : List Out) → reply_from eff event s os ≡ reply eff event s
 unfolding reply
 reply_law s eff event os =
-    ap (λ (f : Flow). answer_of s.config event (settled s.config eff eff f)) (begun-after (Some eff) s os)
-    ∙ ap (λ (f : Flow). answer_of s.config event f) (settled-after s.config eff eff os (begun (Some eff) s []))
-    ∙ answer_of-after s.config event os (settled s.config eff eff (begun (Some eff) s []))
+    cc (begun-after (Some eff) s os, settled-after s.config eff eff os (begun (Some eff) s []), answer_of-after s.config event os (settled s.config eff eff (begun (Some eff) s [])))
 
 -- an event of a session of another kind than a point-to-point one leaves the Echo function
 

@@ -1,7 +1,5 @@
 -- A tick by which nothing is due leaves sound variables as they are, and puts nothing out.
-use Rattle.bfd_session.proofs.Common.{◌≡◌, ◌*◌, ◌++◌, append-nil, ℕ, Bool, true, false, refl, ap, ◌∙◌, Option, None, Some, IsSome, IsTrue, ◌↔◌, List, [], if◌then◌else◌, leb-false, floor_tick, has_come, sooner, Config, Vars, deadline, seq_deadline, Course, course, begins, redrawn, Echo, SessionConfig, Pair, Running, Flow, along, left_by, due, due_by, tick_of, should_echo, echoing, interval_of, echo_due, settled_running, settles_echo, goes_on, number_by, number_after, turns_echo, IsPairSound, sound_by, tick, finished, tick_next, ticked_flow, tick_emits, begun}
-use Rattle.std.proofs.Common.{option_map}
-use Rattle.bfd_rules.specs.declared.outputs.Out.{Out}
+use Rattle.bfd_session.proofs.Common.{◌≡◌, ◌*◌, ◌++◌, append-nil, ℕ, Bool, true, false, refl, ap, ◌∙◌, Option, None, Some, IsSome, IsTrue, ◌↔◌, List, [], if◌then◌else◌, leb-false, floor_tick, has_come, sooner, Config, Vars, deadline, seq_deadline, Course, course, begins, redrawn, Echo, SessionConfig, Pair, Running, Flow, due, due_by, tick_of, should_echo, echoing, interval_of, echo_due, settled_running, settles_echo, goes_on, number_by, number_after, turns_echo, IsPairSound, sound_by, tick, tick_next, ticked_flow, tick_emits, begun, Seek, Head, Tail, option_map, IsSound, Out}
 use Rattle.bfd_rules.specs.Sound as pair
 use Rattle.bfd_rules.proofs.Still.{no_news, drawn_stands}
 use Rattle.bfd_p2p.specs.Settle as settling
@@ -11,36 +9,29 @@ use Rattle.bfd_sbfd.proofs.Rest as seek
 use Rattle.bfd_mp.proofs.Rest as tree
 use Rattle.bfd_echo.specs.Timing.{due as echo_tick}
 use Rattle.bfd_echo.proofs.DueTick.{outcome_rests}
-use Rattle.bfd_session.specs.declared.event.SessionConfig.TheVariants.{Seek, Head, Tail}
-use Rattle.bfd_session.specs.Step.{IsSound}
 use Rattle.bfd_session.proofs.DueTick.{parts, not_late, not_due}
 
 -- settling with nothing due
 
-settle_rests : (c : Config) (limit eff : ℕ) (s : Course)
-    → has_come limit (deadline s.vars) ≡ false → has_come limit (seq_deadline s.vars) ≡ false
+settle_rests : (c : Config) (limit eff : ℕ) (s : Course) → has_come limit (deadline s.vars) ≡ false → has_come limit (seq_deadline s.vars) ≡ false
     → has_come (floor_tick limit) s.vars.tx_due ≡ false → settling.settle c limit eff s ≡ s
 unfolding settling.settle settling.detection settling.sequence settling.periodic
 settle_rests c limit eff s late seq_late due_later = rw (late, seq_late, due_later) refl
 
 -- the end of an event with no news and a due tick that stands
 
-finish_rests : (c : Config) (eff : ℕ) (v : Vars) (os : List Out) → pair.IsSound c v
-    → finishing.finish c eff (course v (begins v) os) ≡ course v (begins v) os
+finish_rests : {c : Config} (eff : ℕ) {v : Vars} (os : List Out) → pair.IsSound c v → finishing.finish c eff (course v (begins v) os) ≡ course v (begins v) os
 unfolding finishing.finish finishing.extra redrawn
-finish_rests c eff v os sound = rw (no_news v, drawn_stands c.active v sound.due) refl
+finish_rests {c} eff {v} os sound = rw (no_news v, drawn_stands c.active v sound.due) refl
 
 -- the Echo function with nothing due
 
 running_rests : (c : Config) (t eff : ℕ) (echo : Option Echo) (f : Flow)
-    → has_come t (option_map (λ e. echo_tick e (interval_of f.course.vars) f.course.vars.mult) echo) ≡ false
-    → settled_running c (1000 * t) eff echo f ≡ f
+    → has_come t (option_map (λ e. echo_tick e (interval_of f.course.vars) f.course.vars.mult) echo) ≡ false → settled_running c (1000 * t) eff echo f ≡ f
 running_rests c t eff None f later = refl
-running_rests c t eff (Some e) f later =
-    rw (outcome_rests e t (interval_of f.course.vars) f.course.vars.mult c.discr (leb-false _ t later)) refl
+running_rests c t eff (Some e) f later = rw (outcome_rests e t (interval_of f.course.vars) f.course.vars.mult c.discr (leb-false _ t later)) refl
 
-settles_echo_rests : (c : Config) (t eff : ℕ) (f : Flow) → has_come t (echo_due c f.course.vars f.echo) ≡ false
-    → settles_echo c (1000 * t) eff f ≡ f
+settles_echo_rests : (c : Config) (t eff : ℕ) (f : Flow) → has_come t (echo_due c f.course.vars f.echo) ≡ false → settles_echo c (1000 * t) eff f ≡ f
 unfolding settles_echo
 settles_echo_rests c t eff f later = running_rests c t eff (echoing c f.course.vars f.echo) f later
 
@@ -48,71 +39,59 @@ settles_echo_rests c t eff f later = running_rests c t eff (echoing c f.course.v
 
 goes_on_by : (eff next : ℕ) (should : Bool) (echo : Option Echo) → (IsSome echo ↔ IsTrue should)
     → (if should then Some (goes_on eff next echo) else None) ≡ echo
-goes_on_by eff next true None both = let true_too : false ≡ true = both.1 refl in cc
-goes_on_by eff next false (Some e) both = let true_too : false ≡ true = both.0 refl in cc
+goes_on_by eff next true None both = let true_too = both.1 refl in cc
+goes_on_by eff next false (Some e) both = let true_too = both.0 refl in cc
 goes_on_by eff next should echo both = refl
 
-number_by_rests : (next : ℕ) (should : Bool) (echo : Option Echo) → (IsSome echo ↔ IsTrue should)
-    → (if should then next else number_by echo next) ≡ next
+number_by_rests : (next : ℕ) (should : Bool) (echo : Option Echo) → (IsSome echo ↔ IsTrue should) → (if should then next else number_by echo next) ≡ next
 number_by_rests next true echo both = refl
 number_by_rests next false None both = refl
-number_by_rests next false (Some e) both = let true_too : false ≡ true = both.0 refl in cc
+number_by_rests next false (Some e) both = let true_too = both.0 refl in cc
 
 turns_echo_rests : (c : Config) (eff : ℕ) (f : Flow) → (IsSome f.echo ↔ IsTrue (should_echo c f.course.vars)) → turns_echo c eff f ≡ f
-turns_echo_rests c eff f both =
-    ap (λ (o : Option Echo). record f { echo = o; echo_next = number_after c f.course.vars f.echo f.echo_next })
-    (goes_on_by eff f.echo_next (should_echo c f.course.vars) f.echo both)
-    ∙ ap (λ (n : ℕ). record f { echo_next = n }) (number_by_rests f.echo_next (should_echo c f.course.vars) f.echo both)
+turns_echo_rests c eff f both = ap (λ o. record f { echo = o; echo_next = number_after c f.course.vars f.echo f.echo_next })
+    (goes_on_by eff f.echo_next _ f.echo both) ∙ ap (λ n. record f { echo_next = n }) (number_by_rests f.echo_next _ f.echo both)
 
 -- the whole tick
 
-pair_rests : (c : Config) (s : Running) (t eff : ℕ) → IsPairSound c s → has_come t (due_by (Pair c) s) ≡ false
+pair_rests : {c : Config} {s : Running} (t eff : ℕ) → IsPairSound c s → has_come t (due_by (Pair c) s) ≡ false
     → tick (Pair c) (1000 * t) eff (begun None s []) ≡ begun None s []
 unfolding tick
-pair_rests c s t eff sound nothing =
+pair_rests {c} {s} t eff sound nothing =
     let v : Vars = s.vars in
     let f : Flow = begun None s [] in
     let outer = parts t (tick_of (deadline v)) (sooner (tick_of (seq_deadline v)) (sooner v.tx_due (echo_due c v s.echo))) nothing in
     let middle = parts t (tick_of (seq_deadline v)) (sooner v.tx_due (echo_due c v s.echo)) outer.second in
     let inner = parts t v.tx_due (echo_due c v s.echo) middle.second in
-    ap (λ (p : Course). finished (Pair c) eff (settles_echo c (1000 * t) eff (along f p)))
-    (settle_rests c (1000 * t) eff f.course (not_late t (deadline v) outer.first) (not_late t (seq_deadline v) middle.first)
-    (not_due t v.tx_due inner.first))
-    ∙ ap (λ (g : Flow). finished (Pair c) eff g) (settles_echo_rests c t eff f inner.second)
-    ∙ ap (λ (p : Course). turns_echo c eff (along f p)) (finish_rests c eff v [] sound.vars)
-    ∙ turns_echo_rests c eff f sound.echoes
+    cc (
+      settle_rests c (1000 * t) eff f.course (not_late t (deadline v) outer.first) (not_late t (seq_deadline v) middle.first) (not_due t v.tx_due inner.first),
+      settles_echo_rests c t eff f inner.second,
+      finish_rests eff [] sound.vars,
+      turns_echo_rests c eff f sound.echoes,
+    )
 
 tick_rests : (c : SessionConfig) (s : Running) (t eff : ℕ) → sound_by c s → has_come t (due_by c s) ≡ false
     → tick c (1000 * t) eff (begun None s []) ≡ begun None s []
 unfolding tick
-tick_rests (Pair c) s t eff sound nothing = pair_rests c s t eff sound nothing
+tick_rests (Pair c) s t eff sound nothing = pair_rests t eff sound nothing
 tick_rests (Seek c) s t eff sound nothing =
     let both = parts t (tick_of (seek_deadline s.vars)) s.vars.tx_due nothing in
-    ap (λ (p : Course). along (begun None s []) p)
-    (seek.tick_rests c (1000 * t) eff s.vars [] sound.vars (not_late t _ both.first) (not_due t _ both.second))
-tick_rests (Head c) s t eff sound nothing =
-    ap (λ (p : Course). along (begun None s []) p) (tree.head_rests c (1000 * t) eff s.vars [] sound.vars (not_due t _ nothing))
-tick_rests (Tail c) s t eff sound nothing =
-    ap (λ (p : Course). along (begun None s []) p)
-    (tree.tail_settle_rests c (1000 * t) (begun None s []).course (not_late t _ nothing))
+    cc (seek.tick_rests c (1000 * t) eff _ [] sound.vars (not_late t _ both.first) (not_due t _ both.second))
+tick_rests (Head c) s t eff sound nothing = cc (tree.head_rests c (1000 * t) eff _ [] sound.vars (not_due t _ nothing))
+tick_rests (Tail c) s t eff sound nothing = cc (tree.tail_settle_rests c (1000 * t) (begun None s []).course (not_late t _ nothing))
 
 pub rest_session : (s : Running) (t eff : ℕ) → IsSound s → has_come t (due s) ≡ false → tick_next (1000 * t) eff s ≡ s
 unfolding ticked_flow
-rest_session s t eff sound nothing =
-    ap (λ (f : Flow). left_by f s) (tick_rests s.config s t eff sound nothing)
+rest_session s t eff sound nothing = cc (tick_rests s.config s t eff sound nothing)
 
 pub rest_outs : (s : Running) (t eff : ℕ) → IsSound s → has_come t (due s) ≡ false → tick_emits (1000 * t) eff s ≡ []
 unfolding tick_emits ticked_flow
-rest_outs s t eff sound nothing = ap (λ (f : Flow). f.course.outs) (tick_rests s.config s t eff sound nothing)
+rest_outs s t eff sound nothing = ap (λ f. f.course.outs) (tick_rests s.config s t eff sound nothing)
 
 -- the same with the limit as a number
 
-pub limit_session : (s : Running) (limit t eff : ℕ) → limit ≡ 1000 * t → IsSound s → has_come t (due s) ≡ false
-    → tick_next limit eff s ≡ s
-limit_session s limit t eff at sound nothing =
-    ap (λ (l : ℕ). tick_next l eff s) at ∙ rest_session s t eff sound nothing
+pub limit_session : (s : Running) (limit t eff : ℕ) → limit ≡ 1000 * t → IsSound s → has_come t (due s) ≡ false → tick_next limit eff s ≡ s
+limit_session s limit t eff at sound nothing = ap (λ (l : ℕ). tick_next l eff s) at ∙ rest_session s t eff sound nothing
 
-pub limit_outs : (s : Running) (limit t eff : ℕ) (os : List Out) → limit ≡ 1000 * t → IsSound s → has_come t (due s) ≡ false
-    → os ++ tick_emits limit eff s ≡ os
-limit_outs s limit t eff os at sound nothing =
-    ap (λ (l : ℕ). os ++ tick_emits l eff s) at ∙ (ap (λ (xs : List Out). os ++ xs) (rest_outs s t eff sound nothing) ∙ append-nil os)
+pub limit_outs : (s : Running) (limit t eff : ℕ) (os : List Out) → limit ≡ 1000 * t → IsSound s → has_come t (due s) ≡ false → os ++ tick_emits limit eff s ≡ os
+limit_outs s limit t eff os at sound nothing = cc (ap (λ (l : ℕ). os ++ tick_emits l eff s) at, rest_outs s t eff sound nothing, append-nil os)

@@ -1,5 +1,5 @@
 -- What a binary search of sessions finds is the place of the session with the discriminator.
-use Rattle.bfd_session.proofs.Common.{◌≡◌, ◌<◌, ◌==◌, ◌+◌, ◌∙◌, ℕ, zero, suc, List, [], ◌∷◌, length, map, get_or, refl, sym, ap, arith, cond, not, Option, inl, inr, None, Some, Result, Ok, Err, eq-eqb, ne_eqb, nat_tests, position_or_len, AllByRecursion, position, SessionConfig, discr_of, Ascends}
+use Rattle.bfd_session.proofs.Common.{◌≡◌, ◌<◌, ◌==◌, ◌∙◌, ℕ, zero, suc, List, [], ◌∷◌, length, map, get_or, refl, sym, ap, arith, Option, inl, inr, None, Some, Result, Ok, Err, eq-eqb, ne_eqb, nat_tests, position_or_len, AllByRecursion, position, SessionConfig, discr_of, Ascends}
 use Rattle.std.proofs.Math.Nat.{eq-or-lt_of_le}
 use Rattle.std.proofs.lemmas.Cmp.{ranked}
 use Rattle.std.proofs.lemmas.List.{length-map}
@@ -34,48 +34,39 @@ module _ {X : Type 0} (config : X → SessionConfig) where
 
   -- the place among the sessions
   abbrev among : ℕ → List X → Option ℕ
-  among discr xs = position (λ (s : X). discr == discr_of (config s)) xs
+  among discr xs = position (λ s. discr == discr_of (config s)) xs
 
   -- a place that has the discriminator, with lower ones before it
-  place_found : (xs : List X) (discr at : ℕ) (d : X) → at < length xs
-      → ((k : ℕ) → k < at → discr_of (config (get_or xs k d)) < discr)
+  place_found : (xs : List X) (discr at : ℕ) (d : X) → at < length xs → ((k : ℕ) → k < at → discr_of (config (get_or xs k d)) < discr)
       → discr_of (config (get_or xs at d)) ≡ discr → among discr xs ≡ Some at
   place_found xs discr at d within below same =
-      let is : position_or_len (λ (s : X). discr == discr_of (config s)) xs ≡ at =
-      position_or_len_is (λ (s : X). discr == discr_of (config s)) xs at d (omega arith)
-      (λ k lt. ne_eqb discr _ (let lower = below k lt in λ e. absurd (omega arith)))
-      (λ _. eq-eqb discr _ (sym same)) in
+      let is = position_or_len_is (λ (s : X). discr == discr_of (config s)) xs at d (omega arith)
+      (λ k lt. ne_eqb discr _ (let lower = below k lt in λ e. absurd (omega arith))) (λ _. eq-eqb discr _ (sym same)) in
       rw is (grind (arith, nat_tests))
 
   -- no place has it
-  place_missing : (xs : List X) (discr : ℕ) (d : X)
-      → ((k : ℕ) → k < length xs → discr_of (config (get_or xs k d)) ≡ discr → ⊥) → among discr xs ≡ None
+  place_missing : (xs : List X) (discr : ℕ) (d : X) → ((k : ℕ) → k < length xs → discr_of (config (get_or xs k d)) ≡ discr → ⊥) → among discr xs ≡ None
   place_missing xs discr d differs =
-      let is : position_or_len (λ (s : X). discr == discr_of (config s)) xs ≡ length xs =
-      position_or_len_is (λ (s : X). discr == discr_of (config s)) xs (length xs) d (omega arith)
-      (λ k lt. ne_eqb discr _ (λ e. differs k lt (sym e)))
+      let is = position_or_len_is (λ s. discr == discr_of (config s)) xs (length xs) d (omega arith) (λ k lt. ne_eqb discr _ (λ e. differs k lt (sym e)))
       (λ lt. absurd (omega arith)) in
       rw is (grind (arith, nat_tests))
 
   found_among : (xs : List X) (discr : ℕ) (r : Result ℕ ℕ) → Ascends (map config xs) → IsSearchInRange r (length xs)
       → IsBinarySearchResult (λ s. nat_cmp (discr_of (config s)) discr) xs r → result_ok r ≡ among discr xs
   found_among [] discr (Ok at) up within equal = absurd (omega arith)
-  found_among (x ∷ xs) discr (Ok at) up within equal =
-      sym (place_found (x ∷ xs) discr at x within
-      (λ k lt. let before = ascend (x ∷ xs) k at x up lt within in omega (arith, ranked _ discr _ (sym (equal x))))
-      (ranked _ discr _ (sym (equal x))))
+  found_among (x ∷ xs) discr (Ok at) up within equal = sym (place_found (x ∷ xs) discr at x within
+      (λ k lt. let before = ascend (x ∷ xs) k at x up lt within in omega (arith, ranked _ discr _ (sym (equal x)))) (ranked _ discr _ (sym (equal x))))
   found_among [] discr (Err at) up within parted = refl
   found_among (x ∷ xs) discr (Err at) up within parted =
       let sides = parted (rise (x ∷ xs) discr up) in
-      sym (place_missing (x ∷ xs) discr x (λ k lt. differs _ discr at k
-      (λ before. ranked _ discr _ (sym (sides.0 k x (omega arith) before)))
+      sym (place_missing (x ∷ xs) discr x (λ k lt. differs _ discr at k (λ before. ranked _ discr _ (sym (sides.0 k x (omega arith) before)))
       (λ after. ranked _ discr _ (sym (sides.1 k x after lt)))))
 
   -- .. is that among their configurations
   first_map : (discr : ℕ) (xs : List X) → position_or_len (λ (c : SessionConfig). discr == discr_of c) (map config xs)
       ≡ position_or_len (λ (s : X). discr == discr_of (config s)) xs
   first_map discr [] = refl
-  first_map discr (x ∷ xs) = ap (λ (n : ℕ). cond (not (discr == discr_of (config x))) (1 + n) 0) (first_map discr xs)
+  first_map discr (x ∷ xs) = cc (first_map discr xs)
 
   among_configs : (discr : ℕ) (xs : List X) → place_of discr (map config xs) ≡ among discr xs
   among_configs discr xs = rw (first_map discr xs, length-map xs config) refl

@@ -20,3 +20,9 @@ pub use Rattle.bfd_shard.specs.Shard.{CanHappen, IsExact, IsHistory, IsOnTime, I
 pub use Rattle.bfd_shard.specs.declared.entry.Entry.{Entry}
 pub use Rattle.bfd_shard.specs.declared.entry.ShardEvent.{ShardEvent}
 pub use Rattle.bfd_shard.specs.declared.entry.ShardEvent.TheVariants.{Own, Tick}
+pub use Rattle.std.proofs.lemmas.Nat.{div-add-mod'}
+pub use Rattle.bfd_shard.specs.Expired.{expired, forgets, forgotten, has_expired}
+pub use Rattle.std.proofs.Math.Seq.{get_or-append_seam, set-append_seam}
+pub use Rattle.std.proofs.lemmas.Bool.Decides.{nat_tests}
+pub use Rattle.std.proofs.lemmas.Option.{get_or_from_slice_get, slice_get-map, slice_get_past, slice_get_within}
+pub use Rattle.bfd_session.specs.Rows.{AreFit}

@@ -1,6 +1,5 @@
 -- A tick expires exactly the sessions whose Detection Time has expired by it.
-use Rattle.bfd_shard.proofs.Common.{◌≡◌, ◌&&◌, ◌||◌, ◌*◌, ◌+◌, ◌++◌, ℕ, max, Bool, true, false, List, [], ◌∷◌, map, Option, Some, None, is_some, is_none, IsSome, refl, ap, sym, ◌∙◌, subst, if◌then◌else◌, zip, AllByRecursion, has_come, places, SessionConfig, ticked, detects, Running, configs_of, IsSound, tick_next, ShardEvent, Own, Tick, events_of, last_tick, moved, runs, Shard, IsExact, IsShard}
-use Rattle.bfd_shard.specs.Expired.{expired, forgets, forgotten, has_expired}
+use Rattle.bfd_shard.proofs.Common.{◌≡◌, ◌&&◌, ◌||◌, ◌*◌, ◌+◌, ◌++◌, ℕ, max, Bool, List, [], ◌∷◌, map, Option, Some, None, is_some, is_none, IsSome, refl, zip, AllByRecursion, has_come, places, SessionConfig, ticked, detects, Running, configs_of, IsSound, tick_next, ShardEvent, Own, Tick, events_of, last_tick, moved, runs, Shard, IsExact, IsShard, expired, forgets, forgotten, has_expired}
 use Rattle.bfd_shard.proofs.Runs.{runs_more}
 
 -- what a tick does to what was heard
@@ -9,39 +8,32 @@ pub record Expires : Type 0 where
   pub heard : (s : Running) → IsSound s → IsSome (detects s) → IsSome s.vars.heard
 
 -- what was heard is forgotten where the deadline has come, which is there only where something was heard
-forgot : (o d : Option ℕ) (limit : ℕ) (none : Bool) → none ≡ (is_none o || has_come limit d) → (IsSome d → IsSome o) → (is_some o && none) ≡ has_come limit d
-forgot (Some h) d limit none is there = is
-forgot None None limit none is there = refl
-forgot None (Some x) limit none is there = let h : false ≡ true = there refl in cc
+forgot : (o d : Option ℕ) (limit : ℕ) {none : Bool} → none ≡ (is_none o || has_come limit d) → (IsSome d → IsSome o) → (is_some o && none) ≡ has_come limit d
+forgot (Some h) d limit is there = is
+forgot None None limit is there = refl
+forgot None (Some x) limit is there = let h = there refl in cc
 
 module _ (laws : Expires) (last : ℕ) where
   forgets_one : (s : Running) → IsSound s → forgets (s, ticked last s) ≡ has_expired last s
-  forgets_one s sound =
-      forgot s.vars.heard (detects s) (1000 * last) (is_none (ticked last s).vars.heard)
-      (laws.expires s (1000 * last) (max (1000 * last) s.vars.at)) (laws.heard s sound)
+  forgets_one s sound = forgot s.vars.heard (detects s) (1000 * last) (laws.expires s (1000 * last) (max (1000 * last) s.vars.at)) (laws.heard s sound)
 
   forgets_all : (n : ℕ) (ss : List Running) → AllByRecursion IsSound ss → places forgets n (zip ss (map (ticked last) ss)) ≡ places (has_expired last) n ss
   forgets_all n [] sound = refl
-  forgets_all n (s ∷ ss) sound =
-      ap (λ (b : Bool). if b then n ∷ places forgets (n + 1) (zip ss (map (ticked last) ss)) else places forgets (n + 1) (zip ss (map (ticked last) ss))) (forgets_one s sound.0)
-      ∙ ap (λ (ks : List ℕ). if has_expired last s then n ∷ ks else ks) (forgets_all (n + 1) ss sound.1)
+  forgets_all n (s ∷ ss) sound = cc (forgets_one s sound.0, forgets_all (n + 1) ss sound.1)
 
 pub tick_expires : (laws : Expires) (cs : List SessionConfig) (es : List ShardEvent) (t : ℕ) → AllByRecursion IsSound (runs es cs)
     → forgotten (runs es cs) (runs (es ++ Tick t ∷ []) cs) ≡ expired cs es t
 unfolding moved
-tick_expires laws cs es t sound =
-    ap (forgotten (runs es cs)) (runs_more es (Tick t) cs) ∙ forgets_all laws (max (last_tick es) t) 0 (runs es cs) sound
+tick_expires laws cs es t sound = cc (runs_more es (Tick t) cs, forgets_all laws (max (last_tick es) t) 0 (runs es cs) sound)
 
 -- the law of expiry, of one event of a shard
 pub exactly : ((cs : List SessionConfig) (es : List ShardEvent) (t : ℕ) → AllByRecursion IsSound (runs es cs)
     → forgotten (runs es cs) (runs (es ++ Tick t ∷ []) cs) ≡ expired cs es t)
-    → (shard : Shard) (e : ShardEvent) (after : List Running) → IsShard shard → after ≡ moved shard.last e shard.sessions → IsExact shard e after
-exactly law shard (Own place moment event) after s m = tt
-exactly law shard (Tick t) after s m =
+    → {shard : Shard} (e : ShardEvent) {after : List Running} → IsShard shard → after ≡ moved shard.last e shard.sessions → IsExact shard e after
+exactly law (Own place moment event) s m = tt
+exactly law {shard} (Tick t) {after} s m =
     let cs : List SessionConfig = configs_of shard.sessions in
     let es : List ShardEvent = events_of shard.journal in
-    let old : shard.sessions ≡ runs es cs = s.whole in
     let new : after ≡ runs (es ++ Tick t ∷ []) cs =
-    m ∙ (ap (λ (l : ℕ). moved l (Tick t) shard.sessions) s.clock ∙ (ap (moved (last_tick es) (Tick t)) old ∙ sym (runs_more es (Tick t) cs))) in
-    ap (λ (ss : List Running). forgotten ss after) old ∙ (ap (forgotten (runs es cs)) new
-    ∙ law cs es t (subst (λ (ss : List Running). AllByRecursion IsSound ss) old s.sound))
+    cc (runs_more es (Tick t) cs) in
+    cc (law cs es t (rw (← s.whole) s.sound))

@@ -1,5 +1,5 @@
 -- One session of a list changes.
-use Rattle.bfd_shard.proofs.Common.{◌≡◌, ◌<◌, ℕ, zero, suc, List, [], ◌∷◌, length, map, set, get_or, refl, sym, ap, subst, Some, arith, slice_get, unwrap_or, AllByRecursion, map-set, SessionConfig, Event, due, Running, configs_of, CanTake, ShardEvent, Own, Tick, CanHappen}
+use Rattle.bfd_shard.proofs.Common.{◌≡◌, ℕ, zero, suc, List, [], ◌∷◌, map, set, refl, ap, Some, slice_get, unwrap_or, AllByRecursion, map-set, SessionConfig, Event, due, Running, configs_of, CanTake, ShardEvent, Own, Tick, CanHappen}
 use Rattle.bfd_session.specs.Reaching.{Stands}
 use Rattle.bfd_shard.specs.Inside.{MayCome}
 
@@ -14,14 +14,13 @@ all_set P (x ∷ ss) zero s all one = (one, all.1)
 all_set P (x ∷ ss) (suc k) s all one = (all.0, all_set P ss k s all.1 one)
 
 -- the session of a configuration stands at its place
-stands_of : (ss : List Running) (k : ℕ) (c : SessionConfig) (event : Event) → slice_get (configs_of ss) k ≡ Some c → CanTake c event → Stands ss k event
-stands_of [] zero c event e t = cc
-stands_of [] (suc k) c event e t = cc
-stands_of (x ∷ ss) zero c event e t =
-    record { session = x; there = refl; takes = subst (λ (z : SessionConfig). CanTake z event) (sym (ap (λ o. unwrap_or o c) e)) t }
-stands_of (x ∷ ss) (suc k) c event e t =
-    let r : Stands ss k event = stands_of ss k c event e t in record { session = r.session; there = r.there; takes = r.takes }
+stands_of : (ss : List Running) (k : ℕ) {c : SessionConfig} (event : Event) → slice_get (configs_of ss) k ≡ Some c → CanTake c event → Stands ss k event
+stands_of [] zero event e t = cc
+stands_of [] (suc k) event e t = cc
+stands_of (x ∷ ss) zero {c} event e t = record { session = x; there = refl; takes = rw (ap (λ o. unwrap_or o c) e) t }
+stands_of (x ∷ ss) (suc k) event e t =
+    let r = stands_of ss k event e t in record { session = r.session; there = r.there; takes = r.takes }
 
 pub may_come : (ss : List Running) (e : ShardEvent) → CanHappen (configs_of ss) e → MayCome ss e
-may_come ss (Own k m event) can = stands_of ss k can.config event can.there can.takes
+may_come ss (Own k m event) can = stands_of ss k event can.there can.takes
 may_come ss (Tick t) can = tt

@@ -1,6 +1,5 @@
 -- Every tick of a history is on time where its last event is, and all before it were.
-use Rattle.bfd_shard.proofs.Common.{◌≡◌, ◌⊎◌, inl, inr, ◌∙◌, ◌++◌, ◌∷◌, [], ℕ, List, refl, sym, ap, subst, AllByRecursion, SessionConfig, Running, configs_of, IsSound, ShardEvent, Tick, events_of, last_tick, later, moved, runs, Shard, IsOnTime, IsOver, IsShard, NoneDue}
-use Rattle.bfd_shard.specs.Expired.{expired, forgotten}
+use Rattle.bfd_shard.proofs.Common.{◌≡◌, ◌⊎◌, inl, inr, ◌++◌, ◌∷◌, [], ℕ, List, refl, subst, AllByRecursion, SessionConfig, Running, configs_of, IsSound, ShardEvent, Tick, events_of, last_tick, later, moved, runs, Shard, IsOnTime, IsOver, IsShard, NoneDue, expired, forgotten}
 use Rattle.bfd_shard.proofs.Runs.{last_more, runs_more}
 
 -- the law of expiry
@@ -36,39 +35,36 @@ module _ (configs : List SessionConfig) (events before : List ShardEvent) (event
   exact_at : (event ≡ Tick t → forgotten (runs events configs) (runs (events ++ Tick t ∷ []) configs) ≡ expired configs events t)
       → ((events ≡ before) × (event ≡ Tick t)) ⊎ ((rest : List ShardEvent) × (events ≡ before ++ Tick t ∷ rest))
       → forgotten (runs before configs) (runs (before ++ Tick t ∷ []) configs) ≡ expired configs before t
-  exact_at law (inl same) =
-      subst (λ (es : List ShardEvent). forgotten (runs es configs) (runs (es ++ Tick t ∷ []) configs) ≡ expired configs es t) same.0 (law same.1)
+  exact_at law (inl same) = rw (← same.0) (law same.1)
   exact_at law (inr further) = old.exact before further.0 t further.1
 
   none_due_at : (event ≡ Tick t → NoneDue (last_tick (events ++ Tick t ∷ [])) (runs (events ++ Tick t ∷ []) configs))
       → ((events ≡ before) × (event ≡ Tick t)) ⊎ ((rest : List ShardEvent) × (events ≡ before ++ Tick t ∷ rest))
       → NoneDue (last_tick (before ++ Tick t ∷ [])) (runs (before ++ Tick t ∷ []) configs)
-  none_due_at over (inl same) =
-      subst (λ (es : List ShardEvent). NoneDue (last_tick (es ++ Tick t ∷ [])) (runs (es ++ Tick t ∷ []) configs)) same.0 (over same.1)
+  none_due_at over (inl same) = rw (← same.0) (over same.1)
   none_due_at over (inr further) = old.none_due before further.0 t further.1
 
 -- after a tick of a shard nothing is due, by its history
-over_at : (shard : Shard) (event : ShardEvent) (after : List Running) (t : ℕ) → IsShard shard → after ≡ moved shard.last event shard.sessions
+over_at : {shard : Shard} {event : ShardEvent} {after : List Running} (t : ℕ) → IsShard shard → after ≡ moved shard.last event shard.sessions
     → IsOver (later shard.last event) event after → event ≡ Tick t
     → NoneDue (last_tick (events_of shard.journal ++ Tick t ∷ [])) (runs (events_of shard.journal ++ Tick t ∷ []) (configs_of shard.sessions))
-over_at shard event after t s m over is =
+over_at {shard} {after} t s m over is =
     let es : List ShardEvent = events_of shard.journal in
     let cs : List SessionConfig = configs_of shard.sessions in
-    let none : NoneDue (later shard.last (Tick t)) after = subst (λ (e : ShardEvent). IsOver (later shard.last e) e after) is over in
-    let last : later shard.last (Tick t) ≡ last_tick (es ++ Tick t ∷ []) = ap (λ (l : ℕ). later l (Tick t)) s.clock ∙ sym (last_more 0 es (Tick t)) in
+    let none = subst (λ e. IsOver (later shard.last e) e after) is over in
+    let last : later shard.last (Tick t) ≡ last_tick (es ++ Tick t ∷ []) = cc (last_more 0 es (Tick t)) in
     let new : after ≡ runs (es ++ Tick t ∷ []) cs =
-    m ∙ (ap (λ (e : ShardEvent). moved shard.last e shard.sessions) is ∙ (ap (λ (l : ℕ). moved l (Tick t) shard.sessions) s.clock
-    ∙ (ap (moved (last_tick es) (Tick t)) s.whole ∙ sym (runs_more es (Tick t) cs)))) in
-    subst (λ (n : ℕ). NoneDue n (runs (es ++ Tick t ∷ []) cs)) last (subst (NoneDue (later shard.last (Tick t))) new none)
+    cc (runs_more es (Tick t) cs) in
+    rw (← last) (rw (← new) none)
 
 -- one event more of a shard
-pub on_time : IsLaw → (shard : Shard) (event : ShardEvent) (after : List Running) → IsShard shard → after ≡ moved shard.last event shard.sessions
+pub on_time : IsLaw → {shard : Shard} (event : ShardEvent) {after : List Running} → IsShard shard → after ≡ moved shard.last event shard.sessions
     → IsOver (later shard.last event) event after → IsOnTime (configs_of shard.sessions) (events_of shard.journal ++ event ∷ [])
-on_time law shard event after s m over =
+on_time law {shard} event s m over =
     let es : List ShardEvent = events_of shard.journal in
     let cs : List SessionConfig = configs_of shard.sessions in
-    let sound : AllByRecursion IsSound (runs es cs) = subst (λ (ss : List Running). AllByRecursion IsSound ss) s.whole s.sound in
+    let sound : AllByRecursion IsSound (runs es cs) = rw (← s.whole) s.sound in
     record {
       exact = λ before rest t h. exact_at cs es before event t s.timely (λ _. law cs es t sound) (last_or_before es before rest event (Tick t) h);
-      none_due = λ before rest t h. none_due_at cs es before event t s.timely (over_at shard event after t s m over) (last_or_before es before rest event (Tick t) h);
+      none_due = λ before rest t h. none_due_at cs es before event t s.timely (over_at t s m over) (last_or_before es before rest event (Tick t) h);
     }

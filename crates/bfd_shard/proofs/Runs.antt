@@ -1,13 +1,11 @@
 -- A history that grows by one event.
-use Rattle.bfd_shard.proofs.Common.{◌≡◌, ◌≢◌, ◌⊎◌, inl, inr, ℕ, ◌+◌, ◌<◌, ◌≤◌, refl, sym, ◌∙◌, ap, subst, List, [], ◌∷◌, ◌++◌, length, length-append, map, max, get_or, set, Option, None, Some, Bool, true, false, arith, get_or-set_same, get_or-set_other, length-set, zero, suc, ext_get_or, if◌then◌else◌, ◌==◌, slice_get, unwrap_or, AllByRecursion, get_or-map, length-map, map-append, cases_eq, greatest_tick, SessionConfig, Event, stepped, ticked, Running, configs_of, IsSound, started, ShardEvent, Own, Tick, Entry, events_of, later, last_from, last_tick, after, run_from, run, runs_from, runs, moved, own_moved, shard_of, IsShard, IsHistory, IsOnTime, CanHappen}
-use Rattle.std.proofs.lemmas.Bool.Decides.{nat_tests}
-use Rattle.std.proofs.lemmas.Option.{get_or_from_slice_get, slice_get_within}
+use Rattle.bfd_shard.proofs.Common.{◌≡◌, ◌≢◌, ◌⊎◌, inl, inr, ℕ, ◌+◌, ◌<◌, ◌≤◌, refl, sym, ◌∙◌, ap, List, [], ◌∷◌, ◌++◌, length, length-append, max, get_or, set, Option, None, Some, Bool, true, false, arith, get_or-set_same, get_or-set_other, length-set, zero, suc, ext_get_or, if◌then◌else◌, ◌==◌, slice_get, AllByRecursion, get_or-map, length-map, map-append, cases_eq, greatest_tick, SessionConfig, Event, stepped, ticked, Running, configs_of, IsSound, started, ShardEvent, Own, Tick, Entry, events_of, later, last_from, last_tick, after, run_from, run, runs_from, runs, moved, own_moved, shard_of, IsShard, IsHistory, IsOnTime, CanHappen, nat_tests, get_or_from_slice_get, slice_get_within}
 use Rattle.bfd_session.proofs.Standing.{ticked_configs}
 use Rattle.bfd_shard.proofs.Ticks.{nobody}
 
 -- one session
 
-pub run_more : (p last : ℕ) (es : List ShardEvent) (e : ShardEvent) (s : Running) → run_from p last (es ++ e ∷ []) s ≡ after p (last_from last es) e (run_from p last es s)
+run_more : (p last : ℕ) (es : List ShardEvent) (e : ShardEvent) (s : Running) → run_from p last (es ++ e ∷ []) s ≡ after p (last_from last es) e (run_from p last es s)
 unfolding run_from last_from
 run_more p last [] e s = refl
 run_more p last (x ∷ es) e s = run_more p (later last x) es e (after p last x s)
@@ -28,7 +26,7 @@ pub runs_at : (p : ℕ) (es : List ShardEvent) (cs : List SessionConfig) (k m : 
     → get_or (runs_from p es cs) k d ≡ run m es (get_or cs k c)
 unfolding runs_from
 runs_at p es [] k m c d h e = absurd (omega arith)
-runs_at p es (x ∷ cs) zero m c d h e = ap (λ (n : ℕ). run n es x) (let same : p ≡ m = omega arith in same)
+runs_at p es (x ∷ cs) zero m c d h e = ap (λ n. run n es x) (let same : p ≡ m = omega arith in same)
 runs_at p es (x ∷ cs) (suc k) m c d h e = runs_at (p + 1) es cs k m c d (omega arith) (omega arith)
 
 -- an event of all sessions
@@ -43,7 +41,7 @@ passed q k x y e = grind (arith, nat_tests)
 past_end : (ss : List Running) (k q : ℕ) → slice_get ss q ≡ None → k < length ss → q ≢ k
 past_end [] k q e h = absurd (omega arith)
 past_end (x ∷ ss) zero zero e h = cc
-past_end (x ∷ ss) (suc k) (suc q) e h = let r = past_end ss k q e (omega arith) in omega (arith, r)
+past_end (x ∷ ss) (suc k) (suc q) e h = omega (arith, past_end ss k q e (omega arith))
 past_end (x ∷ ss) k q e h = omega arith
 
 own_at : (last q m : ℕ) (ev : Event) (ss : List Running) (o : Option Running) → slice_get ss q ≡ o → (k : ℕ) (d : Running) → k < length ss
@@ -76,16 +74,16 @@ unfolding moved
 moved_long last (Own q m ev) ss = own_long last q m ev ss (slice_get ss q)
 moved_long last (Tick t) ss = length-map ss (ticked (max last t))
 
-set_configs : (ss : List Running) (k m last : ℕ) (ev : Event) (x : Running) → slice_get ss k ≡ Some x
+set_configs : (ss : List Running) (k m last : ℕ) (ev : Event) {x : Running} → slice_get ss k ≡ Some x
     → configs_of (set ss k (stepped m last ev x)) ≡ configs_of ss
-set_configs [] zero m last ev x e = refl
-set_configs [] (suc k) m last ev x e = refl
-set_configs (y ∷ ss) zero m last ev x e = ap (λ (o : Option Running). (unwrap_or o x).config ∷ configs_of ss) (sym e)
-set_configs (y ∷ ss) (suc k) m last ev x e = ap (λ cs. y.config ∷ cs) (set_configs ss k m last ev x e)
+set_configs [] zero m last ev e = refl
+set_configs [] (suc k) m last ev e = refl
+set_configs (y ∷ ss) zero m last ev e = cc
+set_configs (y ∷ ss) (suc k) m last ev e = cc (set_configs ss k m last ev e)
 
 own_configs : (o : Option Running) (ss : List Running) (k m last : ℕ) (ev : Event) → slice_get ss k ≡ o → configs_of (own_moved o k m last ev ss) ≡ configs_of ss
 own_configs None ss k m last ev e = refl
-own_configs (Some x) ss k m last ev e = set_configs ss k m last ev x e
+own_configs (Some x) ss k m last ev e = set_configs ss k m last ev e
 
 -- an event changes no configuration
 pub moved_configs : (last : ℕ) (e : ShardEvent) (ss : List Running) → configs_of (moved last e ss) ≡ configs_of ss
@@ -97,14 +95,10 @@ moved_configs last (Tick t) ss = ticked_configs (max last t) ss
 pub runs_more : (es : List ShardEvent) (e : ShardEvent) (cs : List SessionConfig) → runs (es ++ e ∷ []) cs ≡ moved (last_tick es) e (runs es cs)
 runs_more es e cs =
     let c : SessionConfig = nobody.config in
-    let long : length (runs es cs) ≡ length cs = runs_long 0 es cs in
-    let grown : length (runs (es ++ e ∷ []) cs) ≡ length cs = runs_long 0 (es ++ e ∷ []) cs in
-    ext_get_or nobody (runs (es ++ e ∷ []) cs) (moved (last_tick es) e (runs es cs))
-    (let l = moved_long (last_tick es) e (runs es cs) in omega arith)
-    (λ k h. runs_at 0 (es ++ e ∷ []) cs k k c nobody (omega arith) (omega arith)
-    ∙ (run_more k 0 es e (started (get_or cs k c))
-    ∙ (ap (after k (last_tick es) e) (sym (runs_at 0 es cs k k c nobody (omega arith) (omega arith)))
-    ∙ sym (moved_at (last_tick es) e (runs es cs) k nobody (omega arith)))))
+    let long = runs_long 0 es cs in
+    let grown = runs_long 0 (es ++ e ∷ []) cs in
+    ext_get_or nobody (runs (es ++ e ∷ []) cs) (moved (last_tick es) e (runs es cs)) (omega (arith, moved_long (last_tick es) e (runs es cs)))
+    (λ k h. cc (runs_at 0 (es ++ e ∷ []) cs k k c nobody (omega arith) (omega arith), run_more k 0 es e (started (get_or cs k c)), runs_at 0 es cs k k c nobody (omega arith) (omega arith), moved_at (last_tick es) e (runs es cs) k nobody (omega arith)))
 
 -- no event changes the configuration of a session
 after_config : (p last : ℕ) (e : ShardEvent) (s : Running) → (after p last e s).config ≡ s.config
@@ -123,7 +117,7 @@ run_config p last (e ∷ es) s = run_config p (later last e) es (after p last e 
 pub runs_configs : (p : ℕ) (es : List ShardEvent) (cs : List SessionConfig) → configs_of (runs_from p es cs) ≡ cs
 unfolding runs_from
 runs_configs p es [] = refl
-runs_configs p es (c ∷ cs) = ap (λ (k : SessionConfig). k ∷ configs_of (runs_from (p + 1) es cs)) (run_config p 0 es (started c)) ∙ ap (λ ks. c ∷ ks) (runs_configs (p + 1) es cs)
+runs_configs p es (c ∷ cs) = cc (run_config p 0 es (started c), runs_configs (p + 1) es cs)
 
 -- the shard
 
@@ -132,26 +126,22 @@ history_more cs [] e h can = (can, tt)
 history_more cs (x ∷ es) e h can = (h.0, history_more cs es e h.1 can)
 
 -- an event leaves a shard
-pub shard_more : (last limit room room2 : ℕ) (entry : Entry) (ss ss2 : List Running) (j : List Entry) → IsShard (shard_of ss last j limit room)
+pub shard_more : {last limit room : ℕ} (room2 : ℕ) (entry : Entry) {ss ss2 : List Running} {j : List Entry} → IsShard (shard_of ss last j limit room)
     → length j < limit → later last entry.event ≤ greatest_tick → CanHappen (configs_of ss) entry.event → ss2 ≡ moved last entry.event ss → AllByRecursion IsSound ss2
     → IsOnTime (configs_of ss) (events_of j ++ entry.event ∷ []) → IsShard (shard_of ss2 (later last entry.event) (j ++ entry ∷ []) limit room2)
-shard_more last limit room room2 entry ss ss2 j s below early can m sound timely =
+shard_more {last} room2 entry {ss} {ss2} {j} s below early can m sound timely =
     let es : List ShardEvent = events_of j in
     let e : ShardEvent = entry.event in
-    let told : events_of (j ++ entry ∷ []) ≡ es ++ e ∷ [] = map-append (λ (x : Entry). x.event) j (entry ∷ []) in
+    let told = map-append (λ x. x.event) j (entry ∷ []) in
     let cs : List SessionConfig = configs_of ss in
-    let configs : configs_of ss2 ≡ cs = ap configs_of m ∙ moved_configs last e ss in
+    let configs : configs_of ss2 ≡ cs = cc (moved_configs last e ss) in
     record {
       few = omega (arith, s.few, ap length m, moved_long last e ss);
       full = omega (arith, length-append j (entry ∷ []));
-      history = subst (λ (xs : List ShardEvent). IsHistory (configs_of ss2) xs) (sym told)
-          (subst (λ (ks : List SessionConfig). IsHistory ks (es ++ e ∷ [])) (sym configs) (history_more cs es e s.history can));
-      clock = ap (λ (t : ℕ). later t e) s.clock ∙ (sym (last_more 0 es e) ∙ ap last_tick (sym told));
+      history = rw told (rw configs (history_more cs es e s.history can));
+      clock = cc (last_more 0 es e);
       early = early;
-      whole = m ∙ (ap (λ (t : ℕ). moved t e ss) s.clock ∙ (ap (moved (last_tick es) e) s.whole
-          ∙ (sym (runs_more es e cs) ∙ (ap (λ (xs : List ShardEvent). runs xs cs) (sym told)
-          ∙ ap (runs (events_of (j ++ entry ∷ []))) (sym configs)))));
+      whole = cc (runs_more es e cs);
       sound = sound;
-      timely = subst (λ (xs : List ShardEvent). IsOnTime (configs_of ss2) xs) (sym told)
-          (subst (λ (ks : List SessionConfig). IsOnTime ks (es ++ e ∷ [])) (sym configs) timely);
+      timely = rw told (rw configs timely);
     }

@@ -1,5 +1,5 @@
 -- A shard at the start.
-use Rattle.bfd_shard.proofs.Common.{◌≡◌, ◌<◌, ◌≤◌, ◌+◌, ◌++◌, subst, ℕ, zero, suc, List, [], ◌∷◌, length, map, take, drop, get_or, set, refl, sym, ap, ◌∙◌, add-one, arith, Option, AllByRecursion, length-map, map-append, HeldIds, room_of, SessionConfig, due, Running, configs_of, IsSound, started, Entry, last_from, run_from, runs_from, runs, shard_of, IsShard, IsTimed}
+use Rattle.bfd_shard.proofs.Common.{◌≡◌, ◌<◌, ◌≤◌, ◌+◌, ◌++◌, subst, ℕ, zero, suc, List, [], ◌∷◌, length, map, take, drop, get_or, set, refl, sym, ap, ◌∙◌, add-one, arith, Option, AllByRecursion, length-map, map-append, HeldIds, room_of, SessionConfig, due, Running, configs_of, IsSound, started, Entry, last_from, run_from, runs_from, shard_of, IsShard, IsTimed}
 use Rattle.bfd_session.proofs.Starting.{started_configs}
 use Rattle.bfd_shard.proofs.OnTime.{none_yet}
 
@@ -9,12 +9,12 @@ stands_in : {A B : Type 0} (f : A → B) (xs : List A) (ys : List B) (i : ℕ) (
 stands_in f [] ys i d h e = absurd (omega arith)
 stands_in f (x ∷ xs) [] i d h e = absurd (omega arith)
 stands_in f (x ∷ xs) (y ∷ ys) zero d h e = refl
-stands_in f (x ∷ xs) (y ∷ ys) (suc i) d h e = ap (λ zs. f x ∷ zs) (stands_in f xs ys i d (omega arith) (omega arith))
+stands_in f (x ∷ xs) (y ∷ ys) (suc i) d h e = cc (stands_in f xs ys i d (omega arith) (omega arith))
 
 -- one more due tick is kept
-pub due_more : (xs : List Running) (ys zs : List (Option ℕ)) (i : ℕ) (d : Running) → i < length xs → length ys ≡ length xs
+pub due_more : (xs : List Running) (ys : List (Option ℕ)) {zs : List (Option ℕ)} {i : ℕ} (d : Running) → i < length xs → length ys ≡ length xs
     → zs ≡ map due (take i xs) ++ drop i ys → set zs i (due (get_or xs i d)) ≡ map due (take (i + 1) xs) ++ drop (i + 1) ys
-due_more xs ys zs i d h e is = ap (λ ws. set ws i (due (get_or xs i d))) is ∙ rw add-one (stands_in due xs ys i d h e)
+due_more xs ys {i} d h e is = ap (λ ws. set ws i (due (get_or xs i d))) is ∙ rw add-one (stands_in due xs ys i d h e)
 
 -- one more sound session
 pub sound_more : (ss ss2 : List Running) (s : Running) → AllByRecursion IsSound ss → IsSound s → ss2 ≡ ss ++ s ∷ [] → AllByRecursion IsSound ss2
@@ -25,16 +25,15 @@ sound_more ss ss2 s sound one e = subst (λ (xs : List Running). AllByRecursion 
     added (x ∷ xs) h = (h.0, added xs h.1)
 
 -- one more session of the start
-pub start_more : (cs : List SessionConfig) (c : SessionConfig) (ss ss2 : List Running) (s : Running) → ss ≡ map started cs → s ≡ started c
+pub start_more : (cs : List SessionConfig) {c : SessionConfig} {ss ss2 : List Running} {s : Running} → ss ≡ map started cs → s ≡ started c
     → ss2 ≡ ss ++ s ∷ [] → ss2 ≡ map started (cs ++ c ∷ [])
-start_more cs c ss ss2 s so_far is e =
-    e ∙ (ap (λ zs. zs ++ s ∷ []) so_far ∙ (ap (λ z. map started cs ++ z ∷ []) is ∙ sym (map-append started cs (c ∷ []))))
+start_more cs {c} so_far is e = cc (map-append started cs (c ∷ []))
 
 -- with no event yet, the sessions stand at the start
 runs_none : (p : ℕ) (cs : List SessionConfig) → runs_from p [] cs ≡ map started cs
 unfolding runs_from run_from
 runs_none p [] = refl
-runs_none p (c ∷ cs) = ap (λ ss. started c ∷ ss) (runs_none (p + 1) cs)
+runs_none p (c ∷ cs) = cc (runs_none (p + 1) cs)
 
 shard_at : (cs : List SessionConfig) (limit room : ℕ) → length cs ≤ 65536 → AllByRecursion IsSound (map started cs)
     → IsShard (shard_of (map started cs) 0 [] limit room)
@@ -45,20 +44,18 @@ shard_at cs limit room few sound = record {
   history = tt;
   clock = refl;
   early = omega arith;
-  whole = sym (ap (runs []) (started_configs cs) ∙ runs_none 0 cs);
+  whole = sym (cc (started_configs cs, runs_none 0 cs));
   sound = sound;
   timely = none_yet (configs_of (map started cs));
 }
 
 -- a shard at the start
-pub shard_made : (cs : List SessionConfig) (ss : List Running) (limit room : ℕ) (journal : List Entry) (dues : List (Option ℕ)) (ids : HeldIds) → length cs ≤ 65536
+pub shard_made : (cs : List SessionConfig) {ss : List Running} (limit room : ℕ) {journal : List Entry} {dues : List (Option ℕ)} (ids : HeldIds) → length cs ≤ 65536
     → ss ≡ map started cs → AllByRecursion IsSound ss → journal ≡ [] → dues ≡ map due ss → length ss ≤ room_of ids
     → IsTimed (shard_of ss 0 journal limit room) dues ids
-shard_made cs ss limit room journal dues ids few made sound empty timed fit =
+shard_made cs limit room ids few made sound empty timed fit =
     record {
-      shown = subst (λ (j : List Entry). IsShard (shard_of ss 0 j limit room)) (sym empty)
-          (subst (λ (xs : List Running). IsShard (shard_of xs 0 [] limit room)) (sym made)
-          (shard_at cs limit room few (subst (λ (xs : List Running). AllByRecursion IsSound xs) made sound)));
+      shown = rw empty (rw made (shard_at cs limit room few (rw (← made) sound)));
       timed = timed;
       ids_fit = fit;
     }

@@ -1,7 +1,6 @@
 -- A list that is dealt out in turn, where one element of it changes too, and the places of a table and of its shards.
-use Rattle.bfd_shard.proofs.Common.{◌≡◌, ◌≢◌, ◌<◌, ◌≤◌, ◌+◌, ◌-◌, ◌*◌, ◌/◌, ◌%◌, ℕ, zero, suc, List, [], ◌∷◌, length, map, set, refl, sym, ap, ◌∙◌, arith, slice_get, AllByRecursion}
+use Rattle.bfd_shard.proofs.Common.{◌≡◌, ◌≢◌, ◌<◌, ◌≤◌, ◌+◌, ◌-◌, ◌*◌, ◌/◌, ◌%◌, ℕ, zero, suc, List, [], ◌∷◌, length, map, set, refl, arith, slice_get, AllByRecursion, div-add-mod'}
 use Rattle.std.proofs.Math.Nat.{mul-add-mod_self_left, mod-eq_of_lt}
-use Rattle.std.proofs.lemmas.Nat.{div-add-mod'}
 use Rattle.bfd_shard.specs.Dealing.{share}
 
 module _ {A : Type 0} where
@@ -18,20 +17,20 @@ times_more p n = grind arith
 start_at : (n : ℕ) → 0 ≡ 0 * n + 0
 start_at n = grind arith
 
-next_at : (n p : ℕ) → 0 < n → suc (p * n + (n - 1)) ≡ suc p * n + 0
-next_at n p some = let e = times_more p n in omega (arith, e, some)
+next_at : {n : ℕ} (p : ℕ) → 0 < n → suc (p * n + (n - 1)) ≡ suc p * n + 0
+next_at {n} p some = omega (arith, times_more p n, some)
 
 skip_at : (a c : ℕ) → suc (a + c) ≡ a + suc c
 skip_at a c = omega arith
 
 module _ {A : Type 0} where
   -- the element at a place of a share stands there in the whole list
-  pub share_at : (n c p : ℕ) (xs : List A) → 0 < n → slice_get (share n c xs) p ≡ slice_get xs (p * n + c)
+  share_at : {n : ℕ} (c p : ℕ) (xs : List A) → 0 < n → slice_get (share n c xs) p ≡ slice_get xs (p * n + c)
   unfolding share
-  share_at n c p [] some = none_at [] p (p * n + c) refl
-  share_at n zero zero (x ∷ xs) some = ap (slice_get (x ∷ xs)) (start_at n)
-  share_at n zero (suc p) (x ∷ xs) some = share_at n (n - 1) p xs some ∙ ap (slice_get (x ∷ xs)) (next_at n p some)
-  share_at n (suc c) p (x ∷ xs) some = share_at n c p xs some ∙ ap (slice_get (x ∷ xs)) (skip_at (p * n) c)
+  share_at {n} c p [] some = none_at [] p (p * n + c) refl
+  share_at {n} zero zero (x ∷ xs) some = cc (start_at n)
+  share_at {n} zero (suc p) (x ∷ xs) some = cc (share_at (n - 1) p xs some, next_at p some)
+  share_at {n} (suc c) p (x ∷ xs) some = cc (share_at c p xs some, skip_at (p * n) c)
 
   -- what is true of each is true of what is dealt
   pub all_share : (P : A → Type 0) (n c : ℕ) (xs : List A) → AllByRecursion P xs → AllByRecursion P (share n c xs)
@@ -44,32 +43,31 @@ module _ {A : Type 0} where
   pub few_share : (n c : ℕ) (xs : List A) → length (share n c xs) ≤ length xs
   unfolding share
   few_share n c [] = omega arith
-  few_share n zero (x ∷ xs) = let r = few_share n (n - 1) xs in omega arith
-  few_share n (suc c) (x ∷ xs) = let r = few_share n c xs in omega arith
+  few_share n zero (x ∷ xs) = omega (arith, few_share n (n - 1) xs)
+  few_share n (suc c) (x ∷ xs) = omega (arith, few_share n c xs)
 
   -- one that is dealt to this shard is changed there
   pub share_set : (n c p : ℕ) (xs : List A) (y : A) → 0 < n → share n c (set xs (p * n + c) y) ≡ set (share n c xs) p y
   unfolding share
   share_set n c p [] y some = refl
-  share_set n zero zero (x ∷ xs) y some = ap (λ i. share n zero (set (x ∷ xs) i y)) (sym (start_at n))
-  share_set n zero (suc p) (x ∷ xs) y some =
-      ap (λ i. share n zero (set (x ∷ xs) i y)) (sym (next_at n p some)) ∙ ap (λ zs. x ∷ zs) (share_set n (n - 1) p xs y some)
-  share_set n (suc c) p (x ∷ xs) y some = ap (λ i. share n (suc c) (set (x ∷ xs) i y)) (sym (skip_at (p * n) c)) ∙ share_set n c p xs y some
+  share_set n zero zero (x ∷ xs) y some = cc (start_at n)
+  share_set n zero (suc p) (x ∷ xs) y some = cc (next_at p some, share_set n (n - 1) p xs y some)
+  share_set n (suc c) p (x ∷ xs) y some = cc (skip_at (p * n) c, share_set n c p xs y some)
 
   -- one that is dealt to another shard is no change here
   pub share_other : (n c j : ℕ) (xs : List A) (y : A) → 0 < n → ((p : ℕ) → j ≢ p * n + c) → share n c (set xs j y) ≡ share n c xs
   unfolding share
   share_other n c j [] y some apart = refl
   share_other n zero zero (x ∷ xs) y some apart = absurd (apart 0 (start_at n))
-  share_other n zero (suc j) (x ∷ xs) y some apart = ap (λ zs. x ∷ zs) (share_other n (n - 1) j xs y some (λ p e. apart (suc p) (ap suc e ∙ next_at n p some)))
+  share_other n zero (suc j) (x ∷ xs) y some apart = cc (share_other n (n - 1) j xs y some (λ p e. apart (suc p) (cc (next_at p some))))
   share_other n (suc c) zero (x ∷ xs) y some apart = refl
-  share_other n (suc c) (suc j) (x ∷ xs) y some apart = share_other n c j xs y some (λ p e. apart p (ap suc e ∙ skip_at (p * n) c))
+  share_other n (suc c) (suc j) (x ∷ xs) y some apart = share_other n c j xs y some (λ p e. apart p (cc (skip_at (p * n) c)))
 
 module _ {A B : Type 0} where
   pub share_map : (f : A → B) (n c : ℕ) (xs : List A) → share n c (map f xs) ≡ map f (share n c xs)
   unfolding share
   share_map f n c [] = refl
-  share_map f n zero (x ∷ xs) = ap (λ zs. f x ∷ zs) (share_map f n (n - 1) xs)
+  share_map f n zero (x ∷ xs) = cc (share_map f n (n - 1) xs)
   share_map f n (suc c) (x ∷ xs) = share_map f n c xs
 
 -- the places of a table, and those of its shards
@@ -78,8 +76,8 @@ swapped : (p n r : ℕ) → p * n + r ≡ n * p + r
 swapped p n r = grind arith
 
 pub not_there : (k n r p : ℕ) → 0 < n → r < n → k % n ≢ r → k ≢ p * n + r
-not_there k n r p some h other = λ e. other (ap (λ x. x % n) (e ∙ swapped p n r) ∙ (mul-add-mod_self_left n p r ∙ mod-eq_of_lt h))
+not_there k n r p some h other = λ e. other (cc (swapped p n r, mul-add-mod_self_left n p r, mod-eq_of_lt h))
 
 -- the session at place k of the table stands at place k / n of shard k % n
 pub there : {A : Type 0} (n k : ℕ) (xs : List A) → 0 < n → slice_get (share n (k % n) xs) (k / n) ≡ slice_get xs k
-there n k xs some = share_at n (k % n) (k / n) xs some ∙ ap (slice_get xs) (div-add-mod' k n)
+there n k xs some = cc (share_at (k % n) (k / n) xs some, div-add-mod' k n)

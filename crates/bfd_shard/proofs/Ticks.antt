@@ -1,6 +1,5 @@
 -- A tick of the sessions that are due, one after another, is a tick of all.
-use Rattle.bfd_shard.proofs.Common.{◌≡◌, ◌≢◌, ◌⊎◌, inl, inr, ℕ, ◌+◌, ◌*◌, max, ◌<◌, ◌≤◌, refl, sym, ◌∙◌, ap, subst, List, [], ◌∷◌, ◌++◌, append_assoc, append-nil, length, length-append, map, set, get_or, Option, None, Bool, true, false, arith, drop, drop-cons, add-one, zero, suc, get_or-set_same, get_or-set_other, length-set, if◌then◌else◌, drop_all, get_or-map, length-map, AllByRecursion, flat_map, cases_eq, has_come, moment_bound, greatest_tick, places, without, ticked, tick_items, due, Running, IsSound, started, tick_next, tick_emits, NoneDue}
-use Rattle.std.proofs.Math.Seq.{get_or-append_seam, set-append_seam}
+use Rattle.bfd_shard.proofs.Common.{◌≡◌, ◌≢◌, ◌⊎◌, inl, inr, ℕ, ◌+◌, ◌*◌, max, ◌<◌, ◌≤◌, refl, sym, ◌∙◌, ap, List, [], ◌∷◌, ◌++◌, append_assoc, append-nil, length, length-append, map, set, get_or, Option, None, Bool, true, false, arith, drop, drop-cons, add-one, zero, suc, get_or-set_same, get_or-set_other, length-set, if◌then◌else◌, drop_all, get_or-map, length-map, AllByRecursion, flat_map, cases_eq, has_come, moment_bound, greatest_tick, places, without, ticked, tick_items, due, Running, IsSound, started, tick_next, tick_emits, NoneDue, get_or-append_seam, set-append_seam}
 use Rattle.bfd_rules.specs.declared.outputs.Out.{Out}
 use Rattle.bfd_packet.specs.declared.arrival.Addr.TheVariants.{V4}
 use Rattle.bfd_rules.specs.declared.config.Role.TheVariants.{Single}
@@ -36,9 +35,7 @@ pub record Idles : Type 0 where
 
 regrouped : (pre ss : List Running) (dpre dss : List (Option ℕ)) (s : Running) (x : Option ℕ) (outs : List Out)
     → tour (pre ++ s ∷ ss) (dpre ++ x ∷ dss) outs ≡ tour ((pre ++ s ∷ []) ++ ss) ((dpre ++ x ∷ []) ++ dss) outs
-regrouped pre ss dpre dss s x outs =
-    ap (λ r. tour r (dpre ++ x ∷ dss) outs) (sym (append_assoc pre (s ∷ []) ss))
-    ∙ ap (λ r. tour ((pre ++ s ∷ []) ++ ss) r outs) (sym (append_assoc dpre (x ∷ []) dss))
+regrouped pre ss dpre dss s x outs = cc (append_assoc pre (s ∷ []) ss, append_assoc dpre (x ∷ []) dss)
 
 module _ (idles : Idles) (d : Running) (last : ℕ) where
   -- a session with nothing due is as a tick leaves it
@@ -46,52 +43,44 @@ module _ (idles : Idles) (d : Running) (last : ℕ) where
       → tour (pre ++ s ∷ ss) (dpre ++ without last (due s) ∷ dss) outs
       ≡ tour (pre ++ ticked last s ∷ ss) (dpre ++ due (ticked last s) ∷ dss) (outs ++ tick_items last s)
   at_rest pre ss dpre dss outs s sound nothing =
-      let still : s ≡ ticked last s = sym (idles.session s last (max (1000 * last) s.vars.at) sound nothing) in
+      let still = sym (idles.session s last (max (1000 * last) s.vars.at) sound nothing) in
       let left : without last (due s) ≡ due s = rw nothing refl in
       let quiet : outs ≡ outs ++ tick_items last s =
-      sym (ap (λ os. outs ++ os) (idles.outs s last (max (1000 * last) s.vars.at) sound nothing) ∙ append-nil outs) in
-      ap (λ x. tour (pre ++ x ∷ ss) (dpre ++ without last (due s) ∷ dss) outs) still
-      ∙ (ap (λ x. tour (pre ++ ticked last s ∷ ss) (dpre ++ x ∷ dss) outs) (left ∙ ap due still)
-      ∙ ap (tour (pre ++ ticked last s ∷ ss) (dpre ++ due (ticked last s) ∷ dss)) quiet)
+      sym (cc (idles.outs s last (max (1000 * last) s.vars.at) sound nothing, append-nil outs)) in
+      cc
 
   visit_seam : (pre ss : List Running) (dpre dss : List (Option ℕ)) (outs : List Out) (s : Running) (x : Option ℕ) → length dpre ≡ length pre
       → visit d last (length pre) (tour (pre ++ s ∷ ss) (dpre ++ x ∷ dss) outs)
       ≡ tour (pre ++ ticked last s ∷ ss) (dpre ++ due (ticked last s) ∷ dss) (outs ++ tick_items last s)
   unfolding visit
   visit_seam pre ss dpre dss outs s x e =
-      let at : get_or (pre ++ s ∷ ss) (length pre) d ≡ s = get_or-append_seam pre s ss d in
-      ap (λ (z : Running). tour (set (pre ++ s ∷ ss) (length pre) (ticked last z)) (set (dpre ++ x ∷ dss) (length pre) (due (ticked last z))) (outs ++ tick_items last z)) at
-      ∙ (ap (λ r. tour r (set (dpre ++ x ∷ dss) (length pre) (due (ticked last s))) (outs ++ tick_items last s)) (set-append_seam pre s ss (ticked last s))
-      ∙ ap (λ r. tour (pre ++ ticked last s ∷ ss) r (outs ++ tick_items last s))
-      (ap (λ k. set (dpre ++ x ∷ dss) k (due (ticked last s))) (sym e) ∙ set-append_seam dpre x dss (due (ticked last s))))
+      cc (ap (λ z. tour (set (pre ++ s ∷ ss) (length pre) (ticked last z)) (set (dpre ++ x ∷ dss) (length pre) (due (ticked last z))) (outs ++ tick_items last z)) (get_or-append_seam pre s ss d), set-append_seam pre s ss (ticked last s), set-append_seam dpre x dss (due (ticked last s)))
 
   -- the session at the seam is among those that are visited, or rests
-  passes : (b : Bool) (ks : List ℕ) (n : ℕ) (pre ss : List Running) (dpre dss : List (Option ℕ)) (outs : List Out) (s : Running)
+  passes : (b : Bool) (ks : List ℕ) {n : ℕ} (pre ss : List Running) (dpre dss : List (Option ℕ)) (outs : List Out) (s : Running)
       → length pre ≡ n → length dpre ≡ n → IsSound s → has_come last (due s) ≡ b
       → visits d last (if b then n ∷ ks else ks) (tour (pre ++ s ∷ ss) (dpre ++ without last (due s) ∷ dss) outs)
       ≡ visits d last ks (tour (pre ++ ticked last s ∷ ss) (dpre ++ due (ticked last s) ∷ dss) (outs ++ tick_items last s))
   unfolding visits
-  passes true ks n pre ss dpre dss outs s e f sound is =
-      ap (visits d last ks)
-      (ap (λ k. visit d last k (tour (pre ++ s ∷ ss) (dpre ++ without last (due s) ∷ dss) outs)) (sym e)
-      ∙ visit_seam pre ss dpre dss outs s (without last (due s)) (f ∙ sym e))
-  passes false ks n pre ss dpre dss outs s e f sound is = ap (visits d last ks) (at_rest pre ss dpre dss outs s sound is)
+  passes true ks pre ss dpre dss outs s e f sound is = cc (visit_seam pre ss dpre dss outs s (without last (due s)) (cc))
+  passes false ks pre ss dpre dss outs s e f sound is = cc (at_rest pre ss dpre dss outs s sound is)
 
-  pub all_ticked : (n : ℕ) (pre ss : List Running) (dpre : List (Option ℕ)) (outs : List Out) → length pre ≡ n → length dpre ≡ n → AllByRecursion IsSound ss
+  all_ticked : (n : ℕ) (pre ss : List Running) (dpre : List (Option ℕ)) (outs : List Out) → length pre ≡ n → length dpre ≡ n → AllByRecursion IsSound ss
       → visits d last (places (has_come last) n (map due ss)) (tour (pre ++ ss) (dpre ++ map (without last) (map due ss)) outs)
       ≡ tour (pre ++ map (ticked last) ss) (dpre ++ map due (map (ticked last) ss)) (outs ++ flat_map (tick_items last) ss)
   unfolding visits
-  all_ticked n pre [] dpre outs e f sound = ap (tour (pre ++ []) (dpre ++ [])) (sym (append-nil outs))
+  all_ticked n pre [] dpre outs e f sound = cc (append-nil outs)
   all_ticked n pre (s ∷ ss) dpre outs e f sound =
       let t : Running = ticked last s in
-      let ks : List ℕ = places (has_come last) (n + 1) (map due ss) in
       let told : List Out = outs ++ tick_items last s in
-      passes (has_come last (due s)) ks n pre ss dpre (map (without last) (map due ss)) outs s e f sound.0 refl
-      ∙ (ap (visits d last ks) (regrouped pre ss dpre (map (without last) (map due ss)) t (due t) told)
-      ∙ (all_ticked (n + 1) (pre ++ t ∷ []) ss (dpre ++ due t ∷ []) told
-      (omega (arith, length-append pre (t ∷ []))) (omega (arith, length-append dpre (due t ∷ []))) sound.1
-      ∙ (sym (regrouped pre (map (ticked last) ss) dpre (map due (map (ticked last) ss)) t (due t) (told ++ flat_map (tick_items last) ss))
-      ∙ ap (tour (pre ++ map (ticked last) (s ∷ ss)) (dpre ++ map due (map (ticked last) (s ∷ ss)))) (append_assoc outs (tick_items last s) (flat_map (tick_items last) ss)))))
+      cc (
+        passes (has_come last (due s)) (places (has_come last) (n + 1) (map due ss)) pre ss dpre (map (without last) (map due ss)) outs s e f sound.0 refl,
+        regrouped pre ss dpre (map (without last) (map due ss)) t (due t) told,
+        all_ticked (n + 1) (pre ++ t ∷ []) ss (dpre ++ due t ∷ []) told
+            (omega (arith, length-append pre (t ∷ []))) (omega (arith, length-append dpre (due t ∷ []))) sound.1,
+        regrouped pre (map (ticked last) ss) dpre (map due (map (ticked last) ss)) t (due t) (told ++ flat_map (tick_items last) ss),
+        append_assoc outs (tick_items last s) (flat_map (tick_items last) ss),
+      )
 
 -- the places that have come are places of the list, and no more of them
 
@@ -100,20 +89,20 @@ range_by : {A : Type 0} (p : A → Bool) (n : ℕ) (xs : List A) (b : Bool) (j :
     → j < length (if b then n ∷ places p (n + 1) xs else places p (n + 1) xs)
     → get_or (if b then n ∷ places p (n + 1) xs else places p (n + 1) xs) j 0 < n + suc (length xs)
 range_by p n xs true zero rec h = omega arith
-range_by p n xs true (suc j) rec h = let r = rec j (omega arith) in omega arith
-range_by p n xs false j rec h = let r = rec j h in omega arith
+range_by p n xs true (suc j) rec h = omega arith
+range_by p n xs false j rec h = omega arith
 
 pub in_range : {A : Type 0} (p : A → Bool) (n : ℕ) (xs : List A) (j : ℕ) → j < length (places p n xs) → get_or (places p n xs) j 0 < n + length xs
 in_range p n [] j h = absurd (omega arith)
 in_range p n (x ∷ xs) j h = range_by p n xs (p x) j (in_range p (n + 1) xs) h
 
-more_by : (n : ℕ) (ks : List ℕ) (b : Bool) (m : ℕ) → length ks ≤ m → length (if b then n ∷ ks else ks) ≤ suc m
-more_by n ks true m h = omega arith
-more_by n ks false m h = omega arith
+more_by : (n : ℕ) (ks : List ℕ) (b : Bool) {m : ℕ} → length ks ≤ m → length (if b then n ∷ ks else ks) ≤ suc m
+more_by n ks true h = omega arith
+more_by n ks false h = omega arith
 
 pub no_more : {A : Type 0} (p : A → Bool) (n : ℕ) (xs : List A) → length (places p n xs) ≤ length xs
 no_more p n [] = omega arith
-no_more p n (x ∷ xs) = more_by n (places p (n + 1) xs) (p x) (length xs) (no_more p (n + 1) xs)
+no_more p n (x ∷ xs) = more_by n (places p (n + 1) xs) (p x) (no_more p (n + 1) xs)
 
 -- a place that isn't among them doesn't pass
 
@@ -121,19 +110,18 @@ no_more p n (x ∷ xs) = more_by n (places p (n + 1) xs) (p x) (length xs) (no_m
 abbrev pub IsAway : ℕ → ℕ → List ℕ → Type 0
 IsAway k i ks = (j : ℕ) → i ≤ j → j < length ks → get_or ks j 0 ≢ k
 
-away_at : {A : Type 0} (p : A → Bool) (x : A) (ks : List ℕ) (n m : ℕ) (b : Bool) → p x ≡ b → n ≡ m → IsAway m 0 (if b then n ∷ ks else ks) → p x ≡ false
-away_at p x ks n m true is same away = absurd (away 0 (omega arith) (omega arith) same)
-away_at p x ks n m false is same away = is
+away_at : {A : Type 0} (p : A → Bool) (x : A) (ks : List ℕ) {n m : ℕ} (b : Bool) → p x ≡ b → n ≡ m → IsAway m 0 (if b then n ∷ ks else ks) → p x ≡ false
+away_at p x ks true is same away = absurd (away 0 (omega arith) (omega arith) same)
+away_at p x ks false is same away = is
 
-away_from : (n m : ℕ) (ks : List ℕ) (b : Bool) → IsAway m 0 (if b then n ∷ ks else ks) → IsAway m 0 ks
-away_from n m ks true away = λ j from to. away (suc j) (omega arith) (omega arith)
-away_from n m ks false away = away
+away_from : (n : ℕ) {m : ℕ} (ks : List ℕ) (b : Bool) → IsAway m 0 (if b then n ∷ ks else ks) → IsAway m 0 ks
+away_from n ks true away = λ j from to. away (suc j) (omega arith) (omega arith)
+away_from n ks false away = away
 
-pub passed_over : {A : Type 0} (p : A → Bool) (xs : List A) (n k m : ℕ) (d : A) → k < length xs → n + k ≡ m → IsAway m 0 (places p n xs) → p (get_or xs k d) ≡ false
+passed_over : {A : Type 0} (p : A → Bool) (xs : List A) (n k m : ℕ) (d : A) → k < length xs → n + k ≡ m → IsAway m 0 (places p n xs) → p (get_or xs k d) ≡ false
 passed_over p [] n k m d h e away = absurd (omega arith)
-passed_over p (x ∷ xs) n zero m d h e away = away_at p x (places p (n + 1) xs) n m (p x) refl (omega arith) away
-passed_over p (x ∷ xs) n (suc k) m d h e away =
-    passed_over p xs (n + 1) k m d (omega arith) (omega arith) (away_from n m (places p (n + 1) xs) (p x) away)
+passed_over p (x ∷ xs) n zero m d h e away = away_at p x (places p (n + 1) xs) _ refl (omega arith) away
+passed_over p (x ∷ xs) n (suc k) m d h e away = passed_over p xs (n + 1) k m d (omega arith) (omega arith) (away_from n (places p (n + 1) xs) (p x) away)
 
 -- nothing is due by this tick, but at places that are still to be visited
 abbrev pub QuietFrom : ℕ → ℕ → List ℕ → List Running → Type 0
@@ -149,68 +137,56 @@ earlier i j k ks at other away m from to = by (cases_eq i m)
 
 quiet_by : (last i k : ℕ) (ks : List ℕ) (ss : List Running) (s : Running) → QuietFrom last i ks ss → get_or ks i 0 ≡ k → k < length ss
     → has_come last (due s) ≡ false → (j : ℕ) (d : Running) → j < length ss → IsAway j (i + 1) ks → (k ≡ j) ⊎ (k ≢ j) → has_come last (due (get_or (set ss k s) j d)) ≡ false
-quiet_by last i k ks ss s quiet at within over j d inside away (inl same) =
-    ap (λ (x : ℕ). has_come last (due (get_or (set ss k s) x d))) (sym same)
-    ∙ (ap (λ (x : Running). has_come last (due x)) (get_or-set_same ss k s d within) ∙ over)
+quiet_by last i k ks ss s quiet at within over j d inside away (inl same) = cc (get_or-set_same ss k s d within)
 quiet_by last i k ks ss s quiet at within over j d inside away (inr other) =
-    ap (λ (x : Running). has_come last (due x)) (get_or-set_other ss k j s d (λ e. other (sym e)))
-    ∙ quiet j d inside (earlier i j k ks at other away)
+    cc (get_or-set_other ss k j s d (λ e. other (sym e)), quiet j d inside (earlier i j k ks at other away))
 
 -- one place more is visited
 pub quiet_more : (last i : ℕ) (ks : List ℕ) (ss ss2 : List Running) (k : ℕ) (s : Running) → QuietFrom last i ks ss → get_or ks i 0 ≡ k
     → k < length ss → ss2 ≡ set ss k s → has_come last (due s) ≡ false → QuietFrom last (i + 1) ks ss2
 quiet_more last i ks ss ss2 k s quiet at within made over =
-    subst (λ (xs : List Running). QuietFrom last (i + 1) ks xs) (sym made)
-    (λ j d inside away. quiet_by last i k ks ss s quiet at within over j d (let l = length-set ss k s in omega arith) away (cases_eq k j))
+    rw made (λ j d inside away. quiet_by last i k ks ss s quiet at within over j d (let l = length-set ss k s in omega arith) away (cases_eq k j))
 
 each_one : (P : Running → Type 0) (ss : List Running) → ((k : ℕ) (d : Running) → k < length ss → P (get_or ss k d)) → AllByRecursion P ss
 each_one P [] at = tt
 each_one P (s ∷ ss) at = (at 0 s (omega arith), each_one P ss (λ k d h. at (suc k) d (omega arith)))
 
 -- when all are visited, nothing is due
-pub quiet_all : (last i : ℕ) (ks : List ℕ) (ss : List Running) → length ks ≤ i → QuietFrom last i ks ss → NoneDue last ss
-quiet_all last i ks ss end quiet =
-    each_one (λ s. has_come last (due s) ≡ false) ss (λ k d h. quiet k d h (λ j from to. absurd (omega arith)))
+pub quiet_all : (last : ℕ) {i : ℕ} (ks : List ℕ) (ss : List Running) → length ks ≤ i → QuietFrom last i ks ss → NoneDue last ss
+quiet_all last ks ss end quiet = each_one (λ s. has_come last (due s) ≡ false) ss (λ k d h. quiet k d h (λ j from to. absurd (omega arith)))
 
 -- before any is visited, what has come is all to be visited
-pub quiet_first : (last : ℕ) (ks : List ℕ) (ss : List Running) → ks ≡ places (has_come last) 0 (map due ss) → QuietFrom last 0 ks ss
-quiet_first last ks ss e = λ k d h away.
-    (ap (has_come last) (sym (get_or-map due ss k d (due d) h))
-    ∙ passed_over (has_come last) (map due ss) 0 k k (due d) (let l = length-map ss due in omega arith) (omega arith)
-    (subst (λ (xs : List ℕ). IsAway k 0 xs) e away))
+pub quiet_first : (last : ℕ) {ks : List ℕ} (ss : List Running) → ks ≡ places (has_come last) 0 (map due ss) → QuietFrom last 0 ks ss
+quiet_first last ss e = λ k d h away. (cc (
+  get_or-map due ss k d (due d) h,
+  passed_over (has_come last) (map due ss) 0 k k (due d) (omega (arith, length-map ss due, length-map ss due)) (omega arith) (rw (← e) away),
+))
 
 -- one place more of the list is visited
 pub visits_more : (d : Running) (last : ℕ) (ks : List ℕ) (i k : ℕ) (ss ss2 : List Running) (ds ds2 : List (Option ℕ)) (outs outs2 : List Out)
     → i < length ks → k ≡ get_or ks i 0 → ss2 ≡ set ss k (ticked last (get_or ss k d)) → ds2 ≡ set ds k (due (ticked last (get_or ss k d)))
-    → outs2 ≡ outs ++ tick_items last (get_or ss k d)
-    → visits d last (drop (i + 1) ks) (tour ss2 ds2 outs2) ≡ visits d last (drop i ks) (tour ss ds outs)
+    → outs2 ≡ outs ++ tick_items last (get_or ss k d) → visits d last (drop (i + 1) ks) (tour ss2 ds2 outs2) ≡ visits d last (drop i ks) (tour ss ds outs)
 unfolding visits visit
 visits_more d last ks i k ss ss2 ds ds2 outs outs2 more at moved kept told =
     let rest : drop i ks ≡ k ∷ drop (i + 1) ks =
-    drop-cons ks i 0 more ∙ (ap (λ j. get_or ks i 0 ∷ drop j ks) (sym (add-one i)) ∙ ap (λ j. j ∷ drop (i + 1) ks) (sym at)) in
+    cc (drop-cons ks i 0 more, add-one i, sym at) in
     let s : Running = get_or ss k d in
     let now : tour ss2 ds2 outs2 ≡ visit d last k (tour ss ds outs) =
-    ap (λ r. tour r ds2 outs2) moved ∙ (ap (λ r. tour (set ss k (ticked last s)) r outs2) kept
-    ∙ ap (tour (set ss k (ticked last s)) (set ds k (due (ticked last s)))) told) in
-    ap (visits d last (drop (i + 1) ks)) now ∙ ap (λ js. visits d last js (tour ss ds outs)) (sym rest)
+    cc in
+    cc
 
 -- when all are visited, all are ticked
-pub visits_done : (idles : Idles) (d : Running) (last : ℕ) (ks : List ℕ) (i : ℕ) (ss ss2 : List Running) (ds ds2 : List (Option ℕ)) (outs outs2 : List Out)
+pub visits_done : (idles : Idles) (d : Running) (last : ℕ) {ks : List ℕ} {i : ℕ} (ss ss2 : List Running) {ds : List (Option ℕ)} (ds2 : List (Option ℕ)) (outs outs2 : List Out)
     → AllByRecursion IsSound ss → length ks ≤ i → ks ≡ places (has_come last) 0 (map due ss) → ds ≡ map (without last) (map due ss)
     → visits d last (drop i ks) (tour ss2 ds2 outs2) ≡ visits d last ks (tour ss ds outs)
     → tour ss2 ds2 outs2 ≡ tour (map (ticked last) ss) (map due (map (ticked last) ss)) (outs ++ flat_map (tick_items last) ss)
 unfolding visits
-visits_done idles d last ks i ss ss2 ds ds2 outs outs2 sound end e f h =
-    sym (ap (λ js. visits d last js (tour ss2 ds2 outs2)) (drop_all i ks end))
-    ∙ (h ∙ (ap (λ js. visits d last js (tour ss ds outs)) e
-    ∙ (ap (λ r. visits d last (places (has_come last) 0 (map due ss)) (tour ss r outs)) f
-    ∙ all_ticked idles d last 0 [] ss [] outs refl refl sound)))
+visits_done idles d last {ks} {i} ss ss2 ds2 outs outs2 sound end e f h = cc (drop_all i ks end, all_ticked idles d last 0 [] ss [] outs refl refl sound)
 
 -- what is ticked stays sound
-pub all_sound : (last : ℕ) (ss : List Running) → last ≤ greatest_tick → ((s : Running) → IsSound s → s.vars.at < moment_bound)
+pub all_sound : {last : ℕ} (ss : List Running) → last ≤ greatest_tick → ((s : Running) → IsSound s → s.vars.at < moment_bound)
     → ((s : Running) (limit eff : ℕ) → eff < moment_bound → IsSound s → IsSound (tick_next limit eff s))
     → AllByRecursion IsSound ss → AllByRecursion IsSound (map (ticked last) ss)
-all_sound last [] early moments law sound = tt
-all_sound last (s ∷ ss) early moments law sound =
-    let at : s.vars.at < moment_bound = moments s sound.0 in
-    (law s (1000 * last) (max (1000 * last) s.vars.at) (omega arith) sound.0, all_sound last ss early moments law sound.1)
+all_sound [] early moments law sound = tt
+all_sound {last} (s ∷ ss) early moments law sound =
+    (law s (1000 * last) (max (1000 * last) s.vars.at) (omega arith) sound.0, all_sound ss early moments law sound.1)

@@ -1,16 +1,15 @@
 -- Names that proofs of this crate cite, passed on from one place. Declares nothing.
-pub use Rattle.std.proofs.Common.{Bool, Err, List, None, Ok, Option, Result, Some, [], ap, append-nil, append_assoc, arith, cond, false, inl, inr, length, length-append, nat_le, nat_lt, refl, suc, sym, take, true, zero, ℕ, ◌%◌, ◌&&◌, ◌*◌, ◌++◌, ◌+◌, ◌-◌, ◌/◌, ◌<◌, ◌==◌, ◌^◌, ◌||◌, ◌∙◌, ◌∷◌, ◌≡◌, ◌≤◌}
+pub use Rattle.std.proofs.Common.{Bool, Err, List, None, Ok, Option, Some, [], ap, append-nil, append_assoc, arith, cond, false, inl, inr, length, length-append, nat_le, nat_lt, refl, suc, sym, take, true, zero, ℕ, ◌%◌, ◌&&◌, ◌*◌, ◌++◌, ◌+◌, ◌-◌, ◌/◌, ◌<◌, ◌==◌, ◌^◌, ◌||◌, ◌∙◌, ◌∷◌, ◌≡◌, ◌≤◌}
 pub use Rattle.std.proofs.lemmas.Bool.{and_parts, cases_lt, leb-true, or_from}
 pub use Rattle.std.proofs.lemmas.Bool.Decides.{nat_tests}
 pub use Rattle.std.specs.Fmt.{decimal}
 pub use Rattle.std.specs.List.{AllByRecursion, list_all, list_any, slice_split}
 pub use Rattle.std.specs.Prelude.{codes, find, is_some, not, slice_index}
 pub use Rattle.std.specs.String.{string_bytes}
-pub use Rattle.bfd_fields.specs.Fields.{is_number, is_printable, line_text, lines_of, number_in, onto_line, split_fields}
-pub use Rattle.bfd_fields.specs.Gives.{◌>>=◌}
+pub use Rattle.bfd_fields.specs.Fields.{is_number, is_printable, line_text, lines_of, number_in, split_fields}
 pub use Rattle.bfd_fields.specs.Spelling.{hex_field, line, spaced}
-pub use Rattle.bfd_fields.specs.declared.fault.LineFault.TheVariants.{FieldCount, NoSuchSession, OutOfRange, SameAddresses, SameDiscr, SameKey, TooMany}
-pub use Rattle.bfd_line.specs.Entries.{cmd_entry, entry_in_line, placed, worded}
+pub use Rattle.bfd_fields.specs.declared.fault.LineFault.TheVariants.{NoSuchSession, OutOfRange, SameAddresses, SameDiscr, SameKey, TooMany}
+pub use Rattle.bfd_line.specs.Entries.{cmd_entry, entry_in_line, placed}
 unfoldable pub use Rattle.bfd_line.specs.Entries.{numbered_of, plain_of, received_of, shown_of}
 pub use Rattle.bfd_line.specs.Ranges.{AreKeys, AreNext, IsAsked, IsEvent, IsHeadRow, IsKey, IsNext, IsPairRow, IsReceived, IsReflector, IsRow, IsSeekRow, IsTailRow}
 pub use Rattle.bfd_line.specs.declared.words.Version.{Version}

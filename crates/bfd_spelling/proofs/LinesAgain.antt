@@ -1,5 +1,5 @@
 -- Table rows and events, written and read again.
-use Rattle.bfd_spelling.proofs.Common.{◌≡◌, ℕ, nat_le, ◌<◌, ◌≤◌, ◌^◌, ◌-◌, Bool, true, false, cond, ◌&&◌, List, [], ◌∷◌, length, Some, Ok, Err, refl, sym, ap, ◌∙◌, arith, nat_tests, codes, decimal, AllByRecursion, leb-true, and_parts, FieldCount, OutOfRange, Version, cmd_entry, entry_in_line, numbered_of, plain_of, received_of, shown_of, number_in, ◌>>=◌, IsAsked, IsEvent, IsKey, IsReceived, hex_field, spaced, address_field, auth_fields, event_fields, is_new_line, key_fields, port_field, verb_fields}
+use Rattle.bfd_spelling.proofs.Common.{◌≡◌, ℕ, nat_le, ◌<◌, ◌≤◌, ◌^◌, ◌-◌, Bool, true, false, cond, ◌&&◌, List, [], ◌∷◌, length, Some, Ok, Err, refl, sym, ap, ◌∙◌, arith, nat_tests, codes, decimal, AllByRecursion, leb-true, and_parts, OutOfRange, Version, cmd_entry, entry_in_line, numbered_of, plain_of, received_of, shown_of, number_in, IsAsked, IsEvent, IsKey, IsReceived, hex_field, spaced, address_field, auth_fields, event_fields, is_new_line, key_fields, port_field, verb_fields}
 use Rattle.bfd_num.specs.Numbers.{moment_bound, greatest_tick}
 use Rattle.hex.specs.Hex.{IsBytes}
 use Rattle.bfd_packet.specs.KeyChain.{digest_size, fits_kind, type_number}
@@ -19,7 +19,7 @@ use Rattle.bfd_line.specs.declared.verbs.Verb.TheVariants as verbs
 use Rattle.bfd_line.specs.declared.words.Place.TheVariants as places
 use Rattle.bfd_line.specs.declared.words.Version.TheVariants.{One, Two}
 use Rattle.bfd_line.specs.Arrivals.{arrival_of, port_in}
-use Rattle.bfd_line.specs.Secrets.{chain_of, fitting, key_of, kind_by, auth_type_of, one_key, secret_of}
+use Rattle.bfd_line.specs.Secrets.{chain_of, key_of, auth_type_of, one_key, secret_of}
 use Rattle.bfd_line.specs.Verbs.{command, fits, command_number, verb_of}
 use Rattle.bfd_spelling.proofs.Numerals.{number_again, number_field, number_short}
 use Rattle.bfd_spelling.proofs.Rereading.{address_again, address_is_field, address_short, bytes_again, hex_is_field, hex_short, payload_again}
@@ -59,11 +59,11 @@ tick_is_field = word (codes "tick") refl
 -- ---- the keys of a session
 
 kind_again : (kind : AuthType) → auth_type_of (decimal (type_number kind)) ≡ Ok kind
-kind_again kinds.Password = ap (λ r. r >>= λ n. Ok (kind_by n)) (number_again 1 5 1 (omega arith) (omega arith) (omega arith))
-kind_again kinds.KeyedMd5 = ap (λ r. r >>= λ n. Ok (kind_by n)) (number_again 1 5 2 (omega arith) (omega arith) (omega arith))
-kind_again kinds.MeticulousMd5 = ap (λ r. r >>= λ n. Ok (kind_by n)) (number_again 1 5 3 (omega arith) (omega arith) (omega arith))
-kind_again kinds.KeyedSha1 = ap (λ r. r >>= λ n. Ok (kind_by n)) (number_again 1 5 4 (omega arith) (omega arith) (omega arith))
-kind_again kinds.MeticulousSha1 = ap (λ r. r >>= λ n. Ok (kind_by n)) (number_again 1 5 5 (omega arith) (omega arith) (omega arith))
+kind_again kinds.Password = cc (number_again 1 5 1 (omega arith) (omega arith) (omega arith))
+kind_again kinds.KeyedMd5 = cc (number_again 1 5 2 (omega arith) (omega arith) (omega arith))
+kind_again kinds.MeticulousMd5 = cc (number_again 1 5 3 (omega arith) (omega arith) (omega arith))
+kind_again kinds.KeyedSha1 = cc (number_again 1 5 4 (omega arith) (omega arith) (omega arith))
+kind_again kinds.MeticulousSha1 = cc (number_again 1 5 5 (omega arith) (omega arith) (omega arith))
 
 kind_small : (kind : AuthType) → type_number kind < 2 ^ 64
 kind_small kinds.Password = omega arith
@@ -75,16 +75,14 @@ most_room kind = omega arith
 
 secret_few : (kind : AuthType) (secret : List ℕ) → fits_kind kind secret ≡ true → length secret ≤ 20
 secret_few kind secret h =
-    let e = and_parts (nat_le 1 (length secret)) (nat_le (length secret) (digest_size kind)) h in
-    let most = leb-true (length secret) (digest_size kind) e.1 in
+    let most = leb-true (length secret) (digest_size kind) (and_parts (nat_le 1 (length secret)) (nat_le (length secret) (digest_size kind)) h).1 in
     let room = most_room kind in omega arith
 
 fit_step : (fits : Bool) (bytes : List ℕ) → fits ≡ true → cond fits (Ok bytes) (Err OutOfRange) ≡ Ok bytes
 fit_step fits bytes h = rw h refl
 
 secret_again : (kind : AuthType) (secret : List ℕ) → IsBytes secret → fits_kind kind secret ≡ true → secret_of kind (hex_field secret) ≡ Ok secret
-secret_again kind secret h fits =
-    ap (λ r. r >>= λ bytes. fitting kind bytes) (bytes_again secret h) ∙ fit_step (fits_kind kind secret) secret fits
+secret_again kind secret h fits = cc (bytes_again secret h, fit_step (fits_kind kind secret) secret fits)
 
 chain_again : (kind : AuthType) (key : Key) → IsKey key → fits_kind kind key.secret ≡ true
     → chain_of (decimal (type_number kind)) (decimal key.id) (hex_field key.secret) ≡ Ok (one_key kind key.id key.secret)
@@ -95,56 +93,55 @@ chain_again kind key h fits = rw (
   secret_again kind key.secret h.bytes fits,
 ) refl
 
-pub auth_fields_fit : (d : ℕ) (kind : AuthType) (key : Key) → d < 2 ^ 32 → IsKey key → AllByRecursion IsField (auth_fields d kind key)
-auth_fields_fit d kind key below h = (
+pub auth_fields_fit : {d : ℕ} (kind : AuthType) {key : Key} → d < 2 ^ 32 → IsKey key → AllByRecursion IsField (auth_fields d kind key)
+auth_fields_fit {d} kind {key} below h = (
   word (codes "auth") refl,
   (
     number_field d (omega arith),
     (
-      number_field (type_number kind) (kind_small kind),
+      number_field _ (kind_small kind),
       (number_field key.id (let k = h.id in omega arith), (hex_is_field key.secret h.bytes, tt)),
     ),
   ),
 )
 
-auth_short : (d : ℕ) (kind : AuthType) (key : Key) → d < 2 ^ 32 → IsKey key → length key.secret ≤ 20 → total (auth_fields d kind key) ≤ 4096
-auth_short d kind key below h few =
+auth_short : {d : ℕ} (kind : AuthType) {key : Key} → d < 2 ^ 32 → IsKey key → length key.secret ≤ 20 → total (auth_fields d kind key) ≤ 4096
+auth_short {d} kind {key} below h few =
     let l1 = number_short d (omega arith) in
-    let l2 = number_short (type_number kind) (kind_small kind) in
+    let l2 = number_short _ (kind_small kind) in
     let l3 = number_short key.id (let k = h.id in omega arith) in
     let l4 = hex_short key.secret (omega arith) in
     omega arith
 
 pub auth_again : (version : Version) (live : Bool) (d : ℕ) (kind : AuthType) (key : Key) → 0 < d → d < 2 ^ 32 → IsKey key → fits_kind kind key.secret ≡ true
     → entry_in_line version places.Table live (spaced (auth_fields d kind key) []) ≡ Ok (entries.Auth d (one_key kind key.id key.secret))
-auth_again version live d kind key some below h fits =
-    entry_again version places.Table live (codes "auth") (decimal d ∷ decimal (type_number kind) ∷ decimal key.id ∷ hex_field key.secret ∷ [])
-    (auth_fields_fit d kind key below h) (auth_short d kind key below h (secret_few kind key.secret fits))
-    ∙ ap (λ r. r >>= λ discr. chain_of (decimal (type_number kind)) (decimal key.id) (hex_field key.secret) >>= λ keys. Ok (entries.Auth discr keys))
-    (number_again 1 4294967295 d some (omega arith) (omega arith))
-    ∙ ap (λ r. r >>= λ keys. Ok (entries.Auth d keys)) (chain_again kind key h fits)
+auth_again version live d kind key some below h fits = cc (
+  entry_again version places.Table live (codes "auth") (decimal d ∷ decimal (type_number kind) ∷ decimal key.id ∷ hex_field key.secret ∷ [])
+      (auth_fields_fit kind below h) (auth_short kind below h (secret_few kind key.secret fits)),
+  number_again 1 4294967295 d some (omega arith) (omega arith),
+  chain_again kind key h fits,
+)
 
-pub key_fields_fit : (d : ℕ) (key : Key) → d < 2 ^ 32 → IsKey key → AllByRecursion IsField (key_fields d key)
-key_fields_fit d key below h = (
+pub key_fields_fit : {d : ℕ} {key : Key} → d < 2 ^ 32 → IsKey key → AllByRecursion IsField (key_fields d key)
+key_fields_fit {d} {key} below h = (
   word (codes "key") refl,
   (number_field d (omega arith), (number_field key.id (let k = h.id in omega arith), (hex_is_field key.secret h.bytes, tt))),
 )
 
-key_short : (d : ℕ) (key : Key) → d < 2 ^ 32 → IsKey key → length key.secret ≤ 20 → total (key_fields d key) ≤ 4096
-key_short d key below h few =
+key_short : {d : ℕ} {key : Key} → d < 2 ^ 32 → IsKey key → length key.secret ≤ 20 → total (key_fields d key) ≤ 4096
+key_short {d} {key} below h few =
     let l1 = number_short d (omega arith) in
     let l2 = number_short key.id (let k = h.id in omega arith) in
     let l3 = hex_short key.secret (omega arith) in
     omega arith
 
 -- a secret that has room in a type has room in the one with the most
-room_step : (some : Bool) (n : ℕ) → n ≤ 20 → (some && nat_le n 20) ≡ some
-room_step true n h = grind (arith, nat_tests)
-room_step false n h = refl
+room_step : (some : Bool) {n : ℕ} → n ≤ 20 → (some && nat_le n 20) ≡ some
+room_step true h = grind (arith, nat_tests)
+room_step false h = refl
 
 widest : (kind : AuthType) (secret : List ℕ) → fits_kind kind secret ≡ true → fits_kind kinds.KeyedSha1 secret ≡ true
-widest kind secret fits =
-    room_step (nat_le 1 (length secret)) (length secret) (secret_few kind secret fits)
+widest kind secret fits = room_step (nat_le 1 (length secret)) (secret_few kind secret fits)
     ∙ (and_parts (nat_le 1 (length secret)) (nat_le (length secret) (digest_size kind)) fits).0
 
 key_read : (kind : AuthType) (key : Key) → IsKey key → fits_kind kind key.secret ≡ true → key_of (decimal key.id) (hex_field key.secret) ≡ Ok key
@@ -156,39 +153,38 @@ key_read kind key h fits = rw (
 
 pub key_again : (live : Bool) (d : ℕ) (kind : AuthType) (key : Key) → 0 < d → d < 2 ^ 32 → IsKey key → fits_kind kind key.secret ≡ true
     → entry_in_line Two places.Table live (spaced (key_fields d key) []) ≡ Ok (entries.Key d key)
-key_again live d kind key some below h fits =
-    entry_again Two places.Table live (codes "key") (decimal d ∷ decimal key.id ∷ hex_field key.secret ∷ [])
-    (key_fields_fit d key below h) (key_short d key below h (secret_few kind key.secret fits))
-    ∙ ap (λ r. r >>= λ discr. key_of (decimal key.id) (hex_field key.secret) >>= λ read. Ok (entries.Key discr read))
-    (number_again 1 4294967295 d some (omega arith) (omega arith))
-    ∙ ap (λ r. r >>= λ read. Ok (entries.Key d read)) (key_read kind key h fits)
+key_again live d kind key some below h fits = cc (
+  entry_again Two places.Table live (codes "key") (decimal d ∷ decimal key.id ∷ hex_field key.secret ∷ [])
+      (key_fields_fit below h) (key_short below h (secret_few kind key.secret fits)),
+  number_again 1 4294967295 d some (omega arith) (omega arith),
+  key_read kind key h fits,
+)
 
 -- ---- an event
 
-arrival_again : (m : ℕ) (a : Arrival) → IsReceived m a
+arrival_again : {m : ℕ} {a : Arrival} → IsReceived m a
     → arrival_of a.port a.iface (address_field a.src) (address_field a.dst) (decimal a.ttl) (hex_field a.payload) ≡ Ok a
 unfolding arrival_of
-arrival_again m a h = rw (
+arrival_again {a} h = rw (
   address_again a.src h.src,
   address_again a.dst h.dst,
   number_again 0 255 a.ttl (omega arith) (let k = h.ttl in omega arith) (let k = h.ttl in omega arith),
   payload_again a.payload h.bytes h.short,
-)
-    (ap (λ s. Ok (record a { sport = s })) (sym h.sport))
+) (ap (λ s. Ok (record a { sport = s })) (sym h.sport))
 
-received_again : (m : ℕ) (a : Arrival) → IsReceived m a
+received_again : {m : ℕ} {a : Arrival} → IsReceived m a
     → received_of (decimal m) (port_field a.port) (decimal a.iface) (address_field a.src ∷ address_field a.dst ∷ decimal a.ttl ∷ hex_field a.payload ∷ [])
     ≡ Ok (entries.Event (events.Rx m a))
 unfolding received_of
-received_again m a h = rw (
+received_again {m} {a} h = rw (
   number_again 0 (moment_bound - 1) m (omega arith) (let k = h.moment_below in omega arith) (let k = h.moment_below in omega arith),
   port_again a.port,
   number_again 0 65535 a.iface (omega arith) (let k = h.iface in omega arith) (let k = h.iface in omega arith),
-  arrival_again m a h,
+  arrival_again h,
 ) refl
 
-rx_is_fields : (m : ℕ) (a : Arrival) → IsReceived m a → AllByRecursion IsField (event_fields (events.Rx m a))
-rx_is_fields m a h = (
+rx_is_fields : {m : ℕ} {a : Arrival} → IsReceived m a → AllByRecursion IsField (event_fields (events.Rx m a))
+rx_is_fields {m} {a} h = (
   rx_is_field,
   (
     number_field m (let k = h.moment_below in omega arith),
@@ -202,8 +198,8 @@ rx_is_fields m a h = (
   ),
 )
 
-rx_short : (m : ℕ) (a : Arrival) → IsReceived m a → total (event_fields (events.Rx m a)) ≤ 4096
-rx_short m a h =
+rx_short : {m : ℕ} {a : Arrival} → IsReceived m a → total (event_fields (events.Rx m a)) ≤ 4096
+rx_short {m} {a} h =
     let l1 = number_short m (let k = h.moment_below in omega arith) in
     let l2 = port_short a.port in
     let l3 = number_short a.iface (let k = h.iface in omega arith) in
@@ -213,8 +209,8 @@ rx_short m a h =
     let l7 = hex_short a.payload h.short in
     omega arith
 
-tick_short : (tick : ℕ) → tick ≤ greatest_tick → total (event_fields (events.Tick tick)) ≤ 4096
-tick_short tick h = let l = number_short tick (omega arith) in omega arith
+tick_short : {tick : ℕ} → tick ≤ greatest_tick → total (event_fields (events.Tick tick)) ≤ 4096
+tick_short {tick} h = let l = number_short tick (omega arith) in omega arith
 
 -- ---- a command
 
@@ -241,53 +237,50 @@ verb_short (commands.EchoEvery n) h = let l = number_short n h in omega arith
 verb_short (commands.Key n) h = let l = number_short n h in omega arith
 verb_short cmd h = omega arith
 
-moment_again : (m d : ℕ) → IsAsked m d → number_in 0 (moment_bound - 1) (decimal m) ≡ Ok m
-moment_again m d h =
+moment_again : {m d : ℕ} → IsAsked m d → number_in 0 (moment_bound - 1) (decimal m) ≡ Ok m
+moment_again {m} h =
     number_again 0 (moment_bound - 1) m (omega arith) (let k = h.moment_below in omega arith) (let k = h.moment_below in omega arith)
 
-asked_again : (m d : ℕ) → IsAsked m d → number_in 1 4294967295 (decimal d) ≡ Ok d
-asked_again m d h =
+asked_again : {m d : ℕ} → IsAsked m d → number_in 1 4294967295 (decimal d) ≡ Ok d
+asked_again {d} h =
     number_again 1 4294967295 d h.some_discr (let k = h.discr_below in omega arith) (let k = h.discr_below in omega arith)
 
-plain_again : (version : Version) (m d : ℕ) (field : List ℕ) (verb : Verb) → IsAsked m d → verb_of version field ≡ Some verb
+plain_again : (version : Version) {m d : ℕ} (field : List ℕ) (verb : Verb) → IsAsked m d → verb_of version field ≡ Some verb
     → plain_of version (decimal m) (decimal d) field ≡ Ok (entries.Event (events.Cmd m d (command verb 0)))
 unfolding plain_of
-plain_again version m d field verb h e = rw (moment_again m d h, asked_again m d h, e) refl
+plain_again version field verb h e = rw (moment_again h, asked_again h, e) refl
 
-numbered_again : (version : Version) (m d n : ℕ) (field : List ℕ) (verb : Verb) → IsAsked m d → n < 2 ^ 64 → verb_of version field ≡ Some verb
+numbered_again : (version : Version) {m d n : ℕ} (field : List ℕ) (verb : Verb) → IsAsked m d → n < 2 ^ 64 → verb_of version field ≡ Some verb
     → numbered_of version (decimal m) (decimal d) field (decimal n) ≡ Ok (entries.Event (events.Cmd m d (command verb n)))
 unfolding numbered_of
-numbered_again version m d n field verb h below e =
-    rw (moment_again m d h, asked_again m d h, e, number_again 0 (2 ^ 64 - 1) n (omega arith) (omega arith) below) refl
+numbered_again version {n} field verb h below e = rw (moment_again h, asked_again h, e, number_again 0 (2 ^ 64 - 1) n (omega arith) (omega arith) below) refl
 
 -- the key command is of version 2
 key_verb : (version : Version) → Speaks version true → verb_of version (codes "key") ≡ Some verbs.Key
 key_verb One h = cc
 key_verb Two h = refl
 
-command_again : (version : Version) (m d : ℕ) (cmd : Cmd) → IsAsked m d → command_number cmd < 2 ^ 64 → Speaks version (is_new_line (events.Cmd m d cmd))
+command_again : (version : Version) {m d : ℕ} (cmd : Cmd) → IsAsked m d → command_number cmd < 2 ^ 64 → Speaks version (is_new_line (events.Cmd m d cmd))
     → cmd_entry version (decimal m ∷ decimal d ∷ verb_fields cmd) ≡ Ok (entries.Event (events.Cmd m d cmd))
-command_again version m d commands.Disable h n new = plain_again version m d (codes "disable") verbs.Disable h refl
-command_again version m d commands.Enable h n new = plain_again version m d (codes "enable") verbs.Enable h refl
-command_again version m d commands.Reset h n new = plain_again version m d (codes "reset") verbs.Reset h refl
-command_again version m d (commands.Path n) h below new = numbered_again version m d n (codes "path") verbs.Path h below refl
-command_again version m d (commands.Tx n) h below new = numbered_again version m d n (codes "tx") verbs.Tx h below refl
-command_again version m d (commands.Rx n) h below new = numbered_again version m d n (codes "rx") verbs.Rx h below refl
-command_again version m d (commands.Mult n) h below new = numbered_again version m d n (codes "mult") verbs.Mult h below refl
-command_again version m d (commands.Demand n) h below new = numbered_again version m d n (codes "demand") verbs.Demand h below refl
-command_again version m d (commands.EchoEvery n) h below new = numbered_again version m d n (codes "echo") verbs.Echo h below refl
-command_again version m d (commands.Key n) h below new =
-    ap (λ o. cond (fits o true) (numbered_of version (decimal m) (decimal d) (codes "key") (decimal n)) (Err FieldCount)) (key_verb version new)
-    ∙ numbered_again version m d n (codes "key") verbs.Key h below (key_verb version new)
+command_again version commands.Disable h n new = plain_again version (codes "disable") verbs.Disable h refl
+command_again version commands.Enable h n new = plain_again version (codes "enable") verbs.Enable h refl
+command_again version commands.Reset h n new = plain_again version (codes "reset") verbs.Reset h refl
+command_again version (commands.Path n) h below new = numbered_again version (codes "path") verbs.Path h below refl
+command_again version (commands.Tx n) h below new = numbered_again version (codes "tx") verbs.Tx h below refl
+command_again version (commands.Rx n) h below new = numbered_again version (codes "rx") verbs.Rx h below refl
+command_again version (commands.Mult n) h below new = numbered_again version (codes "mult") verbs.Mult h below refl
+command_again version (commands.Demand n) h below new = numbered_again version (codes "demand") verbs.Demand h below refl
+command_again version (commands.EchoEvery n) h below new = numbered_again version (codes "echo") verbs.Echo h below refl
+command_again version (commands.Key n) h below new = cc (key_verb version new, numbered_again version (codes "key") _ h below (key_verb version new))
 
-cmd_is_fields : (m d : ℕ) (cmd : Cmd) → IsAsked m d → command_number cmd < 2 ^ 64 → AllByRecursion IsField (event_fields (events.Cmd m d cmd))
-cmd_is_fields m d cmd h below = (
+cmd_is_fields : {m d : ℕ} (cmd : Cmd) → IsAsked m d → command_number cmd < 2 ^ 64 → AllByRecursion IsField (event_fields (events.Cmd m d cmd))
+cmd_is_fields {m} {d} cmd h below = (
   word (codes "cmd") refl,
   (number_field m (let k = h.moment_below in omega arith), (number_field d (let k = h.discr_below in omega arith), verb_fits cmd below)),
 )
 
-cmd_short : (m d : ℕ) (cmd : Cmd) → IsAsked m d → command_number cmd < 2 ^ 64 → total (event_fields (events.Cmd m d cmd)) ≤ 4096
-cmd_short m d cmd h below =
+cmd_short : {m d : ℕ} (cmd : Cmd) → IsAsked m d → command_number cmd < 2 ^ 64 → total (event_fields (events.Cmd m d cmd)) ≤ 4096
+cmd_short {m} {d} cmd h below =
     let l1 = number_short m (let k = h.moment_below in omega arith) in
     let l2 = number_short d (let k = h.discr_below in omega arith) in
     let l3 = verb_short cmd below in
@@ -295,18 +288,18 @@ cmd_short m d cmd h below =
 
 -- ---- a question
 
-shown_again : (m d : ℕ) → IsAsked m d → shown_of (decimal m) (decimal d) ≡ Ok (entries.Event (events.Show m d))
+shown_again : {m d : ℕ} → IsAsked m d → shown_of (decimal m) (decimal d) ≡ Ok (entries.Event (events.Show m d))
 unfolding shown_of
-shown_again m d h = rw (moment_again m d h, asked_again m d h) refl
+shown_again h = rw (moment_again h, asked_again h) refl
 
-show_is_fields : (m d : ℕ) → IsAsked m d → AllByRecursion IsField (event_fields (events.Show m d))
-show_is_fields m d h = (
+show_is_fields : {m d : ℕ} → IsAsked m d → AllByRecursion IsField (event_fields (events.Show m d))
+show_is_fields {m} {d} h = (
   word (codes "show") refl,
   (number_field m (let k = h.moment_below in omega arith), (number_field d (let k = h.discr_below in omega arith), tt)),
 )
 
-show_short : (m d : ℕ) → IsAsked m d → total (event_fields (events.Show m d)) ≤ 4096
-show_short m d h =
+show_short : {m d : ℕ} → IsAsked m d → total (event_fields (events.Show m d)) ≤ 4096
+show_short {m} {d} h =
     let l1 = number_short m (let k = h.moment_below in omega arith) in
     let l2 = number_short d (let k = h.discr_below in omega arith) in
     omega arith
@@ -314,21 +307,20 @@ show_short m d h =
 -- ---- any event
 
 pub event_fields_fit : (event : Line) → IsEvent event → AllByRecursion IsField (event_fields event)
-event_fields_fit (events.Rx m a) h = rx_is_fields m a h
+event_fields_fit (events.Rx m a) h = rx_is_fields h
 event_fields_fit (events.Tick tick) h = (tick_is_field, (number_field tick (omega arith), tt))
-event_fields_fit (events.Cmd m d cmd) h = cmd_is_fields m d cmd h.0 h.1
-event_fields_fit (events.Show m d) h = show_is_fields m d h
+event_fields_fit (events.Cmd m d cmd) h = cmd_is_fields cmd h.0 h.1
+event_fields_fit (events.Show m d) h = show_is_fields h
 
 pub event_again : (version : Version) (event : Line) → IsEvent event → Speaks version (is_new_line event)
     → entry_in_line version places.Events false (spaced (event_fields event) []) ≡ Ok (entries.Event event)
 event_again version (events.Rx m a) h new =
     entry_again version places.Events false (codes "rx") (decimal m ∷ port_field a.port ∷ decimal a.iface ∷ address_field a.src ∷ address_field a.dst ∷ decimal a.ttl ∷ hex_field a.payload ∷ [])
-    (rx_is_fields m a h) (rx_short m a h) ∙ received_again m a h
+    (rx_is_fields h) (rx_short h) ∙ received_again h
 event_again version (events.Tick tick) h new =
-    entry_again version places.Events false (codes "tick") (decimal tick ∷ []) (event_fields_fit (events.Tick tick) h) (tick_short tick h)
-    ∙ ap (λ r. r >>= λ t. Ok (entries.Event (events.Tick t))) (number_again 0 greatest_tick tick (omega arith) h (omega arith))
+    cc (entry_again version places.Events false (codes "tick") (decimal tick ∷ []) (event_fields_fit (events.Tick tick) h) (tick_short h), number_again 0 _ tick (omega arith) h (omega arith))
 event_again version (events.Cmd m d cmd) h new =
-    entry_again version places.Events false (codes "cmd") (decimal m ∷ decimal d ∷ verb_fields cmd) (cmd_is_fields m d cmd h.0 h.1) (cmd_short m d cmd h.0 h.1)
-    ∙ command_again version m d cmd h.0 h.1 new
+    entry_again version places.Events false (codes "cmd") (decimal m ∷ decimal d ∷ verb_fields cmd) (cmd_is_fields cmd h.0 h.1) (cmd_short cmd h.0 h.1)
+    ∙ command_again version cmd h.0 h.1 new
 event_again version (events.Show m d) h new =
-    entry_again version places.Events false (codes "show") (decimal m ∷ decimal d ∷ []) (show_is_fields m d h) (show_short m d h) ∙ shown_again m d h
+    entry_again version places.Events false (codes "show") (decimal m ∷ decimal d ∷ []) (show_is_fields h) (show_short h) ∙ shown_again h

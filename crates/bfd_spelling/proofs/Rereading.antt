@@ -1,13 +1,13 @@
 -- Addresses and bytes, written and read again.
-use Rattle.bfd_spelling.proofs.Common.{◌≡◌, ℕ, ◌+◌, ◌*◌, ◌/◌, ◌%◌, ◌<◌, ◌≤◌, ◌^◌, ◌==◌, Bool, true, false, cond, List, [], ◌∷◌, ◌++◌, length, Ok, Err, refl, sym, ap, ◌∙◌, arith, suc, zero, append-nil, length-append, nat_tests, slice_index, codes, decimal, list_all, slice_split, and_parts, hex_field, address_field, dotted_field, each_more}
+use Rattle.bfd_spelling.proofs.Common.{◌≡◌, ℕ, ◌+◌, ◌*◌, ◌/◌, ◌%◌, ◌<◌, ◌≤◌, ◌^◌, ◌==◌, Bool, true, false, cond, List, [], ◌∷◌, ◌++◌, length, Ok, Err, refl, ap, arith, suc, zero, append-nil, length-append, nat_tests, slice_index, codes, decimal, list_all, slice_split, and_parts, hex_field, address_field, dotted_field, each_more}
 use Rattle.std.proofs.Math.Nat.{mod-lt}
 use Rattle.std.proofs.Math.Seq.{take_all}
 use Rattle.std.specs.Int.{byte_at, bytes_high_first}
 use Rattle.std.specs.Str.{bytes_eq}
 use Rattle.std.proofs.Math.Bool.{and-false}
-use Rattle.byteorder.specs.Endian.{big_bytes, big_number}
+use Rattle.byteorder.specs.Endian.{big_bytes}
 use Rattle.byteorder.specs.Numbers.{big_number-reads_back, length-bytes_high_first}
-use Rattle.hex.specs.Hex.{IsBytes, decode_pairs, encode_lower, encode_with, lower_digits}
+use Rattle.hex.specs.Hex.{IsBytes, decode_pairs, encode_with, lower_digits}
 use Rattle.hex.specs.declared.error.FromHexError.TheVariants.{OddLength, InvalidStringLength}
 use Rattle.hex.proofs.HexLemmas.{decode_of-encode_lower, decode_sized-encode_lower, length-encode_with}
 use Rattle.bfd_packet.specs.declared.arrival.Addr.{Addr}
@@ -19,23 +19,18 @@ use Rattle.bfd_spelling.proofs.Splitting.{split_front, split_last}
 
 -- ---- four numbers with dots
 
-octet_again : (n : ℕ) → n < 256 → octet_of (decimal n) ≡ Ok n
-octet_again n h = ap part_of (number_again 0 255 n (omega arith) (omega arith) (omega arith))
+octet_again : {n : ℕ} → n < 256 → octet_of (decimal n) ≡ Ok n
+octet_again {n} h = ap part_of (number_again 0 255 n (omega arith) (omega arith) (omega arith))
 
-quad_again : (a b c d : ℕ) → a < 256 → b < 256 → c < 256 → d < 256
+quad_again : {a b c d : ℕ} → a < 256 → b < 256 → c < 256 → d < 256
     → quad_of (decimal a) (decimal b) (decimal c) (decimal d) ≡ Ok (V4 (((a * 256 + b) * 256 + c) * 256 + d))
 unfolding quad_of
-quad_again a b c d ha hb hc hd = rw (octet_again a ha, octet_again b hb, octet_again c hc, octet_again d hd) refl
+quad_again ha hb hc hd = rw (octet_again ha, octet_again hb, octet_again hc, octet_again hd) refl
 
-parts_again : (a b c d : ℕ) → a < 256 → b < 256 → c < 256 → d < 256
+parts_again : {a b c d : ℕ} → a < 256 → b < 256 → c < 256 → d < 256
     → slice_split (λ x. x == 46) (dotted_field a b c d) ≡ decimal a ∷ decimal b ∷ decimal c ∷ decimal d ∷ []
-parts_again a b c d ha hb hc hd =
-    split_front 46 (decimal a) (decimal b ++ (46 ∷ (decimal c ++ (46 ∷ decimal d)))) (number_dotless a (omega arith)) refl
-    ∙ ap (λ t. decimal a ∷ t)
-    (split_front 46 (decimal b) (decimal c ++ (46 ∷ decimal d)) (number_dotless b (omega arith)) refl
-    ∙ ap (λ t. decimal b ∷ t)
-    (split_front 46 (decimal c) (decimal d) (number_dotless c (omega arith)) refl
-    ∙ ap (λ t. decimal c ∷ t) (split_last 46 (decimal d) (number_dotless d (omega arith)))))
+parts_again {a} {b} {c} {d} ha hb hc hd =
+    cc (split_front 46 (decimal a) (decimal b ++ (46 ∷ (decimal c ++ (46 ∷ decimal d)))) (number_dotless a (omega arith)) refl, split_front 46 (decimal b) (decimal c ++ (46 ∷ decimal d)) (number_dotless b (omega arith)) refl, split_front 46 (decimal c) (decimal d) (number_dotless c (omega arith)) refl, split_last 46 (decimal d) (number_dotless d (omega arith)))
 
 dot_visible : IsVisible 46
 dot_visible = record { above = omega arith; below = omega arith }
@@ -52,10 +47,10 @@ dotted_is_field a b c d ha hb hc hd =
 
 dotted_short : (a b c d : ℕ) → a < 256 → b < 256 → c < 256 → d < 256 → length (dotted_field a b c d) ≤ 15
 dotted_short a b c d ha hb hc hd =
-    let la = octet_short a ha in
-    let lb = octet_short b hb in
-    let lc = octet_short c hc in
-    let ld = octet_short d hd in
+    let la = octet_short ha in
+    let lb = octet_short hb in
+    let lc = octet_short hc in
+    let ld = octet_short hd in
     let e1 = length-append (decimal a) (46 ∷ (decimal b ++ (46 ∷ (decimal c ++ (46 ∷ decimal d))))) in
     let e2 = length-append (decimal b) (46 ∷ (decimal c ++ (46 ∷ decimal d))) in
     let e3 = length-append (decimal c) (46 ∷ decimal d) in
@@ -70,8 +65,7 @@ by_length false field = refl
 not_hex : (field : List ℕ) → length field ≤ 15 → address_of field ≡ dotted_of (slice_split (λ x. x == 46) field)
 not_hex field few =
     let short : (length field / 2 == 16) ≡ false = grind (arith, nat_tests) in
-    ap (λ b. address_by (cond (length field % 2 == 1) (Err OddLength) (cond b (decode_pairs 0 field) (Err InvalidStringLength))) field) short
-    ∙ by_length (length field % 2 == 1) field
+    cc (by_length (length field % 2 == 1) field)
 
 -- ---- hexadecimal digits
 
@@ -93,7 +87,7 @@ encoded_field : (bytes : List ℕ) → IsBytes bytes → IsField (encode_with lo
 unfolding encode_with
 encoded_field [] h = tt
 encoded_field (b ∷ bytes) h =
-    let low : b < 256 = h 0 in
+    let low = h 0 in
     (digit_seen lower_digits refl (b / 16) (omega arith), (digit_seen lower_digits refl (b % 16) (omega arith), encoded_field bytes (λ i. h (suc i))))
 
 hex_visible : IsVisible 45
@@ -120,8 +114,7 @@ bytes_again (b ∷ bytes) h = rw (no_dash b bytes, some_digits b bytes, decode_o
 
 pub payload_again : (bytes : List ℕ) → IsBytes bytes → length bytes ≤ 256 → payload_of (hex_field bytes) ≡ Ok bytes
 payload_again [] h few = refl
-payload_again (b ∷ bytes) h few =
-    rw (no_dash b bytes, some_digits b bytes, decode_of-encode_lower (b ∷ bytes) h) (ap Ok (take_all 256 (b ∷ bytes) few))
+payload_again (b ∷ bytes) h few = rw (no_dash b bytes, some_digits b bytes, decode_of-encode_lower (b ∷ bytes) h) (ap Ok (take_all 256 (b ∷ bytes) few))
 
 -- ---- addresses
 
@@ -132,12 +125,9 @@ address_again (V4 n) h =
     let hc : n / 256 % 256 < 256 = omega arith in
     let hd : n % 256 < 256 = omega arith in
     let sum : (((n / 256 / 256 / 256) * 256 + n / 256 / 256 % 256) * 256 + n / 256 % 256) * 256 + n % 256 ≡ n = omega arith in
-    not_hex (dotted_field (n / 256 / 256 / 256) (n / 256 / 256 % 256) (n / 256 % 256) (n % 256)) (dotted_short _ _ _ _ ha hb hc hd)
-    ∙ ap dotted_of (parts_again _ _ _ _ ha hb hc hd) ∙ quad_again _ _ _ _ ha hb hc hd ∙ ap (λ k. Ok (V4 k)) sum
+    cc (not_hex (dotted_field (n / 256 / 256 / 256) (n / 256 / 256 % 256) (n / 256 % 256) (n % 256)) (dotted_short _ _ _ _ ha hb hc hd), parts_again ha hb hc hd, quad_again ha hb hc hd)
 address_again (V6 n) h =
-    let few : n < 256 ^ 16 = omega arith in
-    ap (λ r. address_by r (encode_lower (big_bytes 16 n))) (decode_sized-encode_lower (big_bytes 16 n) 16 (length-bytes_high_first 16 n) (high_bytes 16 n))
-    ∙ ap (λ k. Ok (V6 k)) (ap (big_number 16) (sym (append-nil (big_bytes 16 n))) ∙ big_number-reads_back 16 n [] few)
+    cc (decode_sized-encode_lower (big_bytes 16 n) 16 (length-bytes_high_first 16 n) (high_bytes 16 n), append-nil (big_bytes 16 n), big_number-reads_back 16 n [] (omega arith))
 
 pub address_is_field : (address : Addr) → IsAddress address → IsField (address_field address)
 address_is_field (V4 n) h = dotted_is_field (n / 256 / 256 / 256) (n / 256 / 256 % 256) (n / 256 % 256) (n % 256) (omega arith) (omega arith) (omega arith) (omega arith)

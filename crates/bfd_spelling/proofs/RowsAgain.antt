@@ -1,5 +1,5 @@
 -- Table rows, written and read again.
-use Rattle.bfd_spelling.proofs.Common.{◌≡◌, ℕ, ◌≤◌, Bool, true, false, cond, [], ◌∷◌, length, None, Ok, Err, refl, ap, ◌∙◌, arith, nat_tests, codes, decimal, AllByRecursion, SessionConfig, OutOfRange, Version, entry_in_line, ◌>>=◌, IsHeadRow, IsPairRow, IsReflector, IsRow, IsSeekRow, IsTailRow, spaced, address_field, mode_field, reflector_fields, role_field, row_fields, up_field}
+use Rattle.bfd_spelling.proofs.Common.{◌≡◌, ℕ, ◌≤◌, Bool, true, false, cond, [], ◌∷◌, length, None, Ok, Err, refl, arith, nat_tests, codes, decimal, AllByRecursion, SessionConfig, OutOfRange, Version, entry_in_line, IsHeadRow, IsPairRow, IsReflector, IsRow, IsSeekRow, IsTailRow, spaced, address_field, mode_field, reflector_fields, role_field, row_fields, up_field}
 use Rattle.bfd_rules.specs.Sound.{IsConfig, is_echo_interval}
 use Rattle.bfd_rules.specs.declared.config.Config.{Config}
 use Rattle.bfd_rules.specs.declared.config.Role.{Role}
@@ -14,7 +14,7 @@ use Rattle.bfd_session.specs.declared.event.SessionConfig.TheVariants.{Pair, See
 use Rattle.bfd_session.specs.Step.{IsFit}
 use Rattle.bfd_line.specs.declared.entries.Entry.TheVariants as entries
 use Rattle.bfd_line.specs.declared.words.Place.TheVariants as places
-use Rattle.bfd_line.specs.Pairs.{active_of, config_by, echo_of, ends_of, p2p_row, pair_with, role_of, timing_of}
+use Rattle.bfd_line.specs.Pairs.{active_of, echo_of, ends_of, p2p_row, role_of, timing_of}
 use Rattle.bfd_line.specs.Seamless.{initiator_of, reflecting_of, up_of}
 use Rattle.bfd_line.specs.Trees.{listener_of, sender_of}
 use Rattle.bfd_spelling.proofs.Numerals.{number_again, number_field, number_short}
@@ -65,12 +65,12 @@ p2p_is_field = word (codes "p2p") refl
 
 -- ---- a point-to-point session
 
-ends_again : (c : Config) → IsConfig c → IsPairRow c
+ends_again : {c : Config} → IsConfig c → IsPairRow c
     → ends_of (decimal c.discr) (role_field c.role) (decimal c.iface) (address_field c.local) (address_field c.remote)
     ≡ Ok (record { discr = c.discr; role = c.role; iface = c.iface; local = c.local; remote = c.remote })
 unfolding ends_of
-ends_again c fit row = rw (
-  number_again 1 4294967295 c.discr fit.discr (let k = row.discr in omega arith) (let k = row.discr in omega arith),
+ends_again {c} fit row = rw (
+  number_again 1 4294967295 _ fit.discr (let k = row.discr in omega arith) (let k = row.discr in omega arith),
   role_again c.role,
   number_again 0 65535 c.iface (omega arith) (let k = fit.iface in omega arith) (let k = fit.iface in omega arith),
   address_again c.local row.local,
@@ -81,32 +81,28 @@ echo_step : (fits : Bool) (n : ℕ) → fits ≡ true → cond fits (Ok n) (Err 
 echo_step fits n h = rw h refl
 
 echo_again : (role : Role) (n : ℕ) → is_echo_interval role n ≡ true → n ≤ 60000000 → echo_of role (decimal n) ≡ Ok n
-echo_again role n fits high =
-    ap (λ r. r >>= λ every. cond (is_echo_interval role every) (Ok every) (Err OutOfRange)) (number_again 0 60000000 n (omega arith) high (omega arith))
-    ∙ echo_step (is_echo_interval role n) n fits
+echo_again role n fits high = cc (number_again 0 _ n (omega arith) high (omega arith), echo_step (is_echo_interval role n) n fits)
 
-timing_again : (c : Config) → IsConfig c → IsPairRow c → c.echo ≤ 60000000
+timing_again : {c : Config} → IsConfig c → IsPairRow c → c.echo ≤ 60000000
     → timing_of c.role (mode_field c.active) (decimal c.tx) (decimal c.rx) (decimal c.mult) (decimal c.echo) (decimal c.seed)
     ≡ Ok (record { active = c.active; tx = c.tx; rx = c.rx; mult = c.mult; echo = c.echo; seed = c.seed })
 unfolding timing_of
-timing_again c fit row high = rw (
+timing_again {c} fit row high = rw (
   active_again c.active,
-  number_again 10000 60000000 c.tx fit.tx_least fit.tx_most (let k = fit.tx_most in omega arith),
-  number_again 10000 60000000 c.rx fit.rx_least fit.rx_most (let k = fit.rx_most in omega arith),
-  number_again 1 255 c.mult fit.some_mult (let k = row.mult in omega arith) (let k = row.mult in omega arith),
-  echo_again c.role c.echo fit.echo_range high,
+  number_again _ _ c.tx fit.tx_least fit.tx_most (let k = fit.tx_most in omega arith),
+  number_again _ _ c.rx fit.rx_least fit.rx_most (let k = fit.rx_most in omega arith),
+  number_again 1 255 _ fit.some_mult (let k = row.mult in omega arith) (let k = row.mult in omega arith),
+  echo_again c.role _ fit.echo_range high,
   number_again 0 4294967295 c.seed (omega arith) (let k = row.seed in omega arith) (let k = row.seed in omega arith),
 ) refl
 
-pair_again : (c : Config) → IsConfig c → IsPairRow c → c.echo ≤ 60000000
+pair_again : {c : Config} → IsConfig c → IsPairRow c → c.echo ≤ 60000000
     → p2p_row (decimal c.discr ∷ role_field c.role ∷ decimal c.iface ∷ address_field c.local ∷ address_field c.remote
     ∷ mode_field c.active ∷ decimal c.tx ∷ decimal c.rx ∷ decimal c.mult ∷ decimal c.echo ∷ decimal c.seed ∷ []) ≡ Ok (Pair (record c { keys = None }))
-pair_again c fit row high =
-    ap (λ r. r >>= λ ends. pair_with ends (mode_field c.active ∷ decimal c.tx ∷ decimal c.rx ∷ decimal c.mult ∷ decimal c.echo ∷ decimal c.seed ∷ [])) (ends_again c fit row)
-    ∙ ap (λ r. r >>= λ timing. Ok (config_by (record { discr = c.discr; role = c.role; iface = c.iface; local = c.local; remote = c.remote }) timing)) (timing_again c fit row high)
+pair_again fit row high = cc (ends_again fit row, timing_again fit row high)
 
-row_is_fields : (c : Config) → IsConfig c → IsPairRow c → c.echo ≤ 60000000 → AllByRecursion IsField (row_fields (Pair c))
-row_is_fields c fit row high = (
+row_is_fields : {c : Config} → IsConfig c → IsPairRow c → c.echo ≤ 60000000 → AllByRecursion IsField (row_fields (Pair c))
+row_is_fields {c} fit row high = (
   p2p_is_field,
   (
     number_field c.discr (let k = row.discr in omega arith),
@@ -141,8 +137,8 @@ row_is_fields c fit row high = (
   ),
 )
 
-row_short : (c : Config) → IsConfig c → IsPairRow c → c.echo ≤ 60000000 → total (row_fields (Pair c)) ≤ 4096
-row_short c fit row high =
+row_short : {c : Config} → IsConfig c → IsPairRow c → c.echo ≤ 60000000 → total (row_fields (Pair c)) ≤ 4096
+row_short {c} fit row high =
     let l1 = number_short c.discr (let k = row.discr in omega arith) in
     let l2 = role_short c.role in
     let l3 = number_short c.iface (let k = fit.iface in omega arith) in
@@ -163,25 +159,25 @@ echo_most roles.Multi n h = grind (arith, nat_tests)
 
 -- ---- an initiator, a head and a tail
 
-seek_read : (c : SeekConfig) → IsSeekConfig c → IsSeekRow c
+seek_read : {c : SeekConfig} → IsSeekConfig c → IsSeekRow c
     → initiator_of (decimal c.discr) (decimal c.target) (decimal c.iface) (address_field c.local) (address_field c.remote) (decimal c.tx) (decimal c.mult) (decimal c.seed) ≡ Ok (Seek c)
 unfolding initiator_of
-seek_read c fit row = rw (
-  number_again 1 4294967295 c.discr fit.discr (let k = row.discr in omega arith) (let k = row.discr in omega arith),
-  number_again 1 4294967295 c.target fit.target (let k = row.target in omega arith) (let k = row.target in omega arith),
+seek_read {c} fit row = rw (
+  number_again 1 4294967295 _ fit.discr (let k = row.discr in omega arith) (let k = row.discr in omega arith),
+  number_again 1 4294967295 _ fit.target (let k = row.target in omega arith) (let k = row.target in omega arith),
   number_again 0 65535 c.iface (omega arith) (let k = fit.iface in omega arith) (let k = fit.iface in omega arith),
   address_again c.local row.local,
   address_again c.remote row.remote,
-  number_again 10000 60000000 c.tx fit.tx_least (let k = fit.tx_most in omega arith) (let k = fit.tx_most in omega arith),
-  number_again 1 255 c.mult fit.some_mult (let k = fit.most_mult in omega arith) (let k = fit.most_mult in omega arith),
+  number_again _ 60000000 c.tx fit.tx_least (let k = fit.tx_most in omega arith) (let k = fit.tx_most in omega arith),
+  number_again 1 255 _ fit.some_mult (let k = fit.most_mult in omega arith) (let k = fit.most_mult in omega arith),
   number_again 0 4294967295 c.seed (omega arith) (let k = row.seed in omega arith) (let k = row.seed in omega arith),
 ) refl
 
-seek_fields : (c : SeekConfig) → IsSeekConfig c → IsSeekRow c → AllByRecursion IsField (row_fields (Seek c))
-seek_fields c fit row = (word (codes "sbfd") refl, (number_field c.discr (let k = row.discr in omega arith), (number_field c.target (let k = row.target in omega arith), (number_field c.iface (let k = fit.iface in omega arith), (address_is_field c.local row.local, (address_is_field c.remote row.remote, (number_field c.tx (let k = fit.tx_most in omega arith), (number_field c.mult (let k = fit.most_mult in omega arith), (number_field c.seed (let k = row.seed in omega arith), tt)))))))))
+seek_fields : {c : SeekConfig} → IsSeekConfig c → IsSeekRow c → AllByRecursion IsField (row_fields (Seek c))
+seek_fields {c} fit row = (word (codes "sbfd") refl, (number_field c.discr (let k = row.discr in omega arith), (number_field c.target (let k = row.target in omega arith), (number_field c.iface (let k = fit.iface in omega arith), (address_is_field c.local row.local, (address_is_field c.remote row.remote, (number_field c.tx (let k = fit.tx_most in omega arith), (number_field c.mult (let k = fit.most_mult in omega arith), (number_field c.seed (let k = row.seed in omega arith), tt)))))))))
 
-seek_short : (c : SeekConfig) → IsSeekConfig c → IsSeekRow c → total (row_fields (Seek c)) ≤ 4096
-seek_short c fit row =
+seek_short : {c : SeekConfig} → IsSeekConfig c → IsSeekRow c → total (row_fields (Seek c)) ≤ 4096
+seek_short {c} fit row =
     let l1 = number_short c.discr (let k = row.discr in omega arith) in
     let l2 = number_short c.target (let k = row.target in omega arith) in
     let l3 = number_short c.iface (let k = fit.iface in omega arith) in
@@ -192,24 +188,24 @@ seek_short c fit row =
     let l8 = number_short c.seed (let k = row.seed in omega arith) in
     omega arith
 
-head_read : (c : HeadConfig) → IsHeadConfig c → IsHeadRow c
+head_read : {c : HeadConfig} → IsHeadConfig c → IsHeadRow c
     → sender_of (decimal c.discr) (decimal c.iface) (address_field c.local) (address_field c.group) (decimal c.tx) (decimal c.mult) (decimal c.seed) ≡ Ok (Head c)
 unfolding sender_of
-head_read c fit row = rw (
-  number_again 1 4294967295 c.discr fit.discr (let k = row.discr in omega arith) (let k = row.discr in omega arith),
+head_read {c} fit row = rw (
+  number_again 1 4294967295 _ fit.discr (let k = row.discr in omega arith) (let k = row.discr in omega arith),
   number_again 0 65535 c.iface (omega arith) (let k = fit.iface in omega arith) (let k = fit.iface in omega arith),
   address_again c.local row.local,
   address_again c.group row.group,
-  number_again 10000 60000000 c.tx fit.tx_least (let k = fit.tx_most in omega arith) (let k = fit.tx_most in omega arith),
-  number_again 1 255 c.mult fit.some_mult (let k = fit.most_mult in omega arith) (let k = fit.most_mult in omega arith),
+  number_again _ 60000000 c.tx fit.tx_least (let k = fit.tx_most in omega arith) (let k = fit.tx_most in omega arith),
+  number_again 1 255 _ fit.some_mult (let k = fit.most_mult in omega arith) (let k = fit.most_mult in omega arith),
   number_again 0 4294967295 c.seed (omega arith) (let k = row.seed in omega arith) (let k = row.seed in omega arith),
 ) refl
 
-head_fields : (c : HeadConfig) → IsHeadConfig c → IsHeadRow c → AllByRecursion IsField (row_fields (Head c))
-head_fields c fit row = (word (codes "head") refl, (number_field c.discr (let k = row.discr in omega arith), (number_field c.iface (let k = fit.iface in omega arith), (address_is_field c.local row.local, (address_is_field c.group row.group, (number_field c.tx (let k = fit.tx_most in omega arith), (number_field c.mult (let k = fit.most_mult in omega arith), (number_field c.seed (let k = row.seed in omega arith), tt))))))))
+head_fields : {c : HeadConfig} → IsHeadConfig c → IsHeadRow c → AllByRecursion IsField (row_fields (Head c))
+head_fields {c} fit row = (word (codes "head") refl, (number_field c.discr (let k = row.discr in omega arith), (number_field c.iface (let k = fit.iface in omega arith), (address_is_field c.local row.local, (address_is_field c.group row.group, (number_field c.tx (let k = fit.tx_most in omega arith), (number_field c.mult (let k = fit.most_mult in omega arith), (number_field c.seed (let k = row.seed in omega arith), tt))))))))
 
-head_short : (c : HeadConfig) → IsHeadConfig c → IsHeadRow c → total (row_fields (Head c)) ≤ 4096
-head_short c fit row =
+head_short : {c : HeadConfig} → IsHeadConfig c → IsHeadRow c → total (row_fields (Head c)) ≤ 4096
+head_short {c} fit row =
     let l1 = number_short c.discr (let k = row.discr in omega arith) in
     let l2 = number_short c.iface (let k = fit.iface in omega arith) in
     let l3 = address_short c.local row.local in
@@ -219,22 +215,22 @@ head_short c fit row =
     let l7 = number_short c.seed (let k = row.seed in omega arith) in
     omega arith
 
-tail_read : (c : TailConfig) → IsTailConfig c → IsTailRow c
+tail_read : {c : TailConfig} → IsTailConfig c → IsTailRow c
     → listener_of (decimal c.discr) (decimal c.head) (decimal c.iface) (address_field c.group) (address_field c.source) ≡ Ok (Tail c)
 unfolding listener_of
-tail_read c fit row = rw (
-  number_again 1 4294967295 c.discr fit.discr (let k = row.discr in omega arith) (let k = row.discr in omega arith),
-  number_again 1 4294967295 c.head fit.head (let k = row.head in omega arith) (let k = row.head in omega arith),
+tail_read {c} fit row = rw (
+  number_again 1 4294967295 _ fit.discr (let k = row.discr in omega arith) (let k = row.discr in omega arith),
+  number_again 1 4294967295 _ fit.head (let k = row.head in omega arith) (let k = row.head in omega arith),
   number_again 0 65535 c.iface (omega arith) (let k = fit.iface in omega arith) (let k = fit.iface in omega arith),
   address_again c.group row.group,
   address_again c.source row.source,
 ) refl
 
-tail_fields : (c : TailConfig) → IsTailConfig c → IsTailRow c → AllByRecursion IsField (row_fields (Tail c))
-tail_fields c fit row = (word (codes "tail") refl, (number_field c.discr (let k = row.discr in omega arith), (number_field c.head (let k = row.head in omega arith), (number_field c.iface (let k = fit.iface in omega arith), (address_is_field c.group row.group, (address_is_field c.source row.source, tt))))))
+tail_fields : {c : TailConfig} → IsTailConfig c → IsTailRow c → AllByRecursion IsField (row_fields (Tail c))
+tail_fields {c} fit row = (word (codes "tail") refl, (number_field c.discr (let k = row.discr in omega arith), (number_field c.head (let k = row.head in omega arith), (number_field c.iface (let k = fit.iface in omega arith), (address_is_field c.group row.group, (address_is_field c.source row.source, tt))))))
 
-tail_short : (c : TailConfig) → IsTailConfig c → IsTailRow c → total (row_fields (Tail c)) ≤ 4096
-tail_short c fit row =
+tail_short : {c : TailConfig} → IsTailConfig c → IsTailRow c → total (row_fields (Tail c)) ≤ 4096
+tail_short {c} fit row =
     let l1 = number_short c.discr (let k = row.discr in omega arith) in
     let l2 = number_short c.head (let k = row.head in omega arith) in
     let l3 = number_short c.iface (let k = fit.iface in omega arith) in
@@ -250,57 +246,61 @@ bare (Pair c) = Pair (record c { keys = None })
 bare config = config
 
 pub row_fields_fit : (c : SessionConfig) → IsFit c → IsRow c → AllByRecursion IsField (row_fields c)
-row_fields_fit (Pair c) fit row = row_is_fields c fit row (echo_most c.role c.echo fit.echo_range)
-row_fields_fit (Seek c) fit row = seek_fields c fit row
-row_fields_fit (Head c) fit row = head_fields c fit row
-row_fields_fit (Tail c) fit row = tail_fields c fit row
+row_fields_fit (Pair c) fit row = row_is_fields fit row (echo_most c.role c.echo fit.echo_range)
+row_fields_fit (Seek c) fit row = seek_fields fit row
+row_fields_fit (Head c) fit row = head_fields fit row
+row_fields_fit (Tail c) fit row = tail_fields fit row
 
 -- the row tells of no keys
 pub row_again : (version : Version) (live : Bool) (c : SessionConfig) → IsFit c → IsRow c
     → entry_in_line version places.Table live (spaced (row_fields c) []) ≡ Ok (entries.Row (bare c))
 row_again version live (Pair c) fit row =
     let high = echo_most c.role c.echo fit.echo_range in
-    entry_again version places.Table live (codes "p2p") (decimal c.discr ∷ role_field c.role ∷ decimal c.iface ∷ address_field c.local ∷ address_field c.remote ∷ mode_field c.active ∷ decimal c.tx ∷ decimal c.rx ∷ decimal c.mult ∷ decimal c.echo ∷ decimal c.seed ∷ [])
-    (row_is_fields c fit row high) (row_short c fit row high)
-    ∙ ap (λ r. r >>= λ config. Ok (entries.Row config)) (pair_again c fit row high)
-row_again version live (Seek c) fit row =
-    entry_again version places.Table live (codes "sbfd") (decimal c.discr ∷ decimal c.target ∷ decimal c.iface ∷ address_field c.local ∷ address_field c.remote ∷ decimal c.tx ∷ decimal c.mult ∷ decimal c.seed ∷ [])
-    (seek_fields c fit row) (seek_short c fit row)
-    ∙ ap (λ r. r >>= λ config. Ok (entries.Row config)) (seek_read c fit row)
-row_again version live (Head c) fit row =
-    entry_again version places.Table live (codes "head") (decimal c.discr ∷ decimal c.iface ∷ address_field c.local ∷ address_field c.group ∷ decimal c.tx ∷ decimal c.mult ∷ decimal c.seed ∷ [])
-    (head_fields c fit row) (head_short c fit row)
-    ∙ ap (λ r. r >>= λ config. Ok (entries.Row config)) (head_read c fit row)
-row_again version live (Tail c) fit row =
-    entry_again version places.Table live (codes "tail") (decimal c.discr ∷ decimal c.head ∷ decimal c.iface ∷ address_field c.group ∷ address_field c.source ∷ [])
-    (tail_fields c fit row) (tail_short c fit row)
-    ∙ ap (λ r. r >>= λ config. Ok (entries.Row config)) (tail_read c fit row)
+    cc (
+      entry_again version places.Table live (codes "p2p") (decimal c.discr ∷ role_field c.role ∷ decimal c.iface ∷ address_field c.local ∷ address_field c.remote ∷ mode_field c.active ∷ decimal c.tx ∷ decimal c.rx ∷ decimal c.mult ∷ decimal c.echo ∷ decimal c.seed ∷ [])
+          (row_is_fields fit row high) (row_short fit row high),
+      pair_again fit row high,
+    )
+row_again version live (Seek c) fit row = cc (
+  entry_again version places.Table live (codes "sbfd") (decimal c.discr ∷ decimal c.target ∷ decimal c.iface ∷ address_field c.local ∷ address_field c.remote ∷ decimal c.tx ∷ decimal c.mult ∷ decimal c.seed ∷ [])
+      (seek_fields fit row) (seek_short fit row),
+  seek_read fit row,
+)
+row_again version live (Head c) fit row = cc (
+  entry_again version places.Table live (codes "head") (decimal c.discr ∷ decimal c.iface ∷ address_field c.local ∷ address_field c.group ∷ decimal c.tx ∷ decimal c.mult ∷ decimal c.seed ∷ [])
+      (head_fields fit row) (head_short fit row),
+  head_read fit row,
+)
+row_again version live (Tail c) fit row = cc (
+  entry_again version places.Table live (codes "tail") (decimal c.discr ∷ decimal c.head ∷ decimal c.iface ∷ address_field c.group ∷ address_field c.source ∷ [])
+      (tail_fields fit row) (tail_short fit row),
+  tail_read fit row,
+)
 
 -- ---- a reflector
 
-reflector_read : (r : Reflector) → IsReflector r → reflecting_of (decimal r.discr) (decimal r.rx) (up_field r.up) ≡ Ok r
+reflector_read : {r : Reflector} → IsReflector r → reflecting_of (decimal r.discr) (decimal r.rx) (up_field r.up) ≡ Ok r
 unfolding reflecting_of
-reflector_read r row = rw (
-  number_again 1 4294967295 r.discr row.discr (let k = row.discr_below in omega arith) (let k = row.discr_below in omega arith),
-  number_again 10000 60000000 r.rx row.rx_least row.rx_most (let k = row.rx_most in omega arith),
+reflector_read {r} row = rw (
+  number_again 1 4294967295 _ row.discr (let k = row.discr_below in omega arith) (let k = row.discr_below in omega arith),
+  number_again _ _ r.rx row.rx_least row.rx_most (let k = row.rx_most in omega arith),
   up_again r.up,
 ) refl
 
-pub reflector_fields_fit : (r : Reflector) → IsReflector r → AllByRecursion IsField (reflector_fields r)
-reflector_fields_fit r row = (
+pub reflector_fields_fit : {r : Reflector} → IsReflector r → AllByRecursion IsField (reflector_fields r)
+reflector_fields_fit {r} row = (
   word (codes "reflector") refl,
   (number_field r.discr (let k = row.discr_below in omega arith), (number_field r.rx (let k = row.rx_most in omega arith), (up_is_field r.up, tt))),
 )
 
-reflector_short : (r : Reflector) → IsReflector r → total (reflector_fields r) ≤ 4096
-reflector_short r row =
+reflector_short : {r : Reflector} → IsReflector r → total (reflector_fields r) ≤ 4096
+reflector_short {r} row =
     let l1 = number_short r.discr (let k = row.discr_below in omega arith) in
     let l2 = number_short r.rx (let k = row.rx_most in omega arith) in
     let l3 = up_short r.up in
     omega arith
 
-pub reflector_again : (version : Version) (live : Bool) (r : Reflector) → IsReflector r
+pub reflector_again : (version : Version) (live : Bool) {r : Reflector} → IsReflector r
     → entry_in_line version places.Table live (spaced (reflector_fields r) []) ≡ Ok (entries.Reflect r)
-reflector_again version live r row =
-    entry_again version places.Table live (codes "reflector") (decimal r.discr ∷ decimal r.rx ∷ up_field r.up ∷ []) (reflector_fields_fit r row) (reflector_short r row)
-    ∙ ap (λ read. read >>= λ reflector. Ok (entries.Reflect reflector)) (reflector_read r row)
+reflector_again version live {r} row =
+    cc (entry_again version places.Table live (codes "reflector") (decimal r.discr ∷ decimal r.rx ∷ up_field r.up ∷ []) (reflector_fields_fit row) (reflector_short row), reflector_read row)

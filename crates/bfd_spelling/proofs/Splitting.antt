@@ -1,5 +1,5 @@
 -- Lines of fields, written and split again.
-use Rattle.bfd_spelling.proofs.Common.{◌≡◌, ℕ, ◌+◌, ◌≤◌, ◌==◌, Bool, true, false, List, [], ◌∷◌, ◌++◌, length, Ok, refl, ap, ◌∙◌, arith, nat_lt, append_assoc, append-nil, length-append, nat_tests, list_all, slice_split, AllByRecursion, Version, entry_in_line, placed, worded, split_fields, is_printable, lines_of, onto_line, line_text, ◌>>=◌, spaced, line, each_to}
+use Rattle.bfd_spelling.proofs.Common.{◌≡◌, ℕ, ◌+◌, ◌≤◌, ◌==◌, Bool, true, false, List, [], ◌∷◌, ◌++◌, length, Ok, refl, arith, nat_lt, append_assoc, append-nil, length-append, nat_tests, list_all, slice_split, AllByRecursion, Version, entry_in_line, placed, split_fields, is_printable, lines_of, line_text, spaced, line, each_to}
 use Rattle.bfd_line.specs.declared.words.Place.{Place}
 use Rattle.bfd_line.specs.Words.{word_of}
 use Rattle.bfd_spelling.proofs.Visible.{IsVisible, IsField}
@@ -22,43 +22,40 @@ no_lf : (field : List ℕ) → IsField field → AllByRecursion (λ b. (b == 10)
 no_lf field all = each_to field (λ b h. let low = h.above in grind (arith, nat_tests)) all
 
 -- the fields of spaced fields
-pub fields_again : (field : List ℕ) (fields : List (List ℕ)) → AllByRecursion IsField (field ∷ fields) → split_fields (spaced (field ∷ fields) []) ≡ field ∷ fields
-fields_again field [] all = ap split_fields (append-nil field) ∙ split_last 32 field (no_space field all.0)
-fields_again field (next ∷ fields) all =
-    split_front 32 field (spaced (next ∷ fields) []) (no_space field all.0) refl ∙ ap (λ t. field ∷ t) (fields_again next fields all.1)
+fields_again : (field : List ℕ) (fields : List (List ℕ)) → AllByRecursion IsField (field ∷ fields) → split_fields (spaced (field ∷ fields) []) ≡ field ∷ fields
+fields_again field [] all = cc (append-nil field, split_last 32 field (no_space field all.0))
+fields_again field (next ∷ fields) all = cc (split_front 32 field (spaced (next ∷ fields) []) (no_space field all.0) refl, fields_again next fields all.1)
 
 -- ---- lines
 
-line_front : (front rest first : List ℕ) (lines : List (List ℕ)) → AllByRecursion (λ b. (b == 10) ≡ false) front → lines_of rest ≡ first ∷ lines
+line_front : (front rest : List ℕ) {first : List ℕ} {lines : List (List ℕ)} → AllByRecursion (λ b. (b == 10) ≡ false) front → lines_of rest ≡ first ∷ lines
     → lines_of (front ++ rest) ≡ (front ++ first) ∷ lines
-line_front [] rest first lines all e = e
-line_front (b ∷ front) rest first lines all e = rw (all.0, line_front front rest first lines all.1 e) refl
+line_front [] rest all e = e
+line_front (b ∷ front) rest all e = rw (all.0, line_front front rest all.1 e) refl
 
 spaced_more : (fields : List (List ℕ)) (end rest : List ℕ) → spaced fields end ++ rest ≡ spaced fields (end ++ rest)
 spaced_more [] end rest = refl
 spaced_more (field ∷ []) end rest = append_assoc field end rest
-spaced_more (field ∷ next ∷ fields) end rest =
-    append_assoc field (32 ∷ spaced (next ∷ fields) end) rest ∙ ap (λ t. field ++ (32 ∷ t)) (spaced_more (next ∷ fields) end rest)
+spaced_more (field ∷ next ∷ fields) end rest = cc (append_assoc field (32 ∷ spaced (next ∷ fields) end) rest, spaced_more (next ∷ fields) end rest)
 
 lines_spaced : (fields : List (List ℕ)) (rest : List ℕ) → AllByRecursion IsField fields → lines_of (spaced fields (10 ∷ rest)) ≡ spaced fields [] ∷ lines_of rest
 lines_spaced [] rest all = refl
-lines_spaced (field ∷ []) rest all = line_front field (10 ∷ rest) [] (lines_of rest) (no_lf field all.0) refl
-lines_spaced (field ∷ next ∷ fields) rest all =
-    line_front field (32 ∷ spaced (next ∷ fields) (10 ∷ rest)) (32 ∷ spaced (next ∷ fields) []) (lines_of rest) (no_lf field all.0)
-    (ap (onto_line 32) (lines_spaced (next ∷ fields) rest all.1))
+lines_spaced (field ∷ []) rest all = line_front field (10 ∷ rest) {first = []} (no_lf field all.0) refl
+lines_spaced (field ∷ next ∷ fields) rest all = line_front field (32 ∷ spaced (next ∷ fields) (10 ∷ rest)) (no_lf field all.0)
+    (cc (lines_spaced (next ∷ fields) rest all.1))
 
 -- the first line of a text that begins with a line of fields
 pub lines_again : (fields : List (List ℕ)) (rest : List ℕ) → AllByRecursion IsField fields → lines_of (line fields ++ rest) ≡ spaced fields [] ∷ lines_of rest
-lines_again fields rest all = ap lines_of (spaced_more fields (10 ∷ []) rest) ∙ lines_spaced fields rest all
+lines_again fields rest all = cc (spaced_more fields (10 ∷ []) rest, lines_spaced fields rest all)
 
 -- ---- the tests of a line
 
-visible_prints : (b : ℕ) → IsVisible b → is_printable b ≡ true
-visible_prints b h = let low = h.above in let high = h.below in grind (arith, nat_tests)
+visible_prints : {b : ℕ} → IsVisible b → is_printable b ≡ true
+visible_prints h = let low = h.above in let high = h.below in grind (arith, nat_tests)
 
 prints_front : (front rest : List ℕ) → IsField front → list_all is_printable rest ≡ true → list_all is_printable (front ++ rest) ≡ true
 prints_front [] rest all e = e
-prints_front (b ∷ front) rest all e = rw (visible_prints b all.0, prints_front front rest all.1 e) refl
+prints_front (b ∷ front) rest all e = rw (visible_prints all.0, prints_front front rest all.1 e) refl
 
 line_prints : (fields : List (List ℕ)) → AllByRecursion IsField fields → list_all is_printable (spaced fields []) ≡ true
 line_prints [] all = refl
@@ -86,6 +83,4 @@ text_again fields all few =
 -- what a line of fields says
 pub entry_again : (version : Version) (place : Place) (live : Bool) (field : List ℕ) (fields : List (List ℕ)) → AllByRecursion IsField (field ∷ fields) → total (field ∷ fields) ≤ 4096
     → entry_in_line version place live (spaced (field ∷ fields) []) ≡ placed version place live (word_of version field) fields
-entry_again version place live field fields all few =
-    ap (λ r. r >>= λ text. worded version place live (split_fields text)) (text_again (field ∷ fields) all few)
-    ∙ ap (worded version place live) (fields_again field fields all)
+entry_again version place live field fields all few = cc (text_again (field ∷ fields) all few, fields_again field fields all)

@@ -1,8 +1,6 @@
 -- A client that polls a shard.
-use Rattle.std.proofs.Common.{◌≡◌, ◌++◌, [], ℕ, List, length, drop, sym, ap, ◌∙◌, append-nil}
+use Rattle.std.proofs.Common.{◌≡◌, ◌++◌, [], ℕ, List, length, drop, ◌∙◌, append-nil}
 use Rattle.std.proofs.Math.Seq.{drop-append_seam}
-use Rattle.bfd_turn.specs.Lists.{numbers_of}
-use Rattle.bfd_shard.specs.declared.entry.Entry.{Entry}
 use Rattle.bfd_engine.specs.Engines.{Shards, Knows, IsOf, AllThere}
 use Rattle.bfd_engine.specs.Calls.{seen_at}
 use Rattle.bfd_engine.specs.Reads.{HasRead}
@@ -18,15 +16,14 @@ grown_read k l shard r = grown_turn k l shard r.between [] r.turned
 pub seen_rest : (k l : Knows) (shard : ℕ) → HasRead k l shard → seen_at k shard ++ drop (length (seen_at k shard)) (seen_at l shard) ≡ seen_at l shard
 seen_rest k l shard r =
     let here : seen_at l shard ≡ seen_at k shard ++ r.between = r.turned.here ∙ append-nil (seen_at k shard ++ r.between) in
-    ap (λ (es : List Entry). seen_at k shard ++ drop (length (seen_at k shard)) es) here
-    ∙ (ap (λ (es : List Entry). seen_at k shard ++ es) (drop-append_seam (seen_at k shard) r.between) ∙ sym here)
+    cc (drop-append_seam (seen_at k shard) r.between)
 
 -- an open pass is open after calls of its own
 pub open_grown : (engine : Shards) (k l : Knows) (ns : List ℕ) → HasOpen engine k ns → HasGrown k l → IsOf engine l.1 → AllThere l.1 → HasOpen engine l ns
 open_grown engine k l ns o g of there = record {
   of = of;
   there = there;
-  number = g.number ∙ o.number;
+  number = cc;
   others = o.others;
-  made = λ s h. g.made s ∙ (o.made s h ∙ ap (λ js. numbers_of js ++ ns) (sym (g.kept s)));
+  made = λ s h. cc (g.made s, o.made s h, g.kept s);
 }

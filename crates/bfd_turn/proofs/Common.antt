@@ -17,3 +17,5 @@ pub use lib.ListN.{get_elem?}
 pub use mathlib.Core.Logic.{dite}
 pub use mathlib.Core.Option.{none, some, some-injective, some-ne-none}
 pub use native.Mathlib.Decide.{ℕ_discrete}
+pub use Rattle.bfd_turn.specs.declared.view.Role.{Role}
+pub use Rattle.std.proofs.lemmas.Bool.{false≢true, true_from_ne_false}

@@ -1,55 +1,51 @@
 -- What stays of the rule where a step changes other views.
-use Rattle.bfd_turn.proofs.Common.{◌≡◌, ◌≢◌, ◌⊎◌, ℕ, ◌+◌, ◌*◌, ◌^◌, ◌<◌, ◌≤◌, List, [], ◌∷◌, ◌++◌, set, sym, refl, ap, ◌∙◌, subst, inl, inr, ⊎_elim, arith, Option, Some, None, some, none, dite, ℕ_discrete, get_elem?, State, at_set, set_here, set_else, View, Known, known, known_of, Idle, Holding, Joined, Begins, calls, AllKept, total_taken, Fits, AtHome, Out, Keeps}
+use Rattle.bfd_turn.proofs.Common.{◌≡◌, ◌≢◌, ◌⊎◌, ℕ, ◌+◌, ◌^◌, ◌<◌, ◌≤◌, List, [], ◌∷◌, ◌++◌, set, sym, refl, ap, ◌∙◌, subst, inl, inr, ⊎_elim, arith, Option, Some, None, some, none, dite, ℕ_discrete, get_elem?, State, at_set, set_here, set_else, View, Known, known, known_of, Idle, Holding, Joined, Begins, calls, AllKept, total_taken, Fits, AtHome, Out, Keeps, Role}
 use mathlib.Core.Option as maybe
-use Rattle.bfd_turn.specs.declared.view.Role.{Role}
 use Rattle.bfd_turn.proofs.Beginnings.{begins_through}
 use Rattle.bfd_turn.proofs.Seats.{at_below, at_same}
 
 pub idle_holds_not : (r : Role) → r ≡ Idle → r ≢ Holding
-idle_holds_not r p q = let e : Idle ≡ Holding = sym p ∙ q in absurd cc
+idle_holds_not r p q = absurd cc
 
 pub idle_lives : (r : Role) → r ≡ Idle → r ≢ Joined
-idle_lives r p q = let e : Idle ≡ Joined = sym p ∙ q in absurd cc
+idle_lives r p q = absurd cc
 
-pub holding_lives : (r : Role) → r ≡ Holding → r ≢ Joined
-holding_lives r p q = let e : Holding ≡ Joined = sym p ∙ q in absurd cc
+pub holding_lives : {r : Role} → r ≡ Holding → r ≢ Joined
+holding_lives p q = absurd cc
 
-pub no_place : {X : Type 0} (o : Option X) (i : X) → o ≡ None → o ≡ Some i → ⊥
-no_place o i p q = let e : None ≡ Some i = sym p ∙ q in absurd cc
+pub no_place : {X : Type 0} {o : Option X} {i : X} → o ≡ None → o ≡ Some i → ⊥
+no_place {i} p q = absurd cc
 
-pub one_place : {X : Type 0} (o : Option X) (i j : X) → o ≡ Some i → o ≡ Some j → i ≡ j
-one_place o i j p q = let e : Some i ≡ Some j = sym p ∙ q in cc
+pub one_place : {X : Type 0} {o : Option X} {i j : X} → o ≡ Some i → o ≡ Some j → i ≡ j
+one_place {i} {j} p q = cc
 
 module _ {N B : Type 0} (by : N → ℕ) where
   -- a view that a step does not change
-  pub fits_moved : (h : List N) (lb : B) (now : ℕ) (made : List ℕ) (joined : List (ℕ × List N)) (seat : ℕ → Option ℕ) (i : ℕ) (v : View N B)
-      (h' : List N) (now' : ℕ) (made' : List ℕ) (joined' : List (ℕ × List N)) (seat' : ℕ → Option ℕ)
+  pub fits_moved : {h : List N} {lb : B} {now : ℕ} {made : List ℕ} {joined : List (ℕ × List N)} {seat : ℕ → Option ℕ} {i : ℕ} {v : View N B} {h' : List N} (now' : ℕ) (made' : List ℕ) (joined' : List (ℕ × List N)) (seat' : ℕ → Option ℕ)
       → Fits by h lb now made joined seat i v → Begins h h' → calls by v.number h' ≡ calls by v.number h → now ≤ now' → seat' v.number ≡ seat v.number
       → (v.number ≡ 0 → (made' ≡ made) × (joined' ≡ joined)) → Fits by h' lb now' made' joined' seat' i v
-  fits_moved h lb now made joined seat i v h' now' made' joined' seat' f more same later stays kept = let reached = f.word in record {
+  fits_moved {h} {v} {h'} now' made' joined' seat' f more same later stays kept = record {
     seen = begins_through v.seen h h' f.seen more;
     told = begins_through v.told h h' f.told more;
-    calls_seen = same ∙ f.calls_seen;
-    calls_own = same ∙ f.calls_own;
+    calls_seen = cc;
+    calls_own = cc;
     base = f.base;
     word = omega arith;
-    place = stays ∙ f.place;
+    place = cc;
     first = λ z. ((f.first z).0 ∙ sym (kept z).0, (f.first z).1 ∙ sym (kept z).1);
     others = f.others;
   }
 
   -- what is kept of the joined passes is true of each view's own list, which is the rule's or empty
-  pub kept_of : (h : List N) (lb : B) (now : ℕ) (made : List ℕ) (joined : List (ℕ × List N)) (seat : ℕ → Option ℕ) (i : ℕ) (v : View N B) (notes : List N)
+  pub kept_of : {h : List N} {lb : B} {now : ℕ} {made : List ℕ} {joined : List (ℕ × List N)} {seat : ℕ → Option ℕ} {i : ℕ} {v : View N B} {notes : List N}
       → Fits by h lb now made joined seat i v → AllKept by joined h → notes ≡ h → AllKept by v.joined notes
-  kept_of h lb now made joined seat i v notes f kept is =
-      let all : AllKept by joined notes = subst (λ l. AllKept by joined l) (sym is) kept in
-      dite (ℕ_discrete v.number 0)
-      (λ z. subst (λ js. AllKept by js notes) (sym (f.first z).1) all)
-      (λ ne. subst (λ js. AllKept by js notes) (sym (f.others ne)) (λ k d below. absurd (omega arith)))
+  kept_of {joined} {v} {notes} f kept is =
+      let all : AllKept by joined notes = rw is kept in
+      dite (ℕ_discrete v.number 0) (λ z. rw ((f.first z).1) all) (λ ne. rw (f.others ne) (λ k d below. absurd (omega arith)))
 
 module _ {N B : Type 0} (views : List (View N B)) (i : ℕ) (v w : View N B) (at : get_elem? views i ≡ some v) where
   pub quiet_to : v.role ≢ Holding → (j : ℕ) (u : View N B) → get_elem? views j ≡ some u → u.role ≡ Holding → get_elem? (set views i w) j ≡ some u
-  quiet_to quiet j u e holds = set_else views i j w (λ same. quiet (ap (λ (x : View N B). x.role) (at_same views i v u at (subst (λ k. get_elem? views k ≡ some u) same e)) ∙ holds)) ∙ e
+  quiet_to quiet j u e holds = set_else views i j w (λ same. quiet (cc (at_same views i v u at (subst (λ k. get_elem? views k ≡ some u) same e)))) ∙ e
 
   pub quiet_from : w.role ≢ Holding → (j : ℕ) (u : View N B) → get_elem? (set views i w) j ≡ some u → u.role ≡ Holding → get_elem? views j ≡ some u
   quiet_from quiet j u e holds = ⊎_elim (λ (t : (j ≡ i) × (w ≡ u)). absurd (quiet (ap (λ (x : View N B). x.role) t.1 ∙ holds))) (λ (t : (j ≢ i) × (get_elem? views j ≡ some u)). t.1) (at_set views i j w u e)
@@ -68,7 +64,7 @@ module _ {V N B : Type 0} (notes : V → List N) (base : V → B) (h : List N) (
     home = a.home;
     notes_are = a.notes_are;
     base_is = a.base_is;
-    even = a.even ∙ ap (λ (t : ℕ). 2 * t) (sym sum);
+    even = cc;
     nobody = λ j u e holds. a.nobody j u (from j u e holds) holds;
   }
   place_moves s words views now sum to from (inr o) = inr record {
@@ -78,7 +74,7 @@ module _ {V N B : Type 0} (notes : V → List N) (base : V → B) (h : List N) (
     holds = o.holds;
     seen = o.seen;
     word = o.word;
-    odd = o.odd ∙ ap (λ (t : ℕ). 2 * t + 1) (sym sum);
+    odd = cc;
     away = o.away;
     alone = λ j u e holds. o.alone j u (from j u e holds) holds;
   }
@@ -102,7 +98,7 @@ module _ {V N B : Type 0} (notes : V → List N) (by : N → ℕ) (base : V → 
     place = place;
     live = λ j u e alive. ⊎_elim
         (λ (t : (j ≡ i) × (w ≡ u)). subst (λ (x : ℕ × View N B). Fits by k.history k.lock_base now k.made k.joined k.seat x.0 x.1) (λ z. (sym t.0 z, t.1 z)) fits)
-        (λ (t : (j ≢ i) × (get_elem? s.views j ≡ some u)). fits_moved by k.history k.lock_base k.now k.made k.joined k.seat j u k.history now k.made k.joined k.seat (k.live j u t.1 alive) ([], begins_all) refl later refl (λ _. (refl, refl)))
+        (λ (t : (j ≢ i) × (get_elem? s.views j ≡ some u)). fits_moved by now k.made k.joined k.seat (k.live j u t.1 alive) ([], begins_all) refl later refl (λ _. (refl, refl)))
         (at_set s.views i j w u e);
     spent = λ j u e joined. ⊎_elim
         (λ (t : (j ≡ i) × (w ≡ u)). absurd (lives (ap (λ (x : View N B). x.role) t.1 ∙ joined)))
@@ -114,7 +110,7 @@ module _ {V N B : Type 0} (notes : V → List N) (by : N → ℕ) (base : V → 
           w,
           set_here s.views i w (at_below s.views i v at),
           lives,
-          whole (ap (λ (x : View N B). x.seen) (at_same s.views i v k.whole.1 at (subst (λ j. get_elem? s.views j ≡ some k.whole.1) same k.whole.2)) ∙ k.whole.4),
+          whole (cc (at_same s.views i v k.whole.1 at (subst (λ j. get_elem? s.views j ≡ some k.whole.1) same k.whole.2))),
         ))
         (λ other. (k.whole.0, k.whole.1, set_else s.views i k.whole.0 w other ∙ k.whole.2, k.whole.3, k.whole.4));
     unmade = k.unmade;
@@ -127,9 +123,9 @@ module _ {V N B : Type 0} (notes : V → List N) (by : N → ℕ) (base : V → 
 
 module _ {N B : Type 0} where
   -- the seat that a pass keeps is idle
-  pub sits : (views : List (View N B)) (m : View N B) (number : ℕ) → (v : View N B) × (views ≡ v ∷ []) × (v.role ≡ Idle) × (number ≡ v.number) → views ≡ m ∷ [] → m.role ≡ Idle
-  sits views m number inv e = let both : inv.0 ∷ [] ≡ m ∷ [] = sym inv.1 ∙ e in let same : inv.0 ≡ m = cc in sym (ap (λ (x : View N B). x.role) same) ∙ inv.2
+  pub sits : {views : List (View N B)} {m : View N B} {number : ℕ} → (v : View N B) × (views ≡ v ∷ []) × (v.role ≡ Idle) × (number ≡ v.number) → views ≡ m ∷ [] → m.role ≡ Idle
+  sits {m} inv e = cc
 
   -- what clauses see of a pass is what they see of its seat
-  pub sits_known : (views : List (View N B)) (m : View N B) (seen : Known N B) → views ≡ m ∷ [] → known_of views ≡ seen → known m ≡ seen
-  sits_known views m seen e is = sym (ap known_of e) ∙ is
+  pub sits_known : {views : List (View N B)} {m : View N B} {seen : Known N B} → views ≡ m ∷ [] → known_of views ≡ seen → known m ≡ seen
+  sits_known e is = cc

@@ -1,5 +1,5 @@
 -- One output, and one event, more.
-use Rattle.std.proofs.Common.{◌≡◌, ℕ, ◌+◌, refl, sym, ◌∙◌, ap, List, [], ◌∷◌, ◌++◌, length, map, append_assoc, append-nil, arith}
+use Rattle.std.proofs.Common.{◌≡◌, ℕ, ◌+◌, refl, List, [], ◌∷◌, ◌++◌, length, map, append_assoc, append-nil, arith}
 use Rattle.std.proofs.lemmas.List.{length-map, map-append}
 use Rattle.bfd_session.specs.declared.event.SessionConfig.{SessionConfig}
 use Rattle.bfd_session.specs.Alone.{Outcome}
@@ -15,17 +15,11 @@ use Rattle.bfd_watch.specs.Watching.{watching}
 
 -- an event more
 
-outcomes_more : (configs : List SessionConfig) (past es : List ShardEvent) (e : ShardEvent)
-    → outcomes_after configs past (es ++ e ∷ [])
+outcomes_more : (configs : List SessionConfig) (past es : List ShardEvent) (e : ShardEvent) → outcomes_after configs past (es ++ e ∷ [])
     ≡ outcomes_after configs past es ++ outcome_of (last_tick (past ++ es)) e (runs (past ++ es) configs) ∷ []
 unfolding outcomes_after
-outcomes_more configs past [] e =
-    ap (λ xs. outcome_of (last_tick xs) e (runs xs configs) ∷ []) (sym (append-nil past))
-outcomes_more configs past (x ∷ es) e =
-    ap (λ os. outcome_of (last_tick past) x (runs past configs) ∷ os)
-    (outcomes_more configs (past ++ x ∷ []) es e
-    ∙ ap (λ xs. outcomes_after configs (past ++ x ∷ []) es ++ outcome_of (last_tick xs) e (runs xs configs) ∷ [])
-    (append_assoc past (x ∷ []) es))
+outcomes_more configs past [] e = cc (append-nil past)
+outcomes_more configs past (x ∷ es) e = cc (outcomes_more configs (past ++ x ∷ []) es e, append_assoc past (x ∷ []) es)
 
 pub outcomes_grow : (configs : List SessionConfig) (es : List ShardEvent) (e : ShardEvent)
     → history_outcomes configs (es ++ e ∷ []) ≡ history_outcomes configs es ++ outcome_of (last_tick es) e (runs es configs) ∷ []
@@ -34,48 +28,31 @@ outcomes_grow configs es e = outcomes_more configs [] es e
 outcomes_long : (configs : List SessionConfig) (past es : List ShardEvent) → length (outcomes_after configs past es) ≡ length es
 unfolding outcomes_after
 outcomes_long configs past [] = refl
-outcomes_long configs past (x ∷ es) = let r = outcomes_long configs (past ++ x ∷ []) es in omega (arith, r)
+outcomes_long configs past (x ∷ es) = omega (arith, outcomes_long configs (past ++ x ∷ []) es)
 
-pub from_more : (n : ℕ) (os : List Outcome) (o : Outcome)
-    → changes_from n (os ++ o ∷ []) ≡ changes_from n os ++ changes_in (n + length os) o.items
+pub from_more : (n : ℕ) (os : List Outcome) (o : Outcome) → changes_from n (os ++ o ∷ []) ≡ changes_from n os ++ changes_in (n + length os) o.items
 unfolding changes_from
-from_more n [] o = let same : n ≡ n + 0 = omega arith in append-nil (changes_in n o.items) ∙ ap (λ k. changes_in k o.items) same
+from_more n [] o = let same : n ≡ n + 0 = omega arith in cc (append-nil (changes_in n o.items))
 from_more n (x ∷ os) o =
     let next : n + 1 + length os ≡ n + length (x ∷ os) = omega arith in
-    ap (λ cs. changes_in n x.items ++ cs) (from_more (n + 1) os o ∙ ap (λ k. changes_from (n + 1) os ++ changes_in k o.items) next)
-    ∙ sym (append_assoc (changes_in n x.items) (changes_from (n + 1) os) (changes_in (n + length (x ∷ os)) o.items))
+    cc (from_more (n + 1) os o, append_assoc (changes_in n x.items) (changes_from (n + 1) os) (changes_in (n + length (x ∷ os)) o.items))
 
 pub changes_more : (configs : List SessionConfig) (es : List ShardEvent) (e : ShardEvent)
     → history_changes configs (es ++ e ∷ []) ≡ history_changes configs es ++ changes_in (length es + 1) (outcome_of (last_tick es) e (runs es configs)).items
 changes_more configs es e =
-    let o : Outcome = outcome_of (last_tick es) e (runs es configs) in
-    let long = outcomes_long configs [] es in
-    let number : 1 + length (outcomes_after configs [] es) ≡ length es + 1 = omega (arith, long) in
-    ap (changes_from 1) (outcomes_more configs [] es e)
-    ∙ (from_more 1 (outcomes_after configs [] es) o ∙ ap (λ k. history_changes configs es ++ changes_in k o.items) number)
+    let number : 1 + length (outcomes_after configs [] es) ≡ length es + 1 = omega (arith, outcomes_long configs [] es) in
+    cc (outcomes_more configs [] es e, from_more 1 (outcomes_after configs [] es) (outcome_of (last_tick es) e (runs es configs)))
 
 -- what a watch has told of all the entries that it took, with one more
-pub whole_more : (configs configs2 : List SessionConfig) (js js2 : List Entry) (entry : Entry) (told more : List Change) → configs2 ≡ configs
-    → js2 ≡ js ++ entry ∷ []
-    → more ≡ told ++ changes_in (length js + 1) (outcome_of (last_tick (events_of js)) entry.event (runs (events_of js) configs)).items
+pub whole_more : {configs configs2 : List SessionConfig} (js js2 : List Entry) (entry : Entry) {told more : List Change} → configs2 ≡ configs
+    → js2 ≡ js ++ entry ∷ [] → more ≡ told ++ changes_in (length js + 1) (outcome_of (last_tick (events_of js)) entry.event (runs (events_of js) configs)).items
     → (before : List Change) → told ≡ before ++ history_changes configs (events_of js) → more ≡ before ++ history_changes configs2 (events_of js2)
-whole_more configs configs2 js js2 entry told more same grown added before so_far =
-    let o : Outcome = outcome_of (last_tick (events_of js)) entry.event (runs (events_of js) configs) in
-    let long = length-map js (λ (x : Entry). x.event) in
-    let number : length js + 1 ≡ length (events_of js) + 1 = omega (arith, long) in
-    added
-    ∙ (ap (λ xs. xs ++ changes_in (length js + 1) o.items) so_far
-    ∙ (append_assoc before (history_changes configs (events_of js)) (changes_in (length js + 1) o.items)
-    ∙ (ap (λ k. before ++ (history_changes configs (events_of js) ++ changes_in k o.items)) number
-    ∙ (ap (λ xs. before ++ xs) (sym (changes_more configs (events_of js) entry.event))
-    ∙ (ap (λ (es : List ShardEvent). before ++ history_changes configs es) (sym (map-append (λ (x : Entry). x.event) js (entry ∷ [])))
-    ∙ (ap (λ (xs : List Entry). before ++ history_changes configs (events_of xs)) (sym grown)
-    ∙ ap (λ cs. before ++ history_changes cs (events_of js2)) (sym same)))))))
+whole_more {configs} js js2 entry same grown added before so_far =
+    let long = length-map js (λ x. x.event) in
+    cc (append_assoc before (history_changes configs (events_of js)) (changes_in (length js + 1) (outcome_of (last_tick (events_of js)) entry.event (runs (events_of js) configs)).items), changes_more configs (events_of js) entry.event, map-append (λ x. x.event) js (entry ∷ []))
 
 -- a watch at the start
 
-pub made : (cs : List SessionConfig) (ss : List Running) (js : List Entry) (limit : ℕ) → ss ≡ map started cs → js ≡ []
+pub made : (cs : List SessionConfig) {ss : List Running} {js : List Entry} (limit : ℕ) → ss ≡ map started cs → js ≡ []
     → watching (configs_of ss) js limit ≡ watching cs [] limit
-made cs ss js limit e f =
-    ap (λ xs. watching (configs_of xs) js limit) e
-    ∙ (ap (λ xs. watching xs js limit) (started_configs cs) ∙ ap (λ xs. watching cs xs limit) f)
+made cs limit e f = cc (started_configs cs)

@@ -1,5 +1,5 @@
 -- One event more is told.
-use Rattle.std.proofs.Common.{◌≡◌, ◌≤◌, ◌+◌, ◌++◌, ℕ, List, [], ◌∷◌, length, sym, ap, ◌∙◌, append_assoc, append-nil, arith, length-append}
+use Rattle.std.proofs.Common.{◌≡◌, ◌≤◌, ◌+◌, ◌++◌, ℕ, List, [], ◌∷◌, length, ap, append_assoc, append-nil, arith, length-append}
 use Rattle.std.specs.List.{flat_map}
 use Rattle.std.specs.Fmt.{decimal}
 use Rattle.bfd_session.specs.Alone.{Outcome}
@@ -11,43 +11,33 @@ use Rattle.bfd_watch.specs.Watched.{change_line, watched_lines, group_line, if_m
 use Rattle.bfd_watch.proofs.Lines.{group_twice, none_heard}
 
 -- its lines
-pub lines_step : (text more : List ℕ) (n : ℕ) (o : Outcome) (all os : List Outcome) (cs : List Change) (g after : Group) (goal : List ℕ)
+pub lines_step : (text : List ℕ) {more : List ℕ} (n : ℕ) {o : Outcome} {all os : List Outcome} {cs : List Change} (g : Group) {after : Group} {goal : List ℕ}
     → all ≡ o ∷ os → cs ≡ changes_in n o.items → after ≡ group_after cs g
     → more ≡ text ++ watched_lines n cs g → text ++ watched_lines_from n all g ≡ goal → more ++ watched_lines_from (n + 1) os after ≡ goal
 unfolding watched_lines_from
-lines_step text more n o all os cs g after goal split are moved told so_far =
+lines_step text n {o} {os} g split are moved told so_far =
     let here : List Change = changes_in n o.items in
-    ap (λ h. more ++ watched_lines_from (n + 1) os h) (moved ∙ ap (λ ds. group_after ds g) are)
-    ∙ (ap (λ ts. ts ++ watched_lines_from (n + 1) os (group_after here g)) (told ∙ ap (λ ds. text ++ watched_lines n ds g) are)
-    ∙ (append_assoc text (watched_lines n here g) (watched_lines_from (n + 1) os (group_after here g))
-    ∙ (ap (λ xs. text ++ watched_lines_from n xs g) (sym split) ∙ so_far)))
+    cc (append_assoc text (watched_lines n here g) (watched_lines_from (n + 1) os (group_after here g)))
 
 -- the group
-pub group_step : (n : ℕ) (o : Outcome) (all os : List Outcome) (cs : List Change) (g after goal : Group)
+pub group_step : (n : ℕ) {o : Outcome} {all os : List Outcome} {cs : List Change} (g : Group) {after goal : Group}
     → all ≡ o ∷ os → cs ≡ changes_in n o.items → after ≡ group_after cs g
     → group_after (changes_from n all) g ≡ goal → group_after (changes_from (n + 1) os) after ≡ goal
 unfolding changes_from
-group_step n o all os cs g after goal split are moved so_far =
-    let here : List Change = changes_in n o.items in
-    ap (λ h. group_after (changes_from (n + 1) os) h) (moved ∙ ap (λ ds. group_after ds g) are)
-    ∙ (sym (group_twice here (changes_from (n + 1) os) g)
-    ∙ (ap (λ xs. group_after (changes_from n xs) g) (sym split) ∙ so_far))
+group_step n {o} {os} g split are moved so_far = cc (group_twice (changes_in n o.items) (changes_from (n + 1) os) g)
 
 -- and the number of changes
-pub count_step : (n told more goal : ℕ) (o : Outcome) (all os : List Outcome) (cs : List Change) → all ≡ o ∷ os
-    → cs ≡ changes_in n o.items → more ≡ told + length cs
-    → told + length (changes_from n all) ≡ goal → more + length (changes_from (n + 1) os) ≡ goal
+pub count_step : (n told more : ℕ) {goal : ℕ} {o : Outcome} {all os : List Outcome} {cs : List Change} → all ≡ o ∷ os
+    → cs ≡ changes_in n o.items → more ≡ told + length cs → told + length (changes_from n all) ≡ goal → more + length (changes_from (n + 1) os) ≡ goal
 unfolding changes_from
-count_step n told more goal o all os cs split are added so_far =
-    let here : List Change = changes_in n o.items in
-    omega (
-      arith,
-      added,
-      ap (λ (ds : List Change). length ds) are,
-      so_far,
-      ap (λ (xs : List Outcome). length (changes_from n xs)) split,
-      length-append here (changes_from (n + 1) os),
-    )
+count_step n told more {o} {os} split are added so_far = omega (
+  arith,
+  added,
+  ap (λ ds. length ds) are,
+  so_far,
+  ap (λ xs. length (changes_from n xs)) split,
+  length-append (changes_in n o.items) (changes_from (n + 1) os),
+)
 
 -- each change has a line
 
@@ -56,35 +46,27 @@ line_some n c = some_after (decimal n) _ 32
 
 lines_some : (n : ℕ) (cs : List Change) → length cs ≤ length (flat_map (change_line n) cs)
 lines_some n [] = omega arith
-lines_some n (c ∷ cs) =
-    omega (arith, line_some n c, lines_some n cs, length-append (change_line n c) (flat_map (change_line n) cs))
+lines_some n (c ∷ cs) = omega (arith, line_some n c, lines_some n cs, length-append (change_line n c) (flat_map (change_line n) cs))
 
-pub few_step : (text more : List ℕ) (n told : ℕ) (cs : List Change) (g : Group) → more ≡ text ++ watched_lines n cs g → told ≤ length text
+pub few_step : (text : List ℕ) {more : List ℕ} (n : ℕ) {told : ℕ} (cs : List Change) (g : Group) → more ≡ text ++ watched_lines n cs g → told ≤ length text
     → told + length cs ≤ length more
-few_step text more n told cs g is few =
-    let moved : List ℕ = if_moved (is_group_up g) (is_group_up (group_after cs g)) (group_line n (group_after cs g)) in
-    omega (
-      arith,
-      ap length is,
-      length-append text (watched_lines n cs g),
-      length-append (flat_map (change_line n) cs) moved,
-      lines_some n cs,
-      few,
-    )
+few_step text n cs g is few = omega (
+  arith,
+  ap length is,
+  length-append text (watched_lines n cs g),
+  length-append (flat_map (change_line n) cs) (if_moved (is_group_up g) (is_group_up (group_after cs g)) (group_line n (group_after cs g))),
+  lines_some n cs,
+  few,
+)
 
 -- the end: nothing is left
-pub end_told : (text more : List ℕ) (n told : ℕ) (all goal : List Outcome) (g before : Group) → all ≡ []
-    → text ++ watched_lines_from n all g ≡ watched_lines_from 1 goal before
-    → group_after (changes_from n all) g ≡ group_after (changes_from 1 goal) before
-    → told + length (changes_from n all) ≡ length (changes_from 1 goal)
-    → more ≡ text ++ watched_line told g → more ≡ watched goal before
+pub end_told : (text : List ℕ) {more : List ℕ} (n told : ℕ) {all : List Outcome} (goal : List Outcome) (g before : Group) → all ≡ []
+    → text ++ watched_lines_from n all g ≡ watched_lines_from 1 goal before → group_after (changes_from n all) g ≡ group_after (changes_from 1 goal) before
+    → told + length (changes_from n all) ≡ length (changes_from 1 goal) → more ≡ text ++ watched_line told g → more ≡ watched goal before
 unfolding watched_lines_from changes_from
-end_told text more n told all goal g before none whole after counted added =
-    let text_is : text ≡ watched_lines_from 1 goal before = sym (append-nil text) ∙ (ap (λ xs. text ++ watched_lines_from n xs g) (sym none) ∙ whole) in
-    let told_is : told ≡ length (changes_from 1 goal) = omega (arith, ap (λ (xs : List Outcome). length (changes_from n xs)) none, counted) in
+end_told text n told goal g before none whole after counted added =
+    let text_is : text ≡ watched_lines_from 1 goal before = cc (append-nil text) in
+    let told_is : told ≡ length (changes_from 1 goal) = omega (arith, ap (λ xs. length (changes_from n xs)) none, counted) in
     let group_is : g ≡ group_after (changes_from 1 goal) before =
-    sym (none_heard g) ∙ (ap (λ xs. group_after (changes_from n xs) g) (sym none) ∙ after) in
-    added
-    ∙ (ap (λ ts. ts ++ watched_line told g) text_is
-    ∙ (ap (λ k. watched_lines_from 1 goal before ++ watched_line k g) told_is
-    ∙ ap (λ h. watched_lines_from 1 goal before ++ watched_line (length (changes_from 1 goal)) h) group_is))
+    cc (none_heard g) in
+    cc

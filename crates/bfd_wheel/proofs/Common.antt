@@ -9,3 +9,5 @@ pub use Rattle.bfd_wheel.specs.Taken.{Took, bit, counts_due, times, waiting}
 pub use Rattle.bfd_wheel.specs.Wheel.{IsLinked, IsWheel, due_in, place, prev_in}
 unfoldable pub use Rattle.bfd_wheel.specs.Wheel.{home, next_in}
 pub use Rattle.bfd_wheel.specs.declared.links.Node.{Node}
+pub use Rattle.bfd_lanes.proofs.Scanned.{come_of}
+pub use Rattle.bfd_lanes.specs.Held.{room_of}

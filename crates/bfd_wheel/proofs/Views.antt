@@ -1,50 +1,42 @@
 -- From lists of numbers to lists of optional due ticks.
-use Rattle.bfd_wheel.proofs.Common.{◌≡◌, ◌≢◌, ℕ, zero, suc, ◌+◌, ◌^◌, ◌<◌, ◌≤◌, Bool, false, cond, List, ◌∷◌, ◌++◌, map, replicate, length, get_or, take, drop, refl, sym, ◌∙◌, ap, subst, arith, nat_eq, slice_index, slice_set, Option, None, Some, map-set, same_lists, get_or-map, length-map, nat_tests, never, due_of, without, Node, next_in, prev_in, IsWheel, IsLinked}
+use Rattle.bfd_wheel.proofs.Common.{◌≡◌, ◌≢◌, ℕ, zero, suc, ◌+◌, ◌^◌, ◌<◌, ◌≤◌, false, cond, List, ◌++◌, map, replicate, length, get_or, take, drop, refl, ap, arith, nat_eq, slice_index, slice_set, Option, None, Some, map-set, same_lists, get_or-map, length-map, nat_tests, never, due_of, without, Node, next_in, prev_in, IsWheel, IsLinked}
 use Rattle.std.proofs.lemmas.Simd.{length-replicate, get_or-replicate}
 use Rattle.std.proofs.lemmas.Grind.{common_steps}
 use Rattle.bfd_wheel.proofs.Wheels.{linked, start}
 
 pub due_of_below : (due : ℕ) → due < 2 ^ 60 → due_of due ≡ Some due
-due_of_below due h = ap (λ (b : Bool). cond b None (Some due)) (let test : nat_eq due never ≡ false = grind (arith, nat_tests) in test)
+due_of_below due h = ap (λ b. cond b None (Some due)) (let test : nat_eq due never ≡ false = grind (arith, nat_tests) in test)
 
 -- the list after one number was written
 pub set_view : (dues0 dues1 dues2 : List ℕ) (seen : List (Option ℕ)) (id number : ℕ) (due : Option ℕ) → dues1 ≡ dues0 → map due_of dues0 ≡ seen → dues2 ≡ slice_set dues1 id number → due_of number ≡ due → map due_of dues2 ≡ slice_set seen id due
-set_view dues0 dues1 dues2 seen id number due same view written is =
-    ap (map due_of) written ∙ map-set due_of dues1 id number
-    ∙ ap (λ (ds : List ℕ). slice_set (map due_of ds) id (due_of number)) same
-    ∙ ap (λ (ds : List (Option ℕ)). slice_set ds id (due_of number)) view
-    ∙ ap (slice_set seen id) is
+set_view dues0 dues1 dues2 seen id number due same view written is = cc (map-set due_of dues1 id number)
 
-pub linked_view : (now i : ℕ) (dues dues1 : List ℕ) (nodes nodes1 : List Node) (seen : List (Option ℕ)) → IsWheel (length dues) now dues nodes → dues1 ≡ dues → nodes1 ≡ nodes → map due_of dues ≡ seen → i < length seen → slice_index dues1 i ≢ never → IsLinked i dues1 nodes1
-linked_view now i dues dues1 nodes nodes1 seen w same_dues same_nodes view inside there =
-    subst (λ (ds : List ℕ). IsLinked i ds nodes1) (sym same_dues)
-    (subst (λ (ns : List Node). IsLinked i dues ns) (sym same_nodes)
-    (linked (length dues) now i dues nodes w (let l = ap length view in let m = length-map dues due_of in omega arith) (subst (λ (ds : List ℕ). slice_index ds i ≢ never) same_dues there)))
+pub linked_view : {now i : ℕ} {dues dues1 : List ℕ} {nodes nodes1 : List Node} {seen : List (Option ℕ)} → IsWheel (length dues) now dues nodes → dues1 ≡ dues → nodes1 ≡ nodes → map due_of dues ≡ seen → i < length seen → slice_index dues1 i ≢ never → IsLinked i dues1 nodes1
+linked_view {dues} w same_dues same_nodes view inside there =
+    rw same_dues (rw same_nodes (linked w (omega (arith, ap length view, length-map dues due_of)) (rw (← same_dues) there)))
 
 -- numbers that agree one by one agree as lists
-pub forgotten : (t i : ℕ) (dues dues2 : List ℕ) → length dues2 ≡ length dues → length dues ≤ i → ((k : ℕ) → k < i → due_of (get_or dues2 k 0) ≡ without t (due_of (get_or dues k 0))) → map due_of dues2 ≡ map (without t) (map due_of dues)
-forgotten t i dues dues2 len past done =
-    same_lists (map due_of dues2) (map (without t) (map due_of dues)) (length-map dues2 due_of ∙ len ∙ sym (length-map dues due_of) ∙ sym (length-map (map due_of dues) (without t)))
+pub forgotten : (t : ℕ) {i : ℕ} (dues dues2 : List ℕ) → length dues2 ≡ length dues → length dues ≤ i → ((k : ℕ) → k < i → due_of (get_or dues2 k 0) ≡ without t (due_of (get_or dues k 0))) → map due_of dues2 ≡ map (without t) (map due_of dues)
+forgotten t dues dues2 len past done =
+    same_lists (map due_of dues2) (map (without t) (map due_of dues)) (cc (length-map dues2 due_of, length-map dues due_of, length-map (map due_of dues) (without t)))
     (λ k d h.
     let near : k < length dues2 = omega (arith, length-map dues2 due_of) in
     let near1 : k < length dues = omega arith in
     let near2 : k < length (map due_of dues) = omega (arith, length-map dues due_of) in
-    get_or-map due_of dues2 k 0 d near ∙ done k (omega arith)
-    ∙ sym (get_or-map (without t) (map due_of dues) k None d near2 ∙ ap (without t) (get_or-map due_of dues k 0 None near1)))
+    cc (get_or-map due_of dues2 k 0 d near, done k (omega arith), get_or-map (without t) (map due_of dues) k None d near2, get_or-map due_of dues k 0 None near1))
 
 nothing : (n : ℕ) → map due_of (replicate n never) ≡ replicate n None
 nothing zero = refl
-nothing (suc n) = ap (λ (ds : List (Option ℕ)). None ∷ ds) (nothing n)
+nothing (suc n) = cc (nothing n)
 
 -- no due tick at the start
 pub none_yet : (n : ℕ) (dues : List ℕ) → dues ≡ replicate n never → map due_of dues ≡ replicate n None
-none_yet n dues e = ap (map due_of) e ∙ nothing n
+none_yet n dues e = cc (nothing n)
 
-pub start_wheel : (n : ℕ) (dues : List ℕ) (nodes : List Node) → n ≤ 65536 → dues ≡ replicate n never → length nodes ≡ n + 4097 → ((j : ℕ) → j < n + 4097 → next_in nodes j ≡ j) → ((j : ℕ) → j < n + 4097 → prev_in nodes j ≡ j) → IsWheel (length dues) 0 dues nodes
-start_wheel n dues nodes few e size next prev =
-    let count : length dues ≡ n = ap length e ∙ length-replicate n never in
-    subst (λ (m : ℕ). IsWheel m 0 dues nodes) (sym count)
-    (start n dues nodes few count (λ j near. ap (λ (ds : List ℕ). get_or ds j 0) e ∙ get_or-replicate n j never 0 near) size next prev)
+pub start_wheel : {n : ℕ} {dues : List ℕ} (nodes : List Node) → n ≤ 65536 → dues ≡ replicate n never → length nodes ≡ n + 4097 → ((j : ℕ) → j < n + 4097 → next_in nodes j ≡ j) → ((j : ℕ) → j < n + 4097 → prev_in nodes j ≡ j) → IsWheel (length dues) 0 dues nodes
+start_wheel {n} {dues} nodes few e size next prev =
+    let count : length dues ≡ n = cc (length-replicate n never) in
+    rw count (start dues nodes few count (λ j near. cc (get_or-replicate n j never 0 near)) size next prev)
 
 -- a list that was lent and came back
 pub back : (len : ℕ) (new old : List ℕ) → length new ≡ len → take len (new ++ drop (length new) old) ≡ new

@@ -1,6 +1,6 @@
 -- Options, where fewer than two words are left.
-use Rattle.std.proofs.Common.{◌≡◌, ℕ, ◌<◌, ◌==◌, ◌++◌, List, [], ◌∷◌, length, map, option_to_list, Option, None, Some, refl, sym, ap, ◌∙◌, arith}
-use Rattle.bfd_words.specs.Options.{are_options, values_of, at_most_one, value_of}
+use Rattle.std.proofs.Common.{◌≡◌, ℕ, ◌<◌, ◌==◌, ◌++◌, List, [], ◌∷◌, length, map, option_to_list, Option, None, Some, refl, sym, arith}
+use Rattle.bfd_words.specs.Options.{are_options, values_of, value_of}
 
 module _ {S : Type 0} (f : S → List ℕ) where
   pub are_options-end : (names : List (List ℕ)) (rest : List S) → length rest < 2 → are_options names (map f rest) ≡ (length rest == 0)
@@ -16,5 +16,5 @@ module _ {S : Type 0} (f : S → List ℕ) where
   -- what was found before is all
   pub value_of-end : (name : List ℕ) (options : List (List ℕ)) (found : Option (List ℕ)) (rest : List S) → length rest < 2
       → values_of name options ≡ option_to_list found ++ values_of name (map f rest) → Some found ≡ value_of name options
-  value_of-end name options None rest short all = sym (ap at_most_one (all ∙ values_of-end name rest short))
-  value_of-end name options (Some value) rest short all = sym (ap at_most_one (all ∙ ap (λ values. value ∷ values) (values_of-end name rest short)))
+  value_of-end name options None rest short all = sym (cc (values_of-end name rest short))
+  value_of-end name options (Some value) rest short all = sym (cc (values_of-end name rest short))

@@ -1,8 +1,6 @@
 -- No report is empty.
 use Rattle.std.proofs.Common.{◌≢◌, List, [], ◌∷◌, ◌++◌, ℕ}
-use Rattle.bfd_replay.specs.World.{replayed, world}
-use Rattle.bfd_script.specs.Reading.{Lists}
-use Rattle.bfd_script.specs.Report.{lines_from}
+use Rattle.bfd_workers.proofs.Common.{lines_from, Lists, replayed, world}
 
 -- the report of a replay has a last line
 with_last : (front : List ℕ) (byte : ℕ) (more : List ℕ) → (front ++ (byte ∷ more)) ≢ []

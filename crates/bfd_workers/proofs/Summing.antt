@@ -1,8 +1,7 @@
 -- Sessions that are Up, counted by shards.
-use Rattle.bfd_workers.proofs.Common.{◌≡◌, ◌<◌, ◌+◌, ◌-◌, ◌∙◌, Bool, true, false, ℕ, zero, suc, List, [], ◌∷◌, length, get_or, refl, sym, ap, subst, arith, sum_by, if◌then◌else◌, dite, ℕ_discrete, Shard, IsShard, one_up, sum_to, ups}
+use Rattle.bfd_workers.proofs.Common.{◌≡◌, ◌<◌, ◌+◌, ◌-◌, ◌∙◌, Bool, true, false, ℕ, zero, suc, List, [], ◌∷◌, length, get_or, refl, ap, subst, arith, sum_by, if◌then◌else◌, dite, ℕ_discrete, Shard, IsShard, one_up, sum_to, ups, Running}
 use Rattle.std.proofs.lemmas.List.Sums.{sum_by-cons}
 use Rattle.bfd_rules.specs.Quantities.{is_up}
-use Rattle.bfd_session.specs.Kinds.{Running}
 use Rattle.bfd_shard.specs.Dealing.{share}
 
 one_more : (b : Bool) (s : Running) (ss : List Running) → is_up s.vars.state ≡ b → ups (s ∷ ss) ≡ (if b then 1 else 0) + ups ss
@@ -14,22 +13,22 @@ ups_more s ss = one_more (is_up s.vars.state) s ss refl
 
 pub ups_are : (ss : List Running) → sum_by one_up ss ≡ ups ss
 ups_are [] = refl
-ups_are (s ∷ ss) = let a = sum_by-cons one_up s ss in let b = ups_are ss in let d = ups_more s ss in omega (arith, a, b, d)
+ups_are (s ∷ ss) = omega (arith, sum_by-cons one_up s ss, ups_are ss, ups_more s ss)
 
 sum_first : (f : ℕ → ℕ) (n : ℕ) → sum_to f (suc n) ≡ f 0 + sum_to (λ k. f (suc k)) n
 sum_first f zero = omega arith
-sum_first f (suc n) = let a = sum_first f n in omega (arith, a)
+sum_first f (suc n) = omega (arith, sum_first f n)
 
 pub sum_step : (f : ℕ → ℕ) (k : ℕ) → sum_to f (k + 1) ≡ sum_to f k + f k
-sum_step f k = let e : k + 1 ≡ suc k = omega arith in ap (sum_to f) e
+sum_step f k = let e : k + 1 ≡ suc k = omega arith in cc
 
 pub sum_same : (f g : ℕ → ℕ) (n : ℕ) → ((k : ℕ) → k < n → f k ≡ g k) → sum_to f n ≡ sum_to g n
 sum_same f g zero same = refl
-sum_same f g (suc n) same = let a = sum_same f g n (λ k h. same k (omega (arith, h))) in let b = same n (omega arith) in omega (arith, a, b)
+sum_same f g (suc n) same = let a = sum_same f g n (λ k h. same k (omega (arith, h))) in omega (arith, a, same n (omega arith))
 
 sum_zero : (f : ℕ → ℕ) (n : ℕ) → ((k : ℕ) → f k ≡ 0) → sum_to f n ≡ 0
 sum_zero f zero none = refl
-sum_zero f (suc n) none = let a = sum_zero f n none in let b = none n in omega (arith, a, b)
+sum_zero f (suc n) none = omega (arith, sum_zero f n none, none n)
 
 empty_share : (n k : ℕ) → ups (share n k []) ≡ 0
 unfolding share
@@ -52,12 +51,9 @@ pub ups_shared : (n : ℕ) (ss : List Running) → sum_to (λ k. ups (share (suc
 ups_shared n [] = sum_zero (λ k. ups (share (suc n) k [])) (suc n) (λ k. empty_share (suc n) k)
 ups_shared n (s ∷ ss) =
     let a = sum_first (λ k. ups (share (suc n) k (s ∷ ss))) n in
-    let b = first_share (suc n) s ss in
     let c = sum_same (λ k. ups (share (suc n) (suc k) (s ∷ ss))) (λ k. ups (share (suc n) k ss)) n (λ k h. next_share (suc n) k s ss) in
-    let d = ups_shared n ss in
-    let e = ups_more s ss in
     let h = ap (λ j. ups (share (suc n) j ss)) (one_less n) in
-    omega (arith, a, b, c, d, e, h)
+    omega (arith, a, first_share (suc n) s ss, c, ups_shared n ss, ups_more s ss, h)
 
 pub any : (xs : List Shard) (k : ℕ) (d e : Shard) → k < length xs → get_or xs k d ≡ get_or xs k e
 any [] k d e h = absurd (omega (arith, h))
@@ -66,6 +62,5 @@ any (x ∷ xs) (suc k) d e h = any xs k d e (omega (arith, h))
 
 -- one shard more is what its journal makes of it
 pub kept_more : (xs : List Shard) (at : ℕ) (x : Shard) → at < length xs → x ≡ get_or xs at x → IsShard x → ((k : ℕ) (d : Shard) → k < at → IsShard (get_or xs k d)) → (k : ℕ) (d : Shard) → k < at + 1 → IsShard (get_or xs k d)
-kept_more xs at x inside is one kept k d h = dite (ℕ_discrete k at)
-    (λ same. subst (λ j. IsShard (get_or xs j d)) (sym same) (subst IsShard (is ∙ any xs at x d inside) one))
+kept_more xs at x inside is one kept k d h = dite (ℕ_discrete k at) (λ same. rw same (subst IsShard (is ∙ any xs at x d inside) one))
     (λ other. kept k d (omega (arith, h, other)))

@@ -1,5 +1,5 @@
 -- Names that proofs of this crate cite, passed on from one place. Declares nothing.
-pub use Rattle.std.proofs.Common.{List, None, Ok, Option, Some, [], append-nil, arith, false, inl, inr, length, map, refl, string_bytes, subst, sym, true, ℕ, ◌∙◌, ◌≡◌, ◌≢◌, ◌≤◌, ◌⊎◌}
+pub use Rattle.std.proofs.Common.{List, None, Ok, Option, Some, [], append-nil, arith, false, inl, inr, length, refl, subst, sym, true, ℕ, ◌∙◌, ◌≡◌, ◌≢◌, ◌≤◌, ◌⊎◌}
 pub use Rattle.std.specs.Prelude.{IfSome, min, ◌+◌, ◌-◌, ◌^◌}
 pub use Rattle.bfd_edge.specs.Faults.{Rose, risen}
 pub use Rattle.bfd_jobs.specs.Serving.{Comes, Edges, HasNoScript, HasServedScript, IsFaulty, IsOverlong, IsServed, IsServedToFinish, edges_of, status_of}
@@ -9,3 +9,9 @@ pub use Rattle.bfd_jobs.specs.declared.status.Status.{Status}
 pub use Rattle.bfd_jobs.specs.declared.status.Status.TheVariants.{BadLine, ClockFault, Done, JournalFull, LinkFault, Memory, NoMember, PortFault, ReadFault, TooLarge, Turns, Usage, WriteFault}
 pub use Rattle.bfd_words.specs.declared.job.Job.{Job}
 pub use Rattle.bfdd.specs.Status.{IsDecided, IsEndOf, IsWrittenBy, OnBadLine, UnlessWriting, WhereUnopened, WhereUnwritten}
+pub use Rattle.bfd_script.specs.Reading.{Lists, script_of}
+pub use Rattle.bfd_words.specs.declared.job.Job.TheVariants.{Load, Pair, Replay, Serve, Watch}
+pub use Rattle.bfd_jobs.specs.Telling.{Tells, TellsBytes}
+pub use Rattle.std.specs.Io.KnownBytes.{Appends}
+pub use Rattle.bfd_gather.specs.Written.{TookFront}
+pub use Rattle.bfd_gather.proofs.Written.{took_nothing}

@@ -1,43 +1,37 @@
 -- How a job may end.
-use Rattle.bfdd.proofs.Common.{◌≡◌, ◌≢◌, ◌⊎◌, ℕ, true, false, List, Option, Some, inl, inr, refl, sym, subst, Job, Status, Done, Usage, BadLine, ReadFault, WriteFault, TooLarge, Memory, NoMember, Comes, Edges, IsFaulty, IsOverlong, status_of, IsDecided, IsEndOf, WhereUnopened, Wanted, reads, serves}
+use Rattle.bfdd.proofs.Common.{◌≡◌, ◌≢◌, ◌⊎◌, ℕ, true, false, List, Option, Some, inl, inr, refl, sym, subst, Job, Status, Done, Usage, BadLine, ReadFault, WriteFault, TooLarge, Memory, NoMember, Comes, Edges, IsFaulty, IsOverlong, status_of, IsDecided, IsEndOf, WhereUnopened, Wanted, reads, serves, Lists, Replay, Serve, Load, Pair, Watch, Tells, TellsBytes}
 use Rattle.bfd_serving.specs.declared.finish.Finish.{Finish}
 use Rattle.bfd_serving.specs.declared.finish.Finish.TheVariants as finish
-use Rattle.bfd_script.specs.Reading.{Lists}
-use Rattle.bfd_words.specs.declared.job.Job.TheVariants.{Replay, Serve, Load, Pair, Watch}
-use Rattle.bfd_jobs.specs.Telling.{Tells, TellsBytes}
 use Rattle.bfd_jobs.proofs.Answering.{each_answer}
 
 -- what the bytes alone decide
-bytes_so : (job : Job) (left right : Option (List ℕ)) (w : Wanted) → TellsBytes job left right w → IsEndOf (Some job) w.status
-bytes_so job left right w (inl known) =
-    each_answer job (λ (v : Wanted). IsEndOf (Some job) v.status) (λ text. tt) (λ reading bad. reading) (λ watching discr. watching)
+bytes_so : {job : Job} {left right : Option (List ℕ)} {w : Wanted} → TellsBytes job left right w → IsEndOf (Some job) w.status
+bytes_so {job} {w} (inl known) = each_answer job (λ v. IsEndOf (Some job) v.status) (λ text. tt) (λ reading bad. reading) (λ watching discr. watching)
     known.bytes w known.spelled
-bytes_so job left right w (inr (reading, long)) = subst (λ (v : Wanted). IsEndOf (Some job) v.status) (sym long.nothing) reading
+bytes_so (inr (reading, long)) = rw long.nothing reading
 
 finish_so : (job : Job) → serves job ≡ true → (end : Finish) → IsEndOf (Some job) (status_of end)
 finish_so job serving finish.Done = tt
 finish_so job serving end = serving
 
 comes_so : (job : Job) (script : Lists) (old new : Edges) (w : Wanted) → serves job ≡ true → Comes job script old new w → IsEndOf (Some job) w.status
-comes_so job script old new w serving (inl served) =
-    subst (λ (status : Status). IsEndOf (Some job) status) (sym served.status) (finish_so job serving served.end)
-comes_so job script old new w serving (inr portless) = subst (λ (v : Wanted). IsEndOf (Some job) v.status) (sym portless.nothing) serving
+comes_so job script old new w serving (inl served) = rw served.status (finish_so job serving served.end)
+comes_so job script old new w serving (inr portless) = rw portless.nothing serving
 
-unread_so : (job : Job) (left right : Option (List ℕ)) (w : Wanted) → reads job ≡ true → IsFaulty left right w ⊎ IsOverlong left right w
+unread_so : (job : Job) {left right : Option (List ℕ)} {w : Wanted} → reads job ≡ true → IsFaulty left right w ⊎ IsOverlong left right w
     → IsEndOf (Some job) w.status
-unread_so job left right w reading (inl faulty) = subst (λ (v : Wanted). IsEndOf (Some job) v.status) (sym faulty.complained) reading
-unread_so job left right w reading (inr long) = subst (λ (v : Wanted). IsEndOf (Some job) v.status) (sym long.nothing) reading
+unread_so job reading (inl faulty) = rw faulty.complained reading
+unread_so job reading (inr long) = rw long.nothing reading
 
 -- what a job has to tell is told under a status of its own
 pub ends_so : (job : Job) (left right : Option (List ℕ)) (old new : Edges) (w : Wanted) → Tells job left right old new w → IsEndOf (Some job) w.status
-ends_so (Replay hands) left right old new w tells = bytes_so (Replay hands) left right w tells
-ends_so (Watch need members shards) left right old new w tells = bytes_so (Watch need members shards) left right w tells
-ends_so (Load sessions ticks seed hands) left right old new w tells = bytes_so (Load sessions ticks seed hands) left right w tells
-ends_so (Pair events seed) left right old new w tells = bytes_so (Pair events seed) left right w tells
+ends_so (Replay hands) left right old new w tells = bytes_so tells
+ends_so (Watch need members shards) left right old new w tells = bytes_so tells
+ends_so (Load sessions ticks seed hands) left right old new w tells = bytes_so tells
+ends_so (Pair events seed) left right old new w tells = bytes_so tells
 ends_so (Serve hands turns ticks journal) left right old new w (inl served) =
     comes_so (Serve hands turns ticks journal) served.script old new w refl served.comes
-ends_so (Serve hands turns ticks journal) left right old new w (inr none) =
-    unread_so (Serve hands turns ticks journal) left right w refl none.unread
+ends_so (Serve hands turns ticks journal) left right old new w (inr none) = unread_so (Serve hands turns ticks journal) refl none.unread
 
 -- and so does a run where that is decided
 pub ended : (given : Option Job) (result want : Status) → IsDecided result want → (result ≡ ReadFault → ⊥) → IsEndOf given want → IsEndOf given result
@@ -46,16 +40,16 @@ ended given Usage want is reads fact = tt
 ended given ReadFault want is reads fact = absurd (reads refl)
 ended given WriteFault want is reads fact = tt
 ended given Memory want is reads fact = tt
-ended given result want is reads fact = subst (λ (status : Status). IsEndOf given status) (sym is) fact
+ended given result want is reads fact = subst (λ status. IsEndOf given status) (sym is) fact
 
 -- the status of a run that was served comes after ports were opened
 finish_opened : (end : Finish) (P : Type 0) → WhereUnopened (status_of end) P
 finish_opened finish.Done P = tt
 finish_opened end P = tt
 
-comes_opened : (job : Job) (script : Lists) (old new : Edges) (w : Wanted) (P : Type 0) → Comes job script old new w → WhereUnopened w.status P
-comes_opened job script old new w P (inl served) = subst (λ (status : Status). WhereUnopened status P) (sym served.status) (finish_opened served.end P)
-comes_opened job script old new w P (inr portless) = subst (λ (v : Wanted). WhereUnopened v.status P) (sym portless.nothing) tt
+comes_opened : {job : Job} {script : Lists} {old new : Edges} {w : Wanted} (P : Type 0) → Comes job script old new w → WhereUnopened w.status P
+comes_opened P (inl served) = rw served.status (finish_opened served.end P)
+comes_opened P (inr portless) = rw portless.nothing tt
 
 all_unopened : (status : Status) (P : Type 0) → P → WhereUnopened status P
 all_unopened Usage P fact = fact
@@ -65,21 +59,20 @@ all_unopened (BadLine line fault) P fact = fact
 all_unopened (NoMember discr) P fact = fact
 all_unopened status P fact = tt
 
-tells_unopened : (job : Job) (left right : Option (List ℕ)) (old new : Edges) (w : Wanted) → (serves job ≡ false → new ≡ old)
+tells_unopened : (job : Job) (left right : Option (List ℕ)) {old new : Edges} (w : Wanted) → (serves job ≡ false → new ≡ old)
     → Tells job left right old new w → WhereUnopened w.status (new ≡ old)
-tells_unopened (Serve hands turns ticks journal) left right old new w idle (inl served) =
-    comes_opened (Serve hands turns ticks journal) served.script old new w (new ≡ old) served.comes
-tells_unopened (Serve hands turns ticks journal) left right old new w idle (inr none) = all_unopened w.status (new ≡ old) none.same
-tells_unopened (Replay hands) left right old new w idle tells = all_unopened w.status (new ≡ old) (idle refl)
-tells_unopened (Watch need members shards) left right old new w idle tells = all_unopened w.status (new ≡ old) (idle refl)
-tells_unopened (Load sessions ticks seed hands) left right old new w idle tells = all_unopened w.status (new ≡ old) (idle refl)
-tells_unopened (Pair events seed) left right old new w idle tells = all_unopened w.status (new ≡ old) (idle refl)
+tells_unopened (Serve hands turns ticks journal) left right {old} {new} w idle (inl served) = comes_opened (new ≡ old) served.comes
+tells_unopened (Serve hands turns ticks journal) left right {old} {new} w idle (inr none) = all_unopened w.status (new ≡ old) none.same
+tells_unopened (Replay hands) left right {old} {new} w idle tells = all_unopened w.status (new ≡ old) (idle refl)
+tells_unopened (Watch need members shards) left right {old} {new} w idle tells = all_unopened w.status (new ≡ old) (idle refl)
+tells_unopened (Load sessions ticks seed hands) left right {old} {new} w idle tells = all_unopened w.status (new ≡ old) (idle refl)
+tells_unopened (Pair events seed) left right {old} {new} w idle tells = all_unopened w.status (new ≡ old) (idle refl)
 
 -- the outside is as it was, where the status comes before any port is opened
-pub unopened : (job : Job) (left right : Option (List ℕ)) (old new : Edges) (w : Wanted) (result : Status) → IsDecided result w.status → result ≢ ReadFault
+pub unopened : (job : Job) (left right : Option (List ℕ)) {old new : Edges} (w : Wanted) (result : Status) → IsDecided result w.status → result ≢ ReadFault
     → (serves job ≡ false → new ≡ old) → Tells job left right old new w → WhereUnopened result (new ≡ old)
-unopened job left right old new w ReadFault is reads idle tells = absurd (reads refl)
-unopened job left right old new w WriteFault is reads idle tells = tt
-unopened job left right old new w Memory is reads idle tells = tt
-unopened job left right old new w result is reads idle tells =
-    subst (λ (status : Status). WhereUnopened status (new ≡ old)) (sym is) (tells_unopened job left right old new w idle tells)
+unopened job left right w ReadFault is reads idle tells = absurd (reads refl)
+unopened job left right w WriteFault is reads idle tells = tt
+unopened job left right w Memory is reads idle tells = tt
+unopened job left right {old} {new} w result is reads idle tells =
+    subst (λ status. WhereUnopened status (new ≡ old)) (sym is) (tells_unopened job left right w idle tells)

@@ -1,53 +1,44 @@
 -- The status that comes of what `serve` has to tell.
-use Rattle.bfdd.proofs.Common.{◌≡◌, ◌⊎◌, ◌≤◌, ℕ, true, List, length, Option, Some, None, Ok, inl, inr, refl, sym, subst, arith, ◌+◌, ◌-◌, ◌^◌, min, IfSome, Rose, risen, Status, Memory, Comes, Edges, HasNoScript, HasServedScript, IsFaulty, IsServedToFinish, IsOverlong, IsServed, Wanted, most_bytes, OfServing, serves, Job}
+use Rattle.bfdd.proofs.Common.{◌≡◌, ◌⊎◌, ◌≤◌, ℕ, true, List, length, Option, Some, None, Ok, inl, inr, refl, subst, arith, ◌+◌, ◌-◌, ◌^◌, min, IfSome, Rose, risen, Status, Memory, Comes, Edges, HasNoScript, HasServedScript, IsFaulty, IsServedToFinish, IsOverlong, IsServed, Wanted, most_bytes, OfServing, serves, Job, Lists, script_of, Serve, Tells}
 use Rattle.std.proofs.Math.Nat.{le-max_right}
 use Rattle.bfd_jobs.proofs.Served.{read_whole}
-use Rattle.bfd_jobs.specs.Telling.{Tells}
-use Rattle.bfd_script.specs.Reading.{Lists, script_of}
-use Rattle.bfd_words.specs.declared.job.Job.TheVariants.{Serve}
 
 -- a fact about a job, where it serves
 pub of_serving : (job : Job) (P : Job → Type 0) → (serves job ≡ true → P job) → OfServing (Some job) P
 of_serving (Serve hands turns ticks journal) P fact = fact refl
 of_serving job P fact = tt
 
-same_script : (bytes more : List ℕ) (one other : Lists) → bytes ≡ more → script_of true bytes ≡ Ok one → script_of true more ≡ Ok other → other ≡ one
-same_script bytes more one other same first second = cc
+same_script : {bytes more : List ℕ} {one other : Lists} → bytes ≡ more → script_of true bytes ≡ Ok one → script_of true more ≡ Ok other → other ≡ one
+same_script same first second = cc
 
-no_script : (bytes : List ℕ) (right : Option (List ℕ)) (w : Wanted) (script : Lists) → IsFaulty (Some bytes) right w ⊎ IsOverlong (Some bytes) right w
+no_script : {bytes : List ℕ} {right : Option (List ℕ)} {w : Wanted} {script : Lists} → IsFaulty (Some bytes) right w ⊎ IsOverlong (Some bytes) right w
     → length bytes ≤ most_bytes → script_of true bytes ≡ Ok script → {X : Type 0} → X
-no_script bytes right w script (inl faulty) few spelled =
-    let same = read_whole bytes right faulty.bytes faulty.read faulty.end in let other = faulty.spelled in cc
-no_script bytes right w script (inr long) few spelled = absurd (omega (arith, few, long.long))
+no_script {bytes} {right} (inl faulty) few spelled = cc (read_whole bytes right faulty.bytes faulty.read faulty.end, faulty.spelled)
+no_script (inr long) few spelled = absurd (omega (arith, few, long.long))
 
-port_rose : (before now : ℕ) → now ≡ risen before 1 → Rose before now
-port_rose before now is =
-    subst (λ (n : ℕ). min (before + 1) (2 ^ 64 - 1) ≤ n) (sym is) (le-max_right before (min (before + 1) (2 ^ 64 - 1)))
+port_rose : (before : ℕ) {now : ℕ} → now ≡ risen before 1 → Rose before now
+port_rose before is = rw is (le-max_right before (min (before + 1) (2 ^ 64 - 1)))
 
 -- where the count of ports didn't rise, a script was served to its finish, and the status is that
-finished_by : (job : Job) (script : Lists) (old new : Edges) (w : Wanted) (result : Status)
+finished_by : {job : Job} {script : Lists} {old new : Edges} {w : Wanted} {result : Status}
     → (result ≡ w.status) ⊎ (result ≡ Memory) → (Rose old.ports.faults new.ports.faults → ⊥) → Comes job script old new w
     → (result ≡ Memory) ⊎ ((v : Wanted) × IsServed job script old new v × (result ≡ v.status))
-finished_by job script old new w result (inr memory) ports comes = inl memory
-finished_by job script old new w result (inl is) ports (inl served) = inr (w, served, is)
-finished_by job script old new w result (inl is) ports (inr portless) =
-    absurd (ports (port_rose old.ports.faults new.ports.faults portless.refused.0.fault))
+finished_by (inr memory) ports comes = inl memory
+finished_by {w} (inl is) ports (inl served) = inr (w, served, is)
+finished_by {old} (inl is) ports (inr portless) = absurd (ports (port_rose old.ports.faults portless.refused.0.fault))
 
 of_script : (job : Job) (bytes : List ℕ) (right : Option (List ℕ)) (old new : Edges) (w : Wanted) (result : Status)
     → (result ≡ w.status) ⊎ (result ≡ Memory) → (Rose old.ports.faults new.ports.faults → ⊥)
     → HasServedScript job (Some bytes) right old new w ⊎ HasNoScript (Some bytes) right old new w → IsServedToFinish job old new result bytes
-of_script job bytes right old new w result is ports (inl served) = λ few script spelled.
-    finished_by job script old new w result is ports
-    (subst (λ (s : Lists). Comes job s old new w)
-    (same_script bytes served.live.bytes script served.script (read_whole bytes right served.live.bytes served.live.read served.live.end) spelled served.live.spelled)
-    served.comes)
-of_script job bytes right old new w result is ports (inr none) = λ few script spelled. no_script bytes right w script none.unread few spelled
+of_script job bytes right old new w result is ports (inl served) = λ few script spelled. finished_by is ports (subst (λ s. Comes job s old new w)
+    (same_script (read_whole bytes right served.live.bytes served.live.read served.live.end) spelled served.live.spelled) served.comes)
+of_script job bytes right old new w result is ports (inr none) = λ few script spelled. no_script none.unread few spelled
 
 -- with an outside that doesn't fail a script is served to its finish
-pub finished : (job : Job) (left right : Option (List ℕ)) (old new : Edges) (w : Wanted) (result : Status)
+pub finished : (job : Job) (left right : Option (List ℕ)) (old new : Edges) (w : Wanted) {result : Status}
     → (result ≡ w.status) ⊎ (result ≡ Memory) → (Rose old.ports.faults new.ports.faults → ⊥) → Tells job left right old new w → serves job ≡ true
     → IfSome left (IsServedToFinish job old new result)
-finished job None right old new w result is ports tells serving = tt
-finished (Serve hands turns ticks journal) (Some bytes) right old new w result is ports tells serving =
+finished job None right old new w is ports tells serving = tt
+finished (Serve hands turns ticks journal) (Some bytes) right old new w {result} is ports tells serving =
     of_script (Serve hands turns ticks journal) bytes right old new w result is ports tells
-finished job (Some bytes) right old new w result is ports tells serving = cc
+finished job (Some bytes) right old new w is ports tells serving = cc

@@ -7,23 +7,23 @@ of_all None P each = tt
 of_all (Some w) P each = each w
 
 -- what is true of the answer, where that is what is wanted
-pub of_answer : (known : Option Wanted) (answer : Wanted) (P : Wanted → Type 0) → IfSome known (λ w. answer ≡ w) → P answer → IfSome known P
-of_answer None answer P is fact = tt
-of_answer (Some w) answer P is fact = subst P is fact
+pub of_answer : (known : Option Wanted) {answer : Wanted} (P : Wanted → Type 0) → IfSome known (λ w. answer ≡ w) → P answer → IfSome known P
+of_answer None P is fact = tt
+of_answer (Some w) P is fact = subst P is fact
 
 -- what is true of what is wanted of the job that the words ask for
-pub of_job : (given : Option Job) (job : Job) (left : Option (List ℕ)) (P : Wanted → Type 0) → given ≡ Some job
+pub of_job : {given : Option Job} {job : Job} (left : Option (List ℕ)) (P : Wanted → Type 0) → given ≡ Some job
     → IfSome (wanted_of job left) P → IfSome (wanted given left) P
-of_job given job left P is fact = subst (λ (j : Option Job). IfSome (wanted j left) P) (sym is) fact
+of_job left P is fact = rw is fact
 
 -- a run that is decided, where neither source nor sink failed
-pub settled : (result want : Status) → IsDecided result want → (result ≡ ReadFault → ⊥) → (result ≡ WriteFault → ⊥)
+pub settled : (result : Status) {want : Status} → IsDecided result want → (result ≡ ReadFault → ⊥) → (result ≡ WriteFault → ⊥)
     → (result ≡ want) ⊎ (result ≡ Memory)
-settled ReadFault want is reads writes = absurd (reads refl)
-settled WriteFault want is reads writes = absurd (writes refl)
-settled Memory want is reads writes = inr refl
-settled result want is reads writes = inl is
+settled ReadFault is reads writes = absurd (reads refl)
+settled WriteFault is reads writes = absurd (writes refl)
+settled Memory is reads writes = inr refl
+settled result is reads writes = inl is
 
 -- what ended with Done was to end so
-pub done_wanted : (result want : Status) → IsDecided result want → result ≡ Done → want ≡ Done
-done_wanted result want is same = sym (subst (λ (status : Status). IsDecided status want) same is)
+pub done_wanted : {result want : Status} → IsDecided result want → result ≡ Done → want ≡ Done
+done_wanted {want} is same = sym (subst (λ status. IsDecided status want) same is)

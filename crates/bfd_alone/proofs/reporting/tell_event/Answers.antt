@@ -1,6 +1,5 @@
 -- The event's lines are told, and nothing was taken where it came to none.
-use Rattle.bfd_alone.proofs.Common.{◌+◌, ◌++◌, ◌∷◌, Outcome, lines_from, happening_outcomes, route_is}
-use Rattle.bfd_gather.proofs.Written.{took_nothing}
+use Rattle.bfd_alone.proofs.Common.{◌+◌, ◌++◌, ◌∷◌, lines_from, happening_outcomes, route_is, took_nothing}
 use Rattle.bfd_alone.proofs.Events.{event_front}
 use Rattle.bfd_alone.proofs.reporting.tell_event.Goals as goal
 
@@ -13,8 +12,5 @@ returns-in_default-tell-clause-front g c = λ rest. took_nothing (g.K.Sink.taken
     (c.args.told.now.text ++ lines_from (c.args.told.now.events + 1) (happening_outcomes c.args.shard.now.last (route_is c.args.route ∷ rest) c.args.shard.now.sessions))
 
 pub returns-clause-front : goal.returns-clause-front
-returns-clause-front g c = λ rest.
-    let o : Outcome = record { items = c.happen.new.outs.items; answer = c.in-Ok.answer } in
-    event_front (g.K.Sink.taken c.args.sink.now) (g.K.Sink.taken c.give_on.new.sink) c.args.told.now c.tell.new.self o
-    (happening_outcomes c.args.shard.now.last (route_is c.args.route ∷ rest) c.args.shard.now.sessions) (happening_outcomes c.happen.new.shard.last rest c.happen.new.shard.sessions)
+returns-clause-front g c = λ rest. event_front (g.K.Sink.taken c.args.sink.now) (g.K.Sink.taken c.give_on.new.sink) c.args.told.now c.tell.new.self
     (c.in-Ok.ensures.gives rest) c.in-Ok-tell.ensures.text c.give_on.ensures.front

@@ -1,10 +1,9 @@
 -- The bytes behind those that are copied are zeros.
-use Rattle.std.proofs.Common.{◌∙◌, ◌++◌, ℕ, List, ap, length}
+use Rattle.std.proofs.Common.{◌∙◌, ◌++◌, ap, length}
 use Rattle.std.specs.Prelude.{drop, replicate}
-use Rattle.std.proofs.lemmas.List.{drop-replicate}
+use Rattle.bfd_c.proofs.Common.{drop-replicate}
 use Rattle.bfd_c.proofs.packing.packed_wire.Goals as goal
 
 pub returns : goal.returns
-returns c =
-    ap (λ (xs : List ℕ). xs ++ drop (length c.args.from.now) (replicate 52 0)) c.copy_from_slice.ensures.after
-    ∙ ap (λ (ys : List ℕ). c.args.from.now ++ ys) (drop-replicate (length c.args.from.now) 52 0)
+returns c = ap (λ xs. xs ++ drop (length c.args.from.now) (replicate 52 0)) c.copy_from_slice.ensures.after
+    ∙ ap (λ ys. c.args.from.now ++ ys) (drop-replicate (length c.args.from.now) 52 0)

@@ -1,4 +1,4 @@
-use Rattle.bfd_demux.proofs.Common.{arith, sym, ap, ◌∙◌, ◌≡◌, ◌<◌, ◌-◌, true, length, get_or, get_or_read, is_lt}
+use Rattle.bfd_demux.proofs.Common.{arith, sym, ap, ◌∙◌, ◌<◌, ◌-◌, length, get_or, get_or_read, is_lt}
 use Rattle.bfd_demux.proofs.Ascending.{one_longer}
 use Rattle.bfd_demux.proofs.table.is_ascending.Goals as goal
 
@@ -7,20 +7,13 @@ returns-then-not-is_lt-clause-told g c up =
     let within : c.loop-place.place < length c.args.entries.now = omega arith in
     let x = c.index-entries-place.result in
     let y = c.index-entries-place-in-loop-place in
-    let before = get_or c.args.entries.now (c.loop-place.place - 1) x in
-    let less = up (c.loop-place.place - 1) c.loop-place.place x (omega arith) within in
-    let is : is_lt c.cmp.result ≡ true =
-    ap is_lt (c.cmp.ensures ∙ ap (λ e. g.K.Ord.cmp before.0 e.0) (sym y.is ∙ get_or_read _ _ _ within y.is x) ∙ less) in
+    let is =
+    ap is_lt (c.cmp.ensures ∙ ap (λ e. g.K.Ord.cmp (get_or c.args.entries.now (c.loop-place.place - 1) x).0 e.0) (sym y.is ∙ get_or_read _ _ _ within y.is x) ∙ (up (c.loop-place.place - 1) c.loop-place.place x (omega arith) within)) in
     cc
 
 pub loop-place-preserved : goal.loop-place-preserved
 loop-place-preserved g c =
     let within : c.loop-place.place < length c.args.entries.now = omega arith in
     let earlier : c.loop-place.place - 1 < length c.args.entries.now = omega arith in
-    let x = c.index-entries-place in
-    let y = c.index-entries-place-in-loop-place in
-    let before = get_or c.args.entries.now (c.loop-place.place - 1) x.result in
-    one_longer g.met.K.Ord.total c.args.entries.now c.loop-place.place x.result y.result (omega arith) within
-    (get_or_read _ _ _ earlier x.is) (get_or_read _ _ _ within y.is)
-    (ap is_lt (ap (λ e. g.K.Ord.cmp e.0 y.result.0) x.is ∙ ap (λ e. g.K.Ord.cmp before.0 e.0) y.is ∙ sym c.cmp.ensures) ∙ sym c.is_lt.ensures ∙ c.if-not-is_lt.false)
+    one_longer g.met.K.Ord.total c.args.entries.now (omega arith) within (get_or_read _ _ _ earlier c.index-entries-place.is) (get_or_read _ _ _ within c.index-entries-place-in-loop-place.is) (cc)
     c.loop-place.invariant

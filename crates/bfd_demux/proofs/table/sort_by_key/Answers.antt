@@ -9,13 +9,11 @@ returns-then-is_ascending-clause-once g c _ =
 pub returns-clause-ascending : goal.returns-clause-ascending
 returns-clause-ascending g c once =
     ascending_from_sorted g.met.K.Ord.total _ (c.sort_unstable_by_key.ensures.sorted (λ entry. entry.0) (answers_always _ _ _ (λ f a r h k. search rules)))
-    (keys_once-IsPermutation g.K.Ord.cmp _ _ c.sort_unstable_by_key.ensures.permutation once)
+    (keys_once-IsPermutation g.K.Ord.cmp c.sort_unstable_by_key.ensures.permutation once)
 
 pub returns-clause-once : goal.returns-clause-once
-returns-clause-once g c risen =
-    keys_once-IsPermutation_back g.K.Ord.cmp _ _ c.sort_unstable_by_key.ensures.permutation
+returns-clause-once g c risen = keys_once-IsPermutation_back g.K.Ord.cmp c.sort_unstable_by_key.ensures.permutation
     (rw (← c.deref-2.ensures.value) (once_ascending g.met.K.Ord.total _ (c.is_ascending-2.ensures.rising risen)))
 
 pub returns-clause-told : goal.returns-clause-told
-returns-clause-told g c once =
-    c.is_ascending-2.ensures.told (rw c.deref-2.ensures.value (returns-clause-ascending g c once))
+returns-clause-told g c once = c.is_ascending-2.ensures.told (rw c.deref-2.ensures.value (returns-clause-ascending g c once))

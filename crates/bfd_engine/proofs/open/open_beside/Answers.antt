@@ -1,5 +1,5 @@
 -- What each thread is given, and what it makes of it.
-use Rattle.bfd_engine.proofs.Common.{rules, ◌≡◌, length, map, get_or, IfOk, ap, sym, subst, ◌∙◌, IsMade, AreMade}
+use Rattle.bfd_engine.proofs.Common.{rules, ap, sym, ◌∙◌}
 use Rattle.bfd_engine.proofs.Making.{made_each, passed_at}
 use Rattle.bfd_engine.proofs.open.open_beside.Goals as goal
 
@@ -8,8 +8,6 @@ map_vec-requires-after_bounds g c κs within = passed_at (λ q. q.items) c.args.
 
 pub apart-requires : goal.apart-requires
 apart-requires g c =
-    let long : length c.in_ok-made.made.items ≡ length c.args.parts.items = search rules in
-    subst (λ vs. AreMade c.args.limit (map (λ q. q.items) vs) c.in_ok-made.made.items) (sym (ap (λ v. v.items) c.of-of.ensures))
-    (made_each c.args.limit (λ q. q.items) c.args.parts.items c.in_ok-made.made.items long (λ k v d h e.
+    rw (ap (λ v. v.items) c.of-of.ensures) (made_each c.args.limit (λ q. q.items) c.args.parts.items c.in_ok-made.made.items (search rules) (λ k v d h e.
     let j = (c.in_ok-made.ensures.each k d h).1 in
-    subst (λ w. IfOk (get_or c.in_ok-made.made.items k d) (IsMade c.args.limit w.items)) (sym (j.job_is v) ∙ e) j.call.met))
+    rw (← sym (j.job_is v) ∙ e) j.call.met))

@@ -3,4 +3,4 @@ use Rattle.bfd_engine.proofs.Opening.{new_shard}
 use Rattle.bfd_engine.proofs.open.open_shard.Goals as goal
 
 pub returns : goal.returns
-returns g c = new_shard c.new.result c.in_ok-shard.shard.value.sessions c.args.configs.items c.in_ok-shard.shard.value.limit c.args.limit c.in_ok-shard.ensures.sessions c.in_ok-shard.ensures.limit c.new.ensures
+returns g c = new_shard c.new.result c.args.configs.items c.in_ok-shard.ensures.sessions c.in_ok-shard.ensures.limit c.new.ensures

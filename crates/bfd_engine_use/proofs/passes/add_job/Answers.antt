@@ -1,5 +1,5 @@
 -- The job that was pushed.
-use Rattle.std.proofs.Common.{◌++◌, ◌∷◌, [], ◌∙◌, List, Ok, refl, ap}
+use Rattle.std.proofs.Common.{Ok, refl}
 use Rattle.bfd_engine_use.specs.declared.threads.Job.{Job}
 use Rattle.bfd_engine_use.proofs.Joins.{ready_more}
 use Rattle.bfd_engine_use.proofs.passes.add_job.Goals as goal
@@ -9,7 +9,7 @@ returns-clause-added g c =
     let new = c.in_ok-pass.ensures.other in
     let job : Job = record { pass = c.in_ok-pass.pass; calls = c.args.calls; saw = c.new.result; room = c.args.room; ended = Ok tt } in record {
       job = job;
-      after_is = c.push_reserved.ensures.items ∙ ap (λ (l : List Job). l ++ job ∷ []) c.in_ok-reserve.ensures.items;
+      after_is = cc (c.in_ok-reserve.ensures.items);
       ready = record { of = new.1; there = new.2; room = c.requires.room };
       calls_are = refl;
       unseen = c.new.ensures.items;
@@ -17,4 +17,4 @@ returns-clause-added g c =
     }
 
 pub returns-clause-ready : goal.returns-clause-ready
-returns-clause-ready g c = ready_more c.args.engine.now c.args.jobs.now.items c.push_reserved.new.self.items c.args.calls.items c.args.room c.requires.ready (returns-clause-added g c)
+returns-clause-ready g c = ready_more c.requires.ready (returns-clause-added g c)

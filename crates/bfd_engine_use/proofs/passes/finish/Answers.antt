@@ -3,4 +3,4 @@ use Rattle.bfd_engine_use.proofs.Joins.{all_joined}
 use Rattle.bfd_engine_use.proofs.passes.finish.Goals as goal
 
 pub close-requires-clause-joined : goal.close-requires-clause-joined
-close-requires-clause-joined g c = all_joined c.args.engine c.args.first c.join_all.new.first c.args.jobs.items c.requires.passes c.in_ok-list.ensures.joined
+close-requires-clause-joined g c = all_joined c.args.engine c.requires.passes c.in_ok-list.ensures.joined

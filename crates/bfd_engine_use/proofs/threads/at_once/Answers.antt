@@ -1,29 +1,25 @@
 -- Threads may share the engine; each is given a job and leaves it done.
 use denote.Param.{param}
-use Rattle.std.proofs.Common.{rules, sym, subst}
-use Rattle.std.specs.Prelude.{slice_index_or}
+use Rattle.std.proofs.Common.{rules}
 use Rattle.std.proofs.Crossing.{sync}
 use Rattle.std.proofs.lemmas.List.Elements.{All-get_or}
 use Rattle.bfd_engine.proofs.Crossing.{engine_sync}
-use Rattle.bfd_engine_use.specs.declared.threads.Job.{Job}
 use Rattle.bfd_engine_use.specs.Ready.{IsJobReady}
-use Rattle.bfd_engine_use.specs.Calling.{HasEndedCalls}
 use Rattle.bfd_engine_use.proofs.Worked.{numbers_each}
 use Rattle.bfd_engine_use.proofs.threads.at_once.Goals as goal
 
 pub for_each_mut-requires-clause-accepts : goal.for_each_mut-requires-clause-accepts
-for_each_mut-requires-clause-accepts g c κs within = λ i p inside is. subst (λ (j : Job). IsJobReady c.args.engine.now j) (sym is) (All-get_or (λ (j : Job). IsJobReady c.args.engine.now j) c.args.jobs.now i p.now inside c.requires)
+for_each_mut-requires-clause-accepts g c κs within = λ i p inside is. rw is (All-get_or (λ j. IsJobReady c.args.engine.now j) c.args.jobs.now i p.now inside c.requires)
 
 pub for_each_mut-requires-sync-F : goal.for_each_mut-requires-sync-F
 for_each_mut-requires-sync-F g c κs within =
-    let e = engine_sync (param 0 g.row.W) g.W.Timers g.W.Timers-dict g.W.Destruct-dict c.type_bounds.send-W in
     record {
       shared = λ x b o κ. (
         (
           ((λ q. tt), c.type_bounds.sync-R.shared x.0.now x.0.ref_ptr.0 x.0.ref_ptr.1 _),
           (
             ((λ q. tt), sync.shared x.1.now x.1.ref_ptr.0 x.1.ref_ptr.1 κ),
-            (((λ q. tt), e.shared x.2.now x.2.ref_ptr.0 x.2.ref_ptr.1 _), tt),
+            (((λ q. tt), (engine_sync (param 0 g.row.W) g.W.Timers g.W.Timers-dict g.W.Destruct-dict c.type_bounds.send-W).shared x.2.now x.2.ref_ptr.0 x.2.ref_ptr.1 _), tt),
           ),
         ),
         (λ q. tt),
@@ -32,8 +28,7 @@ for_each_mut-requires-sync-F g c κs within =
 
 pub returns-clause-each : goal.returns-clause-each
 returns-clause-each g c = λ i d h. let k = (c.for_each_mut.ensures i d h).1 in
-    subst (λ j. HasEndedCalls c.args.engine.now j (slice_index_or c.for_each_mut.new.s i d)) k.argument_is
-    (subst (λ j. HasEndedCalls c.args.engine.now k.argument.now j) k.left k.call)
+    rw (← k.argument_is) (rw (← k.left) k.call)
 
 pub returns-clause-numbers : goal.returns-clause-numbers
-returns-clause-numbers g c = numbers_each c.args.engine.now c.args.jobs.now c.for_each_mut.new.s (search rules) (returns-clause-each g c)
+returns-clause-numbers g c = numbers_each c.args.jobs.now c.for_each_mut.new.s (search rules) (returns-clause-each g c)

@@ -4,8 +4,7 @@ use Rattle.bfd_fields.proofs.fields.place_in_run.Goals as goal
 -- no lane is marked
 pub returns-then-marks-eq0 : goal.returns-then-marks-eq0
 returns-then-marks-eq0 c =
-    let marks = bitmask_splat w8 eqb c.args.run.now 32 c.args.byte c.told-run (omega arith) in
-    sym (leading_from_mask_l (λ other. eqb other c.args.byte) c.args.run.now (sym marks ∙ c.if-marks-eq0.true) ∙ c.told-run)
+    sym (leading_from_mask_l (λ other. eqb other c.args.byte) c.args.run.now (cc ((bitmask_splat w8 eqb c.args.run.now 32 c.args.byte c.told-run (omega arith)))) ∙ c.told-run)
 
 -- the lowest marked lane is the first
 pub returns-else-marks-eq0 : goal.returns-else-marks-eq0

@@ -1,6 +1,5 @@
 -- What is left of the pieces is dealt out to the parts, and the others were taken.
-use Rattle.bfd_gather.proofs.Common.{List, length, ◌+◌, ◌≤◌, Dealt, IsSpread}
-use Rattle.std.specs.List.{sum_by}
+use Rattle.bfd_gather.proofs.Common.{List, length, ◌+◌, ◌≤◌, Dealt, IsSpread, sum_by}
 use Rattle.bfd_gather.proofs.Taking.{Going}
 use Rattle.bfd_gather.proofs.gathering.gather.Given as goal
 

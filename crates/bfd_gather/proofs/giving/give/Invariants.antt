@@ -1,6 +1,5 @@
 -- What is left of the pieces is dealt out to the parts; the others were taken, and given or kept. No write failed.
-use Rattle.bfd_gather.proofs.Common.{◌≡◌, List, length, Dealt, IsSpread}
-use Rattle.std.specs.List.{sum_by}
+use Rattle.bfd_gather.proofs.Common.{◌≡◌, List, length, Dealt, IsSpread, sum_by}
 use Rattle.bfd_gather.proofs.PiecesGiven.{Giving}
 use Rattle.bfd_gather.proofs.giving.give.Given as goal
 

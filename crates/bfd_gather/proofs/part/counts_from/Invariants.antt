@@ -1,6 +1,5 @@
 -- The marks that are left have the rest of the packets.
-use Rattle.bfd_gather.proofs.Common.{◌≡◌, ◌≤◌, ◌+◌, drop, Mark}
-use Rattle.std.specs.List.{sum_by}
+use Rattle.bfd_gather.proofs.Common.{◌≡◌, ◌≤◌, ◌+◌, drop, Mark, sum_by}
 use Rattle.bfd_gather.proofs.part.counts_from.Given as goal
 
 abbrev pub invariant-loop-at : goal.invariant-loop-at

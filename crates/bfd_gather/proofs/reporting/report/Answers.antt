@@ -1,23 +1,19 @@
 -- The parts' text is that of the whole replay.
-use Rattle.bfd_gather.proofs.Common.{◌∙◌, ◌++◌, ap, dealt_text}
+use Rattle.bfd_gather.proofs.Common.{◌∙◌}
 use Rattle.bfd_gather.proofs.Telling.{deal_all}
 use Rattle.bfd_gather.proofs.Whole.{all_drops, all_txs, parts_spread, whole_report}
 use Rattle.bfd_gather.proofs.reporting.report.Goals as goal
 
 pub returns-clause-text : goal.returns-clause-text
 returns-clause-text c = λ shards last hs ss count parts.
-    let spread = parts_spread shards 1 last hs ss c.args.parts.items parts in
-    whole_report shards last hs ss c.gather_all.new.text.items c.extend_from_slice.new.self.items c.as_bytes.result.now c.args.events c.in_ok-txs.txs c.in_ok-txs.drops count
-    (c.in_ok-txs.ensures.told (deal_all shards 1 last hs ss) spread ∙ ap (λ t. t ++ dealt_text (deal_all shards 1 last hs ss)) c.new-text.ensures.items)
-    (c.in_ok-txs.ensures.txs (deal_all shards 1 last hs ss) spread)
-    (c.in_ok-txs.ensures.drops (deal_all shards 1 last hs ss) spread)
-    (c.as_bytes.ensures.value ∙ c.in_ok-done.ensures)
-    c.in_ok-extend_from_slice.ensures.items
+    let spread = parts_spread parts in
+    whole_report _ last hs ss _ _ count
+    (cc (c.in_ok-txs.ensures.told (deal_all shards 1 last hs ss) spread)) (c.in_ok-txs.ensures.txs (deal_all shards 1 last hs ss) spread)
+    (c.in_ok-txs.ensures.drops (deal_all shards 1 last hs ss) spread) (c.as_bytes.ensures.value ∙ c.in_ok-done.ensures) c.in_ok-extend_from_slice.ensures.items
 
 pub returns-clause-txs : goal.returns-clause-txs
-returns-clause-txs c = λ shards last hs ss parts.
-    c.in_ok-txs.ensures.txs (deal_all shards 1 last hs ss) (parts_spread shards 1 last hs ss c.args.parts.items parts) ∙ all_txs shards 1 last hs ss
+returns-clause-txs c = λ shards last hs ss parts. c.in_ok-txs.ensures.txs (deal_all shards 1 last hs ss) (parts_spread parts) ∙ all_txs shards 1 last hs ss
 
 pub returns-clause-drops : goal.returns-clause-drops
 returns-clause-drops c = λ shards last hs ss parts.
-    c.in_ok-txs.ensures.drops (deal_all shards 1 last hs ss) (parts_spread shards 1 last hs ss c.args.parts.items parts) ∙ all_drops shards 1 last hs ss
+    c.in_ok-txs.ensures.drops (deal_all shards 1 last hs ss) (parts_spread parts) ∙ all_drops shards 1 last hs ss

@@ -1,5 +1,5 @@
 -- What is left was taken so far as the sink took it.
-use Rattle.bfd_gather.proofs.Common.{◌≡◌, ◌++◌, subst, done_line, TookFront}
+use Rattle.bfd_gather.proofs.Common.{◌≡◌, ◌++◌, done_line}
 use Rattle.std.proofs.Common.{rules}
 use Rattle.bfd_gather.proofs.Written.{took_nothing}
 use Rattle.bfd_gather.proofs.reporting.write_last.Goals as goal
@@ -13,4 +13,4 @@ returns-in_default-extend_from_slice-clause-front g c = took_nothing (g.K.Sink.t
 pub returns-clause-front : goal.returns-clause-front
 returns-clause-front g c =
     let whole : c.as_slice.result.now ≡ c.args.text.items ++ done_line c.args.events c.args.txs c.args.drops = search rules in
-    subst (TookFront (g.K.Sink.taken c.args.sink.now) (g.K.Sink.taken c.write_all.new.sink)) whole c.write_all.ensures.front
+    rw (← whole) c.write_all.ensures.front

@@ -5,9 +5,7 @@ use Rattle.bfd_jobs.proofs.input.read_all.Given as goal
 
 -- the bytes so far were read, they are not too many, and no read failed
 abbrev pub invariant-pieces : goal.invariant-pieces
-invariant-pieces g l =
-    (vec_len l.bytes ≤ most_bytes)
-    × Consumes (g.S.Source.left l.initial.source) (g.S.Source.left l.source) l.bytes.items
+invariant-pieces g l = (vec_len l.bytes ≤ most_bytes) × Consumes (g.S.Source.left l.initial.source) (g.S.Source.left l.source) l.bytes.items
     × (g.S.Source.faults l.source ≡ g.S.Source.faults l.initial.source)
 
 abbrev pub decreases-pieces : goal.decreases-pieces

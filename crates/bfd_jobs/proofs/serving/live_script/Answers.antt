@@ -1,13 +1,11 @@
 -- The bytes of the source are those that were read.
-use Rattle.std.proofs.Common.{◌≡◌, ℕ, List, true, Result, Ok, Err, inl, inr, refl, rules, sym, subst}
+use Rattle.std.proofs.Common.{◌≡◌, ℕ, List, true, Result, inl, inr, refl, rules}
 use Rattle.bfd_fields.specs.declared.fault.BadLine.{BadLine as FaultyLine}
 use Rattle.bfd_script.specs.Reading.{Lists, script_of}
-use Rattle.bfd_jobs.specs.Answers.{IsAnswer}
-use Rattle.bfd_jobs.specs.Text.{Wanted}
 use Rattle.bfd_jobs.proofs.serving.live_script.Goals as goal
 
-spelled_of : (bytes more : List ℕ) (read : Result Lists FaultyLine) → bytes ≡ more → script_of true bytes ≡ read → script_of true more ≡ read
-spelled_of bytes more read same is = subst (λ (l : List ℕ). script_of true l ≡ read) same is
+spelled_of : {bytes more : List ℕ} {read : Result Lists FaultyLine} → bytes ≡ more → script_of true bytes ≡ read → script_of true more ≡ read
+spelled_of same is = rw (← same) is
 
 pub returns-in-Ok-read-clause-live : goal.returns-in-Ok-read-clause-live
 returns-in-Ok-read-clause-live g c = record {
@@ -15,7 +13,7 @@ returns-in-Ok-read-clause-live g c = record {
   read = c.in-Ok.ensures.whole;
   end = c.in-Ok.ensures.end;
   few = c.in-Ok.ensures.fits;
-  spelled = spelled_of _ _ (Ok c.in-Ok-read.script) c.as_slice.ensures.value c.in-Ok-read.ensures.script;
+  spelled = spelled_of c.as_slice.ensures.value c.in-Ok-read.ensures.script;
 }
 
 pub returns-in-Ok-complain-clause-unread : goal.returns-in-Ok-complain-clause-unread
@@ -26,10 +24,10 @@ returns-in-Ok-complain-clause-unread g c = (
     end = c.in-Ok.ensures.end;
     few = c.in-Ok.ensures.fits;
     bad = c.in-Err-Bad.bad;
-    spelled = spelled_of _ _ (Err c.in-Err-Bad.bad) c.as_slice.ensures.value (rw c.in-Err-Bad.field-0-is at c.in-Err-Bad.ensures.script);
+    spelled = spelled_of c.as_slice.ensures.value (rw c.in-Err-Bad.field-0-is at c.in-Err-Bad.ensures.script);
     complained = c.in-Ok-complain.ensures;
   },
-  subst (λ (w : Wanted). IsAnswer w) (sym c.in-Ok-complain.ensures) refl,
+  rw c.in-Ok-complain.ensures refl,
   c.in-Ok.ensures.calm,
 )
 
@@ -39,6 +37,6 @@ returns-in-Err-TooLarge-clause-unread g c = (
     long = c.in-Err-TooLarge.ensures.too_large (search rules);
     nothing = c.bare.ensures;
   },
-  subst (λ (w : Wanted). IsAnswer w) (sym c.bare.ensures) refl,
+  rw c.bare.ensures refl,
   c.in-Err-TooLarge.ensures.calm_too_large (search rules),
 )

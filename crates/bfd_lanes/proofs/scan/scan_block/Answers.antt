@@ -1,8 +1,7 @@
 -- A block with none that has come is passed over.
-use Rattle.std.proofs.Common.{◌++◌, ap}
 use Rattle.bfd_lanes.proofs.Scanned.{none_in_block}
 use Rattle.bfd_lanes.proofs.scan.scan_block.Goals as goal
 
 pub returns-else-not-none_come-clause-items : goal.returns-else-not-none_come-clause-items
 returns-else-not-none_come-clause-items c =
-    ap (λ ps. c.args.out.now.items ++ ps) (none_in_block c.args.t c.args.at c.args.dues.now c.requires.block c.requires.tick (c.none_come.ensures c.if-not-none_come.false))
+    cc (none_in_block _ _ c.args.dues.now c.requires.block c.requires.tick (c.none_come.ensures c.if-not-none_come.false))

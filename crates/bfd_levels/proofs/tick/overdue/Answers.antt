@@ -14,11 +14,8 @@ pub returns-clause-placed : goal.returns-clause-placed
 returns-clause-placed g c = still_ends (length c.args.dues.now) c.args.now 6 c.walk.new.dues c.walk.new.nodes c.walk.ensures.placed
 
 pub returns-clause-left : goal.returns-clause-left
-returns-clause-left g c = overdue_left (length c.args.dues.now) c.args.now c.args.t c.walk.new.dues c.requires.back c.walk.ensures.left
+returns-clause-left g c = overdue_left c.walk.new.dues c.requires.back c.walk.ensures.left
 
 pub returns-clause-cost : goal.returns-clause-cost
 returns-clause-cost g c =
-    let cost = c.walk.ensures.cost in
-    let after = still_loads (length c.args.dues.now) c.args.now 6 c.walk.new.dues c.walk.new.nodes in
-    let before = still_loads (length c.args.dues.now) c.args.now 5 c.args.dues.now c.args.nodes.now in
-    omega arith
+    omega (arith, c.walk.ensures.cost, still_loads (length c.args.dues.now) c.args.now 6 c.walk.new.dues c.walk.new.nodes, still_loads (length c.args.dues.now) c.args.now 5 c.args.dues.now c.args.nodes.now)

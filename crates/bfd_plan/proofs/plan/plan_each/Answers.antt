@@ -1,5 +1,5 @@
 -- What each thread planned is what its run is.
-use Rattle.bfd_plan.proofs.Common.{rules, ◌≡◌, ◌<◌, arith, length, subst, sym, vec_len, get_or, Ok, IfOk, IsPlanOf}
+use Rattle.bfd_plan.proofs.Common.{rules, ◌≡◌, arith, length, subst, vec_len, Ok, IfOk, IsPlanOf}
 use Rattle.bfd_plan.proofs.Parting.{all_there, there_at}
 use Rattle.bfd_plan.proofs.plan.plan_each.Goals as goal
 
@@ -8,7 +8,5 @@ returns-clause-each g c = λ i r p h.
     let plans = c.in_ok-plans.plans.items in
     let done : vec_len c.in_ok-done.done ≡ length c.in_ok-done.done.items = search rules in
     let given : vec_len c.args.runs ≡ length c.args.runs.items = search rules in
-    let inside : i < length plans = omega (arith, h, done, given, c.in_ok-done.ensures.len, all_there c.in_ok-done.done.items plans c.in_ok-plans.ensures) in
     let k = (c.in_ok-done.ensures.each i (Ok p) h).1 in
-    subst (λ x. IsPlanOf c.args.configs.now c.args.pool.now c.args.shards x (get_or plans i p)) (sym (k.job_is r))
-    (subst (λ x. IfOk x (λ y. IsPlanOf c.args.configs.now c.args.pool.now c.args.shards k.job y)) (there_at c.in_ok-done.done.items plans i p c.in_ok-plans.ensures inside) k.call.met)
+    rw (k.job_is r) (subst (λ x. IfOk x (λ y. IsPlanOf c.args.configs.now c.args.pool.now c.args.shards k.job y)) (there_at _ plans i p c.in_ok-plans.ensures (omega (arith, h, done, given, c.in_ok-done.ensures.len, all_there plans c.in_ok-plans.ensures))) k.call.met)

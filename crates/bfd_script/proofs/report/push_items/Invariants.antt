@@ -1,5 +1,4 @@
-use Rattle.bfd_script.proofs.Common.{◌≡◌, ◌++◌, take, flat_map}
-use Rattle.bfd_script.specs.Report.{item_line}
+use Rattle.bfd_script.proofs.Common.{◌≡◌, ◌++◌, take, flat_map, item_line}
 use Rattle.bfd_script.proofs.report.push_items.Given as goal
 
 abbrev pub invariant-loop-out : goal.invariant-loop-out

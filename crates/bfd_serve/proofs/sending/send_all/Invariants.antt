@@ -1,5 +1,4 @@
-use Rattle.bfd_serve.proofs.Common.{take, datagrams, HasSent}
-use Rattle.std.proofs.Common.{[]}
+use Rattle.bfd_serve.proofs.Common.{take, datagrams, HasSent, []}
 use Rattle.bfd_serve.proofs.sending.send_all.Given as goal
 
 abbrev pub invariant-loop-out : goal.invariant-loop-out

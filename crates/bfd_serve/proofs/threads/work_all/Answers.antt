@@ -1,16 +1,11 @@
 -- Each job is worked on by one thread.
-use Rattle.bfd_serve.proofs.Common.{slice_index_or, sym, subst, All-get_or, IsReady, IsWorked}
-use denote.Builtin.{u64}
-use denote.Param.{param}
-use denote.Param.Send.{sendable, IsSync}
+use Rattle.bfd_serve.proofs.Common.{sym, subst, All-get_or, IsReady, u64, param, sendable, IsSync, engine_sync}
 use Rattle.std.proofs.Crossing as heap
-use Rattle.bfd_engine.proofs.Crossing.{engine_sync}
 use Rattle.bfd_serve.proofs.threads.work_all.Goals as goal
 
 -- the closure lends what it captures, in this order
 pub for_each_mut-requires-sync-F : goal.for_each_mut-requires-sync-F
 for_each_mut-requires-sync-F g c κs within =
-    let e = engine_sync (param 0 g.row.W) g.W.Timers g.W.Timers-dict g.W.Destruct-dict c.type_bounds.send-W in
     let n : IsSync u64 = search sendable depth 20 in
     record {
       shared = λ x b o κ. (
@@ -19,7 +14,7 @@ for_each_mut-requires-sync-F g c κs within =
           (
             ((λ q. tt), heap.sync.shared x.1.now x.1.ref_ptr.0 x.1.ref_ptr.1 κ),
             (
-              ((λ q. tt), e.shared x.2.now x.2.ref_ptr.0 x.2.ref_ptr.1 _),
+              ((λ q. tt), (engine_sync (param 0 g.row.W) g.W.Timers g.W.Timers-dict g.W.Destruct-dict c.type_bounds.send-W).shared x.2.now x.2.ref_ptr.0 x.2.ref_ptr.1 _),
               (
                 ((λ q. tt), c.type_bounds.sync-G.shared x.3.now x.3.ref_ptr.0 x.3.ref_ptr.1 _),
                 (((λ q. tt), n.shared x.4.now x.4.ref_ptr.0 x.4.ref_ptr.1 κ), tt),
@@ -36,5 +31,4 @@ for_each_mut-requires-clause-accepts g c κs within = λ i p inside is. subst (I
 
 pub returns-clause-worked : goal.returns-clause-worked
 returns-clause-worked g c = λ i d h. let k = (c.for_each_mut.ensures i d h).1 in
-    subst (λ j. IsWorked g.L.Link.told c.args.engine.now c.args.turns j (slice_index_or c.for_each_mut.new.s i d)) k.argument_is
-    (subst (λ j. IsWorked g.L.Link.told c.args.engine.now c.args.turns k.argument.now j) k.left k.call)
+    rw (← k.argument_is) (rw (← k.left) k.call)

@@ -1,5 +1,4 @@
-use Rattle.bfd_serve.proofs.Common.{◌≡◌, ◌⊎◌, ◌<◌, ◌≤◌, length, configs_at}
-use Rattle.std.proofs.Common.{ℕ}
+use Rattle.bfd_serve.proofs.Common.{◌≡◌, ◌⊎◌, ◌<◌, ◌≤◌, length, configs_at, ℕ}
 use Rattle.bfd_serve.proofs.timing.room_of.Given as goal
 
 abbrev pub invariant-loop-shard : goal.invariant-loop-shard

@@ -1,5 +1,5 @@
 -- A worker's turns: each leaves what was done so far, or ends the worker by its cause.
-use Rattle.bfd_serve.proofs.Common.{rules, arith, ◌≤◌, sym, subst}
+use Rattle.bfd_serve.proofs.Common.{rules, arith}
 use Rattle.bfd_serve.proofs.Turning.{working_start, working_quiet, working_got, worked_without, working_over, working_fault, working_memory, working_turns}
 use Rattle.bfd_serve.proofs.working.worker.Goals as goal
 use Rattle.bfd_serve.proofs.working.worker.Goals.{in-Quiet, in-Got+in_default-handled}
@@ -8,8 +8,8 @@ pub returns-in_default-clause-worked : goal.returns-in_default-clause-worked
 returns-in_default-clause-worked g c = worked_without c.args.engine.now c.args.pass.now (g.L.Link.told c.args.link.now) c.args.turns c.requires.open
 
 pub returns-in-Err-clause-worked : goal.returns-in-Err-clause-worked
-returns-in-Err-clause-worked g c = let t = g.L.Link.told in (working_got c.args.engine.now c.args.pass.now c.loop-turn.pass c.handle-handled.new.pass (t c.args.link.now) (t c.loop-turn.link) (t c.receive.new.self) (t c.handle-handled.new.link)
-    c.loop-turn.turn c.in-Got.moment c.in-Got.arrival c.loop-turn.lost c.handle-handled.new.lost c.handle-handled.result c.loop-turn.invariant.working c.in-Got.ensures c.handle-handled.ensures.done).1 c.args.turns c.in-Err.end c.loop-turn-test.true c.in-Err.is
+returns-in-Err-clause-worked g c = let t = g.L.Link.told in (working_got c.args.engine.now _ _ c.handle-handled.new.pass _ _ _ (t c.handle-handled.new.link)
+    _ c.in-Got.moment c.in-Got.arrival _ c.handle-handled.new.lost c.handle-handled.result c.loop-turn.invariant.working c.in-Got.ensures c.handle-handled.ensures.done).1 c.args.turns c.in-Err.end c.loop-turn-test.true c.in-Err.is
 
 pub loop-turn-init : goal.loop-turn-init
 loop-turn-init g c = record { of = c.requires.of; there = c.requires.there; room = search rules; working = working_start c.args.engine.now c.args.pass.now (g.L.Link.told c.args.link.now) c.requires.open }
@@ -19,30 +19,26 @@ loop-turn-preserved g c = let t = g.L.Link.told in let i = c.loop-turn.invariant
   | in-Got+in_default-handled w ↦ rw (w.pass-is, w.link-is, w.lost-is, w.outs-is) (record {
     of = w.handle-handled.ensures.of;
     there = w.handle-handled.ensures.there;
-    room = subst (λ n. 5 ≤ n) (sym w.handle-handled.ensures.room) i.room;
-    working = (working_got c.args.engine.now c.args.pass.now c.loop-turn.pass w.handle-handled.new.pass (t c.args.link.now) (t c.loop-turn.link) (t c.receive.new.self) (t w.handle-handled.new.link)
-        c.loop-turn.turn w.in-Got.moment w.in-Got.arrival c.loop-turn.lost w.handle-handled.new.lost w.handle-handled.result i.working w.in-Got.ensures w.handle-handled.ensures.done).0 w.in_default-handled.field-0 w.in_default-handled.is;
+    room = rw w.handle-handled.ensures.room i.room;
+    working = (working_got c.args.engine.now _ _ w.handle-handled.new.pass _ _ _ (t w.handle-handled.new.link)
+        _ w.in-Got.moment w.in-Got.arrival _ w.handle-handled.new.lost w.handle-handled.result i.working w.in-Got.ensures w.handle-handled.ensures.done).0 w.in_default-handled.field-0 w.in_default-handled.is;
   })
   | in-Quiet w ↦ rw (w.pass-is, w.link-is, w.lost-is, w.outs-is) (record {
     of = i.of;
     there = i.there;
     room = i.room;
-    working = working_quiet c.args.engine.now c.args.pass.now c.loop-turn.pass (t c.args.link.now) (t c.loop-turn.link) (t c.receive.new.self) c.loop-turn.turn c.loop-turn.lost i.working w.in-Quiet.ensures;
+    working = working_quiet c.args.engine.now i.working w.in-Quiet.ensures;
   })
 ]
 
 pub returns-in-Ended-clause-worked : goal.returns-in-Ended-clause-worked
-returns-in-Ended-clause-worked g c = let t = g.L.Link.told in working_over c.args.engine.now c.args.pass.now c.loop-turn.pass (t c.args.link.now) (t c.loop-turn.link) (t c.receive.new.self) c.loop-turn.turn c.loop-turn.lost c.args.turns
-    c.loop-turn.invariant.working (let a = c.loop-turn-test.true in omega arith) c.in-Ended.ensures
+returns-in-Ended-clause-worked g c = working_over c.args.engine.now c.loop-turn.invariant.working (omega arith) c.in-Ended.ensures
 
 pub returns-in-Failed-clause-worked : goal.returns-in-Failed-clause-worked
-returns-in-Failed-clause-worked g c = let t = g.L.Link.told in working_fault c.args.engine.now c.args.pass.now c.loop-turn.pass (t c.args.link.now) (t c.loop-turn.link) (t c.receive.new.self) c.loop-turn.turn c.loop-turn.lost c.args.turns
-    c.loop-turn.invariant.working (let a = c.loop-turn-test.true in omega arith) c.in-Failed.ensures
+returns-in-Failed-clause-worked g c = working_fault c.args.engine.now c.loop-turn.invariant.working (omega arith) c.in-Failed.ensures
 
 pub returns-in-Memory-clause-worked : goal.returns-in-Memory-clause-worked
-returns-in-Memory-clause-worked g c = let t = g.L.Link.told in working_memory c.args.engine.now c.args.pass.now c.loop-turn.pass (t c.args.link.now) (t c.loop-turn.link) (t c.receive.new.self) c.loop-turn.turn c.loop-turn.lost c.args.turns
-    c.loop-turn.invariant.working (let a = c.loop-turn-test.true in omega arith) c.in-Memory.ensures
+returns-in-Memory-clause-worked g c = working_memory c.args.engine.now c.loop-turn.invariant.working (omega arith) c.in-Memory.ensures
 
 pub returns-clause-worked : goal.returns-clause-worked
-returns-clause-worked g c = let t = g.L.Link.told in working_turns c.args.engine.now c.args.pass.now c.loop-turn.pass (t c.args.link.now) (t c.loop-turn.link) c.loop-turn.turn c.loop-turn.lost c.args.turns
-    c.loop-turn.invariant.working (let a = c.loop-turn-test.false in let b = c.loop-turn.auto.turn-end in omega arith)
+returns-clause-worked g c = working_turns c.args.engine.now c.loop-turn.invariant.working (omega arith)

@@ -1,6 +1,5 @@
 -- With the shards that are left, the text and the counts are the whole.
-use Rattle.bfd_served.proofs.Common.{◌≡◌, ◌≤◌, ◌+◌, ◌++◌, length, map, drop, sum_by, AllByRecursion, configs_of, shard_history, shard_sent, shards_text}
-use Rattle.bfd_session.specs.Rows.{AreFit}
+use Rattle.bfd_served.proofs.Common.{◌≡◌, ◌≤◌, ◌+◌, ◌++◌, length, map, drop, sum_by, AllByRecursion, configs_of, shard_history, shard_sent, shards_text, AreFit}
 use Rattle.bfd_served.proofs.serving.served.Given as goal
 
 abbrev pub invariant-loop-configs : goal.invariant-loop-configs

@@ -1,5 +1,5 @@
 -- One entry more, and at the end all.
-use Rattle.bfd_served.proofs.Common.{rules, ◌≡◌, ◌∙◌, [], take, drop, length-drop, arith, nil_from_length, configs_of}
+use Rattle.bfd_served.proofs.Common.{rules, take, drop, length-drop, arith, nil_from_length, configs_of}
 use Rattle.bfd_served.proofs.Entries.{IsNext, can_next, taken_more, text_next, sent_next, text_over, sent_over}
 use Rattle.bfd_served.proofs.telling.tell_entries.Goals as goal
 
@@ -17,25 +17,19 @@ loop-entry-preserved g c =
     let one : IsNext (configs_of c.args.shard.now.sessions) c.args.journal.now c.loop-entry.entry-index (configs_of c.loop-entry.shard.sessions) c.loop-entry.shard.journal c.entry-item.result =
     record { inside = search rules; configs = i.configs; journal = i.journal; is = c.entry-item.is } in
     record {
-      journal = taken_more _ _ _ _ _ _ one c.tell_entry.new.shard.journal e.journal;
-      limit = e.limit ∙ i.limit;
-      configs = e.configs ∙ i.configs;
-      room = e.room ∙ i.room;
-      text = text_next _ _ _ _ _ _ one c.loop-entry.text.items c.tell_entry.new.text.items _ i.text e.text;
-      sent = sent_next _ _ _ _ _ _ one c.loop-entry.count c.in_ok-sent.sent _ i.sent e.sent;
-      few = (let a = i.few in let b = e.few in omega (arith, a, b));
+      journal = taken_more _ _ _ _ _ _ one e.journal;
+      limit = cc;
+      configs = cc;
+      room = cc;
+      text = text_next _ _ _ _ _ _ one c.loop-entry.text.items i.text e.text;
+      sent = sent_next _ _ _ _ _ _ one c.loop-entry.count i.sent e.sent;
+      few = omega (arith, i.few, e.few);
     }
 
 pub returns-clause-text : goal.returns-clause-text
-returns-clause-text g c =
-    let none : drop c.loop-entry.entry-index c.args.journal.now ≡ [] =
-    nil_from_length (drop c.loop-entry.entry-index c.args.journal.now) (let over = c.loop-entry-test.false in omega (arith, over, length-drop c.loop-entry.entry-index c.args.journal.now)) in
-    text_over (configs_of c.args.shard.now.sessions) (take c.loop-entry.entry-index c.args.journal.now) (drop c.loop-entry.entry-index c.args.journal.now)
-    c.loop-entry.text.items _ none c.loop-entry.invariant.text
+returns-clause-text g c = text_over (configs_of c.args.shard.now.sessions) (take c.loop-entry.entry-index c.args.journal.now)
+    c.loop-entry.text.items (nil_from_length (drop c.loop-entry.entry-index c.args.journal.now) (omega (arith, c.loop-entry-test.false, length-drop c.loop-entry.entry-index c.args.journal.now))) c.loop-entry.invariant.text
 
 pub returns-clause-sent : goal.returns-clause-sent
-returns-clause-sent g c =
-    let none : drop c.loop-entry.entry-index c.args.journal.now ≡ [] =
-    nil_from_length (drop c.loop-entry.entry-index c.args.journal.now) (let over = c.loop-entry-test.false in omega (arith, over, length-drop c.loop-entry.entry-index c.args.journal.now)) in
-    sent_over (configs_of c.args.shard.now.sessions) (take c.loop-entry.entry-index c.args.journal.now) (drop c.loop-entry.entry-index c.args.journal.now)
-    c.loop-entry.count _ none c.loop-entry.invariant.sent
+returns-clause-sent g c = sent_over (configs_of c.args.shard.now.sessions) (take c.loop-entry.entry-index c.args.journal.now)
+    c.loop-entry.count (nil_from_length (drop c.loop-entry.entry-index c.args.journal.now) (omega (arith, c.loop-entry-test.false, length-drop c.loop-entry.entry-index c.args.journal.now))) c.loop-entry.invariant.sent

@@ -1,21 +1,20 @@
 -- One session more, and at the end all.
-use Rattle.bfd_serving.proofs.Common.{◌+◌, ◌++◌, ◌∷◌, [], drop, refl, ap, ◌∙◌, arith, share}
+use Rattle.bfd_serving.proofs.Common.{◌+◌, ◌++◌, ◌∷◌, [], refl, ap, ◌∙◌, arith}
 use Rattle.bfd_serving.proofs.Dealing.{share_more, share_over, share_from}
 use Rattle.bfd_serving.proofs.copying.dealt_to.Goals as goal
 
 pub loop-at-init : goal.loop-at-init
 loop-at-init c = record {
-  whole = ap (λ ys. ys ++ share c.args.shards 0 (drop c.args.shard c.args.configs.now)) c.new-part.ensures.items ∙ share_from c.args.shards c.args.shard c.args.configs.now;
-  few = (let a = c.requires.inside in omega (arith, a));
+  whole = cc (share_from c.args.shards c.args.shard c.args.configs.now);
+  few = omega (arith, c.requires.inside);
 }
 
 pub loop-at-preserved : goal.loop-at-preserved
-loop-at-preserved c =
-    let i = c.loop-at.invariant in let n = c.args.shards in let at = c.loop-at.at in let inside = c.loop-at-test.true in record {
-      whole = share_more n c.args.shard at (at + n) c.args.configs.now c.loop-at.part.items c.push.new.self.items c.index-configs-at.result c.requires.some.0 inside refl c.index-configs-at.is
-          (c.in_ok-push.ensures.items ∙ ap (λ y. c.loop-at.part.items ++ y ∷ []) c.copied.ensures) i.whole;
-      few = omega (arith, inside);
-    }
+loop-at-preserved c = let n = c.args.shards in let at = c.loop-at.at in let inside = c.loop-at-test.true in record {
+  whole = share_more n c.args.shard at (at + n) c.args.configs.now c.loop-at.part.items c.push.new.self.items c.index-configs-at.result c.requires.some.0 inside refl c.index-configs-at.is
+      (c.in_ok-push.ensures.items ∙ ap (λ y. c.loop-at.part.items ++ y ∷ []) c.copied.ensures) c.loop-at.invariant.whole;
+  few = omega (arith, inside);
+}
 
 pub returns : goal.returns
-returns c = share_over c.args.shards c.args.shard c.loop-at.at c.args.configs.now c.loop-at.part.items (let h = c.loop-at-test.false in omega (arith, h)) c.loop-at.invariant.whole
+returns c = share_over c.args.shards c.args.shard c.loop-at.at c.args.configs.now c.loop-at.part.items (omega (arith, c.loop-at-test.false)) c.loop-at.invariant.whole

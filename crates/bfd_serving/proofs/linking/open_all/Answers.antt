@@ -4,8 +4,7 @@ use Rattle.bfd_serving.proofs.Shuts.{next_unopened}
 use Rattle.bfd_serving.proofs.linking.open_all.Goals as goal
 
 pub returns-in-Err-open-clause-opened : goal.returns-in-Err-open-clause-opened
-returns-in-Err-open-clause-opened g c =
-    let told = g.P.Link.Link.told in let i = c.loop-at.invariant in
-    next_unopened told c.in-Ok.link c.loop-at.links.items c.in-Err-open.fault c.refused_as-in-Err-open.result c.loop-at.at (c.loop-at.at + 1)
+returns-in-Err-open-clause-opened g c = let i = c.loop-at.invariant in
+    next_unopened g.P.Link.Link.told c.in-Ok.link c.loop-at.links.items c.in-Err-open.fault c.refused_as-in-Err-open.result c.loop-at.at (c.loop-at.at + 1)
     (g.P.Ports.told c.args.ports.now) (g.P.Ports.told c.loop-at.ports) (g.P.Ports.told c.open-in-loop-at.new.self) (g.P.Ports.told c.shut_all.new.ports)
     c.refused_as-in-Err-open.ensures i.own i.new i.long i.opened c.in-Err-open.ensures.after c.shut_all.ensures.opened c.shut_all.ensures.faults c.shut_all.ensures.shut

@@ -3,4 +3,4 @@ use Rattle.bfd_serving.proofs.Tables.{sorted}
 use Rattle.bfd_serving.proofs.opening.opened.Goals as goal
 
 pub open-requires-clause-sorted : goal.open-requires-clause-sorted
-open-requires-clause-sorted g c = sorted c.args.configs.items c.args.pool.items c.args.events.now c.requires.script
+open-requires-clause-sorted g c = sorted _ _ _ c.requires.script

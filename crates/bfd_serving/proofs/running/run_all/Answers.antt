@@ -12,7 +12,7 @@ returns-in-Ok-close-clause-run g c =
     c.in-Ok.ensures.served c.serve.ensures.of c.serve.ensures.number c.in-Ok-close.ensures.closed c.requires.few c.requires.turns c.requires.ticks c.requires.orders
 
 pub returns-in-Ok-close-clause-closed : goal.returns-in-Ok-close-clause-closed
-returns-in-Ok-close-clause-closed g c = closed_shards c.args.engine c.serve.new.first c.in-Ok-close.states.items c.deref.result.now c.in-Ok-close.ensures.closed c.deref.ensures.value c.keep.ensures
+returns-in-Ok-close-clause-closed g c = closed_shards c.in-Ok-close.ensures.closed c.deref.ensures.value c.keep.ensures
 
 pub returns-in-Ok-close-clause-unspent : goal.returns-in-Ok-close-clause-unspent
 returns-in-Ok-close-clause-unspent g c =

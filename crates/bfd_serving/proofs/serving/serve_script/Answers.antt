@@ -1,29 +1,26 @@
 -- A whole run, put together.
-use Rattle.bfd_serving.proofs.Common.{length, map, IfOk, Ok, ap, sym, ◌∙◌, subst, All, configs_of, AreFit, Shard, IsUnspent, HadMemory, finish_from, script_with, history_at, told_on_link, HaveRun, AreClosedShards}
-use Rattle.bfd_script.specs.Reading.{Lists}
-use Rattle.bfd_served.specs.Served.{shard_history, served}
+use Rattle.bfd_serving.proofs.Common.{length, IfOk, Ok, ap, sym, ◌∙◌, subst, All, AreFit, IsUnspent, HadMemory, history_at, told_on_link, HaveRun, AreClosedShards}
 use Rattle.bfd_serving.proofs.Dealing.{parts_are, parts_fit}
 use Rattle.bfd_serving.proofs.Wholes.{all_shut, still_open, whole_run}
 use Rattle.bfd_serving.proofs.serving.serve_script.Goals as goal
 
 pub returns-in_default-ran-clause-shut : goal.returns-in_default-ran-clause-shut
 returns-in_default-ran-clause-shut g c =
-    all_shut g.P.Link.Link.told c.run_all-links.new.own c.run_all-links.result.0.items c.in_ok-own.links.items c.args.workers (g.P.Ports.told c.args.ports.now) (g.P.Ports.told c.open_all.new.ports) (g.P.Ports.told c.shut_all.new.ports)
+    all_shut g.P.Link.Link.told c.run_all-links.result.0.items c.in_ok-own.links.items (g.P.Ports.told c.shut_all.new.ports)
     c.in_ok-own.ensures.opened c.in_ok-own.ensures.long c.run_all-links.ensures.back c.shut_all.ensures.opened c.shut_all.ensures.shut
 
 pub returns-in_default-finish_of-clause-shut : goal.returns-in_default-finish_of-clause-shut
 returns-in_default-finish_of-clause-shut g c =
-    all_shut g.P.Link.Link.told c.run_all-links.new.own c.run_all-links.result.0.items c.in_ok-own.links.items c.args.workers (g.P.Ports.told c.args.ports.now) (g.P.Ports.told c.open_all.new.ports) (g.P.Ports.told c.shut_all.new.ports)
+    all_shut g.P.Link.Link.told c.run_all-links.result.0.items c.in_ok-own.links.items (g.P.Ports.told c.shut_all.new.ports)
     c.in_ok-own.ensures.opened c.in_ok-own.ensures.long c.run_all-links.ensures.back c.shut_all.ensures.opened c.shut_all.ensures.shut
 
 pub returns-in_default-served-clause-shut : goal.returns-in_default-served-clause-shut
 returns-in_default-served-clause-shut g c =
-    all_shut g.P.Link.Link.told c.run_all-links.new.own c.run_all-links.result.0.items c.in_ok-own.links.items c.args.workers (g.P.Ports.told c.args.ports.now) (g.P.Ports.told c.open_all.new.ports) (g.P.Ports.told c.shut_all.new.ports)
+    all_shut g.P.Link.Link.told c.run_all-links.result.0.items c.in_ok-own.links.items (g.P.Ports.told c.shut_all.new.ports)
     c.in_ok-own.ensures.opened c.in_ok-own.ensures.long c.run_all-links.ensures.back c.shut_all.ensures.opened c.shut_all.ensures.shut
 
 pub returns-clause-shut : goal.returns-clause-shut
-returns-clause-shut g c =
-    all_shut g.P.Link.Link.told c.run_all-links.new.own c.run_all-links.result.0.items c.in_ok-own.links.items c.args.workers (g.P.Ports.told c.args.ports.now) (g.P.Ports.told c.open_all.new.ports) (g.P.Ports.told c.shut_all.new.ports)
+returns-clause-shut g c = all_shut g.P.Link.Link.told c.run_all-links.result.0.items c.in_ok-own.links.items (g.P.Ports.told c.shut_all.new.ports)
     c.in_ok-own.ensures.opened c.in_ok-own.ensures.long c.run_all-links.ensures.back c.shut_all.ensures.opened c.shut_all.ensures.shut
 
 pub finish_of-requires-clause-unspent : goal.finish_of-requires-clause-unspent
@@ -31,33 +28,22 @@ finish_of-requires-clause-unspent g c =
     subst (All IsUnspent) (sym c.deref-4.ensures.value) (subst (λ r. IfOk r (λ closed. All IsUnspent closed.ends.items)) (c.in-Ok-ran.is ∙ ap Ok c.in-Ok-ran.field-0-is) c.run_all-links.ensures.unspent)
 
 pub served-requires-clause-fit : goal.served-requires-clause-fit
-served-requires-clause-fit g c =
-    parts_fit c.args.shards c.deref.result.now (map (λ part. part.items) c.in-Ok.parts.items)
-    (subst AreFit (sym (c.deref.ensures.value ∙ ap (λ (s : Lists). s.configs) c.script.view_is)) c.requires.script.configs.fit) c.in-Ok.ensures
+served-requires-clause-fit g c = parts_fit
+    (subst AreFit (sym (c.deref.ensures.value ∙ ap (λ s. s.configs) c.script.view_is)) c.requires.script.configs.fit) c.in-Ok.ensures
 
 pub served-requires-clause-made : goal.served-requires-clause-made
-served-requires-clause-made g c =
-    parts_are c.in-Ok-opened.engine c.args.shards c.deref.result.now (map (λ part. part.items) c.in-Ok.parts.items) c.in-Ok-ran.field-0.states.items
-    c.in-Ok-opened.ensures.engine.locks (c.in-Ok-opened.ensures.engine.configs ∙ sym c.deref.ensures.value) c.in-Ok.ensures
-    (subst (λ r. IfOk r (λ closed. AreClosedShards c.in-Ok-opened.engine closed.states.items)) (c.in-Ok-ran.is ∙ ap Ok c.in-Ok-ran.field-0-is) c.run_all-links.ensures.closed)
-    ∙ ap (map (λ (state : Shard). configs_of state.sessions)) (sym c.deref-5.ensures.value)
+served-requires-clause-made g c = cc (parts_are c.in-Ok-opened.ensures.engine.locks (cc (c.in-Ok-opened.ensures.engine.configs)) c.in-Ok.ensures
+    (subst (λ r. IfOk r (λ closed. AreClosedShards c.in-Ok-opened.engine closed.states.items)) (c.in-Ok-ran.is ∙ ap Ok c.in-Ok-ran.field-0-is) c.run_all-links.ensures.closed))
 
 pub returns-clause-run : goal.returns-clause-run
 returns-clause-run g c =
     let told = g.P.Link.Link.told in let clock = g.T.Ticker.told in let e = c.in-Ok-opened.engine in
-    let given : Lists = script_with c.script.inside.configs.items c.script.inside.pool.items c.deref-2.result.now in
     let ok = c.in-Ok-ran.is ∙ ap Ok c.in-Ok-ran.field-0-is in
-    whole_run told c.in_ok-own.own c.run_all-links.new.own c.in_ok-own.links.items c.run_all-links.result.0.items given c.args.script c.deref-3.result.now c.args.shards c.args.workers c.args.journal c.args.limits
-    (g.P.Ports.told c.shut_all.new.ports) (clock c.args.ticker.now) (clock c.run_all-links.new.ticker) e
-    c.in-Ok-ran.field-0.states.items c.in-Ok-served.text.items c.in-Ok-ran.field-0.ends.items c.in-Ok-ran.field-0.lost c.in-Ok-finish_of.finish
-    c.in-Ok-opened.ensures.engine (ap (script_with c.script.inside.configs.items c.script.inside.pool.items) c.deref-2.ensures.value ∙ c.script.view_is) (c.deref-3.ensures.value ∙ sym c.deref-2.ensures.value)
-    (subst (λ r. IfOk r (λ closed. AreClosedShards e closed.states.items)) ok c.run_all-links.ensures.closed)
-    (c.in-Ok-served.ensures ∙ ap (λ xs. served (map shard_history xs) c.in-Ok-ran.field-0.lost) c.deref-5.ensures.value)
+    whole_run told c.in_ok-own.links.items c.run_all-links.result.0.items (g.P.Ports.told c.shut_all.new.ports) c.in-Ok-opened.ensures.engine (cc) (cc)
+    (subst (λ r. IfOk r (λ closed. AreClosedShards e closed.states.items)) ok c.run_all-links.ensures.closed) (cc (c.in-Ok-served.ensures))
     c.in_ok-own.ensures.own c.in_ok-own.ensures.links c.in_ok-own.ensures.long c.run_all-links.ensures.back c.shut_all.ensures.shut
     (subst (λ r. IfOk r (λ closed. HaveRun e (history_at closed.states.items) c.deref-3.result.now (length c.in_ok-own.links.items) c.args.limits (told_on_link told c.in_ok-own.own c.in_ok-own.links.items) (told_on_link told c.run_all-links.new.own c.run_all-links.result.0.items) (clock c.args.ticker.now) (clock c.run_all-links.new.ticker) closed.ends.items closed.lost)) ok c.run_all-links.ensures.run)
-    c.requires.turns c.requires.journal (subst (All HadMemory) c.deref-4.ensures.value c.in-Ok-finish_of.ensures.plain)
-    (c.in-Ok-finish_of.ensures.value ∙ ap (finish_from 0) c.deref-4.ensures.value)
+    c.requires.turns c.requires.journal (subst (All HadMemory) c.deref-4.ensures.value c.in-Ok-finish_of.ensures.plain) (cc (c.in-Ok-finish_of.ensures.value))
 
 pub returns-clause-opened : goal.returns-clause-opened
-returns-clause-opened g c =
-    still_open c.args.workers (g.P.Ports.told c.args.ports.now) (g.P.Ports.told c.open_all.new.ports) (g.P.Ports.told c.shut_all.new.ports) c.in_ok-own.ensures.opened c.shut_all.ensures.opened c.shut_all.ensures.faults
+returns-clause-opened g c = still_open (g.P.Ports.told c.shut_all.new.ports) c.in_ok-own.ensures.opened c.shut_all.ensures.opened c.shut_all.ensures.faults

@@ -2,12 +2,11 @@
 use Rattle.bfd_session.proofs.Common.{◌≡◌, ◌≤◌, ◌+◌, ℕ, Bool, true, false, refl, arith}
 use Rattle.bfd_session.proofs.pair.runs.Goals as goal
 
-within : (answered : Bool) (old settled acted finished : ℕ) → old ≤ settled + 3 → (answered ≡ false → settled ≤ acted + 1)
+within : (answered : Bool) {old settled acted : ℕ} (finished : ℕ) → old ≤ settled + 3 → (answered ≡ false → settled ≤ acted + 1)
     → settled ≤ acted + 2 → (answered ≡ true → finished ≡ acted) → acted ≤ finished + 1 → old ≤ finished + 5
-within true old settled acted finished a one two none more = omega (arith, a, two, none refl)
-within false old settled acted finished a one two none more = omega (arith, a, one refl, more)
+within true finished a one two none more = omega (arith, a, two, none refl)
+within false finished a one two none more = omega (arith, a, one refl, more)
 
 pub returns-clause-spare : goal.returns-clause-spare
-returns-clause-spare c =
-    within c.acts-answer.new.mark.answered c.args.outs.now.spare c.settles.new.outs.spare c.acts-answer.new.outs.spare c.finishes.new.outs.spare
+returns-clause-spare c = within c.acts-answer.new.mark.answered c.finishes.new.outs.spare
     c.settles.ensures.spare c.acts-answer.ensures.unanswered c.acts-answer.ensures.spare c.finishes.ensures.answered c.finishes.ensures.spare

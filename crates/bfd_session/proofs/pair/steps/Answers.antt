@@ -7,15 +7,13 @@ use Rattle.bfd_session.proofs.pair.steps.Goals as goal
 pub returns-clause-session : goal.returns-clause-session
 returns-clause-session c =
     let s : Running = pair_of c.args.p.now c.args.echo.now c.args.next.now in
-    pair_with c.args.p.now c.runs.new.p c.args.echo.now c.runs.new.echo c.args.next.now c.runs.new.next
-    (stepped_flow c.args.eff c.args.event.now s) c.runs.ensures.config
+    pair_with c.args.p.now c.args.echo.now c.args.next.now (stepped_flow c.args.eff c.args.event.now s) c.runs.ensures.config
     (c.runs.ensures.vars ∙ step_vars s c.args.eff c.args.event.now c.args.outs.now.items)
     (c.runs.ensures.echo ∙ step_echo s c.args.eff c.args.event.now c.args.outs.now.items)
     (c.runs.ensures.next ∙ step_number s c.args.eff c.args.event.now c.args.outs.now.items)
 
 pub returns-clause-outs : goal.returns-clause-outs
-returns-clause-outs c =
-    c.runs.ensures.outs ∙ step_outs (pair_of c.args.p.now c.args.echo.now c.args.next.now) c.args.eff c.args.event.now c.args.outs.now.items
+returns-clause-outs c = c.runs.ensures.outs ∙ step_outs (pair_of c.args.p.now c.args.echo.now c.args.next.now) c.args.eff c.args.event.now c.args.outs.now.items
 
 pub returns-clause-answer : goal.returns-clause-answer
 returns-clause-answer c =

@@ -8,15 +8,13 @@ use Rattle.bfd_session.proofs.pair.ticks.Goals as goal
 pub returns-clause-session : goal.returns-clause-session
 returns-clause-session c =
     let s : Running = pair_of c.args.p.now c.args.echo.now c.args.next.now in
-    pair_with c.args.p.now c.passes.new.p c.args.echo.now c.passes.new.echo c.args.next.now c.passes.new.next
-    (ticked_flow c.args.limit c.args.eff s) c.passes.ensures.config
+    pair_with c.args.p.now c.args.echo.now c.args.next.now (ticked_flow c.args.limit c.args.eff s) c.passes.ensures.config
     (c.passes.ensures.vars ∙ tick_vars s c.args.limit c.args.eff c.args.outs.now.items)
     (c.passes.ensures.echo ∙ tick_echo s c.args.limit c.args.eff c.args.outs.now.items)
     (c.passes.ensures.next ∙ tick_number s c.args.limit c.args.eff c.args.outs.now.items)
 
 pub returns-clause-outs : goal.returns-clause-outs
-returns-clause-outs c =
-    c.passes.ensures.outs ∙ tick_outs (pair_of c.args.p.now c.args.echo.now c.args.next.now) c.args.limit c.args.eff c.args.outs.now.items
+returns-clause-outs c = c.passes.ensures.outs ∙ tick_outs (pair_of c.args.p.now c.args.echo.now c.args.next.now) c.args.limit c.args.eff c.args.outs.now.items
 
 pub returns-clause-over : goal.returns-clause-over
 returns-clause-over c = λ t at reached.

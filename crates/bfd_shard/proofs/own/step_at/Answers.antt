@@ -1,8 +1,7 @@
 -- The session at the place takes the event.
-use Rattle.bfd_shard.proofs.Common.{sym, ap, subst, SessionConfig, Running, CanTake}
+use Rattle.bfd_shard.proofs.Common.{sym, ap, Running}
 use Rattle.bfd_shard.proofs.own.step_at.Goals as goal
 
 pub step_one-answer-requires-clause-takes : goal.step_one-answer-requires-clause-takes
 step_one-answer-requires-clause-takes g c =
-    subst (λ (k : SessionConfig). CanTake k c.args.event.now) (ap (λ (s : Running). s.config) (sym c.index_mut-session.ensures.value))
-    (c.requires.takes c.index_mut-session.result.now)
+    rw (← ap (λ (s : Running). s.config) (sym c.index_mut-session.ensures.value)) (c.requires.takes c.index_mut-session.result.now)

@@ -1,6 +1,5 @@
 -- One session more.
-use Rattle.bfd_shard.proofs.Common.{◌≡◌, ◌∙◌, ◌++◌, ◌∷◌, [], ap, sym, rules, append_assoc, subst}
-use Rattle.bfd_session.specs.Rows.{AreFit}
+use Rattle.bfd_shard.proofs.Common.{◌≡◌, ◌∷◌, [], rules, append_assoc, subst, AreFit}
 use Rattle.bfd_shard.proofs.Setting.{sound_more, start_more}
 use Rattle.bfd_shard.proofs.start.sessions_of.Goals as goal
 
@@ -8,10 +7,8 @@ pub loop-config-preserved : goal.loop-config-preserved
 loop-config-preserved c =
     let split : c.loop-config.config-iterator.rest.items ≡ c.in-Some.config ∷ c.next.new.self.rest.items = search rules in
     record {
-      whole = append_assoc c.loop-config.yielded (c.in-Some.config ∷ []) c.next.new.self.rest.items
-          ∙ (ap (λ zs. c.loop-config.yielded ++ zs) (sym split) ∙ c.loop-config.invariant.whole);
+      whole = cc (append_assoc c.loop-config.yielded (c.in-Some.config ∷ []) c.next.new.self.rest.items);
       fit = (subst AreFit split c.loop-config.invariant.fit).1;
-      made = start_more c.loop-config.yielded c.in-Some.config c.loop-config.sessions.items c.push.new.self.items c.make.result
-          c.loop-config.invariant.made c.make.ensures.session c.in_ok-push.ensures.items;
-      sound = sound_more c.loop-config.sessions.items c.push.new.self.items c.make.result c.loop-config.invariant.sound c.make.ensures.sound c.in_ok-push.ensures.items;
+      made = start_more c.loop-config.yielded c.loop-config.invariant.made c.make.ensures.session c.in_ok-push.ensures.items;
+      sound = sound_more c.loop-config.sessions.items _ c.make.result c.loop-config.invariant.sound c.make.ensures.sound c.in_ok-push.ensures.items;
     }

@@ -1,6 +1,5 @@
 -- The sessions so far stand at the start, and the configurations that are left are within their ranges.
-use Rattle.bfd_shard.proofs.Common.{◌≡◌, ◌++◌, map, AllByRecursion, IsSound, started}
-use Rattle.bfd_session.specs.Rows.{AreFit}
+use Rattle.bfd_shard.proofs.Common.{◌≡◌, ◌++◌, map, AllByRecursion, IsSound, started, AreFit}
 use Rattle.bfd_shard.proofs.start.sessions_of.Given as goal
 
 abbrev pub invariant-loop-config : goal.invariant-loop-config

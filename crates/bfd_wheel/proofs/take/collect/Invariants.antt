@@ -1,5 +1,4 @@
-use Rattle.bfd_wheel.proofs.Common.{◌≡◌, ◌≤◌, length, Took, waiting}
-use Rattle.bfd_lanes.specs.Held.{room_of}
+use Rattle.bfd_wheel.proofs.Common.{◌≡◌, ◌≤◌, length, Took, waiting, room_of}
 use Rattle.bfd_wheel.proofs.Walk.{IsWalk}
 use Rattle.bfd_wheel.proofs.take.collect.Given as goal
 

@@ -1,4 +1,4 @@
-use Rattle.bfd_wheel.proofs.Common.{ℕ, length, subst, refl, ◌∙◌, arith, IsWheel}
+use Rattle.bfd_wheel.proofs.Common.{length, refl, arith}
 use Rattle.bfd_wheel.proofs.TakenIds.{took_none, took_then}
 use Rattle.bfd_wheel.proofs.Swept.{left_none, left_more, left_all}
 use Rattle.bfd_wheel.proofs.take.sweep.Goals as goal
@@ -14,12 +14,12 @@ loop-tick-init c = record {
 
 pub loop-tick-preserved : goal.loop-tick-preserved
 loop-tick-preserved c = record {
-  wheel = subst (λ (n : ℕ). IsWheel n c.args.now c.collect.new.dues c.collect.new.nodes) c.loop-tick.auto.dues c.collect.ensures.wheel;
-  took = took_then c.args.t c.args.dues.now c.loop-tick.dues c.collect.new.dues c.args.out.now.items c.loop-tick.out.items c.collect.new.out.items c.loop-tick.invariant.took c.collect.ensures.took;
-  left = left_more (length c.args.dues.now) (length c.loop-tick.dues) c.args.now c.args.t c.loop-tick.tick c.loop-tick.dues c.collect.new.dues c.loop-tick.out.items c.collect.new.out.items c.loop-tick.auto.dues c.loop-tick.invariant.left c.collect.ensures.took c.collect.ensures.left;
-  room = c.collect.ensures.room ∙ c.loop-tick.invariant.room;
+  wheel = rw (← c.loop-tick.auto.dues) c.collect.ensures.wheel;
+  took = took_then _ _ _ _ _ _ _ c.loop-tick.invariant.took c.collect.ensures.took;
+  left = left_more _ _ c.loop-tick.auto.dues c.loop-tick.invariant.left c.collect.ensures.took c.collect.ensures.left;
+  room = cc;
   spare = c.collect.ensures.spare;
 }
 
 pub returns-clause-left : goal.returns-clause-left
-returns-clause-left c = left_all (length c.args.dues.now) c.args.now c.args.t c.loop-tick.tick c.loop-tick.dues c.loop-tick.invariant.left (omega arith)
+returns-clause-left c = left_all _ _ c.loop-tick.invariant.left (omega arith)

@@ -1,5 +1,4 @@
-use Rattle.bfd_wheel.proofs.Common.{◌≡◌, ◌≤◌, length, Took, waiting, IsWheel}
-use Rattle.bfd_lanes.specs.Held.{room_of}
+use Rattle.bfd_wheel.proofs.Common.{◌≡◌, ◌≤◌, length, Took, waiting, IsWheel, room_of}
 use Rattle.bfd_wheel.proofs.Swept.{Left}
 use Rattle.bfd_wheel.proofs.take.sweep.Given as goal
 

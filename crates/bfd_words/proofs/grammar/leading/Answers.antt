@@ -6,15 +6,14 @@ use Rattle.bfd_words.proofs.Words.{leading-more, leading-many}
 use Rattle.bfd_words.proofs.grammar.leading.Goals as goal
 
 pub returns-then-is_full-clause-many : goal.returns-then-is_full-clause-many
-returns-then-is_full-clause-many c = λ none. leading-many (λ word. string_bytes word) _ _ c.word-item.result c.in-Some.member _
+returns-then-is_full-clause-many c = λ none. leading-many (λ word. string_bytes word) _ _
     c.loop-word-test.true c.word-item.is (c.in-Some.ensures.value ∙ ap member_of c.deref.ensures) c.loop-word.invariant.members
     (grind (arith, nat_tests, common_steps))
 
 pub loop-word-preserved : goal.loop-word-preserved
 loop-word-preserved c = record {
-  members = rw c.push.ensures.items
-      (leading-more (λ word. string_bytes word) _ _ c.word-item.result c.in-Some.member _ c.loop-word-test.true c.word-item.is
-      (c.in-Some.ensures.value ∙ ap member_of c.deref.ensures) c.loop-word.invariant.members);
+  members = rw c.push.ensures.items (leading-more (λ word. string_bytes word) _ _ c.loop-word-test.true c.word-item.is
+      (cc (c.in-Some.ensures.value)) c.loop-word.invariant.members);
   few = grind (arith, nat_tests, common_steps);
   count = grind (arith, common_steps);
   positive = grind (arith, common_steps);

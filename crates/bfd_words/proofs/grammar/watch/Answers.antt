@@ -3,6 +3,5 @@ use Rattle.bfd_words.proofs.Words.{watch_of-parts}
 use Rattle.bfd_words.proofs.grammar.watch.Goals as goal
 
 pub returns-clause-value : goal.returns-clause-value
-returns-clause-value c = watch_of-parts (λ word. string_bytes word) c.args.words.now c.need-item.result c.deref.result.now
-    c.in_ok-members.members.items c.len.result c.watch_by.result c.in-len1-up.len_at_least c.need-item.is c.deref.ensures
+returns-clause-value c = watch_of-parts (λ word. string_bytes word) c.args.words.now c.in-len1-up.len_at_least c.need-item.is c.deref.ensures
     (search rules) c.in_ok-members.ensures.members c.watch_by.ensures.value

@@ -1,19 +1,17 @@
 -- One part more.
-use Rattle.bfd_workers.proofs.Common.{◌≡◌, ◌%◌, ◌∙◌, ◌∷◌, [], ℕ, rules, length, map, arith, ap, subst, length-append, slice_index_or, length-map}
+use Rattle.bfd_workers.proofs.Common.{◌≡◌, ◌∙◌, ◌∷◌, [], rules, length, map, arith, ap, length-append, length-map}
 use Rattle.bfd_workers.proofs.Ordering.{order_none, order_more, order_end, order_last}
 use Rattle.bfd_workers.proofs.finish.in_order.Goals as goal
 
 pub loop-shard-init : goal.loop-shard-init
-loop-shard-init c = record { order = order_none c.args.shards (length c.args.all.items) (map (λ parts. parts.items) c.args.all.items) c.new-parts.result.items c.new-parts.ensures.items }
+loop-shard-init c = record { order = order_none c.args.shards (length c.args.all.items) (map (λ parts. parts.items) c.args.all.items) c.new-parts.ensures.items }
 
 pub loop-shard-preserved : goal.loop-shard-preserved
 loop-shard-preserved c =
     let many : c.len-workers.result ≡ length c.args.all.items = search rules in
     record {
-      order = order_more c.args.shards (length c.args.all.items) c.loop-shard.shard (map (λ parts. parts.items) c.args.all.items) (map (λ parts. parts.items) c.loop-shard.all.items)
-          (map (λ parts. parts.items) c.take_part.new.all.items) c.loop-shard.parts.items c.push.new.self.items c.take_part.result c.loop-shard.invariant.order
-          (subst (λ (n : ℕ). c.take_part.result ≡ slice_index_or (slice_index_or (map (λ parts. parts.items) c.loop-shard.all.items) (c.loop-shard.shard % n) []) c.loop-shard.shard []) many c.take_part.ensures.part)
-          (let a = length-map c.take_part.new.all.items (λ parts. parts.items) in let b = length-map c.loop-shard.all.items (λ parts. parts.items) in let d = c.take_part.ensures.long in omega (arith, a, b, d))
+      order = order_more (map (λ parts. parts.items) c.take_part.new.all.items) c.loop-shard.invariant.order (rw (← many) c.take_part.ensures.part)
+          (let a = length-map c.take_part.new.all.items (λ parts. parts.items) in let b = length-map c.loop-shard.all.items (λ parts. parts.items) in omega (arith, a, b, c.take_part.ensures.long))
           c.take_part.ensures.wide c.take_part.ensures.others c.in_ok-push.ensures.items;
     }
 
@@ -23,7 +21,7 @@ returns c =
     let end : c.loop-shard.shard ≡ c.args.shards = omega arith in
     let pushed = c.in_ok-push-2.ensures.items in
     record {
-      long = (let a = ap length pushed in let b = length-append c.loop-shard.parts.items (c.args.apart ∷ []) in let d = o.long in omega (arith, a, b, d, end));
-      each = λ s h. order_end c.loop-shard.parts.items c.push-2.new.self.items c.args.apart s pushed (let d = o.long in omega (arith, d, end, h)) ∙ o.each s (omega (arith, end, h));
-      last = order_last c.loop-shard.parts.items c.push-2.new.self.items c.args.apart c.args.shards pushed (o.long ∙ end);
+      long = omega (arith, ap length pushed, length-append c.loop-shard.parts.items (c.args.apart ∷ []), o.long, end);
+      each = λ s h. order_end c.loop-shard.parts.items c.args.apart s pushed (omega (arith, o.long, end, h)) ∙ o.each s (omega (arith, end, h));
+      last = order_last c.loop-shard.parts.items c.args.apart pushed (cc);
     }

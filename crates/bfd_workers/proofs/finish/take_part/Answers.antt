@@ -7,4 +7,4 @@ pub returns-clause-wide : goal.returns-clause-wide
 returns-clause-wide c = take_wide (λ parts. parts.items) c.args.all.now.items c.args.at c.args.shard c.index_mut-parts.result.now _ c.replace.new.dest c.requires.at c.index_mut-parts.ensures.value refl
 
 pub returns-clause-others : goal.returns-clause-others
-returns-clause-others c = take_others (λ parts. parts.items) c.args.all.now.items c.args.at c.args.shard c.index_mut-parts.result.now _ c.replace.new.dest c.requires.at c.index_mut-parts.ensures.value refl
+returns-clause-others c = take_others (λ parts. parts.items) c.args.all.now.items c.args.at c.args.shard c.index_mut-parts.result.now _ _ c.requires.at c.index_mut-parts.ensures.value refl

@@ -2,7 +2,7 @@
 use denote.Param.{param}
 use denote.Param.Send.{sendable, IsSync}
 use denote.Plain.{UInt}
-use Rattle.bfd_workers.proofs.Common.{slice_index_or, w64, sym, subst, HasWorkedOn, Work, IsWorkerReady}
+use Rattle.bfd_workers.proofs.Common.{w64, IsWorkerReady}
 use Rattle.std.proofs.Crossing.{sync}
 use Rattle.std.proofs.lemmas.List.Elements.{All-get_or}
 use Rattle.bfd_engine.proofs.Crossing.{engine_sync}
@@ -10,19 +10,16 @@ use Rattle.bfd_workers.proofs.jobs.work_each.Goals as goal
 
 pub for_each_mut-requires-clause-accepts : goal.for_each_mut-requires-clause-accepts
 for_each_mut-requires-clause-accepts g c κs within = λ i p inside is. (
-  subst (λ (j : Work). IsWorkerReady c.args.engine.now j.queues j.pass) (sym is)
-      (All-get_or (λ (j : Work). IsWorkerReady c.args.engine.now j.queues j.pass) c.args.jobs.now i p.now inside c.requires.ready),
+  rw is (All-get_or (λ j. IsWorkerReady c.args.engine.now j.queues j.pass) c.args.jobs.now i p.now inside c.requires.ready),
   c.requires.room,
 )
 
 pub returns-clause-worked : goal.returns-clause-worked
 returns-clause-worked g c = λ i d h. let k = (c.for_each_mut.ensures i d h).1 in
-    subst (λ j. HasWorkedOn c.args.engine.now j (slice_index_or c.for_each_mut.new.s i d)) k.argument_is
-    (subst (λ j. HasWorkedOn c.args.engine.now k.argument.now j) k.left k.call)
+    rw (← k.argument_is) (rw (← k.left) k.call)
 
 pub for_each_mut-requires-sync-F : goal.for_each_mut-requires-sync-F
 for_each_mut-requires-sync-F g c κs within =
-    let e = engine_sync (param 0 g.row.W) g.W.Timers g.W.Timers-dict g.W.Destruct-dict c.type_bounds.send-W in
     let u : IsSync (UInt w64) = search sendable in
     record {
       shared = λ x b o κ. (
@@ -31,7 +28,7 @@ for_each_mut-requires-sync-F g c κs within =
           (
             ((λ q. tt), sync.shared x.1.now x.1.ref_ptr.0 x.1.ref_ptr.1 κ),
             (
-              ((λ q. tt), e.shared x.2.now x.2.ref_ptr.0 x.2.ref_ptr.1 _),
+              ((λ q. tt), (engine_sync (param 0 g.row.W) g.W.Timers g.W.Timers-dict g.W.Destruct-dict c.type_bounds.send-W).shared x.2.now x.2.ref_ptr.0 x.2.ref_ptr.1 _),
               (
                 ((λ q. tt), u.shared x.3.now x.3.ref_ptr.0 x.3.ref_ptr.1 κ),
                 (((λ q. tt), c.type_bounds.sync-G.shared x.4.now x.4.ref_ptr.0 x.4.ref_ptr.1 _), tt),

@@ -1,14 +1,12 @@
 -- The report and the counts of the whole script.
-use Rattle.bfd_workers.proofs.Common.{rules, ◌≡◌, ◌∙◌, length, map, sym, ap, sum_by, started, happenings, script_with, world_is}
-use Rattle.bfd_script.specs.Report.{report, packets_sent, dropped}
+use Rattle.bfd_workers.proofs.Common.{rules, ◌≡◌, ◌∙◌, length, map, ap, sum_by, started, happenings, script_with, world_is, report, packets_sent, dropped}
 use Rattle.bfd_workers.proofs.Whole.{events_are, happenings_long, none, ups_are}
 use Rattle.bfd_workers.proofs.replaying.report_parts.Goals as goal
 
 pub returns-clause-text : goal.returns-clause-text
 returns-clause-text g c =
-    let long : c.len-count.result ≡ length c.args.events.items = search rules in
     c.in_ok-gathered.ensures.text c.args.shards 0 (happenings c.args.configs.items c.args.pool.items c.args.events.items) (map started c.args.configs.items)
-    (happenings_long c.args.configs.items c.args.pool.items c.args.events.items ∙ sym long) c.in_ok-parts.ensures.parts
+    (cc (happenings_long c.args.configs.items c.args.pool.items c.args.events.items)) c.in_ok-parts.ensures.parts
     ∙ ap report (world_is (script_with c.args.configs.items c.args.pool.items c.args.events.items))
 
 pub returns-clause-events : goal.returns-clause-events
@@ -27,6 +25,4 @@ returns-clause-drops g c =
     ∙ ap (sum_by dropped) (world_is (script_with c.args.configs.items c.args.pool.items c.args.events.items))
 
 pub returns-clause-up : goal.returns-clause-up
-returns-clause-up g c =
-    ups_are (script_with c.args.configs.items c.args.pool.items c.args.events.items) c.args.shards c.args.workers c.in_ok-up.up c.in_ok-parts.states.items none c.requires.shards.0
-    c.in_ok-parts.ensures.states c.in_ok-up.ensures.kept (c.in_ok-up.ensures.value none)
+returns-clause-up g c = ups_are _ none c.requires.shards.0 c.in_ok-parts.ensures.states c.in_ok-up.ensures.kept (c.in_ok-up.ensures.value none)

@@ -3,4 +3,4 @@ use Rattle.bfd_workers.proofs.Sorting.{sorted}
 use Rattle.bfd_workers.proofs.running.opened.Goals as goal
 
 pub open_with-requires-clause-sorted : goal.open_with-requires-clause-sorted
-open_with-requires-clause-sorted g c κs within = sorted c.args.configs.items c.args.pool.items c.requires.table
+open_with-requires-clause-sorted g c κs within = sorted c.requires.table

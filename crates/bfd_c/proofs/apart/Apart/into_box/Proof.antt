@@ -1,15 +1,5 @@
 -- The parts give what they own to `from_raw`, which makes a box of it.
-use Rattle.bfd_c.proofs.Common.{refl, subst, Ura, Fn, Body, place, copy, assign, rv_opd, seq, return, Val, vptr, has_ty, WT, SProp, ent, id⊢, ftrue, fsep, flft, Memory, Routine, WpFn, Tables, Logic, Fun, fact, tables, tables_of, fm_of, WpFn-mono, Item, at_ret, ‵, ◌⊛◌, some, later, ◌$◌, ◌∵◌, !, qed, by, move, use1, join, split, split3, pick, rewrite, fsplit, fjoin, feq_i, suffices, await, done, whole, sub, stop, fld, no_more, and_then, of_opd, returns, enter, first, blocks, exec, alloc_all, pass_all, free_all, look_at, get, get_in, sets, lands_last, env, RattleType, no, block_ptr, plain, heard, nothing, only, triple_of, entered, says, Stays, stay_dropped, walk_of, ends_at, walk_Meets, token, Goes-blank, Bx, D, R, P, B, args, box_ty, word, box_typed, box_out, box_in}
-use mathlib.Core.Path.{◌≡◌, sym, ap}
-use mathlib.Core.List.{List, [], ◌∷◌, ◌++◌}
-use lib.Dec.{T}
-use mir.MapTy.{inst_fn}
-use contract.BorrowLft.{◌⊑◌}
-use types.Kit.{raw, drop}
-use denote.Triple.Call.{calls_at_last}
-use denote.Triple.Clauses.{Ended, Clauses}
-use denote.Triple.Statement.{Triple, Contract}
-use Rattle.std_alloc.specs.Box.Ownership.{box_owns}
+use Rattle.bfd_c.proofs.Common.{refl, subst, Ura, Fn, Body, place, copy, assign, rv_opd, seq, return, Val, vptr, has_ty, WT, SProp, ent, id⊢, ftrue, fsep, flft, Memory, Routine, WpFn, Tables, Logic, Fun, fact, tables, tables_of, fm_of, WpFn-mono, Item, at_ret, ‵, ◌⊛◌, some, later, ◌$◌, ◌∵◌, !, qed, by, move, use1, join, split, split3, pick, rewrite, fsplit, fjoin, feq_i, suffices, await, done, whole, sub, stop, fld, no_more, and_then, of_opd, returns, enter, first, blocks, exec, alloc_all, pass_all, free_all, look_at, get, get_in, sets, lands_last, env, RattleType, no, block_ptr, plain, heard, nothing, only, triple_of, entered, says, Stays, stay_dropped, walk_of, ends_at, walk_Meets, token, Goes-blank, Bx, D, R, P, B, args, box_ty, word, box_typed, box_out, box_in, List, [], ◌∷◌, ◌++◌, ◌≡◌, sym, ap, raw, drop, T, inst_fn, ◌⊑◌, calls_at_last, Ended, Clauses, Triple, Contract, box_owns}
 use Rattle.bfd_c.specs.contracts.apart.Apart as parts
 use Rattle.std_alloc.specs.contracts.boxed.Box.from_raw as Fr
 use Rattle.std_alloc.proofs.boxed.Box.from_raw.Symbol as raw_sym
@@ -76,7 +66,7 @@ pub into_box_spec : {M : Type 1} → stated.statement M
 unfolding tables_of
 into_box_spec 𝓤 𝓛 𝓜 𝓡 wired X Z LX LZ g d dd allocator md =
     let E : Bx = record { row = X; laws = LX; al = record { row = Z; laws = LZ; g = g; d = d; drops = dd } } in
-    let 𝓣 : Tables 𝓤 𝓛.H = tables_of 𝓤 𝓛.H 𝓜 (tables 𝓤 𝓛.H 𝓜 𝓡 𝓡.env) in
+    let 𝓣 = tables_of 𝓤 𝓛.H 𝓜 (tables 𝓤 𝓛.H 𝓜 𝓡 𝓡.env) in
     let fn = fn' E in
     entered 𝓤 𝓛.H (triple_of 𝓛 (ended E).signature (F.spec X Z g d dd 𝓛 𝓜.mem 𝓡.returns)) 𝓣.C 𝓣.Λ (#self (args E)) fn (code.unfolded 𝓤 𝓛.H 𝓜 𝓡 wired (X, (Z, tt)) d dd)
     (walk_Meets 𝓛 (ended E) (stayed E) (Goes-blank 𝓛 2 (plain (λ _. From E)) no (λ κs x f. tt), tt) (held E 𝓛 𝓜.mem 𝓡.returns 𝓣) (WpFn 𝓤 𝓛.H 𝓣.C 𝓣.Λ fn) (WpFn-mono 𝓤 𝓛.H 𝓛.laws 𝓣 fn)

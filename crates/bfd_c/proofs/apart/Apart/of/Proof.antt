@@ -1,18 +1,8 @@
 -- A box is taken apart by `into_raw_with_allocator`, and what it owned goes to its parts.
-use Rattle.bfd_c.proofs.Common.{refl, subst, Ura, Fn, Args, Dict, a_type, dcons, dnil, Val, vstruct, of_list, SProp, ent, id⊢, never, fst∗, ftrue, fsep, flft, Memory, Routine, WpFn, Tables, Logic, sem, Fun, fact, tables, tables_of, fm_of, WpFn-mono, Item, ‵, ◌⊛◌, some, later, ◌$◌, ◌∵◌, !, qed, by, move, use1, join, split, split3, pick, rewrite, fsplit, fjoin, fpick, feq_l, suffices, await, done, whole, sub, agg, stop, fld, no_more, and_then, of_opd, returns, enter, alloc_all, pass_all, free_all, look_at, get, get_in, sets, lands_as, RattleType, no, Ptr, block_ptr, null_ptr, ptr_val, in_a_block, plain, heard, nothing, only, triple_of, entered, says, Stays, stay_dropped, walk_of, ends_at, walk_Meets, token, handle_tells, Goes-blank, Bx, D, τ, R, P, B, word, box_typed, box_out, box_in}
-use mathlib.Core.Path.{◌≡◌, sym, ap, ◌∙◌}
-use mathlib.Core.List.{List, [], ◌∷◌, ◌++◌}
-use mir.MapTy.{inst_fn}
+use Rattle.bfd_c.proofs.Common.{refl, subst, Ura, Fn, Args, Dict, a_type, dcons, dnil, Val, vstruct, of_list, SProp, ent, id⊢, never, fst∗, ftrue, fsep, flft, Memory, Routine, WpFn, Tables, Logic, sem, Fun, fact, tables, tables_of, fm_of, WpFn-mono, Item, ‵, ◌⊛◌, some, later, ◌$◌, ◌∵◌, !, qed, by, move, use1, join, split, split3, pick, rewrite, fsplit, fjoin, fpick, feq_l, suffices, await, done, whole, sub, agg, stop, fld, no_more, and_then, of_opd, returns, enter, alloc_all, pass_all, free_all, look_at, get, get_in, sets, lands_as, RattleType, no, Ptr, block_ptr, null_ptr, ptr_val, in_a_block, plain, heard, nothing, only, triple_of, entered, says, Stays, stay_dropped, walk_of, ends_at, walk_Meets, token, handle_tells, Goes-blank, Bx, D, τ, R, P, B, word, box_typed, box_out, box_in, List, [], ◌∷◌, ◌++◌, ◌≡◌, sym, ap, ◌∙◌, raw, drop, inst_fn, ◌⊑◌, calls_at, Ended, Clauses, Triple, Contract, box_owns, Tuple}
 use mir.Raw.{raw as bare}
-use contract.BorrowLft.{◌⊑◌}
-use types.Kit.{raw, drop}
 use denote.Param.{bounded}
 use denote.RawPtr.{RawPtr}
-use denote.Struct.Tuple.{Tuple}
-use denote.Triple.Call.{calls_at}
-use denote.Triple.Clauses.{Ended, Clauses}
-use denote.Triple.Statement.{Triple, Contract}
-use Rattle.std_alloc.specs.Box.Ownership.{box_owns}
 use Rattle.bfd_c.specs.contracts.apart.Apart as parts
 use Rattle.std_alloc.specs.contracts.boxed.Box.into_raw_with_allocator as Ra
 use Rattle.std_alloc.proofs.boxed.Box.into_raw_with_allocator.Symbol as raw_sym
@@ -49,7 +39,7 @@ module _ (E : Bx) (dx : Dict) where
 
     walk : Triple 𝓤 (𝓣.C (raw_sym.name args)) Opens → (z : (walk_of 𝓛 ended stayed held).Ghost) → ent 𝓤 ((walk_of 𝓛 ended stayed held).pre z) (WpFn 𝓤 H 𝓣.C 𝓣.Λ fn' (z.0.4.0 ++ []) ((walk_of 𝓛 ended stayed held).post z))
     walk kn z =
-        let κs = z.0.0 in let qs = z.0.1 in let v = z.0.3.0 in let a = v.alloc in let Post = (walk_of 𝓛 ended stayed held).post z in
+        let κs = z.0.0 in let qs = z.0.1 in let v = z.0.3.0 in let a = v.alloc in
         let ts : Item 𝓤 = ‵ (flft κs.0 qs.0) ⊛ ‵ (flft κs.1.0 qs.1.0) ⊛ ‵ ftrue in
         let alive : Item 𝓤 = raw (fact 𝓤 (κs.0 ⊑ E.row.lives)) ⊛ raw (fact 𝓤 (κs.1.0 ⊑ E.al.row.lives)) ⊛ ‵ ftrue in
         qed 𝓛 ((ts ⊛ ‵ (fsep ((B E).own_val v z.0.4.0) ftrue)) ∷ alive ∷ []) ∵ split ! $ move ! (1 ∷ []) $ fsplit ! $
@@ -57,7 +47,7 @@ module _ (E : Bx) (dx : Dict) where
         let w = word E hv b o in
         let y : Opens.Ghost = ((κs, qs, tt, (v, tt), (w ∷ [], tt)), tt) in
         let Γ : List (Item 𝓤) = ‵ ((B E).own_val v (w ∷ [])) ∷ ‵ ftrue ∷ ts ∷ alive ∷ [] in
-        by ! (subst (λ (us : List Val). ent 𝓤 (types.Kit.⋆ 𝓛 Γ) (WpFn 𝓤 H 𝓣.C 𝓣.Λ fn' (us ++ []) Post)) (sym ws)
+        by ! (subst (λ (us : List Val). ent 𝓤 (types.Kit.⋆ 𝓛 Γ) (WpFn 𝓤 H 𝓣.C 𝓣.Λ fn' (us ++ []) ((walk_of 𝓛 ended stayed held).post z))) (sym ws)
         (qed 𝓛 Γ ∵ enter ! 𝓣.C 𝓣.Λ fn' (w ∷ []) _ $ alloc_all ! (λ ls. pass_all ! refl (box_typed E hv b o fa, tt) $ sets ! (of_opd ! (get ! refl)) refl (box_typed E hv b o fa) $
         fjoin ! $ move ! (1 ∷ 0 ∷ []) $ join ! $ join ! $ use1 𝓛 (raw (Opens.pre y)) (id⊢ 𝓤 _) $
         calls_at ! (fm_of 𝓤 H 𝓛.laws 𝓣) Opens kn y (and_then ! (get ! refl) (no_more !)) (λ u.
@@ -79,7 +69,7 @@ pub of_spec : {M : Type 1} → stated.statement M
 unfolding tables_of
 of_spec 𝓤 𝓛 𝓜 𝓡 wired X Z LX LZ g d dd dx allocator md glue =
     let E : Bx = record { row = X; laws = LX; al = record { row = Z; laws = LZ; g = g; d = d; drops = dd } } in
-    let 𝓣 : Tables 𝓤 𝓛.H = tables_of 𝓤 𝓛.H 𝓜 (tables 𝓤 𝓛.H 𝓜 𝓡 𝓡.env) in
+    let 𝓣 = tables_of 𝓤 𝓛.H 𝓜 (tables 𝓤 𝓛.H 𝓜 𝓡 𝓡.env) in
     let fn = fn' E dx in
     entered 𝓤 𝓛.H (triple_of 𝓛 (ended E dx).signature (F.spec X Z g d dd dx 𝓛 𝓜.mem 𝓡.returns)) 𝓣.C 𝓣.Λ (#self (args E dx)) fn (code.unfolded 𝓤 𝓛.H 𝓜 𝓡 wired (X, (Z, tt)) d dd dx)
     (walk_Meets 𝓛 (ended E dx) (stayed E dx) (Goes-blank 𝓛 2 (plain (λ _. B E)) no (λ κs x f. tt), tt) (held E dx 𝓛 𝓜.mem 𝓡.returns 𝓣) (WpFn 𝓤 𝓛.H 𝓣.C 𝓣.Λ fn) (WpFn-mono 𝓤 𝓛.H 𝓛.laws 𝓣 fn)

@@ -2,11 +2,7 @@
 use mir.Raw.{raw}
 use base.Shift.{Keyless}
 use denote.Memory.{lone}
-use Rattle.bfd_c.proofs.Common.{Ptr, Option, None, Some}
-use denote.Builtin.{u32}
-use denote.Struct.Struct.{exits_of}
-use denote.Struct.Owning.{shape, fields, to}
-use denote.Struct.Tuple.{tuple_type}
+use Rattle.bfd_c.proofs.Common.{Ptr, Option, None, Some, tuple_type, u32, exits_of, shape, fields, to}
 use denote.Param.Send.{IsSend, AllSend, owning_send, struct_send, view_send, sendable}
 use denote.Param.SendFields.{declared_send}
 use Rattle.std.specs.Prelude.{[], ◌∷◌}

@@ -1,5 +1,4 @@
-use Rattle.bfd_demux.proofs.Common.{arith, sym, ap, ◌∙◌, refl, Some}
-use Rattle.bfd_demux.specs.declared.name.Name.TheVariants.{Session}
+use Rattle.bfd_demux.proofs.Common.{arith, ap, refl, Session}
 use Rattle.bfd_demux.specs.contracts.name.NameOrd.TheImpl as name_order
 use Rattle.bfd_demux.specs.contracts.row.RowKindOrd.TheImpl as kind_order
 use Rattle.bfd_demux.proofs.Lookups.{missing_by, found_by, few_names, few_addresses, address_unknown, address_named, address_index, address_session, none_addressed, place_of_session}
@@ -19,40 +18,30 @@ place_near-requires-2-clause-few g c = rw c.as_slice-names.ensures.value (few_na
 
 pub returns-in_err-place-clause-known : goal.returns-in_err-place-clause-known
 returns-in_err-place-clause-known g c =
-    let unknown = address_unknown c.self.invariant c.args.kind c.requires (missing_by kind_order.ghosts.cmp c.as_slice-addresses.ensures.value refl c.in_err-place.ensures.none) in
-    rw (c.from_residual.ensures, ← c.self.view_is) unknown
+    rw (c.from_residual.ensures, ← c.self.view_is) (address_unknown c.self.invariant c.args.kind c.requires (missing_by kind_order.ghosts.cmp c.as_slice-addresses.ensures.value refl c.in_err-place.ensures.none))
 
 pub returns-in_err-place-clause-found : goal.returns-in_err-place-clause-found
 returns-in_err-place-clause-found g c =
-    let unknown = address_unknown c.self.invariant c.args.kind c.requires (missing_by kind_order.ghosts.cmp c.as_slice-addresses.ensures.value refl c.in_err-place.ensures.none) in
-    rw (c.from_residual.ensures, ← c.self.view_is, none_addressed c.self.invariant c.args.kind unknown) refl
+    rw (c.from_residual.ensures, ← c.self.view_is, none_addressed c.self.invariant c.args.kind (address_unknown c.self.invariant c.args.kind c.requires (missing_by kind_order.ghosts.cmp c.as_slice-addresses.ensures.value refl c.in_err-place.ensures.none))) refl
 
 pub returns-in_err-index-clause-known : goal.returns-in_err-index-clause-known
 returns-in_err-index-clause-known g c =
-    let at = found_by c.as_slice-addresses.ensures.value refl c.in_ok-place.ensures.found in
-    absurd (address_session c.self.invariant c.args.kind c.in_ok-place.place c.index.result.now c.requires at
+    absurd (address_session c.self.invariant _ _ c.index.result.now c.requires (found_by c.as_slice-addresses.ensures.value refl c.in_ok-place.ensures.found)
     (missing_by name_order.ghosts.cmp c.as_slice-names.ensures.value (ap (λ entry. Session entry.1) c.index.ensures) c.in_err-index.ensures.none))
 
 pub returns-in_err-index-clause-found : goal.returns-in_err-index-clause-found
 returns-in_err-index-clause-found g c =
-    let at = found_by c.as_slice-addresses.ensures.value refl c.in_ok-place.ensures.found in
-    absurd (address_session c.self.invariant c.args.kind c.in_ok-place.place c.index.result.now c.requires at
+    absurd (address_session c.self.invariant _ _ c.index.result.now c.requires (found_by c.as_slice-addresses.ensures.value refl c.in_ok-place.ensures.found)
     (missing_by name_order.ghosts.cmp c.as_slice-names.ensures.value (ap (λ entry. Session entry.1) c.index.ensures) c.in_err-index.ensures.none))
 
 pub overflow_cast-result : goal.overflow_cast-result
-overflow_cast-result g c =
-    let few = few_names c.self.invariant in
-    let at = found_by c.as_slice-names.ensures.value refl c.in_ok-index.ensures.found in
-    omega (arith, at.within)
+overflow_cast-result g c = omega (arith, (found_by c.as_slice-names.ensures.value refl c.in_ok-index.ensures.found).within, few_names c.self.invariant)
 
 pub returns-clause-known : goal.returns-clause-known
 returns-clause-known g c =
-    let at = found_by c.as_slice-addresses.ensures.value refl c.in_ok-place.ensures.found in
-    rw (← c.self.view_is) (address_named c.self.invariant c.args.kind c.in_ok-place.place c.index.result.now c.requires at)
+    rw (← c.self.view_is) (address_named c.self.invariant _ _ c.index.result.now c.requires (found_by c.as_slice-addresses.ensures.value refl c.in_ok-place.ensures.found))
 
 pub returns-clause-found : goal.returns-clause-found
 returns-clause-found g c =
-    let at = found_by c.as_slice-addresses.ensures.value refl c.in_ok-place.ensures.found in
-    let index_at = found_by c.as_slice-names.ensures.value (ap (λ entry. Session entry.1) c.index.ensures) c.in_ok-index.ensures.found in
-    let index = place_of_session c.self.invariant _ c.in_ok-index.index index_at in
-    rw (← c.self.view_is) (ap Some index ∙ sym (address_index c.self.invariant c.args.kind c.in_ok-place.place c.index.result.now c.requires at))
+    let index_at = found_by c.as_slice-names.ensures.value (cc) c.in_ok-index.ensures.found in
+    rw (← c.self.view_is) (cc ((place_of_session c.self.invariant _ _ index_at), address_index c.self.invariant _ _ c.index.result.now c.requires (found_by c.as_slice-addresses.ensures.value refl c.in_ok-place.ensures.found)))

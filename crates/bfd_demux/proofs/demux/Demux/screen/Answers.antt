@@ -1,20 +1,12 @@
-use Rattle.bfd_demux.proofs.Common.{◌≡◌, Err, arith, rules, sym, ap, ◌∙◌, refl, option_map, read_of, the_one, row_has_discr, echo_target, first_echo_failing}
-use Rattle.bfd_packet.specs.declared.arrival.Port.TheVariants.{Echo as EchoPort}
-use Rattle.bfd_packet.specs.Layout.{word_at}
+use Rattle.bfd_demux.proofs.Common.{◌≡◌, Err, arith, rules, sym, ap, ◌∙◌, refl, read_of}
 use Rattle.bfd_demux.proofs.Selecting.{ok_then, ok_always, echo_failing, echo_named, header_passed, read_past, unread}
 use Rattle.bfd_demux.proofs.demux.Demux.screen.Goals as goal
 
 pub returns-in-Echo-clause-tests : goal.returns-in-Echo-clause-tests
-returns-in-Echo-clause-tests g c =
-    rw c.in-Echo.is (c.select_echo.ensures.tests ∙ ap (first_echo_failing c.args.self.now) c.as_slice.ensures.value ∙ echo_failing c.args.self.now c.args.arrival.now)
+returns-in-Echo-clause-tests g c = rw c.in-Echo.is (cc (c.select_echo.ensures.tests, c.as_slice.ensures.value, echo_failing c.args.self.now c.args.arrival.now))
 
 pub returns-in-Echo-clause-target : goal.returns-in-Echo-clause-target
-returns-in-Echo-clause-target g c =
-    rw c.in-Echo.is (ok_then c.select_echo.result
-    (λ target h.
-    h
-    ∙ ap (λ payload. option_map (echo_target c.args.self.now payload) (the_one (row_has_discr EchoPort (word_at 4 payload)) c.args.self.now)) c.as_slice.ensures.value
-    ∙ echo_named c.args.self.now c.args.arrival.now)
+returns-in-Echo-clause-target g c = rw c.in-Echo.is (ok_then c.select_echo.result (λ target h. cc (echo_named c.args.self.now c.args.arrival.now))
     c.select_echo.ensures.target)
 
 pub returns-in-Echo-clause-header : goal.returns-in-Echo-clause-header
@@ -28,10 +20,9 @@ returns-in-Echo-clause-one_lookup g c = λ _. c.select_echo.ensures.cost
 
 pub returns-in_err-packet-in_default : goal.returns-in_err-packet-in_default
 returns-in_err-packet-in_default g c =
-    let was = sym (c.read.ensures ∙ ap (read_of c.args.arrival.now.port) c.as_slice-in_default.ensures.value) ∙ c.in_err-packet-in_default.was in
     let refused : c.from_residual.result ≡ Err c.in_err-packet-in_default.field-0.0 = search rules in
     rw refused (record {
-      tests = unread c.args.arrival.now.port c.args.self.now c.args.arrival.now _ c.in_default.not-Echo was;
+      tests = unread c.args.self.now c.args.arrival.now c.in_default.not-Echo (cc (c.read.ensures, c.as_slice-in_default.ensures.value, c.in_err-packet-in_default.was));
       target = tt;
       header = tt;
       cost = omega arith;
@@ -40,19 +31,18 @@ returns-in_err-packet-in_default g c =
 
 pub select_packet-requires : goal.select_packet-requires
 select_packet-requires g c =
-    let was = sym (c.read.ensures ∙ ap (read_of c.args.arrival.now.port) c.as_slice-in_default.ensures.value) ∙ c.in_ok-packet-in_default.was in
     record {
       port = c.in_default.not-Echo;
-      packet = (header_passed c.args.arrival.now.port c.args.arrival.now.payload c.in_ok-packet-in_default.packet c.in_default.not-Echo was).its;
+      packet = (header_passed _ c.args.arrival.now.payload c.in_default.not-Echo (sym (c.read.ensures ∙ ap (read_of c.args.arrival.now.port) c.as_slice-in_default.ensures.value) ∙ c.in_ok-packet-in_default.was)).its;
     }
 
 pub returns-in_ok-packet-in_default : goal.returns-in_ok-packet-in_default
 returns-in_ok-packet-in_default g c =
     let was = sym (c.read.ensures ∙ ap (read_of c.args.arrival.now.port) c.as_slice-in_default.ensures.value) ∙ c.in_ok-packet-in_default.was in
     record {
-      tests = c.select_packet.ensures.tests ∙ read_past c.args.arrival.now.port c.args.self.now c.args.arrival.now c.in_ok-packet-in_default.packet c.in_default.not-Echo was;
+      tests = c.select_packet.ensures.tests ∙ read_past c.args.self.now c.args.arrival.now c.in_default.not-Echo was;
       target = c.select_packet.ensures.target;
-      header = ok_always c.select_packet.result (header_passed c.args.arrival.now.port c.args.arrival.now.payload c.in_ok-packet-in_default.packet c.in_default.not-Echo was).passes;
+      header = ok_always c.select_packet.result (header_passed _ c.args.arrival.now.payload c.in_default.not-Echo was).passes;
       cost = c.select_packet.ensures.cost;
       one_lookup = c.select_packet.ensures.one_lookup;
     }

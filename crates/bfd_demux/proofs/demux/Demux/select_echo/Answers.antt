@@ -11,18 +11,17 @@ returns-in_default g c = record {
 
 pub returns-in-Some-by_discr : goal.returns-in-Some-by_discr
 returns-in-Some-by_discr g c =
-    let echo = echo_read c.args.payload.now c.in-Some.discr c.in-Some.sequence c.in-Some.ensures in
+    let echo = echo_read c.args.payload.now c.in-Some.ensures in
     record {
-      tests = echo_known c.args.self.now c.args.payload.now c.in-Some.discr c.in-Some.sequence echo c.in-Some-by_discr.ensures.known;
-      target = echo_found c.args.self.now c.args.payload.now c.in-Some.discr c.in-Some.sequence c.in-Some-by_discr.index echo c.in-Some-by_discr.ensures.found;
+      tests = echo_known c.args.self.now echo c.in-Some-by_discr.ensures.known;
+      target = echo_found c.args.self.now echo c.in-Some-by_discr.ensures.found;
       cost = c.in-Some-by_discr.ensures.cost;
     }
 
 pub returns-in-None : goal.returns-in-None
 returns-in-None g c =
-    let echo = echo_read c.args.payload.now c.in-Some.discr c.in-Some.sequence c.in-Some.ensures in
     record {
-      tests = echo_unknown c.args.self.now c.args.payload.now c.in-Some.discr c.in-Some.sequence echo c.in-None.ensures.known;
+      tests = echo_unknown c.args.self.now (echo_read c.args.payload.now c.in-Some.ensures) c.in-None.ensures.known;
       target = tt;
       cost = c.in-None.ensures.cost;
     }

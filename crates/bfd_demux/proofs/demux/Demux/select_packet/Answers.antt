@@ -1,17 +1,13 @@
-use Rattle.bfd_demux.proofs.Common.{◌≡◌, true, false, ◌&&◌, arith, sym, ap, ◌∙◌, refl, takes_multipoint_of, Tail, is_multipoint, session_index, the_one, first_session_failing, names_session, option_map}
-use Rattle.bfd_demux.specs.declared.target.Target.TheVariants.{Session}
+use Rattle.bfd_demux.proofs.Common.{◌≡◌, true, false, arith, ap, ◌∙◌, refl, Tail, is_multipoint}
 use Rattle.bfd_demux.proofs.Selecting.{ok_then, reflector_failing, reflector_named, tail_failing, tail_named, session_failing, session_named, selector_addressed, tail_by_addresses, session_by_discr}
 use Rattle.bfd_demux.proofs.demux.Demux.select_packet.Goals as goal
 
 pub returns-in-Sbfd-clause-tests : goal.returns-in-Sbfd-clause-tests
-returns-in-Sbfd-clause-tests g c =
-    rw c.in-Sbfd.is (c.select_reflector.ensures.tests ∙ reflector_failing c.args.self.now c.args.arrival.now c.args.packet.now c.requires.packet)
+returns-in-Sbfd-clause-tests g c = rw c.in-Sbfd.is (c.select_reflector.ensures.tests ∙ reflector_failing c.args.self.now c.args.arrival.now c.requires.packet)
 
 pub returns-in-Sbfd-clause-target : goal.returns-in-Sbfd-clause-target
-returns-in-Sbfd-clause-target g c =
-    rw c.in-Sbfd.is (ok_then c.select_reflector.result
-    (λ target h. h.1 ∙ reflector_named c.args.self.now c.args.arrival.now c.args.packet.now c.requires.packet h.0)
-    c.select_reflector.ensures.target)
+returns-in-Sbfd-clause-target g c = rw c.in-Sbfd.is (ok_then c.select_reflector.result
+    (λ target h. h.1 ∙ reflector_named c.args.self.now c.args.arrival.now c.requires.packet h.0) c.select_reflector.ensures.target)
 
 pub returns-in-Sbfd-clause-cost : goal.returns-in-Sbfd-clause-cost
 returns-in-Sbfd-clause-cost g c = omega (arith, c.select_reflector.ensures.cost)
@@ -25,11 +21,11 @@ select_tail-requires g c = rw c.tail_of.ensures refl
 pub returns-then-is_multipoint : goal.returns-then-is_multipoint
 returns-then-is_multipoint g c =
     let multipoint : is_multipoint c.args.arrival.now.port c.args.arrival.now ≡ true =
-    ap (λ packet. takes_multipoint_of c.args.arrival.now.port && packet.multi) (sym c.requires.packet) ∙ sym c.is_multipoint.ensures ∙ c.if-is_multipoint.true in
+    cc in
     let tail = c.tail_of.ensures ∙ ap (λ packet. Tail packet.my c.args.arrival.now.iface c.args.arrival.now.dst c.args.arrival.now.src) c.requires.packet in
     record {
-      tests = c.select_tail.ensures.tests ∙ tail_failing c.args.arrival.now.port c.args.self.now c.args.arrival.now c.args.packet.now c.tail_of.result c.requires.packet multipoint tail;
-      target = ok_then c.select_tail.result (λ target h. h ∙ tail_named c.args.arrival.now.port c.args.self.now c.args.arrival.now c.tail_of.result multipoint tail) c.select_tail.ensures.target;
+      tests = c.select_tail.ensures.tests ∙ tail_failing c.args.arrival.now.port c.args.self.now c.args.arrival.now c.requires.packet multipoint tail;
+      target = ok_then c.select_tail.result (λ target h. h ∙ tail_named c.args.arrival.now.port c.args.self.now c.args.arrival.now multipoint tail) c.select_tail.ensures.target;
       cost = c.select_tail.ensures.cost;
       one_lookup = λ other. absurd (tail_by_addresses c.args.arrival.now.port c.args.arrival.now multipoint other);
     }
@@ -43,19 +39,14 @@ select_session-requires g c = record {
 pub returns-else-is_multipoint : goal.returns-else-is_multipoint
 returns-else-is_multipoint g c =
     let single : is_multipoint c.args.arrival.now.port c.args.arrival.now ≡ false =
-    ap (λ packet. takes_multipoint_of c.args.arrival.now.port && packet.multi) (sym c.requires.packet) ∙ sym c.is_multipoint.ensures ∙ c.if-is_multipoint.false in
+    cc in
     record {
       tests =
-          c.select_session.ensures.tests
-          ∙ ap (λ selector. first_session_failing c.args.arrival.now.port c.args.packet.now selector c.args.self.now) c.selector_of.ensures
-          ∙ session_failing c.args.arrival.now.port c.args.self.now c.args.arrival.now c.args.packet.now c.requires.packet c.requires.port c.in_default.not-Sbfd single;
-      target = ok_then c.select_session.result
-          (λ target h.
-          h
-          ∙ ap (λ selector. option_map (λ row. Session (session_index c.args.self.now row.discr)) (the_one (names_session c.args.arrival.now.port c.args.packet.now selector) c.args.self.now)) c.selector_of.ensures
-          ∙ session_named c.args.arrival.now.port c.args.self.now c.args.arrival.now c.args.packet.now c.requires.packet c.requires.port c.in_default.not-Sbfd single)
+          cc (c.select_session.ensures.tests, c.selector_of.ensures, session_failing _ c.args.self.now c.args.arrival.now c.requires.packet c.requires.port c.in_default.not-Sbfd single);
+      target = ok_then c.select_session.result (λ target h.
+          cc (session_named _ c.args.self.now c.args.arrival.now c.requires.packet c.requires.port c.in_default.not-Sbfd single))
           c.select_session.ensures.target;
       cost = c.select_session.ensures.cost;
       one_lookup = λ other.
-          c.select_session.ensures.one_lookup (session_by_discr c.args.arrival.now.port c.args.arrival.now c.args.packet.now c.requires.packet c.requires.port c.in_default.not-Sbfd other);
+          c.select_session.ensures.one_lookup (session_by_discr _ c.args.arrival.now c.requires.packet c.requires.port c.in_default.not-Sbfd other);
     }

@@ -5,11 +5,9 @@ use Rattle.bfd_edge.proofs.memory_link.MemLinkLink.receive.Goals as goal
 
 pub returns-clause-after : goal.returns-clause-after
 returns-clause-after c =
-    let items = c.self.inside.heard.items in
     let answer = c.heard_at-received.result in
-    let heard = heard_all items c.self.inside.at answer (rw c.deref.ensures.value at c.heard_at-received.ensures) in
     rw (c.items_of.ensures, c.note_received.ensures)
-    (told_more _ _ c.self.inside.sent.items c.self.inside.counts answer heard.0 _ (ap (λ link. told_of link) (sym c.self.view_is)))
+    (told_more answer (heard_all c.self.inside.heard.items c.self.inside.at answer (rw c.deref.ensures.value at c.heard_at-received.ensures)).0 (ap (λ link. told_of link) (sym c.self.view_is)))
 
 pub returns-clause-answer : goal.returns-clause-answer
 returns-clause-answer c =

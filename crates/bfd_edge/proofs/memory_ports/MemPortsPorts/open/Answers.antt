@@ -1,11 +1,10 @@
 use Rattle.std.proofs.Common.{rules, ◌≡◌, false, ◌∙◌, ap}
 use Rattle.std.specs.Prelude.{Ok}
 use Rattle.bfd_edge.specs.declared.places.Place.TheVariants.{Opened}
-use Rattle.bfd_edge.specs.Faults.{raised}
 use Rattle.bfd_edge.specs.Memory.{is_to_fail}
 use Rattle.bfd_edge.specs.MemoryLink as memory_link
 use Rattle.bfd_edge.specs.MemoryPorts.{HeldPorts, link_at, told_of, with_ended}
-use Rattle.bfd_edge.specs.Places.{is_opened, place_in, ports_told, with_place}
+use Rattle.bfd_edge.specs.Places.{place_in, ports_told, with_place}
 use Rattle.bfd_edge.specs.Ports.{after_open}
 use Rattle.bfd_edge.proofs.Opening.{new_at, new_still}
 use Rattle.bfd_edge.proofs.Placing.{open_told}
@@ -30,19 +29,17 @@ pub returns-in-Ok-clause-after : goal.returns-in-Ok-clause-after
 returns-in-Ok-clause-after c =
     let number = c.args.number in
     let places = c.self.inside.places in
-    let waiting : is_opened (place_in places number) ≡ false = ap (λ ports. (told_of ports).opened number) c.self.view_is ∙ c.requires in
-    open_told memory_link.told_of (place_in places) (place_in c.open.new.self) number c.self.inside.faults c.take_link.result c.in-Ok.ensures.ok waiting
+    let waiting = ap (λ ports. (told_of ports).opened number) c.self.view_is ∙ c.requires in
+    open_told memory_link.told_of (place_in places) _ number c.self.inside.faults c.take_link.result c.in-Ok.ensures.ok waiting
     ∙ ap (λ ports. after_open number (Ok c.take_link.result) (told_of ports)) c.self.view_is
 
 pub returns-in-Ok-clause-answer : goal.returns-in-Ok-clause-answer
 returns-in-Ok-clause-answer c =
-    let number = c.args.number in
-    let calm : is_to_fail c.args.self.now.calls c.args.self.now.fails ≡ false = search rules in
-    let calls : c.saturating_add-self-inside-in-Ok.result ≡ raised c.args.self.now.calls = search rules in (
-      calm,
+    let number = c.args.number in (
+      search rules,
       c.take_link.ensures.link ∙ ap (λ ports. link_at ports.links number) c.self.view_is,
       c.take_link.ensures.rest ∙ ap (λ ports. with_ended number ports.links) c.self.view_is,
       c.in-Ok.ensures.ok ∙ ap (λ ports. with_place number Opened (place_in ports.places)) c.self.view_is,
-      calls,
-      ap (λ ports. ports.fails) c.self.view_is,
+      search rules,
+      cc,
     )

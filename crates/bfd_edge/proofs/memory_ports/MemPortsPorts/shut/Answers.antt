@@ -11,10 +11,9 @@ pub returns-clause-after : goal.returns-clause-after
 returns-clause-after c =
     let number = c.args.number in
     let places = c.self.inside.places in
-    let opened : is_opened (place_in places number) ≡ true = ap (λ ports. (told_of ports).opened number) c.self.view_is ∙ c.requires in
-    shut_told memory_link.told_of (place_in places) (place_in c.shut.new.self) number c.self.inside.faults c.args.link c.shut.ensures opened
+    let opened : is_opened (place_in places number) ≡ true = cc in
+    shut_told memory_link.told_of (place_in places) _ number c.self.inside.faults c.args.link c.shut.ensures opened
     ∙ ap (λ ports. after_shut number (memory_link.told_of c.args.link) (told_of ports)) c.self.view_is
 
 pub returns-clause-kept : goal.returns-clause-kept
-returns-clause-kept c =
-    c.shut.ensures ∙ ap (λ ports. with_place c.args.number (Shut c.args.link) (place_in ports.places)) c.self.view_is
+returns-clause-kept c = c.shut.ensures ∙ ap (λ ports. with_place c.args.number (Shut c.args.link) (place_in ports.places)) c.self.view_is

@@ -1,5 +1,5 @@
 -- The turn is the pass's, or the pass is put back in its place.
-use Rattle.bfd_engine.proofs.Common.{◌≡◌, ◌∙◌, get_or, sym, ap, subst, get_or_from_slice_get, IsBack, WasBusy, WasSpent, OfShard, Shards, Knows, IsOf, IsCallers, AllThere}
+use Rattle.bfd_engine.proofs.Common.{◌∙◌, get_or, sym, ap, subst, get_or_from_slice_get, IsOf, AllThere}
 use Rattle.bfd_engine.proofs.Places.{put_back, of_set, none_set, there_set}
 use Rattle.bfd_engine.proofs.Lending.{still, has_taken, busy_is, spent_is, was_busy, was_spent}
 use Rattle.bfd_engine.proofs.engine.Engine.try_hold.Goals as goal
@@ -10,75 +10,64 @@ lift-own-requires g c = c.requires.here
 pub try_turn-requires : goal.try_turn-requires
 try_turn-requires g c =
     sym (get_or_from_slice_get c.args.self.now.locks c.args.shard c.lift-own.result.0 c.index.result.now (c.requires.of.lock c.args.shard c.lift-own.result c.lift-own.ensures.pass))
-    ∙ (ap (λ (e : Shards). get_or e.locks c.args.shard c.index.result.now) (sym c.self.view_is) ∙ sym c.index.ensures)
+    ∙ (ap (λ e. get_or e.locks c.args.shard c.index.result.now) (sym c.self.view_is) ∙ sym c.index.ensures)
 
 pub put-requires-clause-callers : goal.put-requires-clause-callers
 put-requires-clause-callers g c =
-    let e : IsBack c.index.result.now c.lift-own.result.1 c.in-Err-Busy.found c.in-Err-Busy.back × WasBusy c.lift-own.result.1 c.in-Err-Busy.read c.in-Err-Busy.found = busy_is c.index.result.now c.lift-own.result.1 c.in-Err-Busy.field-0 c.in-Err-Busy.back c.in-Err-Busy.read c.in-Err-Busy.found c.in-Err-Busy.field-0-is c.in-Err-Busy.ensures in
-    subst (λ (k : Knows). IsCallers k.0 k.2 c.in-Err-Busy.back.1) (sym c.lift-own.ensures.rest)
-    (still c.args.pass.now.0 c.args.pass.now.2 c.lift-own.result.1 c.in-Err-Busy.back.1 (ap (λ (v : OfShard). v.number) e.0.1) (ap (λ (v : OfShard). v.made) e.0.1) c.lift-own.ensures.callers)
+    let e = busy_is c.index.result.now c.lift-own.result.1 c.in-Err-Busy.field-0-is c.in-Err-Busy.ensures in
+    rw c.lift-own.ensures.rest (still c.in-Err-Busy.back.1 (cc) (cc) c.lift-own.ensures.callers)
 
 pub put-requires-in-Err-Spent-clause-callers : goal.put-requires-in-Err-Spent-clause-callers
 put-requires-in-Err-Spent-clause-callers g c =
-    let e : IsBack c.index.result.now c.lift-own.result.1 c.in-Err-Spent.word c.in-Err-Spent.back × WasSpent c.lift-own.result.1 c.in-Err-Spent.word = spent_is c.index.result.now c.lift-own.result.1 c.in-Err-Spent.field-0 c.in-Err-Spent.back c.in-Err-Spent.word c.in-Err-Spent.field-0-is c.in-Err-Spent.ensures in
-    subst (λ (k : Knows). IsCallers k.0 k.2 c.in-Err-Spent.back.1) (sym c.lift-own.ensures.rest)
-    (still c.args.pass.now.0 c.args.pass.now.2 c.lift-own.result.1 c.in-Err-Spent.back.1 (ap (λ (v : OfShard). v.number) e.0.1) (ap (λ (v : OfShard). v.made) e.0.1) c.lift-own.ensures.callers)
+    let e = spent_is c.index.result.now c.lift-own.result.1 c.in-Err-Spent.field-0-is c.in-Err-Spent.ensures in
+    rw c.lift-own.ensures.rest (still c.in-Err-Spent.back.1 (cc) (cc) c.lift-own.ensures.callers)
 
 pub returns-in-Ok-clause-of : goal.returns-in-Ok-clause-of
-returns-in-Ok-clause-of g c =
-    subst (IsOf c.args.self.now) (sym (ap (λ (k : Knows). k.1) c.lift-own.ensures.rest))
+returns-in-Ok-clause-of g c = subst (IsOf c.args.self.now) (sym (ap (λ k. k.1) c.lift-own.ensures.rest))
     (none_set c.args.self.now c.args.pass.now.1 c.args.shard c.lift-own.result c.lift-own.ensures.pass c.requires.of)
 
 pub returns-in-Ok-clause-hold : goal.returns-in-Ok-clause-hold
 returns-in-Ok-clause-hold g c =
-    let lock : c.lift-own.result.0 ≡ c.index.result.now =
+    let lock =
     sym (get_or_from_slice_get c.args.self.now.locks c.args.shard c.lift-own.result.0 c.index.result.now (c.requires.of.lock c.args.shard c.lift-own.result c.lift-own.ensures.pass))
-    ∙ (ap (λ (e : Shards). get_or e.locks c.args.shard c.index.result.now) (sym c.self.view_is) ∙ sym c.index.ensures) in
-    has_taken c.args.self.now c.args.shard c.args.pass.now c.lift-own.new.self c.lift-own.result c.in-Ok.turn.0 c.in-Ok.turn.1 c.in-Ok.turn.2.shard.value.journal c.requires.of
-    c.lift-own.ensures.pass c.lift-own.ensures.callers c.lift-own.ensures.rest (c.in-Ok.ensures.0 ∙ sym lock) c.in-Ok.ensures.1.same c.in-Ok.ensures.1.later c.in-Ok.ensures.1.adds
+    ∙ (ap (λ e. get_or e.locks c.args.shard c.index.result.now) (sym c.self.view_is) ∙ sym c.index.ensures) in
+    has_taken c.args.shard c.requires.of
+    c.lift-own.ensures.pass c.lift-own.ensures.callers c.lift-own.ensures.rest (cc (c.in-Ok.ensures.0)) c.in-Ok.ensures.1.same c.in-Ok.ensures.1.later c.in-Ok.ensures.1.adds
 
 pub returns-in-Err-Busy-clause-of : goal.returns-in-Err-Busy-clause-of
 returns-in-Err-Busy-clause-of g c =
-    let e : IsBack c.index.result.now c.lift-own.result.1 c.in-Err-Busy.found c.in-Err-Busy.back × WasBusy c.lift-own.result.1 c.in-Err-Busy.read c.in-Err-Busy.found = busy_is c.index.result.now c.lift-own.result.1 c.in-Err-Busy.field-0 c.in-Err-Busy.back c.in-Err-Busy.read c.in-Err-Busy.found c.in-Err-Busy.field-0-is c.in-Err-Busy.ensures in
-    let is = put_back c.args.pass.now c.lift-own.new.self c.put.new.self c.args.shard c.in-Err-Busy.back c.lift-own.ensures.rest c.put.ensures in
-    let lock : c.lift-own.result.0 ≡ c.index.result.now =
+    let e = busy_is c.index.result.now c.lift-own.result.1 c.in-Err-Busy.field-0-is c.in-Err-Busy.ensures in
+    let lock =
     sym (get_or_from_slice_get c.args.self.now.locks c.args.shard c.lift-own.result.0 c.index.result.now (c.requires.of.lock c.args.shard c.lift-own.result c.lift-own.ensures.pass))
-    ∙ (ap (λ (e : Shards). get_or e.locks c.args.shard c.index.result.now) (sym c.self.view_is) ∙ sym c.index.ensures) in
-    subst (IsOf c.args.self.now) (sym (ap (λ (k : Knows). k.1) is))
-    (of_set c.args.self.now c.args.pass.now.1 c.args.shard c.lift-own.result c.in-Err-Busy.back c.lift-own.ensures.pass
-    (e.0.0 ∙ sym lock) (ap (λ (v : OfShard). v.base) e.0.1) c.requires.of)
+    ∙ (ap (λ e. get_or e.locks c.args.shard c.index.result.now) (sym c.self.view_is) ∙ sym c.index.ensures) in
+    subst (IsOf c.args.self.now) (sym (ap (λ k. k.1) (put_back c.args.pass.now c.lift-own.new.self c.put.new.self c.args.shard c.in-Err-Busy.back c.lift-own.ensures.rest c.put.ensures)))
+    (of_set c.args.self.now c.args.pass.now.1 c.args.shard c.lift-own.result c.in-Err-Busy.back c.lift-own.ensures.pass (cc) (cc) c.requires.of)
 
 pub returns-in-Err-Busy-clause-kept : goal.returns-in-Err-Busy-clause-kept
 returns-in-Err-Busy-clause-kept g c =
-    let e : IsBack c.index.result.now c.lift-own.result.1 c.in-Err-Busy.found c.in-Err-Busy.back × WasBusy c.lift-own.result.1 c.in-Err-Busy.read c.in-Err-Busy.found = busy_is c.index.result.now c.lift-own.result.1 c.in-Err-Busy.field-0 c.in-Err-Busy.back c.in-Err-Busy.read c.in-Err-Busy.found c.in-Err-Busy.field-0-is c.in-Err-Busy.ensures in
-    let is = put_back c.args.pass.now c.lift-own.new.self c.put.new.self c.args.shard c.in-Err-Busy.back c.lift-own.ensures.rest c.put.ensures in
-    was_busy c.args.pass.now c.put.new.self c.args.shard c.in-Err-Busy.read c.in-Err-Busy.found c.lift-own.result c.in-Err-Busy.back c.lift-own.ensures.pass is
+    let e = busy_is c.index.result.now c.lift-own.result.1 c.in-Err-Busy.field-0-is c.in-Err-Busy.ensures in
+    was_busy c.args.pass.now c.args.shard c.in-Err-Busy.back c.lift-own.ensures.pass (put_back c.args.pass.now c.lift-own.new.self c.put.new.self c.args.shard c.in-Err-Busy.back c.lift-own.ensures.rest c.put.ensures)
     e.0.1 e.1
 
 pub returns-in-Err-Spent-clause-of : goal.returns-in-Err-Spent-clause-of
 returns-in-Err-Spent-clause-of g c =
-    let e : IsBack c.index.result.now c.lift-own.result.1 c.in-Err-Spent.word c.in-Err-Spent.back × WasSpent c.lift-own.result.1 c.in-Err-Spent.word = spent_is c.index.result.now c.lift-own.result.1 c.in-Err-Spent.field-0 c.in-Err-Spent.back c.in-Err-Spent.word c.in-Err-Spent.field-0-is c.in-Err-Spent.ensures in
-    let is = put_back c.args.pass.now c.lift-own.new.self c.put-in-Err-Spent.new.self c.args.shard c.in-Err-Spent.back c.lift-own.ensures.rest c.put-in-Err-Spent.ensures in
-    let lock : c.lift-own.result.0 ≡ c.index.result.now =
+    let e = spent_is c.index.result.now c.lift-own.result.1 c.in-Err-Spent.field-0-is c.in-Err-Spent.ensures in
+    let lock =
     sym (get_or_from_slice_get c.args.self.now.locks c.args.shard c.lift-own.result.0 c.index.result.now (c.requires.of.lock c.args.shard c.lift-own.result c.lift-own.ensures.pass))
-    ∙ (ap (λ (e : Shards). get_or e.locks c.args.shard c.index.result.now) (sym c.self.view_is) ∙ sym c.index.ensures) in
-    subst (IsOf c.args.self.now) (sym (ap (λ (k : Knows). k.1) is))
-    (of_set c.args.self.now c.args.pass.now.1 c.args.shard c.lift-own.result c.in-Err-Spent.back c.lift-own.ensures.pass
-    (e.0.0 ∙ sym lock) (ap (λ (v : OfShard). v.base) e.0.1) c.requires.of)
+    ∙ (ap (λ e. get_or e.locks c.args.shard c.index.result.now) (sym c.self.view_is) ∙ sym c.index.ensures) in
+    subst (IsOf c.args.self.now) (sym (ap (λ k. k.1) (put_back c.args.pass.now c.lift-own.new.self c.put-in-Err-Spent.new.self c.args.shard c.in-Err-Spent.back c.lift-own.ensures.rest c.put-in-Err-Spent.ensures)))
+    (of_set c.args.self.now c.args.pass.now.1 c.args.shard c.lift-own.result c.in-Err-Spent.back c.lift-own.ensures.pass (cc) (cc) c.requires.of)
 
 pub returns-in-Err-Spent-clause-kept : goal.returns-in-Err-Spent-clause-kept
 returns-in-Err-Spent-clause-kept g c =
-    let e : IsBack c.index.result.now c.lift-own.result.1 c.in-Err-Spent.word c.in-Err-Spent.back × WasSpent c.lift-own.result.1 c.in-Err-Spent.word = spent_is c.index.result.now c.lift-own.result.1 c.in-Err-Spent.field-0 c.in-Err-Spent.back c.in-Err-Spent.word c.in-Err-Spent.field-0-is c.in-Err-Spent.ensures in
-    let is = put_back c.args.pass.now c.lift-own.new.self c.put-in-Err-Spent.new.self c.args.shard c.in-Err-Spent.back c.lift-own.ensures.rest c.put-in-Err-Spent.ensures in
-    was_spent c.args.pass.now c.put-in-Err-Spent.new.self c.args.shard c.in-Err-Spent.word c.lift-own.result c.in-Err-Spent.back c.lift-own.ensures.pass is
+    let e = spent_is c.index.result.now c.lift-own.result.1 c.in-Err-Spent.field-0-is c.in-Err-Spent.ensures in
+    was_spent c.args.pass.now c.args.shard c.in-Err-Spent.back c.lift-own.ensures.pass (put_back c.args.pass.now c.lift-own.new.self c.put-in-Err-Spent.new.self c.args.shard c.in-Err-Spent.back c.lift-own.ensures.rest c.put-in-Err-Spent.ensures)
     e.0.1 e.1
 
 pub returns-in-Err-Busy-clause-there : goal.returns-in-Err-Busy-clause-there
 returns-in-Err-Busy-clause-there g c =
-    let is = put_back c.args.pass.now c.lift-own.new.self c.put.new.self c.args.shard c.in-Err-Busy.back c.lift-own.ensures.rest c.put.ensures in
-    λ all. subst AllThere (sym (ap (λ (k : Knows). k.1) is)) (there_set c.args.pass.now.1 c.args.shard c.in-Err-Busy.back all)
+    λ all. subst AllThere (sym (ap (λ k. k.1) (put_back c.args.pass.now c.lift-own.new.self c.put.new.self c.args.shard c.in-Err-Busy.back c.lift-own.ensures.rest c.put.ensures))) (there_set c.args.pass.now.1 c.args.shard c.in-Err-Busy.back all)
 
 pub returns-in-Err-Spent-clause-there : goal.returns-in-Err-Spent-clause-there
 returns-in-Err-Spent-clause-there g c =
-    let is = put_back c.args.pass.now c.lift-own.new.self c.put-in-Err-Spent.new.self c.args.shard c.in-Err-Spent.back c.lift-own.ensures.rest c.put-in-Err-Spent.ensures in
-    λ all. subst AllThere (sym (ap (λ (k : Knows). k.1) is)) (there_set c.args.pass.now.1 c.args.shard c.in-Err-Spent.back all)
+    λ all. subst AllThere (sym (ap (λ k. k.1) (put_back c.args.pass.now c.lift-own.new.self c.put-in-Err-Spent.new.self c.args.shard c.in-Err-Spent.back c.lift-own.ensures.rest c.put-in-Err-Spent.ensures))) (there_set c.args.pass.now.1 c.args.shard c.in-Err-Spent.back all)

@@ -6,5 +6,4 @@ use Rattle.bfd_gather.proofs.part.Part.left.Goals as goal
 pub returns : goal.returns
 returns c =
     let t = c.self.inside.text.items in
-    let text = ap length (all_text c.self.inside.marks.items t c.self.inside.next c.self.inside.at c.args.self.now c.self.invariant c.self.view_is) in
-    omega (arith, text, length-drop c.self.inside.at t, c.len.ensures)
+    omega (arith, ap length (all_text c.self.inside.marks.items t c.self.inside.next c.self.inside.at c.args.self.now c.self.invariant c.self.view_is), length-drop c.self.inside.at t, c.len.ensures)

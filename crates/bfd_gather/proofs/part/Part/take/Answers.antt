@@ -4,10 +4,8 @@ use Rattle.bfd_gather.proofs.Marks.{has_next, first_fits}
 use Rattle.bfd_gather.proofs.part.Part.take.Goals as goal
 
 pub copy-requires : goal.copy-requires
-copy-requires c =
-    let there = has_next c.self.inside.marks.items c.self.inside.text.items c.self.inside.next c.self.inside.at c.args.self.now c.self.view_is c.requires in
-    omega (
-      arith,
-      first_fits c.self.inside.marks.items c.self.inside.text.items c.self.inside.next c.self.inside.at c.index-mark.result.now c.self.invariant there c.index-mark.ensures,
-      ap length c.deref.ensures.value,
-    )
+copy-requires c = omega (
+  arith,
+  first_fits c.self.inside.marks.items c.self.inside.text.items c.self.inside.next c.self.inside.at c.index-mark.result.now c.self.invariant (has_next c.self.inside.marks.items c.self.inside.text.items c.self.inside.next c.self.inside.at c.args.self.now c.self.view_is c.requires) c.index-mark.ensures,
+  ap length c.deref.ensures.value,
+)

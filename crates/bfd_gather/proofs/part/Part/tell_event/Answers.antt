@@ -6,8 +6,7 @@ use Rattle.bfd_gather.proofs.part.Part.tell_event.Goals as goal
 pub invariant_of-self : goal.invariant_of-self
 invariant_of-self c =
     part_by c.append_event.result c.self.inside.marks.items c.append_event.new.marks.items c.self.inside.text.items c.append_event.new.text.items c.self.inside.next c.self.inside.at
-    (whole_piece c.args.number (record { items = c.args.outs.now; answer = c.args.answer.now }) ∷ []) c.self.invariant
-    c.append_event.ensures.mark
+    (whole_piece c.args.number (record { items = c.args.outs.now; answer = c.args.answer.now }) ∷ []) c.self.invariant c.append_event.ensures.mark
     (single c.append_event.result c.self.inside.text.items c.append_event.new.text.items (whole_piece c.args.number (record { items = c.args.outs.now; answer = c.args.answer.now })) c.append_event.ensures.text)
     c.append_event.ensures.same_marks c.append_event.ensures.same_text
     (whole_has c.args.number (record { items = c.args.outs.now; answer = c.args.answer.now }), tt)

@@ -12,11 +12,9 @@ returns-clause-after g c =
     let number = c.args.number in
     let places = c.self.inside.places in
     let faults = c.self.inside.faults in
-    let waiting : is_opened (place_in places number) ≡ false = ap (λ ports. (ports_told_of ports).opened number) c.self.view_is ∙ c.requires in
+    let waiting : is_opened (place_in places number) ≡ false = cc in
     elim c.match-open.branch [
-      | in-Ok w ↦ rw w.result-is
-          (open_told counts_told (place_in places) (place_in c.open.new.self) number faults c.in-Some.link w.in-Ok.ensures.ok waiting
+      | in-Ok w ↦ rw w.result-is (open_told counts_told (place_in places) _ number faults c.in-Some.link w.in-Ok.ensures.ok waiting
           ∙ ap (λ ports. after_open number (Ok c.in-Some.link) (ports_told_of ports)) c.self.view_is)
-      | in-Err w ↦ rw w.result-is
-          (ap (λ after. ports_told counts_told after faults) w.in-Err.ensures.err ∙ ap (λ ports. ports_told_of ports) c.self.view_is)
+      | in-Err w ↦ rw w.result-is (ap (λ after. ports_told counts_told after faults) w.in-Err.ensures.err ∙ ap (λ ports. ports_told_of ports) c.self.view_is)
     ]

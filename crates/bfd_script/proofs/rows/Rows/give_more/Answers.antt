@@ -1,6 +1,4 @@
-use Rattle.bfd_script.proofs.Common.{◌∙◌, ◌==◌, ap, refl, subst, sym, Some, values_of, find, discr_of, place_of, SessionConfig, by_discr, given_more, keyed_more, keys_in}
-use Rattle.bfd_session.specs.Rows.{Ascends}
-use Rattle.bfd_line.specs.Secrets.{key_fault}
+use Rattle.bfd_script.proofs.Common.{◌∙◌, ◌==◌, ap, refl, subst, sym, Some, values_of, find, discr_of, place_of, SessionConfig, keyed_more, keys_in, Ascends, key_fault}
 use Rattle.bfd_script.proofs.Giving.{more_keeps}
 use Rattle.bfd_script.proofs.Rising.{changed_at, changed_past_rising, find_at, find_past, rising_alone}
 use Rattle.bfd_script.proofs.rows.Rows.give_more.Goals as goal
@@ -11,44 +9,29 @@ place_of-requires c =
 
 -- one that rose became another
 pub invariant_of-self : goal.invariant_of-self
-invariant_of-self c =
-    (changed_at (keyed_more c.args.key) (more_keeps c.args.key) c.args.discr c.in-Some.place c.add_key.new.config c.self.inside.rising.items _ c.self.inside.others.entries c.index_mut.result.now
+invariant_of-self c = (changed_at (more_keeps c.args.key) c.args.discr c.index_mut.result.now
     c.self.invariant (ap (place_of c.args.discr) (sym c.deref.ensures.value) ∙ sym c.place_of.ensures.value ∙ c.in-Some.is)
     (c.add_key.ensures ∙ ap (keyed_more c.args.key) c.index_mut.ensures.value) refl).rows
 
 pub returns-in-Some : goal.returns-in-Some
-returns-in-Some c =
-    (changed_at (keyed_more c.args.key) (more_keeps c.args.key) c.args.discr c.in-Some.place c.add_key.new.config c.self.inside.rising.items _ c.self.inside.others.entries c.index_mut.result.now
+returns-in-Some c = cc ((changed_at (more_keeps c.args.key) c.args.discr c.index_mut.result.now
     c.self.invariant (ap (place_of c.args.discr) (sym c.deref.ensures.value) ∙ sym c.place_of.ensures.value ∙ c.in-Some.is)
-    (c.add_key.ensures ∙ ap (keyed_more c.args.key) c.index_mut.ensures.value) refl).entries
-    ∙ ap (λ es. by_discr (given_more c.args.discr c.args.key (values_of es))) c.self.view_is
+    (c.add_key.ensures ∙ ap (keyed_more c.args.key) c.index_mut.ensures.value) refl).entries)
 
 -- one of the others did
 pub invariant_of-self-in-None : goal.invariant_of-self-in-None
-invariant_of-self-in-None c =
-    (changed_past_rising (keyed_more c.args.key) (more_keeps c.args.key) c.args.discr c.self.inside.rising.items c.self.inside.others.entries c.give_more.new.rows.entries
-    c.self.invariant (ap (place_of c.args.discr) (sym c.deref.ensures.value) ∙ sym c.place_of.ensures.value ∙ c.in-None.is)
-    c.give_more.ensures).rows
+invariant_of-self-in-None c = (changed_past_rising (more_keeps c.args.key) c.args.discr
+    c.self.invariant (ap (place_of c.args.discr) (sym c.deref.ensures.value) ∙ sym c.place_of.ensures.value ∙ c.in-None.is) c.give_more.ensures).rows
 
 pub returns-in-None : goal.returns-in-None
-returns-in-None c =
-    (changed_past_rising (keyed_more c.args.key) (more_keeps c.args.key) c.args.discr c.self.inside.rising.items c.self.inside.others.entries c.give_more.new.rows.entries
-    c.self.invariant (ap (place_of c.args.discr) (sym c.deref.ensures.value) ∙ sym c.place_of.ensures.value ∙ c.in-None.is)
-    c.give_more.ensures).entries
-    ∙ ap (λ es. by_discr (given_more c.args.discr c.args.key (values_of es))) c.self.view_is
+returns-in-None c = cc ((changed_past_rising (more_keeps c.args.key) c.args.discr
+    c.self.invariant (ap (place_of c.args.discr) (sym c.deref.ensures.value) ∙ sym c.place_of.ensures.value ∙ c.in-None.is) c.give_more.ensures).entries)
 
 -- it has room for the key
 pub add_key-requires : goal.add_key-requires
-add_key-requires c =
-    ap (λ o. key_fault (keys_in o) c.args.key)
-    (ap (λ x. Some x) c.index_mut.ensures.value
-    ∙ sym (find_at c.args.discr c.in-Some.place c.self.inside.rising.items c.self.inside.others.entries c.index_mut.result.now (ap (place_of c.args.discr) (sym c.deref.ensures.value) ∙ sym c.place_of.ensures.value ∙ c.in-Some.is))
-    ∙ ap (λ es. find (λ (x : SessionConfig). c.args.discr == discr_of x) (values_of es)) c.self.view_is)
-    ∙ c.requires
+add_key-requires c = ap (λ o. key_fault (keys_in o) c.args.key) (ap (λ x. Some x) c.index_mut.ensures.value
+    ∙ sym (find_at c.args.discr c.self.inside.rising.items c.self.inside.others.entries c.index_mut.result.now (ap (place_of c.args.discr) (sym c.deref.ensures.value) ∙ sym c.place_of.ensures.value ∙ c.in-Some.is))
+    ∙ ap (λ es. find (λ (x : SessionConfig). c.args.discr == discr_of x) (values_of es)) c.self.view_is) ∙ c.requires
 
 pub give_more-requires-clause-room : goal.give_more-requires-clause-room
-give_more-requires-clause-room c =
-    ap (λ o. key_fault (keys_in o) c.args.key)
-    (sym (find_past c.args.discr c.self.inside.rising.items c.self.inside.others.entries (ap (place_of c.args.discr) (sym c.deref.ensures.value) ∙ sym c.place_of.ensures.value ∙ c.in-None.is))
-    ∙ ap (λ es. find (λ (x : SessionConfig). c.args.discr == discr_of x) (values_of es)) c.self.view_is)
-    ∙ c.requires
+give_more-requires-clause-room c = cc (find_past c.args.discr c.self.inside.rising.items c.self.inside.others.entries (cc (c.in-None.is)))

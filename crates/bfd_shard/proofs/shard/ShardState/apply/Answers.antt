@@ -1,5 +1,5 @@
 -- The event leaves a shard.
-use Rattle.bfd_shard.proofs.Common.{◌≡◌, ◌≤◌, ◌≢◌, ℕ, List, ◌++◌, ◌∷◌, [], length, map, sym, ◌∙◌, ap, subst, arith, rules, Option, AllByRecursion, greatest_tick, HeldIds, room_of, due, Running, configs_of, IsSound, Entry, later, moved, Shard, shard_of, IsExact, IsOver, IsShard, IsTimed, CanHappen}
+use Rattle.bfd_shard.proofs.Common.{◌≡◌, ◌≤◌, ◌≢◌, ℕ, List, ◌++◌, ◌∷◌, [], length, map, sym, ◌∙◌, ap, subst, arith, rules, Option, AllByRecursion, greatest_tick, HeldIds, room_of, due, Running, configs_of, IsSound, Entry, later, moved, Shard, shard_of, IsOver, IsShard, IsTimed, CanHappen}
 use Rattle.bfd_shard.proofs.Expiring.{exactly}
 use Rattle.bfd_shard.proofs.Moves.{may_come}
 use Rattle.bfd_shard.proofs.OnTime.{IsLaw, on_time}
@@ -12,21 +12,15 @@ grown : (law : IsLaw) (last last2 limit room room2 : ℕ) (entry : Entry) (ss ss
     → ss2 ≡ moved last entry.event ss → AllByRecursion IsSound ss2 → ds2 ≡ map due ss2 → j2 ≡ j ++ entry ∷ [] → room_of ids2 ≡ room_of ids
     → IsOver (later last entry.event) entry.event ss2 → IsTimed (shard_of ss2 last2 j2 limit room2) ds2 ids2
 grown law last last2 limit room room2 entry ss ss2 j j2 ds ds2 ids ids2 s at early other can m sound timed ej fit over =
-    let full = s.shown.full in
-    let fits = s.ids_fit in
     record {
-      shown = subst (λ (t : ℕ). IsShard (shard_of ss2 t j2 limit room2)) (sym at)
-          (subst (λ (xs : List Entry). IsShard (shard_of ss2 (later last entry.event) xs limit room2)) (sym ej)
-          (shard_more last limit room room2 entry ss ss2 j s.shown (omega arith) (omega (arith, at, early)) can m sound
-          (on_time law (shard_of ss last j limit room) entry.event ss2 s.shown m over)));
+      shown = rw (← sym at) (rw ej (shard_more room2 entry s.shown (omega arith) (omega (arith, at, early)) can m sound
+          (on_time law entry.event s.shown m over)));
       timed = timed;
       ids_fit = omega (arith, ap length m, moved_long last entry.event ss);
     }
 
 pub act-last-requires-clause-may_come : goal.act-last-requires-clause-may_come
-act-last-requires-clause-may_come g c =
-    may_come c.self.inside.sessions.items c.args.event
-    (subst (λ (ss : List Running). CanHappen (configs_of ss) c.args.event) (sym (ap (λ (s : Shard). s.sessions) c.self.view_is)) c.requires.can)
+act-last-requires-clause-may_come g c = may_come c.self.inside.sessions.items c.args.event (rw (ap (λ (s : Shard). s.sessions) c.self.view_is) c.requires.can)
 
 pub invariant_of-self : goal.invariant_of-self
 invariant_of-self g c =
@@ -34,20 +28,15 @@ invariant_of-self g c =
     let inside = c.self.inside in
     grown c.expiry_laws.ensures inside.last c.act-last.result.0 inside.limit _ _ (record { caller = c.args.caller; event = c.args.event }) inside.sessions.items c.act-last.new.sessions.items
     inside.journal.items c.push_reserved.new.self.items (g.W.Timers.dues inside.timers) (g.W.Timers.dues c.act-last.new.timers) inside.ids c.act-last.new.ids
-    c.self.invariant a.last a.early (search rules)
-    (subst (λ (ss : List Running). CanHappen (configs_of ss) c.args.event) (sym (ap (λ (s : Shard). s.sessions) c.self.view_is)) c.requires.can)
+    c.self.invariant a.last a.early (search rules) (rw (ap (λ (s : Shard). s.sessions) c.self.view_is) c.requires.can)
     a.sessions a.sound a.dues c.push_reserved.ensures.items a.ids a.over
 
 pub returns-clause-configs : goal.returns-clause-configs
-returns-clause-configs g c =
-    ap configs_of c.act-last.ensures.sessions
-    ∙ (moved_configs c.self.inside.last c.args.event c.self.inside.sessions.items
-    ∙ ap (λ (s : Shard). configs_of s.sessions) c.self.view_is)
+returns-clause-configs g c = ap configs_of c.act-last.ensures.sessions ∙ (moved_configs c.self.inside.last c.args.event c.self.inside.sessions.items
+    ∙ ap (λ s. configs_of s.sessions) c.self.view_is)
 
 pub returns-clause-exact : goal.returns-clause-exact
-returns-clause-exact g c =
-    subst (λ (s : Shard). IsExact s c.args.event c.act-last.new.sessions.items) c.self.view_is
-    (exactly c.expiry_laws.ensures _ c.args.event c.act-last.new.sessions.items c.self.invariant.shown c.act-last.ensures.sessions)
+returns-clause-exact g c = rw (← c.self.view_is) (exactly c.expiry_laws.ensures c.args.event c.self.invariant.shown c.act-last.ensures.sessions)
 
 pub returns-clause-kept : goal.returns-clause-kept
 returns-clause-kept g c = (invariant_of-self g c).shown

@@ -6,20 +6,20 @@ use Rattle.bfd_turn.proofs.lock.TurnLock.join.Goals as goal
 
 pub join_seat-requires : goal.join_seat-requires
 join_seat-requires g c =
-    let seat = c.into_seat-seat.result in let other = c.into_seat-other.result.0 in let views = c.first.inside.badge.views in let e = sym (ap (λ b. b.views) c.replace.ensures.value) ∙ c.into_seat-seat.ensures.2 in (
+    let seat = c.into_seat-seat.result in let other = c.into_seat-other.result.0 in let e = sym (ap (λ b. b.views) c.replace.ensures.value) ∙ c.into_seat-seat.ensures.2 in (
       search rules,
       search rules,
       search rules,
       search rules,
-      joins_at g.V.Recorded.noted g.V.Recorded.caller g.V.Recorded.base seat.id seat.me.0 other.id other.me.0 c.args.first.now.1 c.args.other.1 (sits views seat.me.0 c.first.inside.number c.first.invariant e)
-          (sits_known views seat.me.0 c.args.first.now.1 e (ap (λ p. p.1) c.first.view_is)) c.requires.first.1 c.into_seat-other.ensures.idle.0 (sym (ap (λ p. p.1) c.into_seat-other.ensures.seat.0)) c.requires.other.1,
+      joins_at g.V.Recorded.noted g.V.Recorded.caller g.V.Recorded.base seat.id seat.me.0 other.id other.me.0 (sits c.first.invariant e)
+          (sits_known e (ap (λ p. p.1) c.first.view_is)) c.requires.first.1 c.into_seat-other.ensures.idle.0 (sym (ap (λ p. p.1) c.into_seat-other.ensures.seat.0)) c.requires.other.1,
     )
 
 pub load-requires : goal.load-requires
 load-requires g c =
-    let seat = c.join_seat.new.seat in let views = c.first.inside.badge.views in let e = sym (ap (λ b. b.views) c.replace.ensures.value) ∙ c.into_seat-seat.ensures.2 in (
+    let seat = c.join_seat.new.seat in let e = sym (ap (λ b. b.views) c.replace.ensures.value) ∙ c.into_seat-seat.ensures.2 in (
       search rules,
       search rules,
       looks g.V.Recorded.noted g.V.Recorded.caller g.V.Recorded.base c.self.inside.table.shared.table_id.slots seat.id seat.me.0 seat.me.1
-          (ap (λ m. m.0.role) c.join_seat.ensures.2 ∙ sits views c.into_seat-seat.result.me.0 c.first.inside.number c.first.invariant e),
+          (ap (λ m. m.0.role) c.join_seat.ensures.2 ∙ sits c.first.invariant e),
     )

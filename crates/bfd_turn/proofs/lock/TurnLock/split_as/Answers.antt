@@ -6,11 +6,11 @@ use Rattle.bfd_turn.proofs.lock.TurnLock.split_as.Goals as goal
 
 pub split_seat-other-requires : goal.split_seat-other-requires
 split_seat-other-requires g c =
-    let seat = c.into_seat-seat.result in let views = c.first.inside.badge.views in let e = sym (ap (λ b. b.views) c.replace.ensures.value) ∙ c.into_seat-seat.ensures.2 in (
+    let seat = c.into_seat-seat.result in let e = sym (ap (λ b. b.views) c.replace.ensures.value) ∙ c.into_seat-seat.ensures.2 in (
       search rules,
       search rules,
-      splits_at g.V.Recorded.noted g.V.Recorded.caller g.V.Recorded.base seat.id seat.me.0 g.J.Numbered.number c.args.number c.args.first.now.1 (sits views seat.me.0 c.first.inside.number c.first.invariant e)
-          (sits_known views seat.me.0 c.args.first.now.1 e (ap (λ p. p.1) c.first.view_is)) c.requires.first.1 c.requires.picked c.requires.number.0 c.requires.number.1,
+      splits_at g.V.Recorded.noted g.V.Recorded.caller g.V.Recorded.base seat.id seat.me.0 (sits c.first.invariant e)
+          (sits_known e (ap (λ p. p.1) c.first.view_is)) c.requires.first.1 c.requires.picked c.requires.number.0 c.requires.number.1,
     )
 
 pub load-requires : goal.load-requires

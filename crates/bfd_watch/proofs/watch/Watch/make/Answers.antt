@@ -3,6 +3,4 @@ use Rattle.bfd_watch.proofs.Telling.{made}
 use Rattle.bfd_watch.proofs.watch.Watch.make.Goals as goal
 
 pub returns : goal.returns
-returns g c =
-    made c.args.configs.items c.in_ok-shard.shard.sessions c.in_ok-shard.shard.journal c.args.limit c.in_ok-shard.ensures.sessions
-    c.in_ok-shard.ensures.journal
+returns g c = made c.args.configs.items c.args.limit c.in_ok-shard.ensures.sessions c.in_ok-shard.ensures.journal

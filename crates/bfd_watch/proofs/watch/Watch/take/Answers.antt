@@ -7,6 +7,4 @@ pub returns-clause-told : goal.returns-clause-told
 returns-clause-told g c = search rules
 
 pub returns-clause-whole : goal.returns-clause-whole
-returns-clause-whole g c =
-    whole_more c.args.self.now.configs _ c.args.self.now.entries c.follow.new.shard.journal c.args.entry c.args.out.now.items c.append_changes.new.out.items
-    (search rules) (search rules) (returns-clause-told g c)
+returns-clause-whole g c = whole_more c.args.self.now.entries c.follow.new.shard.journal c.args.entry (search rules) (search rules) (returns-clause-told g c)

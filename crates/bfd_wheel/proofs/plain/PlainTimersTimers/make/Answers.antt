@@ -2,4 +2,4 @@ use Rattle.bfd_wheel.proofs.Views.{none_yet}
 use Rattle.bfd_wheel.proofs.plain.PlainTimersTimers.make.Goals as goal
 
 pub returns : goal.returns
-returns c = none_yet c.args.count c.in_ok-dues.dues.items c.in_ok-dues.ensures
+returns c = none_yet c.args.count _ c.in_ok-dues.ensures
