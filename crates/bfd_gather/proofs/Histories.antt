@@ -29,9 +29,6 @@ left_runs es cs =
 
 -- a shard's sessions after its history
 
-abbrev pub goes_on : Bool → ℕ → ℕ → ℕ → Event → List ShardEvent → List Running → List Running
-goes_on b last p m event rest ss = left_by last (cons_option (if b then Some (Own p m event) else None) rest) ss
-
 own_left : {n r : ℕ} (last k m : ℕ) (event : Event) (es : List ShardEvent) (ss : List Running) → 0 < n → r < n → (k % n ≡ r) ⊎ (k % n ≢ r)
     → share n r (left_by last es (moved last (Own k m event) ss)) ≡ left_by last (history_of n r es) (share n r (moved last (Own k m event) ss))
     → share n r (left_by last (Own k m event ∷ es) ss) ≡ left_by last (history_of n r (Own k m event ∷ es)) (share n r ss)

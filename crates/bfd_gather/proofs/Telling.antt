@@ -77,10 +77,6 @@ items_none {n} number items k (s ∷ ss) some =
 
 -- what a shard tells
 
--- what a shard of these sessions tells, where its first event is its own one or none
-abbrev pub begins : Bool → ℕ → ℕ → ℕ → ℕ → Event → List Numbered → List Running → List Piece
-begins b number last p m event rest ss = shard_tells last (cons_option (numbered number (if b then Some (Own p m event) else None)) rest) ss
-
 own_each : {n : ℕ} (number last k m : ℕ) (event : Event) (hs : List Happening) (ss : List Running) → 0 < n
     → shard_tells last (queue n (k % n) (number + 1) hs) (share n (k % n) (moved last (Own k m event) ss)) ≡ pieces_in (k % n) (deal_all n (number + 1) last hs (moved last (Own k m event) ss))
     → shard_tells last (queue n (k % n) number (Among (Own k m event) ∷ hs)) (share n (k % n) ss) ≡ pieces_in (k % n) (deal_all n number last (Among (Own k m event) ∷ hs) ss)

@@ -84,7 +84,7 @@ Names discr os = AllByRecursion (λ o. named o ≡ discr) os
 
 session_later : (number q : ℕ) {discr own : ℕ} (os : List Out) → discr < own → Names own os → AllByRecursion (IsLaterItem number discr) (map (λ o. deal q (item_piece number o)) os)
 session_later number q [] h n = tt
-session_later number q (o ∷ os) h n = ((refl, (omega (arith, h, n.0))), session_later number q os h n.1)
+session_later number q (o ∷ os) h n = ((refl, omega (arith, h, n.0)), session_later number q os h n.1)
 
 same_part : (number q : ℕ) (o : Out) (os : List Out) → AllByRecursion (IsBefore (deal q (item_piece number o))) (map (λ x. deal q (item_piece number x)) os)
 same_part number q o [] = tt

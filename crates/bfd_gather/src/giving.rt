@@ -13,7 +13,7 @@ use std::alloc::AllocError;
 
 /// Takes the first piece off a part, appends its text, and adds to these counts the packets that it tells were sent and were
 /// dropped. The one refusal is want of memory, as which 2^64 packets count.
-fn counted(
+fn take_counted(
     part: &mut Part,
     text: &mut Vec<u8>,
     counts: (u64, u64),
@@ -53,7 +53,7 @@ fn give<K: Sink>(
 {
     let mut counts = (0u64, 0u64);
     while let Some(s) = least(parts) {
-        let Ok(sums) = counted(&mut parts[s], text, counts) else {
+        let Ok(sums) = take_counted(&mut parts[s], text, counts) else {
             return Err(Fault::Memory);
         };
         counts = sums;

@@ -4,12 +4,12 @@
 //! what its events gave in a [`Part`], as text in pieces: all lines of an own event, or one line for each output of a tick,
 //! each piece with the number of its event and, of a tick, the discriminator that it names. [`report`] then takes the least
 //! piece of all parts, by event and then by discriminator, until none is left. A part more has what was told of events of no
-//! session. [`report_to`] writes the same report to a sink in pieces of 64 KiB as it is gathered, and [`write_all`] writes any text.
+//! session. [`report_to`] gives the same report to a sink as it is gathered, and [`write_all`] writes any text.
 //!
 //! It stands on `bfd_shard` for what a shard's events give, on `bfd_script` for the lines and on `bfd_edge` for the sink, and knows no
 //! lock and no thread. It promises that of sessions that are dealt out each shard's are what the whole table's would be; that the report
-//! of the shards' parts is the report of the whole table, byte for byte, for every number of shards; and that a sink which doesn't fail
-//! takes that report, and any sink a front of it.
+//! of the shards' parts is the report of the whole table, byte for byte, for every number of shards; and that a sink takes that
+//! report where it doesn't fail and memory isn't wanting, and a front of it in any case.
 #![tactic(auto)]
 
 mod counts;

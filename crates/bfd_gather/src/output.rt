@@ -1,5 +1,5 @@
 //! Text to a sink.
-ghost use Rattle.std.specs.Prelude.{◌≡◌, ◌≤◌, OnOk, IsErrOf};
+ghost use Rattle.std.specs.Prelude.{◌≡◌, ◌≤◌, OnErr, OnOk, IsErrOf};
 ghost use Rattle.std.specs.Io.KnownBytes.{Appends};
 ghost use Rattle.bfd_edge.specs.Faults.{HasCause, Rose};
 ghost use Rattle.bfd_gather.specs.Written.{TookFront, TookUpTo};
@@ -30,10 +30,12 @@ pub fn write_all<K: Sink>(sink: &mut K, text: &[u8]) -> Result<(), Fault>
     Ok(())
 }
 
-/// Writes the text where it is long, and begins it anew. It is refused as `write_all` is; the sink took a front of the text then.
+/// Writes the text where it is long, and begins it anew. It is refused as `write_all` is; the sink took a front of the text then, and the
+/// text is as it was.
 pub fn give_on<K: Sink>(text: &mut Vec<u8>, sink: &mut K) -> Result<(), Fault>
     ensures text { OnOk result (TookUpTo (K.taken sink.old) (K.taken sink.new) text.old.items text.new.items) }
     ensures front { TookFront (K.taken sink.old) (K.taken sink.new) text.old.items }
+    ensures same { OnErr result (text.new.items ≡ text.old.items) }
     ensures cause { HasCause (K.faults sink.old) (K.faults sink.new) result }
     ensures calm { OnOk result (K.faults sink.new ≡ K.faults sink.old) }
 {

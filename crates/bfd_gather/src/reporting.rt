@@ -17,7 +17,7 @@ use std::alloc::{AllocError, Global};
 
 /// The last line of a report: how many events there were, and how many packets were sent and were dropped. The one refusal is
 /// want of memory.
-pub fn done_text(alloc: Global, events: u64, txs: u64, drops: u64) -> Result<String, AllocError>
+fn done_text(alloc: Global, events: u64, txs: u64, drops: u64) -> Result<String, AllocError>
     ensures { IfOk result (λ text. string_bytes text ≡ done_line events txs drops) }
 {
     format!(in alloc; "done {events} {txs} {drops}\n")

@@ -57,5 +57,5 @@ at_or k h = grind (arith, h)
 pub bound_more : {f : ℕ → ℕ} {k m n : ℕ} → ((s : ℕ) → s < k → f s ≤ m) → f k ≤ n → m ≤ n → (s : ℕ) → s < k + 1 → f s ≤ n
 bound_more {k} all last up s h = elim (at_or k h) [
   | inl e ↦ rw e last
-  | inr below ↦ (omega (arith, all s below, up))
+  | inr below ↦ omega (arith, all s below, up)
 ]

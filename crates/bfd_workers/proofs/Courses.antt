@@ -69,12 +69,12 @@ over_more engine queues queue shard k l m parts parts2 part at is pushed o of th
       number = cc;
       done = λ r h. dite (ℕ_discrete r shard)
           (λ same. rw same (rw is (rw (ap (λ ps. slice_index_or ps shard []) pushed ∙ (ap (λ i. slice_index_or (parts ++ part ∷ []) i []) at ∙ get_or-append_seam parts part [] [])) done)))
-          (λ other. (let front = last_or_front r (length parts) (omega (arith, h, long)) (λ e. other (e ∙ sym at)) in
-          rw (ap (λ ps. slice_index_or ps r []) pushed ∙ get_or_append_left parts (part ∷ []) [] r front) (done_as l m moved.number (moved.seen r other) (moved.taken r other) (o.done r front))));
+          (λ other. let front = last_or_front r (length parts) (omega (arith, h, long)) (λ e. other (e ∙ sym at)) in
+          rw (ap (λ ps. slice_index_or ps r []) pushed ∙ get_or_append_left parts (part ∷ []) [] r front) (done_as l m moved.number (moved.seen r other) (moved.taken r other) (o.done r front)));
       used = λ r h. dite (ℕ_discrete r shard) (λ same. rw same (rw is used))
           (λ other. used_as m (moved.seen r other) (moved.taken r other) (o.used r (last_or_front r (length parts) (omega (arith, h, long)) (λ e. other (e ∙ sym at)))));
-      idle = λ r h inside. (let other : r ≢ shard = λ e. absurd (omega (arith, e, at, h, long)) in
-          idle_as m (moved.seen r other) (moved.taken r other) (o.idle r (omega (arith, h, long)) inside));
+      idle = λ r h inside. let other : r ≢ shard = λ e. absurd (omega (arith, e, at, h, long)) in
+          idle_as m (moved.seen r other) (moved.taken r other) (o.idle r (omega (arith, h, long)) inside);
     }
 
 idle_used : {l : Knows} {r : ℕ} (queue : List Numbered) → IsIdle l r → HasUsed l r queue
@@ -116,7 +116,7 @@ next_here f (x ∷ xs) ys zs q e = cc (next_here f xs ys (xs ++ q ∷ ys) q refl
 -- the next of the queues that are left
 pub next_queue : {V : Type 0} (f : V → List Numbered) (xs ys zs : List V) (q : V) (n : ℕ) → xs ++ q ∷ ys ≡ zs → n ≡ length xs → (n < length zs) × (slice_index_or (map f zs) n [] ≡ f q)
 next_queue f xs ys zs q n e at = (
-  (omega (arith, ap length e, length-append xs (q ∷ ys), at)),
+  omega (arith, ap length e, length-append xs (q ∷ ys), at),
   ap (λ i. slice_index_or (map f zs) i []) at ∙ next_here f xs ys zs q e,
 )
 

@@ -40,7 +40,7 @@ joining {queues} {workers} {i} few d = record {
   of = d.of;
   there = d.there;
   number = (λ z. absurd (omega (arith, d.number, z)));
-  few = λ s h. (omega (arith, (d.used s h).few, short (s % workers == i) (slice_index_or queues s []), few s));
+  few = λ s h. omega (arith, (d.used s h).few, short (s % workers == i) (slice_index_or queues s []), few s);
 }
 
 -- the numbers of the joined passes are those that were made
@@ -173,8 +173,8 @@ told_at engine queues workers k l works shards i v c e (Ok parts) is =
     let d = c.atend.each i v e in
     let f = subst (HasEnded engine d.mine v.pass) is d.ended in (
       f.long,
-      λ s h same. (
-          cc ((f.done s h).told_is (sole_seen c.atend h (closed_at _ c.closed h).1 e (sym same)), own_at s d.own (omega (arith, h, c.queues_long)) same)),
+      λ s h same.
+          cc ((f.done s h).told_is (sole_seen c.atend h (closed_at _ c.closed h).1 e (sym same)), own_at s d.own (omega (arith, h, c.queues_long)) same),
     )
 
 -- no worker stopped but for want of memory
@@ -183,8 +183,8 @@ told_at engine queues workers k l works shards i v c e (Ok parts) is =
 never_full : {engine : Shards} {queues : List (List Numbered)} {workers : ℕ} {k l : Knows} {works : List Work} {shards : List Shard} (i : ℕ) {s : ℕ} {v : Work} → AllClosed engine queues workers k l works shards
     → slice_get works i ≡ Some v → s < length engine.locks → length (seen_at v.pass s) ≡ engine.limit
     → (IsSole v.pass.0 (seen_at v.pass s) → length (seen_at v.pass s) < length (own_queue workers i s (slice_index_or queues s []))) → ⊥
-never_full {queues} {workers} {shards} i {s} {v} c e h full less = dite (ℕ_discrete (s % workers) i) (λ same. (absurd (omega (arith, less (sole_seen c.atend h (closed_at _ c.closed h).1 e (sym same)), short (s % workers == i) (slice_index_or queues s []), c.short_queues s, full))))
-    (λ other. (let none = own_away workers i s (slice_index_or queues s []) other in absurd (omega (arith, less (subst (IsSole v.pass.0) (sym (((c.atend.each i v e).used s h).none none).seen) tt), ap length none))))
+never_full {queues} {workers} {shards} i {s} {v} c e h full less = dite (ℕ_discrete (s % workers) i) (λ same. absurd (omega (arith, less (sole_seen c.atend h (closed_at _ c.closed h).1 e (sym same)), short (s % workers == i) (slice_index_or queues s []), c.short_queues s, full)))
+    (λ other. let none = own_away workers i s (slice_index_or queues s []) other in absurd (omega (arith, less (subst (IsSole v.pass.0) (sym (((c.atend.each i v e).used s h).none none).seen) tt), ap length none)))
 
 -- nor the last word
 never_spent : {engine : Shards} {queues : List (List Numbered)} {workers : ℕ} {k l : Knows} {works : List Work} {shards : List Shard} (i : ℕ) {s : ℕ} {v : Work} → AllClosed engine queues workers k l works shards
@@ -287,7 +287,7 @@ pub told_all : {engine : Shards} {queues : List (List Numbered)} {workers : ℕ}
     → map (λ w. w.told) works ≡ map Ok all → AreTold engine queues workers all
 told_all {engine} {queues} {workers} {k} {l} {works} {shards} all c all_ok =
     let many : length all ≡ workers = (let b = length-map works (λ w. w.told) in
-    let d = length-map all (λ x. (let r : Result (List (List Piece)) EngineFault = Ok x in r)) in omega (arith, ap length all_ok, b, d, c.atend.long)) in
+    let d = length-map all (λ x. let r : Result (List (List Piece)) EngineFault = Ok x in r) in omega (arith, ap length all_ok, b, d, c.atend.long)) in
     let worker : (i : ℕ) → i < workers → HasToldShards engine queues workers i (Ok (get_or all i [])) = λ i h.
     (let v = work_there i works (omega (arith, h, c.atend.long)) in
     told_at _ _ _ k l _ _ i v.0 c v.1 _ (all_told i v.0 works all all_ok v.1)) in

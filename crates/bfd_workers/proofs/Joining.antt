@@ -7,10 +7,10 @@ module _ {A : Type 0} where
   -- what is true of each, with one more
   each_more : (P : ℕ → A → Type 0) (xs ys : List A) {y : A} → ys ≡ xs ++ y ∷ [] → ((i : ℕ) (x : A) → slice_get xs i ≡ Some x → P i x) → P (length xs) y
       → (i : ℕ) (x : A) → slice_get ys i ≡ Some x → P i x
-  each_more P xs ys {y} is each last i x e = dite (ℕ_discrete i (length xs)) (λ same. (
-      rw same (rw (← (same_Some y x (cc (last_here xs y (length xs) refl)))) last)))
-      (λ other. (let front : i < length xs = omega (arith, slice_get_within (xs ++ y ∷ []) i x cc, length-append xs (y ∷ []), other) in
-      each i x (cc (front_here xs y i front))))
+  each_more P xs ys {y} is each last i x e = dite (ℕ_discrete i (length xs)) (λ same.
+      rw same (rw (← (same_Some y x (cc (last_here xs y (length xs) refl)))) last))
+      (λ other. let front : i < length xs = omega (arith, slice_get_within (xs ++ y ∷ []) i x cc, length-append xs (y ∷ []), other) in
+      each i x (cc (front_here xs y i front)))
 
   none_here : (i : ℕ) {x : A} → slice_get [] i ≡ Some x → ⊥
   none_here zero e = cc
@@ -41,12 +41,12 @@ jobs_more engine queues workers at l m works works2 w j is of there zero_is used
   number = zero_is;
   used = cc;
   long = cc (length-append works (w ∷ []));
-  fresh = λ s h. (let p = parted s h in let f = j.fresh s h in record {
+  fresh = λ s h. let p = parted s h in let f = j.fresh s h in record {
     seen = cc;
     taken = cc;
     kept = cc;
     made = cc (map-append number_of works (w ∷ []));
-  });
+  };
   each = each_more _ works _ is j.each (record {
     of = of_new;
     there = there_new;
@@ -84,7 +84,7 @@ one_joined {most} {k} {l} {m} {works} w {s} j t few = record {
       ∙ ap (λ xs. kept_at k s ++ xs) (sym (map-append (λ x. (x.pass.0, mine x.pass s)) works (w ∷ [])))));
   made = cc;
   begins = each_more _ works (works ++ w ∷ []) refl (λ i x e. begins_through (seen_at x.pass s) _ _ (j.begins i x e) t.first) t.other;
-  words = each_more _ works (works ++ w ∷ []) refl (λ i x e. (omega (arith, j.words i x e, t.word))) t.word_other;
+  words = each_more _ works (works ++ w ∷ []) refl (λ i x e. omega (arith, j.words i x e, t.word)) t.word_other;
   few = (let q = ap (λ x. most * x) (length-append works (w ∷ [])) in
       omega (arith, j.few, t.taken, few, times_more most (length works), q));
 }

@@ -32,9 +32,8 @@ order_more {workers} {shard} after {parts} {part} o is many wide others pushed =
   long = omega (arith, ap length pushed, length-append parts (part ∷ []), o.long);
   many = cc;
   wide = λ i. wide i ∙ o.wide i;
-  each = λ s h. dite (ℕ_discrete s shard) (λ same. rw same (cc (get_or-append_seam parts part [] [], o.later (shard % workers) shard (omega arith))))
-      (λ other. (
-      cc (get_or_append_left parts (part ∷ []) [] s (omega (arith, o.long, h, other)), o.each s (omega (arith, h, other)))));
+  each = λ s h. dite (ℕ_discrete s shard) (λ same. rw same (cc (get_or-append_seam parts part [] [], o.later (shard % workers) shard (omega arith)))) (λ other.
+      cc (get_or_append_left parts (part ∷ []) [] s (omega (arith, o.long, h, other)), o.each s (omega (arith, h, other))));
   later = λ i r h. others i r (λ e. absurd (omega (arith, h, e))) ∙ o.later i r (omega (arith, h));
 }
 

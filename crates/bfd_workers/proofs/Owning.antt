@@ -18,8 +18,8 @@ pub own_more : (workers at shard : ℕ) (mine : Bool) (all left after own own2 :
 own_more workers at shard mine all left after own own2 taken is took pushed long others kept o = record {
   long = omega (arith, ap length pushed, length-append own (taken ∷ []), o.long);
   same = cc;
-  each = λ s h. dite (ℕ_discrete s shard) (λ same. rw same (cc (get_or-append_seam own taken [] [], o.later shard (omega arith)))) (λ other. (
-      cc (get_or_append_left own (taken ∷ []) [] s (omega (arith, o.long, h, other)), o.each s (omega (arith, h, other)))));
+  each = λ s h. dite (ℕ_discrete s shard) (λ same. rw same (cc (get_or-append_seam own taken [] [], o.later shard (omega arith)))) (λ other.
+      cc (get_or_append_left own (taken ∷ []) [] s (omega (arith, o.long, h, other)), o.each s (omega (arith, h, other))));
   later = λ s h. others s (λ e. absurd (omega (arith, h, e))) ∙ o.later s (omega (arith, h));
   others = λ s away. dite (ℕ_discrete s shard)
       (λ same. cc (kept (is ∙ ne_eqb (shard % workers) at (λ e. away (ap (λ i. i % workers) same ∙ e))), o.others s away))

@@ -29,7 +29,7 @@ rest_none {n} x xs h none = let t : calls by n (x ∷ xs) ≡ calls by n xs = rw
 pub sole_of : (w : ℕ) (xs : List Entry) → ((n : ℕ) → n ≢ w → calls by n xs ≡ []) → IsSole w xs
 sole_of w [] none = tt
 sole_of w (x ∷ xs) none = dite (ℕ_discrete (by x) w) (λ same. (same, sole_of w xs (λ n other. rest_none x xs (λ z. other (cc)) (none n other))))
-    (λ other. (let e = sym (calls_first (by x) x xs refl) ∙ none (by x) other in absurd (cc)))
+    (λ other. let e = sym (calls_first (by x) x xs refl) ∙ none (by x) other in absurd (cc))
 
 -- nothing came between
 between_none : (w : ℕ) (seen between more : List Entry) → calls by w between ≡ [] → IsSole w ((seen ++ between) ++ more) → seen ++ between ≡ seen
@@ -69,8 +69,8 @@ stopped_at Memory k l r number d less = tt
 stopped_at (Spent at word) k l r number d less = r
 stopped_at (Full at n) {shard} k l {done} r number d less = (
   r.0,
-  λ s. (let sole : IsSole k.0 (seen_at k shard ++ r.1.0) = rw (← number) (subst (IsSole l.0) r.1.2 s) in
+  λ s. let sole : IsSole k.0 (seen_at k shard ++ r.1.0) = rw (← number) (subst (IsSole l.0) r.1.2 s) in
       let is : seen_at l shard ≡ entries_by k.0 (events_in done) =
-      cc ((nobody k.0 r.1.0 (back_sole k.0 (seen_at k shard) r.1.0 sole) r.1.1), append-nil (seen_at k shard), d.seen_is (front_sole k.0 (seen_at k shard) r.1.0 sole)) in
-      omega (arith, ap length is, length-map (events_in done) (entry_of k.0), length-map done (λ x. x.event), less)),
+      cc (nobody k.0 r.1.0 (back_sole k.0 (seen_at k shard) r.1.0 sole) r.1.1, append-nil (seen_at k shard), d.seen_is (front_sole k.0 (seen_at k shard) r.1.0 sole)) in
+      omega (arith, ap length is, length-map (events_in done) (entry_of k.0), length-map done (λ x. x.event), less),
 )

@@ -46,8 +46,8 @@ past (x ∷ xs) (suc s) h = past xs s (omega (arith, h))
 
 pub short_queues : {shards : ℕ} {hs : List Happening} {queues : List (List Numbered)} (s : ℕ) → AreQueues shards hs queues → length (slice_index_or queues s []) ≤ length hs
 short_queues {shards} {hs} {queues} s are = elim (cases_lt s shards) [
-  | inl inside ↦ (omega (arith, ap length (are.each s inside), short_queue shards s 1 hs))
-  | inr beyond ↦ (omega (arith, ap length (past queues s (omega (arith, are.long, beyond)))))
+  | inl inside ↦ omega (arith, ap length (are.each s inside), short_queue shards s 1 hs)
+  | inr beyond ↦ omega (arith, ap length (past queues s (omega (arith, are.long, beyond))))
 ]
 
 pub met_queues : (engine : Shards) {shards : ℕ} {hs : List Happening} {queues : List (List Numbered)} → shards ≡ length engine.locks → 0 < shards → AreQueues shards hs queues → AllByRecursion (IsMet engine.configs) hs
@@ -73,10 +73,10 @@ pub have_replayed : {engine : Shards} (script : Lists) {shards workers : ℕ} {q
     → AreQueues shards (happenings script.configs script.pool script.events) queues → AreStates engine queues workers states → HaveReplayed script shards workers states
 have_replayed script {shards} {workers} {states} locks is are all = record {
   long = cc;
-  each = λ s state e. (let one = all.each s state e in record {
+  each = λ s state e. let one = all.each s state e in record {
     configs = cc;
     journal = cc (are.each s (omega (arith, slice_get_within states s state e, all.long, locks)), queue_events shards s 1 (happenings script.configs script.pool script.events), add_comm (s % workers) 1);
-  });
+  };
 }
 
 -- how many sessions are Up
@@ -88,7 +88,7 @@ ups_are {script} (suc n) {workers} {states} d some have kept is = cc (
       (let inside : k < length states = omega (arith, h, have.long) in
       let state = get_or states k d in
       let one = have.each k state (slice_get-get_or states k d inside) in
-      cc (counted state.sessions, ((kept k d inside).whole), events_entries (1 + k % workers) (history_of (suc n) k (events_of_table script)), runs_share _ k (events_of_table script) script.configs h))),
+      cc (counted state.sessions, (kept k d inside).whole, events_entries (1 + k % workers) (history_of (suc n) k (events_of_table script)), runs_share _ k (events_of_table script) script.configs h))),
   ups_shared n (runs (events_of_table script) script.configs),
   left_is script,
 )

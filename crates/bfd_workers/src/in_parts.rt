@@ -41,6 +41,7 @@ impl ReportInParts {
         ensures never { result ≡ false }
         ensures some { self.now ≢ [] }
     {
+        // A look at the field shows the prover what the report is.
         let _ = &self.script;
         false
     }

@@ -88,8 +88,8 @@ fn worked<W: Timers + Send, R: Threads + Wait + Sync, G: Gate + Sync>(
     Ok((parts, states))
 }
 
-/// A replay of a script in its parts, which keeps its shards.
-fn replay_parts<W: Timers + Send, R: Threads + Wait + Sync, G: Gate + Sync>(
+/// A replay of a script in its three lists, which keeps its shards.
+fn replay_lists<W: Timers + Send, R: Threads + Wait + Sync, G: Gate + Sync>(
     rt: &R,
     alloc: Global,
     configs: Vec<SessionConfig>,
@@ -131,7 +131,7 @@ fn replay_parts<W: Timers + Send, R: Threads + Wait + Sync, G: Gate + Sync>(
 }
 
 /// The same, which lets its shards go before the report is put together.
-fn report_parts<W: Timers + Send, R: Threads + Wait + Sync, G: Gate + Sync>(
+fn report_lists<W: Timers + Send, R: Threads + Wait + Sync, G: Gate + Sync>(
     rt: &R,
     alloc: Global,
     configs: Vec<SessionConfig>,
@@ -201,10 +201,10 @@ pub fn replay<W: Timers + Send, R: Threads + Wait + Sync, G: Gate + Sync>(
         pool,
         events,
     } = script;
-    replay_parts(rt, alloc, configs, pool, events, shards, workers, gate)
+    replay_lists(rt, alloc, configs, pool, events, shards, workers, gate)
 }
 
-/// The same replay, for whoever wants its report alone: the shards with their journals are let go before the report is put
+/// The same replay, for whoever wants its counts beside its report: the shards with their journals are let go before the report is put
 /// together, so that the two are never held at once. The one refusal is want of memory.
 #[tactic(auto, using(bfd_plan::proofs::Worlds::is_table))]
 pub fn reported<W: Timers + Send, R: Threads + Wait + Sync, G: Gate + Sync>(
@@ -229,7 +229,7 @@ pub fn reported<W: Timers + Send, R: Threads + Wait + Sync, G: Gate + Sync>(
         pool,
         events,
     } = script;
-    report_parts::<W, R, G>(rt, alloc, configs, pool, events, shards, workers, gate)
+    report_lists::<W, R, G>(rt, alloc, configs, pool, events, shards, workers, gate)
 }
 
 /// The same replay, whose report is put together only when it is written: the shards with their journals are let go here. The one refusal
@@ -258,6 +258,7 @@ pub fn reported_in_parts<W: Timers + Send, R: Threads + Wait + Sync, G: Gate + S
     let (parts, states) = worked::<W, R, G>(
         rt, alloc, configs, pool, events, shards, workers, gate,
     )?;
+    // Counted or not, each shard is let go in a thread of its own.
     let _up = up_at_last(rt, states)?;
     Ok(ReportInParts {
         script: known,

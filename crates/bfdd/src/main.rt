@@ -4,10 +4,11 @@
 //! program's name to [`run`], and ends with the status's code. It prints nothing itself. All that the program promises stands on
 //! `run`, over any source, any sink, any ports and any ticker.
 //!
-//! Layers, lowest first: `output` (a whole text to a sink, and what comes of that), `running` ([`run`] itself).
+//! Layers, lowest first: `output` (an answer's text to a sink, and what comes of that), `running` ([`run`] itself).
 //!
 //! It stands on `bfd_words` for the words, on `bfd_jobs` for what each word has to write, on `bfd_alone` for a report that is made while
-//! it is written, on `bfd_gather` for a text that is there, and on `bfd_edge` and `bfd_net` for the outside.
+//! it is written, on `bfd_workers` for one that is put together then, on `bfd_gather` for a text that is there, and on `bfd_edge` and
+//! `bfd_net` for the outside.
 #![tactic(auto)]
 
 ghost use Rattle.std.specs.Prelude.{◌≡◌, ◌⊎◌, IfErr};

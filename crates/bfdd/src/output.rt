@@ -25,7 +25,7 @@ fn broken_off(status: Status) -> Status
     }
 }
 
-/// Writes the whole text; a report that is still to be made, or to be put together, is that as it is written.
+/// Writes the whole text; a report that isn't there whole is made, or put together, as it is written.
 fn write_text<K: Sink>(alloc: Global, text: Text, sink: &mut K) -> Result<(), Fault>
     requires { HasScript text }
     ensures whole { OnOk result (Appends (K.taken sink.old) (K.taken sink.new) (held_text text)) }

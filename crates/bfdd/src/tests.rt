@@ -239,9 +239,23 @@ fn writing(text: &'static str, call: u64, status: Status, written: &'static str)
     case
 }
 
-/// A replay on two shards, whose report is put together while it is written, to a sink of which a call may fail.
+/// Two sessions, each of which sends by the one tick.
+const TWO: &str = "bfd 1
+p2p 1 single 1 10.0.0.1 10.0.0.2 active 1000000 1000000 3 0 1
+p2p 2 single 1 10.0.0.1 10.0.0.3 active 1000000 1000000 3 0 2
+run
+tick 1000
+end
+";
+
+const SENT: &str = "1 tx 1 204003180000000100000000000f4240000f424000000000
+1 tx 2 204003180000000200000000000f4240000f424000000000
+done 1 2 0
+";
+
+/// A replay on two shards with a session each, whose report is put together while it is written, to a sink of which a call may fail.
 fn on_shards(call: Option<u64>, status: Status, written: &'static str) -> Case<'static> {
-    let mut case = calm(&["replay", "--shards", "2"], TICKS, written);
+    let mut case = calm(&["replay", "--shards", "2"], TWO, written);
     case.sink_fails = call;
     case.status = status;
     case
@@ -261,8 +275,8 @@ fn runs(rt: HostRuntime) -> Result<(), Fail> {
         reading(16, Some(2), Status::ReadFault, ""),
         writing(TICKS, 1, Status::WriteFault, "done 2 0 0"),
         writing(TICKS, 0, Status::WriteFault, ""),
-        on_shards(None, Status::Done, REPORT),
-        on_shards(Some(1), Status::WriteFault, "done 2 0 0"),
+        on_shards(None, Status::Done, SENT),
+        on_shards(Some(1), Status::WriteFault, "1 tx 1 204"),
         writing(FAULTY, 9, bad, "bad 3 BadNumber\n"),
         writing(FAULTY, 1, bad, "bad 3 BadN"),
     ];

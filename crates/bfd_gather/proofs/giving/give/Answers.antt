@@ -6,7 +6,7 @@ use Rattle.bfd_gather.proofs.giving.give.Goals as goal
 use Rattle.bfd_gather.proofs.giving.give.Goals.{In-Ok}
 
 taken : (g : Over) (c : In-Ok g) {dealt : List Dealt} → IsSpread dealt c.args.parts.now.items
-    → Giving dealt (set c.loop-s.parts.items c.in-Some.s c.counted.new.part) (g.K.Sink.taken c.args.sink.now) (g.K.Sink.taken c.loop-s.sink) c.args.text.now.items c.counted.new.text.items c.in-Ok.sums.0 c.in-Ok.sums.1
+    → Giving dealt (set c.loop-s.parts.items c.in-Some.s c.take_counted.new.part) (g.K.Sink.taken c.args.sink.now) (g.K.Sink.taken c.loop-s.sink) c.args.text.now.items c.take_counted.new.text.items c.in-Ok.sums.0 c.in-Ok.sums.1
 taken g c {dealt} h =
     let least : IsLeast c.loop-s.parts.items c.in-Some.s = rw (← c.deref.ensures.value) c.in-Some.ensures.some in
     let is = c.index_mut.ensures.value ∙ get_or_default c.loop-s.parts.items c.in-Some.s c.index_mut.result.now [] least.inside in
@@ -19,8 +19,8 @@ loop-s-preserved g c = record {
   calm = c.in_ok-give_on.ensures.calm ∙ c.loop-s.invariant.calm;
 }
 
-pub returns-in_default-counted-clause-front : goal.returns-in_default-counted-clause-front
-returns-in_default-counted-clause-front g c = λ dealt h. given_front (c.loop-s.invariant.goes dealt h)
+pub returns-in_default-take_counted-clause-front : goal.returns-in_default-take_counted-clause-front
+returns-in_default-take_counted-clause-front g c = λ dealt h. given_front (c.loop-s.invariant.goes dealt h)
 
 pub returns-in_err-give_on-clause-front : goal.returns-in_err-give_on-clause-front
 returns-in_err-give_on-clause-front g c = λ dealt h. given_broken _ (taken g (goal.at.returns-in_err-give_on-clause-front g c).In-Ok h) c.give_on.ensures.front

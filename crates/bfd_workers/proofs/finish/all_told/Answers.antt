@@ -27,5 +27,5 @@ loop-told-preserved c = record {
 
 pub returns : goal.returns
 returns c =
-    let whole : c.loop-told.yielded ≡ c.args.tolds.items = cc (append-nil c.loop-told.yielded, (nil_from_length c.loop-told.told-iterator.rest.items (cc (c.in-None.ensures.steps.0)))) in
+    let whole : c.loop-told.yielded ≡ c.args.tolds.items = cc (append-nil c.loop-told.yielded, nil_from_length c.loop-told.told-iterator.rest.items (cc (c.in-None.ensures.steps.0))) in
     cc

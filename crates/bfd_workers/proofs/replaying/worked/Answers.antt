@@ -14,11 +14,11 @@ pub run_all-requires-clause-room : goal.run_all-requires-clause-room
 run_all-requires-clause-room g c = λ κs within s. room_enough c.in_ok-engine.engine s c.in_ok-engine.ensures.configs (search rules)
 
 pub run_all-requires-clause-short : goal.run_all-requires-clause-short
-run_all-requires-clause-short g c = λ κs within s. (omega (arith, c.longest-most.ensures.all s, c.in_ok-engine.ensures.limit))
+run_all-requires-clause-short g c = λ κs within s. omega (arith, c.longest-most.ensures.all s, c.in_ok-engine.ensures.limit)
 
 pub run_all-requires-clause-small : goal.run_all-requires-clause-small
 run_all-requires-clause-small g c =
-    let a = c.longest-most.ensures.least 200000 (λ s. (omega (arith, short_queues s c.in_ok-queues.ensures.queues, c.requires.few, happenings_long c.args.configs.items c.args.pool.items c.args.events.items))) in λ κs within. omega (arith, a, c.in_ok-engine.ensures.limit)
+    let a = c.longest-most.ensures.least 200000 (λ s. omega (arith, short_queues s c.in_ok-queues.ensures.queues, c.requires.few, happenings_long c.args.configs.items c.args.pool.items c.args.events.items)) in λ κs within. omega (arith, a, c.in_ok-engine.ensures.limit)
 
 pub in_order-requires-clause-some : goal.in_order-requires-clause-some
 in_order-requires-clause-some g c =

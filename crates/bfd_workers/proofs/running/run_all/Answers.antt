@@ -11,7 +11,7 @@ work_all-requires-clause-ready g c κs within = λ i d inside.
 pub join_all-requires-clause-others : goal.join_all-requires-clause-others
 join_all-requires-clause-others g c =
     let long = length-map c.args.queues.items (λ q. q.items) ∙ c.requires.long in
-    λ i w e. joining (λ s. (omega (arith, c.requires.short s, c.requires.small)))
+    λ i w e. joining (λ s. omega (arith, c.requires.short s, c.requires.small))
     (done_jobs c.work_all.new.jobs.items long c.in_ok-jobs.ensures c.work_all.ensures.long c.work_all.ensures.worked i w e)
 
 pub close-requires-clause-joined : goal.close-requires-clause-joined

@@ -1,7 +1,7 @@
 -- The report and the counts of the whole script.
 use Rattle.bfd_workers.proofs.Common.{rules, ◌≡◌, ◌∙◌, length, map, ap, sum_by, started, happenings, script_with, world_is, report, packets_sent, dropped}
 use Rattle.bfd_workers.proofs.Whole.{events_are, happenings_long, none, ups_are}
-use Rattle.bfd_workers.proofs.replaying.replay_parts.Goals as goal
+use Rattle.bfd_workers.proofs.replaying.report_lists.Goals as goal
 
 pub returns-clause-text : goal.returns-clause-text
 returns-clause-text g c =
@@ -25,4 +25,4 @@ returns-clause-drops g c =
     ∙ ap (sum_by dropped) (world_is (script_with c.args.configs.items c.args.pool.items c.args.events.items))
 
 pub returns-clause-up : goal.returns-clause-up
-returns-clause-up g c = ups_are _ none c.requires.shards.0 c.in_ok-parts.ensures.states c.up_all-up.ensures.kept (c.up_all-up.ensures.value none)
+returns-clause-up g c = ups_are _ none c.requires.shards.0 c.in_ok-parts.ensures.states c.in_ok-up.ensures.kept (c.in_ok-up.ensures.value none)
