@@ -8,7 +8,7 @@ ghost use Rattle.bfd_plan.specs.Planned.{IsMet, happenings, route_is};
 
 use bfd_demux::Demux;
 use bfd_line::Line;
-use bfd_plan::{Route, next_of, route_of, table};
+use bfd_plan::{Places, Route, next_of, route_of, table};
 use bfd_sbfd::Reflector;
 use bfd_session::SessionConfig;
 use std::alloc::{AllocError, Global};
@@ -17,23 +17,23 @@ use std::alloc::{AllocError, Global};
 fn found(
     alloc: Global,
     demux: &Demux,
-    configs: &[SessionConfig],
+    places: &Places,
     pool: &[Reflector],
     events: Vec<Line>,
 ) -> Result<Vec<Route>, AllocError>
-    requires table { demux.now ≡ table_in configs.now pool.now }
-    requires ascends { Ascends configs.now }
-    requires few { length configs.now ≤ 65536 }
+    requires table { demux.now ≡ table_in places.now pool.now }
+    requires ascends { Ascends places.now }
+    requires few { length places.now ≤ 65536 }
     requires climbs { PoolAscends pool.now }
     ensures routes { IfOk result (λ routes. map route_is routes.items
-        ≡ happenings configs.now pool.now events.items) }
-    ensures met { IfOk result (λ routes. AllByRecursion (IsMet configs.now) (map route_is routes.items)) }
+        ≡ happenings places.now pool.now events.items) }
+    ensures met { IfOk result (λ routes. AllByRecursion (IsMet places.now) (map route_is routes.items)) }
 {
     let mut routes = Vec::with_capacity(alloc, events.len())?;
     let mut left = events;
     left.reverse();
     'lines: while let Some(line) = next_of(&mut left) {
-        routes.push(route_of(demux, configs, pool, line))?;
+        routes.push(route_of(demux, places, pool, line))?;
     }
     Ok(routes)
 }
@@ -52,5 +52,6 @@ pub(crate) fn routes_of(
     ensures met { IfOk result (λ routes. AllByRecursion (IsMet configs.now.items) (map route_is routes.items)) }
 {
     let demux = table(alloc, configs, &pool)?;
-    found(alloc, &demux, configs, &pool, events)
+    let places = Places::of(alloc, configs)?;
+    found(alloc, &demux, &places, &pool, events)
 }

@@ -102,17 +102,25 @@ impl Demux {
         requires { build_fault rows.now ≡ None }
         ensures { IfOk result (λ demux. demux ≡ rows.now) }
     {
-        let known = known_rows(alloc, rows)?;
-        let mut names = names_of(alloc, rows)?;
+        let rows = Vec::from_slice(alloc, rows)?;
+        Demux::of_sound(alloc, rows)
+    }
+
+    /// The same table, of rows that are known to have no fault: they aren't looked through for one. The one refusal is want of
+    /// memory.
+    pub fn of_sound(alloc: Global, rows: Vec<Row>) -> Result<Demux, AllocError>
+        requires { build_fault rows.items ≡ None }
+        ensures { IfOk result (λ demux. demux ≡ rows.items) }
+    {
+        let mut names = names_of(alloc, &rows)?;
         sort_by_key(&mut names);
-        let mut addresses = addresses_of(alloc, rows)?;
+        let mut addresses = addresses_of(alloc, &rows)?;
         sort_by_key(&mut addresses);
-        let sessions = count_sessions(rows);
         Ok(Demux {
-            rows: known,
+            rows: Snapshot::of(&rows),
             names,
             addresses,
-            sessions,
+            sessions: count_sessions(&rows),
         })
     }
 }
@@ -371,14 +379,6 @@ fn selector_of(arrival: &Arrival) -> Option<RowKind>
         Port::Multi => Some(RowKind::Multi { local, remote }),
         _ => None,
     }
-}
-
-// The rows, for clauses alone.
-fn known_rows(alloc: Global, rows: &[Row]) -> Result<Snapshot<Vec<Row>>, AllocError>
-    ensures { IfOk result (λ known. known.value.items ≡ rows.now) }
-{
-    let list = Vec::from_slice(alloc, rows)?;
-    Ok(Snapshot::of(&list))
 }
 
 // The name of each row and its port.

@@ -31,9 +31,9 @@ pub cut_more : (number at : ℕ) (before now after new more : List Held) (one : 
 cut_more number at before now after new more one cuts cut is = record {
   long = omega (arith, ap length is, length-append new (Some one ∷ []), cuts.long);
   below = λ k h. dite (ℕ_discrete k at) (λ same. rw same (cut_same (slice_get after at) (cuts.left at (omega arith)) refl
-      (sym (cc (last_here new (Some one) at (sym cuts.long)))) cut.cut)) (λ other. (let inside : k < at = omega (arith, h, other) in
+      (cc (last_here new (Some one) at (sym cuts.long))) cut.cut)) (λ other. (let inside : k < at = omega (arith, h, other) in
       cut_same {a2 = slice_get before k} _ refl (sym (cut.left k other))
-      (sym (cc (front_here new (Some one) k (omega (arith, inside, cuts.long))))) (cuts.below k inside)));
+      (cc (front_here new (Some one) k (omega (arith, inside, cuts.long)))) (cuts.below k inside)));
   left = λ k h. cut.left k (λ e. omega (arith, h, e)) ∙ cuts.left k (omega (arith, h));
 }
 

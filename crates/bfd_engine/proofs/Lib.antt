@@ -6,7 +6,7 @@ pub mod Tables
 pub mod Mirrors
 pub mod Reaching
 pub mod Opening
-pub mod Making
+pub mod States
 pub mod Turning
 pub mod Acts
 pub mod Seeking

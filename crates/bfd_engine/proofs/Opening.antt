@@ -1,44 +1,67 @@
 -- Shards that are opened one after another.
-use Rattle.bfd_engine.proofs.Common.{◌≡◌, ℕ, suc, ◌<◌, ◌≤◌, List, [], ◌∷◌, ◌++◌, length, map, length-append, Some, None, slice_get, get_or, Result, Ok, Err, IfOk, refl, ap, sym, ◌∙◌, subst, arith, AllByRecursion, slice_get_within, same_Some, slice_get-get_or, dite, ℕ_discrete, SessionConfig, Running, configs_of, discr_of, IsFit, started, AreFit, table_of, TableId, opened_pass, Row, Base, Shards, Held, AllOf, IsOf, AllThere, IsEngine, configs_at, seen_of, met_word_of, taken_of, made_of, kept_of, IsSorted, IsNewPass, opened_base, IsNewShard, MayOpen, ArePassed, IsOpenedShard, AreOpened, AreShares, share, Reflector, All-nil, build_fault, started_configs, few_share, all_share}
-use Rattle.bfd_engine.proofs.Places.{K, last_here, front_here, same_held}
+use Rattle.bfd_engine.proofs.Common.{◌≡◌, ℕ, zero, suc, ◌<◌, ◌≤◌, List, [], ◌∷◌, ◌++◌, length, map, length-map, Some, None, slice_get, get_or, refl, ap, sym, ◌∙◌, subst, arith, AllByRecursion, slice_get_within, same_Some, slice_get-get_or, SessionConfig, discr_of, IsFit, AreFit, table_of, TableId, opened_pass, Row, Shards, Held, AllOf, IsOf, AllThere, IsEngine, configs_at, seen_of, met_word_of, taken_of, made_of, kept_of, IsSorted, IsNewPass, opened_base, MayOpen, ArePassed, IsOpenedShard, IsMade, AreOpened, AreShares, share, Reflector, All-nil, build_fault, few_share, all_share}
+use Rattle.bfd_engine.proofs.Places.{K, same_held}
 use Rattle.bfd_engine.proofs.Tables.{few_rows, ascending, pool_ascending}
 
-pub more_opened : {limit : ℕ} {parts : List (List SessionConfig)} {part : List SessionConfig} {locks locks2 : List TableId} {passes passes2 : List Held} {sizes sizes2 : List ℕ} {lock : TableId} {pass : K} {size : ℕ}
-    → AreOpened limit parts locks passes sizes → pass ≡ (lock, opened_pass (opened_base limit part) 0) → size ≡ length part
-    → locks2 ≡ locks ++ lock ∷ [] → passes2 ≡ passes ++ Some pass ∷ [] → sizes2 ≡ sizes ++ size ∷ []
-    → AreOpened limit (parts ++ part ∷ []) locks2 passes2 sizes2
-more_opened {limit} {parts} {part} {locks} {passes} {sizes} {lock} {pass} {size} o new is e f g = record {
-  locks_long = omega (arith, ap length e, length-append locks (lock ∷ []), length-append parts (part ∷ []), o.locks_long);
-  passes_long = omega (arith, ap length f, length-append passes (Some pass ∷ []), length-append parts (part ∷ []), o.passes_long);
-  sizes_long = omega (arith, ap length g, length-append sizes (size ∷ []), length-append parts (part ∷ []), o.sizes_long);
-  each = λ k configs h. dite (ℕ_discrete k (length parts)) (λ here.
-      let same = same_Some part configs (cc (last_here parts part k here)) in record {
-        id = lock;
-        lock_is = cc (last_here locks lock k (cc));
-        pass_is = cc (last_here passes (Some pass) k (cc));
-        size_is = cc (last_here sizes size k (cc));
-      }) (λ other.
-      let inside : k < length parts = omega (arith, slice_get_within (parts ++ part ∷ []) k configs h, length-append parts (part ∷ [])) in
-      let old = o.each k configs (cc (front_here parts part k inside)) in record {
-        id = old.id;
-        lock_is = cc (front_here locks lock k (omega (arith, o.locks_long, inside)));
-        pass_is = cc (front_here passes (Some pass) k (omega (arith, o.passes_long, inside)));
-        size_is = cc (front_here sizes size k (omega (arith, o.sizes_long, inside)));
-      });
+abbrev pub Parts : Type 0
+Parts = List (List SessionConfig)
+
+abbrev pub Made : Type 0
+Made = TableId × K × ℕ
+
+-- one shard for each part
+abbrev pub AreMade : ℕ → Parts → List Made → Type 0
+AreMade limit [] [] = Unit {0}
+AreMade limit [] (one ∷ made) = ⊥
+AreMade limit (part ∷ parts) [] = ⊥
+AreMade limit (part ∷ parts) (one ∷ made) = IsMade limit part one × AreMade limit parts made
+
+module _ (limit : ℕ) where
+  -- one part more is made
+  pub parts_more : {V : Type 0} (f : V → List SessionConfig) (yielded : List V) (made : List Made) (part : V) (one : Made) → AreMade limit (map f yielded) made → IsMade limit (f part) one → AreMade limit (map f (yielded ++ part ∷ [])) (made ++ one ∷ [])
+  parts_more f [] [] part one m is = (is, tt)
+  parts_more f [] (x ∷ made) part one m is = absurd m
+  parts_more f (p ∷ parts) [] part one m is = absurd m
+  parts_more f (p ∷ parts) (x ∷ made) part one m is = (m.0, parts_more f parts made part one m.1 is)
+
+  -- what each part gives is made of it
+  pub made_each : {V : Type 0} (f : V → List SessionConfig) (parts : List V) (made : List Made) → length made ≡ length parts
+      → ((k : ℕ) (v : V) (d : Made) → k < length parts → get_or parts k v ≡ v → IsMade limit (f v) (get_or made k d)) → AreMade limit (map f parts) made
+  made_each f [] [] long each = tt
+  made_each f [] (x ∷ made) long each = absurd (omega (arith, long))
+  made_each f (p ∷ parts) [] long each = absurd (omega (arith, long))
+  made_each f (p ∷ parts) (x ∷ made) long each = (each 0 p x (omega arith) refl, made_each f parts made (omega (arith, long)) (λ k v d h e. each (suc k) v d (omega (arith, h)) e))
+
+  made_long : (parts : Parts) (made : List Made) → AreMade limit parts made → length made ≡ length parts
+  made_long [] [] m = refl
+  made_long [] (x ∷ made) m = absurd m
+  made_long (p ∷ parts) [] m = absurd m
+  made_long (p ∷ parts) (x ∷ made) m = ap suc (made_long parts made m.1)
+
+  opened_at : (parts : Parts) (made : List Made) → AreMade limit parts made → (k : ℕ) (configs : List SessionConfig) → slice_get parts k ≡ Some configs
+      → IsOpenedShard limit configs (slice_get (map (λ s. s.0) made) k) (slice_get (map (λ s. Some s.1) made) k) (slice_get (map (λ s. s.2) made) k)
+  opened_at [] made m k configs h = cc
+  opened_at (p ∷ parts) [] m k configs h = absurd m
+  opened_at (p ∷ parts) (x ∷ made) m zero configs h = rw (← same_Some p configs h) (record { id = x.0; lock_is = refl; pass_is = cc (m.0.0); size_is = cc (m.0.1) })
+  opened_at (p ∷ parts) (x ∷ made) m (suc k) configs h = opened_at parts made m.1 k configs h
+
+  -- taken apart, they are opened
+  pub opened : (parts : Parts) (made : List Made) → AreMade limit parts made → {locks : List TableId} {passes : List Held} {sizes : List ℕ}
+      → (locks ≡ map (λ s. s.0) made) × (passes ≡ map (λ s. Some s.1) made) × (sizes ≡ map (λ s. s.2) made) → AreOpened limit parts locks passes sizes
+  opened parts made m e = rw (e.0, e.1, e.2) (record {
+    locks_long = length-map made _ ∙ made_long parts made m;
+    passes_long = length-map made _ ∙ made_long parts made m;
+    sizes_long = length-map made _ ∙ made_long parts made m;
+    each = opened_at parts made m;
+  })
+
+pub are_shares : {n : ℕ} {V : Type 0} (f : V → List SessionConfig) (configs : List SessionConfig) (parts : List V) → length parts ≡ n → ((r : ℕ) → r < n → get_or (map f parts) r [] ≡ share n r configs) → AreShares n configs (map f parts)
+are_shares f configs parts long each = record {
+  long = length-map parts f ∙ long;
+  each = λ r h. cc (slice_get-get_or (map f parts) r [] (omega (arith, length-map parts f, long, h)), each r h);
 }
 
-base_is : {ss : List Running} (cs : List SessionConfig) {l m : ℕ} → ss ≡ map started cs → l ≡ m → (let b : Base = record { configs = configs_of ss; limit = l } in b) ≡ opened_base m cs
-base_is cs same limit = cc (started_configs cs)
-
-pub new_shard : {E : Type 0} (r : Result (TableId × K) E) {ss : List Running} (cs : List SessionConfig) {l m : ℕ} → ss ≡ map started cs → l ≡ m
-    → IfOk r (λ x. x.1 ≡ (x.0, opened_pass (let b : Base = record { configs = configs_of ss; limit = l } in b) 0)) → IfOk r (λ x. IsNewShard m cs x.0 x.1)
-new_shard (Ok x) cs same limit h = cc (base_is cs same limit)
-new_shard (Err e) cs same limit h = tt
-
-pub are_shares : {n : ℕ} (configs : List SessionConfig) (parts : List (List SessionConfig)) → length parts ≡ n → ((r : ℕ) → r < n → get_or parts r [] ≡ share n r configs) → AreShares n configs parts
-are_shares configs parts long each = record { long = long; each = λ r h. cc (slice_get-get_or parts r [] (omega (arith, long, h)), each r h) }
-
-pass_each : (P : List SessionConfig → Type 0) (parts : List (List SessionConfig)) → ((r : ℕ) (x : List SessionConfig) → slice_get parts r ≡ Some x → P x) → AllByRecursion P parts
+pass_each : (P : List SessionConfig → Type 0) (parts : Parts) → ((r : ℕ) (x : List SessionConfig) → slice_get parts r ≡ Some x → P x) → AllByRecursion P parts
 pass_each P [] h = tt
 pass_each P (x ∷ parts) h = (h 0 x refl, pass_each P parts (λ r y e. h (suc r) y e))
 
@@ -46,14 +69,17 @@ long_rows : (configs : List SessionConfig) (pool : List Reflector) → length co
 long_rows [] pool = omega arith
 long_rows (c ∷ configs) pool = omega (arith, long_rows configs pool)
 
-pub may_open : {n : ℕ} {configs : List SessionConfig} (pool : List Reflector) {parts : List (List SessionConfig)} → AreShares n configs parts → build_fault (table_of configs pool) ≡ None → AreFit configs → ArePassed parts
-may_open {n} {configs} pool {parts} s sound fit = pass_each MayOpen parts (λ r x e.
+pub few_sessions : (configs : List SessionConfig) (pool : List Reflector) → build_fault (table_of configs pool) ≡ None → length configs ≤ 65536
+few_sessions configs pool sound = omega (arith, long_rows configs pool, few_rows (table_of configs pool) sound)
+
+pub may_open : {n : ℕ} {configs : List SessionConfig} {parts : Parts} → AreShares n configs parts → length configs ≤ 65536 → AreFit configs → ArePassed parts
+may_open {n} {configs} {parts} s few fit = pass_each MayOpen parts (λ r x e.
     subst MayOpen (same_Some (share n r configs) x (cc (s.each r (omega (arith, slice_get_within parts r x e, s.long))))) (record {
-      few = omega (arith, few_share n r configs, long_rows configs pool, few_rows (table_of configs pool) sound);
+      few = omega (arith, few_share n r configs, few);
       fit = all_share IsFit n r configs fit;
     }))
 
-module _ (limit n : ℕ) (configs : List SessionConfig) (parts : List (List SessionConfig)) (locks : List TableId) (passes : List Held) (sizes : List ℕ) (s : AreShares n configs parts) (o : AreOpened limit parts locks passes sizes) where
+module _ (limit n : ℕ) (configs : List SessionConfig) (parts : Parts) (locks : List TableId) (passes : List Held) (sizes : List ℕ) (s : AreShares n configs parts) (o : AreOpened limit parts locks passes sizes) where
   one : (k : ℕ) → k < n → IsOpenedShard limit (share n k configs) (slice_get locks k) (slice_get passes k) (slice_get sizes k)
   one k h = o.each k (share n k configs) (s.each k h)
 
@@ -91,19 +117,21 @@ module _ (limit n : ℕ) (configs : List SessionConfig) (parts : List (List Sess
     }
 
     new_pass : IsNewPass engine (0, passes, 0)
-    new_pass = record {
-      of = passes_of;
-      there = passes_there;
-      number = refl;
-      used = refl;
-      seen = λ k h. ap seen_of (one k (omega (arith, h, count))).pass_is;
-      word = λ k h. ap met_word_of (one k (omega (arith, h, count))).pass_is;
-      taken = λ k h. ap taken_of (one k (omega (arith, h, count))).pass_is;
-      made = λ k h. ap made_of (one k (omega (arith, h, count))).pass_is;
-      kept = λ k h. ap kept_of (one k (omega (arith, h, count))).pass_is;
-    }
+    new_pass =
+        let pass = λ (k : ℕ) (h : k < length locks). (one k (omega (arith, h, count))).pass_is in
+        record {
+          of = passes_of;
+          there = passes_there;
+          number = refl;
+          used = refl;
+          seen = λ k h. ap seen_of (pass k h);
+          word = λ k h. ap met_word_of (pass k h);
+          taken = λ k h. ap taken_of (pass k h);
+          made = λ k h. ap made_of (pass k h);
+          kept = λ k h. ap kept_of (pass k h);
+        }
 
-pub engine_is : {limit n : ℕ} {configs : List SessionConfig} (known : List SessionConfig) {parts : List (List SessionConfig)} {locks : List TableId} {passes : List Held} {sizes discrs : List ℕ} (pool : List Reflector) {rows : List Row}
+pub engine_is : {limit n : ℕ} {configs : List SessionConfig} (known : List SessionConfig) {parts : Parts} {locks : List TableId} {passes : List Held} {sizes discrs : List ℕ} (pool : List Reflector) {rows : List Row}
     → AreShares n configs parts → AreOpened limit parts locks passes sizes → known ≡ configs → 0 < n → n ≤ 64
     → rows ≡ table_of configs pool → build_fault (table_of configs pool) ≡ None → IsSorted configs pool → discrs ≡ map discr_of configs
     → IsEngine (record { locks = locks; configs = known; pool = pool; limit = limit }) rows discrs sizes
@@ -112,7 +140,7 @@ engine_is {limit} {n} {configs} known {parts} {locks} {passes} {sizes} pool s o 
     rw same (record {
       some = omega (arith, some, long);
       few = omega (arith, few, long);
-      small = omega (arith, long_rows configs pool, few_rows (table_of configs pool) sound);
+      small = few_sessions configs pool sound;
       table = table;
       ascends = ascending configs pool sound sorted.0;
       pool_ascends = pool_ascending configs pool sound sorted.1;
@@ -120,6 +148,6 @@ engine_is {limit} {n} {configs} known {parts} {locks} {passes} {sizes} pool s o 
       sizes_are = sizes_are limit n configs parts locks passes sizes s o pool;
     })
 
-pub pass_is : {limit n : ℕ} {configs : List SessionConfig} (known : List SessionConfig) {parts : List (List SessionConfig)} {locks : List TableId} {passes : List Held} {sizes : List ℕ} (pool : List Reflector)
+pub pass_is : {limit n : ℕ} {configs : List SessionConfig} (known : List SessionConfig) {parts : Parts} {locks : List TableId} {passes : List Held} {sizes : List ℕ} (pool : List Reflector)
     → AreShares n configs parts → AreOpened limit parts locks passes sizes → known ≡ configs → IsNewPass (record { locks = locks; configs = known; pool = pool; limit = limit }) (0, passes, 0)
 pass_is {limit} {n} {configs} known {parts} {locks} {passes} {sizes} pool s o same = rw same (new_pass limit n configs parts locks passes sizes s o pool)

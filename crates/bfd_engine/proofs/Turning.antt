@@ -1,5 +1,5 @@
 -- What one turn of a shard leaves of a caller's passes.
-use Rattle.bfd_engine.proofs.Common.{◌≡◌, ◌≢◌, ℕ, List, [], ◌∷◌, ◌++◌, length, set, Option, Some, Result, Ok, Err, IfOk, IfErr, OnErr, slice_get, refl, ap, sym, ◌∙◌, subst, append-nil, arith, slice_get_within, dite, ℕ_discrete, Out, Answer, Entry, ShardEvent, calls, TurnFault, by, entry_of, configs_in, limit_in, given_after, IsSame, HasTurned, HasLooked, IsTurnCause, Shards, Held, Knows, base_at, configs_at, seen_of, seen_at, met_word_of, taken_of, made_of, kept_of, Turned, IsCause, fault_of, IsCall, IsFailed, Memory, Full, Spent, EngineFault}
+use Rattle.bfd_engine.proofs.Common.{◌≡◌, ◌≢◌, ℕ, List, [], ◌∷◌, ◌++◌, length, set, Option, Some, Result, Ok, Err, IfOk, IfErr, OnErr, slice_get, refl, ap, ◌∙◌, subst, append-nil, arith, slice_get_within, dite, ℕ_discrete, Out, Answer, Entry, ShardEvent, calls, TurnFault, by, entry_of, configs_in, limit_in, given_after, IsSame, HasTurned, HasLooked, IsTurnCause, Shards, Held, Knows, base_at, configs_at, seen_of, seen_at, met_word_of, taken_of, made_of, kept_of, Turned, IsCause, fault_of, IsCall, IsFailed, Memory, Full, Spent, EngineFault}
 use Rattle.bfd_rules.specs.EventFrame.{Outputs}
 use Rattle.bfd_engine.proofs.Places.{K, set_here, set_else}
 
@@ -11,7 +11,7 @@ elsewhere k {s} q {r} is other = cc (set_else k.1 s r (Some q) other)
 
 pub same_at : {X : Type 0} (f : Option Held → X) (k : Knows) {l : Knows} (s : ℕ) {p q : K} → slice_get k.1 s ≡ Some (Some p) → l ≡ (k.0, set k.1 s (Some q), k.2) → f (Some (Some q)) ≡ f (Some (Some p))
     → (r : ℕ) → f (slice_get l.1 r) ≡ f (slice_get k.1 r)
-same_at f k s {q} here is same r = dite (ℕ_discrete r s) (λ at. rw (← sym at) (cc (at_place k s q here is))) (λ other. ap f (elsewhere k q is other))
+same_at f k s {q} here is same r = dite (ℕ_discrete r s) (λ at. rw at (cc (at_place k s q here is))) (λ other. ap f (elsewhere k q is other))
 
 pub turned : (k : Knows) {l : Knows} (s : ℕ) {p : K} (q : K) (between new : List Entry) → slice_get k.1 s ≡ Some (Some p) → l ≡ (k.0, set k.1 s (Some q), k.2) → p.1.number ≡ k.0 → IsSame p.1 q.1
     → q.1.seen ≡ (p.1.seen ++ between) ++ new → calls by p.1.number between ≡ [] → Turned k l s between new

@@ -1,5 +1,5 @@
 -- The answer to an arrival tells the first test that it fails.
-use Rattle.bfd_engine.proofs.Common.{◌≡◌, ◌<◌, ◌+◌, ◌++◌, ◌∷◌, [], ℕ, zero, suc, List, length, Option, None, Some, Result, Ok, Err, IfOk, refl, sym, slice_get, option_or, Arrival, Datagram, Test, Out, Target, Session, Echo, first_table_failing, reflect, Answer, Event, SessionConfig, coming_to, Running, table_of, reply, Entry, ShardEvent, Own, events_of, last_tick, outcome_of, run, runs, runs_from, IsTaken, Shards, Knows, configs_at, IsCall, IsDone, coming_act, reflect_act, seen_at, Arrives, IsAnswered, packet_answer, return_answer, arrival_judged, EngineFault}
+use Rattle.bfd_engine.proofs.Common.{◌≡◌, ◌<◌, ◌+◌, ◌++◌, ◌∷◌, [], ℕ, zero, suc, List, length, Option, None, Some, Result, Ok, Err, IfOk, refl, slice_get, option_or, Arrival, Datagram, Test, Out, Target, Session, Echo, first_table_failing, reflect, Answer, Event, SessionConfig, coming_to, Running, table_of, reply, Entry, ShardEvent, Own, events_of, last_tick, outcome_of, run, runs, runs_from, IsTaken, Shards, Knows, configs_at, IsCall, IsDone, coming_act, reflect_act, seen_at, Arrives, IsAnswered, packet_answer, return_answer, arrival_judged, EngineFault}
 use Rattle.std.specs.Result.{result_err}
 use Rattle.bfd_demux.specs.declared.target.Target.TheVariants.{Reflector as ReflectorAt}
 use Rattle.bfd_session.specs.declared.event.Event.TheVariants.{Packet, Returned}
@@ -22,7 +22,7 @@ unfolding outcome_of
 own_answer last place moment event ss s there = cc
 
 only_own : {failing : Option Test} (own : Option Test) {all : Option Test} → all ≡ option_or failing own → None ≡ failing → own ≡ all
-only_own own is none = sym (cc)
+only_own own is none = cc
 
 pub packet_is : (engine : Shards) (arrival : Arrival) (eff : ℕ) (s : Running) → None ≡ first_table_failing (table_of engine.configs engine.pool) arrival
     → reply eff (Packet arrival) s ≡ packet_answer engine arrival eff s

@@ -1,5 +1,5 @@
 -- What an engine is opened with, and what its first caller knows.
-use Rattle.std.specs.Prelude.{ℕ, ◌≡◌, ◌≤◌, ◌<◌, List, [], ◌∷◌, length, map, slice_get, Option, Some, Result, IfOk}
+use Rattle.std.specs.Prelude.{ℕ, ◌≡◌, ◌≤◌, ◌<◌, List, [], ◌∷◌, length, map, slice_get, slice_index_or, Option, Some}
 use Rattle.std.specs.List.{AllByRecursion}
 use Rattle.bfd_session.specs.declared.event.SessionConfig.{SessionConfig}
 use Rattle.bfd_session.specs.Kinds.{discr_of}
@@ -7,7 +7,9 @@ use Rattle.bfd_sbfd.specs.declared.reflecting.Reflector.{Reflector}
 use Rattle.bfd_demux.specs.declared.row.Row.{Row}
 use Rattle.bfd_demux.specs.Rows.{build_fault}
 use Rattle.bfd_session.specs.Rows.{AreFit}
+use Rattle.bfd_session.specs.Step.{started}
 use Rattle.bfd_shard.specs.Dealing.{share}
+use Rattle.bfd_shard.specs.Shard.{Shard}
 use Rattle.bfd_turn.specs.Passes.{TableId, opened_pass}
 use Rattle.bfd_engine.specs.declared.locked.Base.{Base}
 use Rattle.bfd_engine.specs.declared.fault.OpenFault.{OpenFault}
@@ -55,6 +57,21 @@ pub record MayOpen (configs : List SessionConfig) : Type 0 where
   pub few : length configs ≤ 65536
   pub fit : AreFit configs
 
+-- a new shard of these sessions: all stand at the start, and the journal takes no entry
+pub record IsNewState (configs : List SessionConfig) (state : Shard) : Type 0 where
+  pub sessions : state.sessions ≡ map started configs
+  pub journal : state.journal ≡ []
+  pub limit : state.limit ≡ 0
+
+-- new shards, one for each share of the sessions: all sessions stand at the start, and no journal takes an entry
+pub record AreNewStates (n : ℕ) (configs : List SessionConfig) (states : List Shard) : Type 0 where
+  pub long : length states ≡ n
+  pub each : (r : ℕ) (d : Shard) → r < n → IsNewState (share n r configs) (slice_index_or states r d)
+
+-- a shard that has seen nothing, whose journal takes no more entries than this
+abbrev pub MayLock : ℕ → Shard → Type 0
+MayLock limit state = (state.journal ≡ []) × (state.limit ≤ limit)
+
 -- parts each of which may make a shard
 abbrev pub ArePassed : List (List SessionConfig) → Type 0
 ArePassed parts = AllByRecursion MayOpen parts
@@ -75,13 +92,6 @@ pub record AreOpened (limit : ℕ) (parts : List (List SessionConfig)) (locks : 
 -- a shard that was made of these sessions: its lock, the pass of its caller 0, and how many they are
 abbrev pub IsMade : ℕ → List SessionConfig → TableId × (TableId × OfShard) × ℕ → Type 0
 IsMade limit configs made = IsNewShard limit configs made.0 made.1 × (made.2 ≡ length configs)
-
--- one shard for each part, where it was made
-abbrev pub AreMade : {E : Type 0} → ℕ → List (List SessionConfig) → List (Result (TableId × (TableId × OfShard) × ℕ) E) → Type 0
-AreMade limit [] [] = Unit {0}
-AreMade limit [] (one ∷ made) = ⊥
-AreMade limit (configs ∷ parts) [] = ⊥
-AreMade limit (configs ∷ parts) (one ∷ made) = IfOk one (IsMade limit configs) × AreMade limit parts made
 
 -- the parts are the shares of so many shards
 pub record AreShares (n : ℕ) (configs : List SessionConfig) (parts : List (List SessionConfig)) : Type 0 where

@@ -1,12 +1,13 @@
 //! Shards behind ruled locks: what a daemon is to embed.
 //!
 //! An `Engine` is opened with sessions and reflectors. Its sessions are dealt out to 1 to 64 shards, each behind a lock of its
-//! own; `open_with` makes each shard in a thread of its own where one can be had, and `open` one after another. A caller asks
-//! for turns with an `EnginePass`. A call that needs a shard takes its turn, makes room for the entry, applies the event, and
-//! gives the turn back, after a fault too: `receive` for an arrival, `command` and `show` by discriminator, `advance` for a
-//! tick. `screen`, `reflect` and what a reflector answers take no turn. `split` makes a pass for a further caller, which has
-//! the next number; `join` takes it into that of caller 0; `close` gives the shards. `journal_from` reads a shard's history;
-//! `try_hold` and `let_go` hold a turn from call to call.
+//! own. `open` makes one shard after another; `make_shards` makes each in a thread of its own where one can be had, and
+//! `of_shards` takes them, when it is known how many entries their journals take. A caller asks for turns with an `EnginePass`.
+//! A call that needs a shard takes its turn, makes room for the entry, applies the event, and gives the turn back, after a fault
+//! too: `receive` for an arrival, `command` and `show` by discriminator, `advance` for a tick. `screen`, `reflect` and what a
+//! reflector answers take no turn. `split` makes a pass for a further caller, which has the next number; `join` takes it into
+//! that of caller 0; `close` gives the shards. `journal_from` reads a shard's history; `try_hold` and `let_go` hold a turn from
+//! call to call.
 //!
 //! It stands on `bfd_shard` and `bfd_turn`, on `bfd_demux` and `bfd_sbfd` for arrivals, on what those stand on, and on
 //! `thiserror`. It promises, for every form of timers, what one turn adds: what the pass has seen of the shard ends with this very
@@ -26,6 +27,7 @@ mod joining;
 mod journal;
 mod law;
 mod locked;
+mod making;
 mod open;
 mod pass;
 mod passing;
@@ -39,4 +41,5 @@ pub use holding::{Hold, HoldFault};
 pub use joining::Unclosed;
 pub use law::turn_laws;
 pub use locked::{Base, Locked};
+pub use making::make_shards;
 pub use pass::EnginePass;

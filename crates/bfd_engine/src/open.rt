@@ -1,16 +1,16 @@
 //! Opening an engine.
-ghost use Rattle.std.specs.Prelude.{◌≡◌, ◌≤◌, ◌<◌, None, IfOk, MatchResult, length, map, slice_index_or, []};
+ghost use Rattle.std.specs.Prelude.{◌≡◌, ◌≤◌, ◌<◌, None, Some, IfOk, MatchResult, length, map};
 ghost use Rattle.bfd_demux.specs.Rows.{build_fault};
-ghost use Rattle.bfd_session.specs.Kinds.{discr_of};
+ghost use Rattle.bfd_session.specs.Kinds.{configs_of, discr_of};
 ghost use Rattle.bfd_session.specs.Rows as rows;
-ghost use Rattle.bfd_session.specs.Step.{started};
 ghost use Rattle.bfd_session.specs.Rows.{AreFit};
-ghost use Rattle.bfd_engine.specs.Opening.{IsSorted, IsNewPass, IsOpenFault, IsNewShard, MayOpen, ArePassed, IsMade, AreMade, AreOpened, AreShares, HaveOpened};
+ghost use Rattle.bfd_engine.specs.Opening.{IsSorted, IsNewPass, IsOpenFault, AreNewStates, MayLock, ArePassed, IsMade, AreOpened, AreShares, HaveOpened};
 
 use crate::dealing::deal_sessions;
 use crate::engine::Engine;
 use crate::fault::OpenFault;
 use crate::locked::{Base, Locked};
+use crate::making::all_there;
 use crate::pass::EnginePass;
 use bfd_demux::{BuildFault, Demux};
 use bfd_sbfd::Reflector;
@@ -56,67 +56,32 @@ type Opened<W> = (
     Vec<usize>,
 );
 
-/// A shard of these sessions, in a box.
-fn made<W: Timers>(
+/// A shard that has seen nothing, behind its lock, with a journal that takes so many entries.
+fn lock_shard<W: Timers>(
     alloc: Global,
-    configs: Vec<SessionConfig>,
-    limit: usize,
-) -> Result<Box<ShardState<W>>, AllocError>
-    requires few { length configs.items ≤ 65536 }
-    requires fit { AreFit configs.items }
-    ensures sessions { IfOk result (λ b. b.value.sessions ≡ map started configs.items) }
-    ensures journal { IfOk result (λ b. b.value.journal ≡ []) }
-    ensures limit { IfOk result (λ b. b.value.limit ≡ limit) }
-{
-    let shard = ShardState::make(alloc, configs, limit)?;
-    Ok(Box::new(alloc, shard)?)
-}
-
-/// A shard of these sessions, behind its lock.
-fn open_shard<W: Timers>(
-    alloc: Global,
-    configs: Vec<SessionConfig>,
-    limit: usize,
-) -> Result<(TurnLock<Locked<W>>, Pass<Entry, Base>), AllocError>
-    requires few { length configs.items ≤ 65536 }
-    requires fit { AreFit configs.items }
-    ensures { IfOk result (λ r. IsNewShard limit configs.items r.0 r.1) }
-{
-    let shard = made(alloc, configs, limit)?;
-    TurnLock::new(alloc, Locked { shard }, 0)
-}
-
-/// A shard of a part, and how many sessions it has.
-fn open_part<W: Timers>(
-    alloc: Global,
-    part: Vec<SessionConfig>,
+    state: ShardState<W>,
     limit: usize,
 ) -> Result<NewShard<W>, AllocError>
-    requires { MayOpen part.items }
-    ensures { IfOk result (λ shard. IsMade limit part.items shard) }
+    requires { MayLock limit state }
+    ensures { IfOk result (λ shard. IsMade limit (configs_of state.sessions) shard) }
 {
-    let size = part.len();
-    let (lock, pass) = open_shard(alloc, part, limit)?;
+    let mut state = state;
+    state.raise_limit(limit)?;
+    let size = state.sessions().len();
+    let shard = Box::new(alloc, state)?;
+    let (lock, pass) = TurnLock::new(alloc, Locked { shard }, 0)?;
     Ok((lock, pass, size))
 }
 
-/// Shards that were made of these parts, taken apart, or the first refusal.
-fn apart<W: Timers>(
-    alloc: Global,
-    made: Vec<Result<NewShard<W>, AllocError>>,
-    limit: usize,
-    parts: Snapshot<Vec<Vec<SessionConfig>>>,
-) -> Result<Opened<W>, AllocError>
-    requires { AreMade limit (map (λ q. q.items) parts.value.items) made.items }
-    ensures { IfOk result (λ r. AreOpened limit (map (λ q. q.items) parts.value.items)
-        r.0.items r.1.items r.2.items) }
+/// The shards' parts, each in a list of its own.
+fn apart<W: Timers>(alloc: Global, shards: Vec<NewShard<W>>) -> Result<Opened<W>, AllocError>
+    ensures { IfOk result (λ r. (r.0.items ≡ map (λ s. s.0) shards.items)
+        × (r.1.items ≡ map (λ s. Some s.1) shards.items) × (r.2.items ≡ map (λ s. s.2) shards.items)) }
 {
-    let _ = parts;
-    let mut locks = Vec::with_capacity(alloc, made.len())?;
-    let mut passes = Vec::with_capacity(alloc, made.len())?;
-    let mut sizes = Vec::with_capacity(alloc, made.len())?;
-    for shard in made {
-        let (lock, pass, size) = shard?;
+    let mut locks = Vec::with_capacity(alloc, shards.len())?;
+    let mut passes = Vec::with_capacity(alloc, shards.len())?;
+    let mut sizes = Vec::with_capacity(alloc, shards.len())?;
+    for (lock, pass, size) in shards {
         locks.push(lock)?;
         passes.push(Some(pass))?;
         sizes.push(size)?;
@@ -133,34 +98,13 @@ fn open_shards<W: Timers>(
     requires fit { ArePassed (map (λ q. q.items) parts.items) }
     ensures { IfOk result (λ r. AreOpened limit (map (λ q. q.items) parts.items) r.0.items r.1.items r.2.items) }
 {
-    let of = Snapshot::of(&parts);
-    let mut made = Vec::with_capacity(alloc, parts.len())?;
+    let mut shards = Vec::with_capacity(alloc, parts.len())?;
     for part in parts {
-        made.push(open_part(alloc, part, limit))?;
+        let state = ShardState::make(alloc, part, limit)?;
+        let shard = lock_shard(alloc, state, limit)?;
+        shards.push(shard)?;
     }
-    apart(alloc, made, limit, of)
-}
-
-/// The same, each in a thread of its own where one can be had.
-fn open_beside<W: Timers + Send, R: Threads + Sync>(
-    rt: &R,
-    alloc: Global,
-    parts: Vec<Vec<SessionConfig>>,
-    limit: usize,
-) -> Result<Opened<W>, AllocError>
-    requires fit { ArePassed (map (λ q. q.items) parts.items) }
-    ensures { IfOk result (λ r. AreOpened limit (map (λ q. q.items) parts.items) r.0.items r.1.items r.2.items) }
-{
-    let of = Snapshot::of(&parts);
-    let made = thread::map_vec(
-        rt,
-        parts,
-        &|part: Vec<SessionConfig>| -> Result<NewShard<W>, AllocError>
-            requires { MayOpen part.items }
-            ensures { IfOk result (λ shard. IsMade limit part.items shard) }
-        { open_part(alloc, part, limit) },
-    )?;
-    apart(alloc, made, limit, of)
+    apart(alloc, shards)
 }
 
 /// Sessions that are dealt out to shards.
@@ -293,34 +237,42 @@ impl<W: Timers> Engine<W> {
 }
 
 impl<W: Timers + Send> Engine<W> {
-    /// The same with a table that is there already: that of the sessions and the reflectors, which has no fault. Each shard is
-    /// made in a thread of its own where one can be had. The one refusal is want of memory.
-    pub fn open_with<R: Threads + Sync>(
+    /// An engine of the shards that `make_shards` made of the sessions, and the pass of caller 0, with a table that is there
+    /// already: that of the sessions and the reflectors, which has no fault. `discrs` are the sessions' discriminators in their
+    /// order, and each shard's journal takes `limit` entries. Each lock is made in a thread of its own where one can be had,
+    /// so that workers of different shards don't write side by side. The one refusal is want of memory.
+    pub fn of_shards<R: Threads + Sync>(
         rt: &R,
         alloc: Global,
         demux: Demux,
-        configs: Vec<SessionConfig>,
+        states: Vec<ShardState<W>>,
+        configs: Snapshot<Vec<SessionConfig>>,
+        discrs: Vec<u32>,
         pool: Vec<Reflector>,
-        shards: u32,
         limit: usize,
     ) -> Result<(Engine<W>, EnginePass), AllocError>
-        requires shards { (0 < shards) × (shards ≤ 64) }
-        requires table { demux ≡ rows.table_of configs.items pool.items }
-        requires sound { build_fault (rows.table_of configs.items pool.items) ≡ None }
-        requires sorted { IsSorted configs.items pool.items }
-        requires fit { AreFit configs.items }
-        ensures shards { IfOk result (λ r. length r.0.locks ≡ shards) }
-        ensures configs { IfOk result (λ r. r.0.configs ≡ configs.items) }
+        requires shards { (0 < length states.items) × (length states.items ≤ 64) }
+        requires new { AreNewStates (length states.items) configs.value.items states.items }
+        requires discrs { discrs.items ≡ map discr_of configs.value.items }
+        requires table { demux ≡ rows.table_of configs.value.items pool.items }
+        requires sound { build_fault (rows.table_of configs.value.items pool.items) ≡ None }
+        requires sorted { IsSorted configs.value.items pool.items }
+        ensures shards { IfOk result (λ r. length r.0.locks ≡ length states.items) }
+        ensures configs { IfOk result (λ r. r.0.configs ≡ configs.value.items) }
         ensures pool { IfOk result (λ r. r.0.pool ≡ pool.items) }
         ensures limit { IfOk result (λ r. r.0.limit ≡ limit) }
         ensures pass { IfOk result (λ r. IsNewPass r.0 r.1) }
     {
-        let Dealt {
-            discrs,
-            parts,
-            known,
-        } = deal_all(alloc, configs, shards)?;
-        let opened = open_beside(rt, alloc, parts, limit)?;
-        Ok(engine_of(opened, demux, known, pool, discrs, limit))
+        let made = thread::map_vec(
+            rt,
+            states,
+            &|state: ShardState<W>| -> Result<NewShard<W>, AllocError>
+                requires { MayLock limit state }
+                ensures { IfOk result (λ shard. IsMade limit (configs_of state.sessions) shard) }
+            { lock_shard(alloc, state, limit) },
+        )?;
+        let shards = all_there(alloc, made)?;
+        let opened = apart(alloc, shards)?;
+        Ok(engine_of(opened, demux, configs, pool, discrs, limit))
     }
 }

@@ -1,7 +1,7 @@
 -- A part that has all pieces.
-use Rattle.bfd_gather.proofs.Common.{◌≡◌, ◌≢◌, ◌⊎◌, inl, inr, ◌<◌, ℕ, List, [], ◌∷◌, length, take, drop, map, get_or, refl, ap, ◌∙◌, arith, length-drop, take-append-drop, None, AllByRecursion, get_or_default, sum_by-cons, Mark, Piece, texts, Dealt, pieces_in, IsSpread, dealt_text, HasAll, IsPart, first_key, mark_key, pieces_at, sum_by}
+use Rattle.bfd_gather.proofs.Common.{◌≡◌, ◌≢◌, ◌⊎◌, inl, inr, ◌<◌, ℕ, List, [], ◌∷◌, length, take, drop, map, get_or, refl, ap, ◌∙◌, arith, length-drop, take-append-drop, Option, None, AllByRecursion, get_or_default, sum_by-cons, Key, Mark, Piece, texts, Dealt, pieces_in, IsSpread, dealt_text, HasAll, IsPart, first_key, mark_key, pieces_at, sum_by}
 use Rattle.bfd_gather.proofs.Marks.{long_of}
-use Rattle.bfd_gather.proofs.Taking.{here, away, same_or_not, txs_of, drops_of}
+use Rattle.bfd_gather.proofs.Taking.{head_of, inside_of, within_heads, here, away, same_or_not, txs_of, drops_of}
 
 -- all dealt pieces are of the part s, where no other has a piece
 others_less : {s n : ℕ} (d : Dealt) (ds : List Dealt) → d.part ≡ s → ((r : ℕ) → r < n → r ≢ s → first_key (pieces_in r (d ∷ ds)) ≡ None)
@@ -19,11 +19,13 @@ only s (d ∷ ds) within none =
     let same = mine d ds within.0 none (same_or_not d.part s) in
     cc (here d ds s same, only s ds within.1 (others_less d ds same none))
 
-alone : {dealt : List Dealt} {parts : List (List Piece)} {s : ℕ} → IsSpread dealt parts → HasAll parts s → get_or parts s [] ≡ map (λ d. d.piece) dealt
-alone {dealt} {s} h a = h.each s a.inside ∙ only s _ h.within (λ r k other. cc (h.each r k, a.others r k other))
+alone : {dealt : List Dealt} {parts : List (List Piece)} {s : ℕ} → IsSpread dealt parts → HasAll (map first_key parts) s → get_or parts s [] ≡ map (λ d. d.piece) dealt
+alone {dealt} {parts} {s} h a = h.each s (inside_of _ a.inside) ∙ only s _ h.within (λ r k other. cc (h.each r k, head_of parts r, a.others r (within_heads _ k) other))
 
-pub whole : {dealt : List Dealt} {parts : List (List Piece)} {s : ℕ} {part : List Piece} → IsSpread dealt parts → HasAll parts s → part ≡ get_or parts s part → part ≡ map (λ d. d.piece) dealt
-whole {parts} {s} {part} h a e = cc (get_or_default parts s part [] a.inside, alone h a)
+pub whole : {dealt : List Dealt} {parts : List (List Piece)} {heads : List (Option Key)} {s : ℕ} {part : List Piece} → IsSpread dealt parts → heads ≡ map first_key parts → HasAll heads s → part ≡ get_or parts s part → part ≡ map (λ d. d.piece) dealt
+whole {parts} {s} {part} h firsts all e =
+    let a : HasAll (map first_key parts) s = rw (← firsts) all in
+    cc (get_or_default parts s part [] (inside_of _ a.inside), alone h a)
 
 -- their text and their packets
 pub texts_dealt : (ds : List Dealt) → texts (map (λ d. d.piece) ds) ≡ dealt_text ds

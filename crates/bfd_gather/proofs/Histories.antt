@@ -1,5 +1,5 @@
 -- A shard's sessions after its history, and what it tells of one event more.
-use Rattle.bfd_gather.proofs.Common.{◌≡◌, suc, ◌≢◌, ◌⊎◌, inl, inr, ◌<◌, ◌+◌, ◌/◌, ◌%◌, ◌++◌, max, ℕ, Bool, List, [], ◌∷◌, length, map, get_or, refl, ap, ◌∙◌, append_assoc, append-nil, arith, Option, None, Some, if◌then◌else◌, ext_get_or, cons_option, filter_map, get_or-map, length-map, cases_eq, eq-eqb, ne_eqb, Event, Outcome, Running, ShardEvent, Own, Tick, event_in, history_of, share, later, last_from, last_tick, run_from, moved, outcome_of, runs, event_pieces, whole_piece, Happening, Apart, Among, session_event, in_shard, numbered, queue, shard_tells, told_apart, moved_at, moved_long, runs_at, runs_long, Numbered, share_map}
+use Rattle.bfd_gather.proofs.Common.{◌≡◌, suc, ◌≢◌, ◌⊎◌, inl, inr, ◌<◌, ◌+◌, ◌/◌, ◌%◌, ◌++◌, max, ℕ, List, [], ◌∷◌, length, map, get_or, refl, ap, ◌∙◌, append_assoc, append-nil, arith, Option, None, Some, ext_get_or, cons_option, filter_map, get_or-map, length-map, cases_eq, eq-eqb, ne_eqb, Event, Outcome, Running, ShardEvent, Own, Tick, event_in, history_of, share, later, last_from, last_tick, run_from, moved, outcome_of, runs, event_pieces, whole_piece, Happening, Apart, Among, session_event, in_shard, numbered, queue, shard_tells, told_apart, moved_at, moved_long, runs_at, runs_long, Numbered, share_map}
 use Rattle.bfd_session.specs.declared.event.SessionConfig.{SessionConfig}
 use Rattle.bfd_session.specs.Step.{started}
 use Rattle.bfd_shard.proofs.Ticks.{nobody}

@@ -1,5 +1,5 @@
 -- The parts' pieces, given to a sink.
-use Rattle.bfd_gather.proofs.Common.{◌≡◌, ◌<◌, ◌+◌, ◌++◌, ℕ, List, [], length, drop, set, get_or, refl, sym, ap, subst, ◌∙◌, append_assoc, Option, None, Appends, TookFront, TookUpTo, Piece, Dealt, dealt_text, IsLeast, Happening, happening_outcomes, Running, Outcome, done_line, dropped, packets_sent, report, first_key, first_text, first_txs, first_drops, sum_by, Appends-trans}
+use Rattle.bfd_gather.proofs.Common.{◌≡◌, ◌<◌, ◌+◌, ◌++◌, ℕ, List, length, drop, map, set, get_or, refl, sym, ap, subst, ◌∙◌, append_assoc, Option, None, Appends, TookFront, TookUpTo, Key, Piece, Dealt, dealt_text, IsLeast, Happening, happening_outcomes, Running, Outcome, done_line, dropped, packets_sent, report, first_key, keys, first_text, first_txs, first_drops, sum_by, Appends-trans}
 use Rattle.bfd_gather.proofs.Written.{front_of_longer, took_front, took_of_longer, took_rest}
 use Rattle.bfd_gather.proofs.Taking.{Going, go, gone, txs_of, drops_of}
 use Rattle.bfd_gather.proofs.Telling.{deal_all}
@@ -12,17 +12,15 @@ pub record Giving (all : List Dealt) (parts : List (List Piece)) (old new : Opti
   pub going : Going all parts before (front ++ text) txs drops
 
 -- one more piece was taken
-pub take_more : {all : List Dealt} {parts parts2 : List (List Piece)} {old new : Option (List ℕ)} {before text text2 : List ℕ} {txs drops count fell s : ℕ}
-    → IsLeast parts s → parts2 ≡ set parts s (drop 1 (get_or parts s [])) → text2 ≡ text ++ first_text (get_or parts s [])
-    → count ≡ txs + first_txs (get_or parts s []) → fell ≡ drops + first_drops (get_or parts s [])
+pub take_more : {all : List Dealt} {parts parts2 : List (List Piece)} {old new : Option (List ℕ)} {before text text2 : List ℕ} {heads : List (Option Key)} {part : List Piece} {txs drops count fell s : ℕ}
+    → heads ≡ map first_key parts → IsLeast heads s → part ≡ get_or parts s part → parts2 ≡ set parts s (drop 1 part) → text2 ≡ text ++ first_text part
+    → count ≡ txs + first_txs part → fell ≡ drops + first_drops part
     → Giving all parts old new before text txs drops → Giving all parts2 old new before text2 count fell
-take_more {parts} {text} {s} least taken more sent dropped g =
-    let part : List Piece = get_or parts s [] in
-    record {
-      front = g.front;
-      took = g.took;
-      going = rw sent (rw dropped (go (first_txs part) (first_drops part) least taken (cc (append_assoc g.front text (first_text part))) refl refl g.going));
-    }
+take_more {text} {part} firsts least is taken more sent dropped g = record {
+  front = g.front;
+  took = g.took;
+  going = rw sent (rw dropped (go (first_txs part) (first_drops part) firsts least is taken (cc (append_assoc g.front text (first_text part))) refl refl g.going));
+}
 
 -- more of the text was given
 pub give_more : {all : List Dealt} {parts : List (List Piece)} {old mid new : Option (List ℕ)} {before text kept : List ℕ} {txs drops : ℕ}
@@ -49,11 +47,11 @@ given_broken {all} {old} {mid} new {before} {text} g took = took_front old mid n
     (front_of_longer mid new text (dealt_text g.going.left) took)
 
 -- all pieces were taken
-pub all_given : {all : List Dealt} {parts : List (List Piece)} {old new : Option (List ℕ)} {before text : List ℕ} {txs drops : ℕ}
-    → ((s : ℕ) → s < length parts → first_key (get_or parts s []) ≡ None)
+pub all_given : {all : List Dealt} {parts : List (List Piece)} (heads : List (Option ℕ)) {old new : Option (List ℕ)} {before text : List ℕ} {txs drops : ℕ}
+    → keys heads ≡ map first_key parts → ((s : ℕ) → s < length heads → get_or heads s None ≡ None)
     → Giving all parts old new before text txs drops → TookUpTo old new (before ++ dealt_text all) text × (txs ≡ txs_of all) × (drops ≡ drops_of all)
-all_given none g =
-    let last = gone none g.going in
+all_given heads firsts none g =
+    let last = gone heads firsts none g.going in
     ((g.front, g.took, sym last.0), last.1, last.2)
 
 -- the text of all pieces, and the last line behind it, are the report

@@ -1,75 +1,70 @@
--- The best of one part more.
-use Rattle.bfd_gather.proofs.Common.{◌≡◌, ◌⊎◌, inl, inr, ◌<◌, ◌+◌, ℕ, Bool, true, false, List, [], length, get_or, refl, ◌∙◌, arith, if◌then◌else◌, Option, None, Some, both_ways, Key, Piece, precedes, first_key, better, IsBest, BestOf, IsLeast}
-use Rattle.bfd_gather.proofs.Keys.{itself, onward}
+-- The least of ranks is the least of keys.
+use Rattle.std.proofs.Math.ListN.{get_or-map}
+use Rattle.bfd_gather.proofs.Common.{◌≡◌, ◌≢◌, ◌⊎◌, inl, inr, refl, ◌<◌, ◌≤◌, ◌+◌, ◌*◌, ◌/◌, ◌%◌, ◌^◌, ◌==◌, ◌&&◌, ◌||◌, ℕ, false, List, length, length-map, get_or, arith, nat_lt, nat_tests, div-add-mod', mod-lt, Option, None, Some, Key, precedes, HasAll, IsLeast, head_key, keys, rank_key}
 
 pub before_or_at : {k : ℕ} (n : ℕ) → k < n + 1 → (k < n) ⊎ (k ≡ n)
 before_or_at n h = grind arith
 
-some_same : {a b : Key} {o p : Option Key} → o ≡ p → o ≡ Some a → p ≡ Some b → a ≡ b
-some_same e h k = cc
+ordered : (ae ad be bd : ℕ) → ad < 2 ^ 32 → bd < 2 ^ 32 → (nat_lt ae be || (ae == be && nat_lt ad bd)) ≡ nat_lt (ae * 2 ^ 32 + ad) (be * 2 ^ 32 + bd)
+ordered ae ad be bd a b = grind (arith, nat_tests)
 
-none_some : {a : Key} {o : Option Key} → o ≡ None → o ≡ Some a → ⊥
-none_some h k = cc
+-- keys stand as their ranks do
+rank_order : (a b : ℕ) → precedes (rank_key a) (rank_key b) ≡ nat_lt a b
+rank_order a b = cc (ordered (a / 2 ^ 32) (a % 2 ^ 32) (b / 2 ^ 32) (b % 2 ^ 32) (mod-lt a (omega arith)) (mod-lt b (omega arith)), div-add-mod' a (2 ^ 32), div-add-mod' b (2 ^ 32))
 
--- what does not precede the later of two keys, does not precede the earlier one
-not_earlier : (g h b : Key) (t : Bool) → precedes g h ≡ t → precedes g b ≡ false → precedes h b ≡ true → precedes g h ≡ false
-not_earlier g h b true is un over = absurd (both_ways (precedes g b) un (onward g h b is over))
-not_earlier g h b false is un over = is
+not_less : {a b : ℕ} → b ≤ a → nat_lt a b ≡ false
+not_less h = grind (arith, nat_tests)
 
-first_at : (parts : List (List Piece)) (r s : ℕ) → r ≡ s → first_key (get_or parts r []) ≡ first_key (get_or parts s [])
-first_at parts r s e = cc
+-- the best so far, of rank lowest
+pub record Best (heads : List (Option ℕ)) (n best lowest : ℕ) : Type 0 where
+  pub there : best < length heads → get_or heads best None ≡ Some lowest
+  pub some : (best < length heads) ⊎ (lowest + 1 ≡ 2 ^ 64)
+  pub least : (r rank : ℕ) → r < n → get_or heads r None ≡ Some rank → (best < length heads) × (lowest ≤ rank)
 
-none_more : (parts : List (List Piece)) {s : ℕ} → ((r : ℕ) → r < s → first_key (get_or parts r []) ≡ None) → first_key (get_or parts s []) ≡ None
-    → (r : ℕ) → r < s + 1 → first_key (get_or parts r []) ≡ None
-none_more parts {s} none here r h = elim (before_or_at s h) [ inl before ↦ none r before | inr at ↦ first_at parts r s at ∙ here ]
+same_rank : {o : Option ℕ} {a b : ℕ} → o ≡ Some a → o ≡ Some b → a ≡ b
+same_rank h k = cc
 
-first_some : (parts : List (List Piece)) {s : ℕ} {key : Key} → s < length parts → ((r : ℕ) → r < s → first_key (get_or parts r []) ≡ None) → first_key (get_or parts s []) ≡ Some key
-    → IsBest parts (s + 1) (s, key)
-first_some parts {s} {key} inside none here = record {
-  inside = inside;
-  there = here;
-  least = λ r other h is. elim (before_or_at s h) [
-    | inl before ↦ absurd (none_some (none r before) is)
-    | inr at ↦ cc (some_same (first_at parts r s at) is here, itself key)
-  ];
+pub lower : (heads : List (Option ℕ)) {s best lowest rank : ℕ} → Best heads s best lowest → s < length heads → get_or heads s None ≡ Some rank → rank ≤ lowest → Best heads (s + 1) s rank
+lower heads {s} b inside is low = record {
+  there = λ k. is;
+  some = inl inside;
+  least = λ r other k h. (
+    inside,
+    elim (before_or_at s k) [
+      | inl before ↦ omega (arith, low, (b.least r other before h).1)
+      | inr at ↦ omega (arith, same_rank {b = other} is (rw (← at) h))
+    ],
+  );
 }
 
-kept_best : {parts : List (List Piece)} {s : ℕ} {b : ℕ × Key} → IsBest parts s b → ((key : Key) → first_key (get_or parts s []) ≡ Some key → precedes key b.1 ≡ false) → IsBest parts (s + 1) b
-kept_best {parts} {s} best here = record {
-  inside = best.inside;
-  there = best.there;
-  least = λ r other h is. elim (before_or_at s h) [ inl before ↦ best.least r other before is | inr at ↦ here other (cc (first_at parts r s at)) ];
+pub kept : (heads : List (Option ℕ)) {s best lowest : ℕ} → Best heads s best lowest → ((rank : ℕ) → get_or heads s None ≡ Some rank → (best < length heads) × (lowest ≤ rank)) → Best heads (s + 1) best lowest
+kept heads {s} b here = record {
+  there = b.there;
+  some = b.some;
+  least = λ r rank k h. elim (before_or_at s k) [ inl before ↦ b.least r rank before h | inr at ↦ here rank (rw (← at) h) ];
 }
 
-new_best : {parts : List (List Piece)} {s : ℕ} {b : ℕ × Key} {key : Key} → s < length parts → IsBest parts s b → first_key (get_or parts s []) ≡ Some key → precedes key b.1 ≡ true
-    → IsBest parts (s + 1) (s, key)
-new_best {parts} {s} {b} {key} inside best here lower = record {
-  inside = inside;
-  there = here;
-  least = λ r other h is. elim (before_or_at s h) [
-    | inl before ↦ not_earlier other key b.1 (precedes other key) refl (best.least r other before is) lower
-    | inr at ↦ cc (some_same (first_at parts r s at) is here, itself key)
-  ];
+pub higher : (heads : List (Option ℕ)) {s best lowest rank : ℕ} → Best heads s best lowest → get_or heads s None ≡ Some rank → lowest < rank → rank < 2 ^ 64 → Best heads (s + 1) best lowest
+higher heads b is over fits = kept heads b (λ other e. (
+  elim b.some [ inl inside ↦ inside | inr most ↦ absurd (omega (arith, most, over, fits)) ],
+  omega (arith, over, same_rank is e),
+))
+
+least_key : {other : Key} {lowest : ℕ} (o : Option ℕ) → head_key o ≡ Some other → ((rank : ℕ) → o ≡ Some rank → lowest ≤ rank) → precedes other (rank_key lowest) ≡ false
+least_key None h low = absurd (cc)
+least_key {other} {lowest} (Some rank) h low = cc (rank_order rank lowest, not_less (low rank refl))
+
+pub best_some : (heads : List (Option ℕ)) (n best lowest : ℕ) → Best heads n best lowest → length heads ≤ n → best < length heads → IsLeast (keys heads) best
+best_some heads n best lowest b long inside = record {
+  inside = omega (arith, inside, length-map heads head_key);
+  key = rank_key lowest;
+  there = cc (get_or-map head_key heads best None, b.there inside);
+  least = λ r other k h. least_key (get_or heads r None) (cc (get_or-map head_key heads r None))
+      (λ rank e. (b.least r rank (omega (arith, k, long, length-map heads head_key)) e).1);
 }
 
-by_test : {parts : List (List Piece)} {s : ℕ} {b : ℕ × Key} {key : Key} (t : Bool) → precedes key b.1 ≡ t → s < length parts → IsBest parts s b → first_key (get_or parts s []) ≡ Some key
-    → BestOf parts (s + 1) (if t then Some (s, key) else Some b)
-by_test true is inside best here = new_best inside best here is
-by_test false is inside best here = kept_best best (λ other e. cc (some_same refl e here))
-
-step_by : (parts : List (List Piece)) {s : ℕ} (best : Option (ℕ × Key)) (first : Option Key) → first_key (get_or parts s []) ≡ first → s < length parts → BestOf parts s best
-    → BestOf parts (s + 1) (better best s first)
-step_by parts None None here inside b = none_more parts b here
-step_by parts (Some x) None here inside b = kept_best b (λ key e. absurd (none_some here e))
-step_by parts None (Some key) here inside b = first_some parts inside b here
-step_by parts (Some x) (Some key) here inside b = by_test (precedes key x.1) refl inside b here
-
-pub step : (parts : List (List Piece)) {s : ℕ} (best : Option (ℕ × Key)) {result : Option (ℕ × Key)} {first : Option Key} → first_key (get_or parts s []) ≡ first → s < length parts → BestOf parts s best
-    → result ≡ better best s first → BestOf parts (s + 1) result
-step parts best {first} here inside b e = rw e (step_by parts best _ here inside b)
-
-pub best_none : (parts : List (List Piece)) → BestOf parts (length parts) None → (s : ℕ) → s < length parts → first_key (get_or parts s []) ≡ None
-best_none parts none = none
-
-pub best_some : (parts : List (List Piece)) (b : ℕ × Key) → BestOf parts (length parts) (Some b) → IsLeast parts b.0
-best_some parts b h = record { inside = h.inside; key = b.1; there = h.there; least = h.least }
+pub has_all : (heads : List (Option ℕ)) (s : ℕ) → IsLeast (keys heads) s → ((r : ℕ) → r < length heads → r ≢ s → get_or heads r None ≡ None) → HasAll (keys heads) s
+has_all heads s l none = record {
+  inside = l.inside;
+  others = λ r k other. cc (get_or-map head_key heads r None, none r (omega (arith, k, length-map heads head_key)) other);
+}

@@ -1,5 +1,5 @@
 -- What the shards tell is what the whole table gives, dealt out.
-use Rattle.bfd_gather.proofs.Common.{◌≡◌, ◌≢◌, ◌⊎◌, inl, inr, ◌<◌, ◌+◌, ◌-◌, ◌*◌, ◌/◌, ◌%◌, ◌==◌, ◌++◌, max, ℕ, zero, suc, Bool, List, [], ◌∷◌, map, refl, sym, ap, ◌∙◌, subst, arith, None, Some, if◌then◌else◌, cons_option, filter, flat_map, map-append, cases_eq, eq-eqb, ne_eqb, Out, Event, tick_items, Running, ShardEvent, Own, Tick, share, later, moved, outcome_of, Piece, whole_piece, item_piece, event_pieces, Happening, Apart, Among, numbered, queue, shard_tells, told_apart, Dealt, deal, pieces_in, Numbered, div-add-mod', mul-le, mul-add-mod_self_left, mod-lt, mod-eq_of_lt}
+use Rattle.bfd_gather.proofs.Common.{◌≡◌, ◌≢◌, ◌⊎◌, inl, inr, ◌<◌, ◌+◌, ◌-◌, ◌*◌, ◌/◌, ◌%◌, ◌==◌, ◌++◌, max, ℕ, zero, suc, List, [], ◌∷◌, map, refl, sym, ap, ◌∙◌, subst, arith, filter, flat_map, map-append, cases_eq, eq-eqb, ne_eqb, Out, Event, tick_items, Running, ShardEvent, Own, Tick, share, later, moved, outcome_of, whole_piece, item_piece, event_pieces, Happening, Apart, Among, queue, shard_tells, told_apart, Dealt, deal, pieces_in, div-add-mod', mul-le, mul-add-mod_self_left, mod-lt, mod-eq_of_lt}
 use Rattle.std.proofs.lemmas.List.Elements.{filter-append}
 use Rattle.bfd_gather.proofs.Sharing.{own_here, own_gives, own_away, tick_here}
 use Rattle.bfd_gather.proofs.Taking.{here, away}

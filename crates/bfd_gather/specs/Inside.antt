@@ -1,5 +1,5 @@
 -- What a part keeps, and how the parts' first pieces are looked at.
-use Rattle.std.specs.Prelude.{ℕ, ◌≡◌, ◌≢◌, ◌≤◌, ◌<◌, ◌+◌, false, List, [], ◌∷◌, length, take, drop, slice_index_or, sum_by, if◌then◌else◌, Option, None, Some}
+use Rattle.std.specs.Prelude.{ℕ, ◌≡◌, ◌≢◌, ◌≤◌, ◌<◌, ◌+◌, ◌/◌, ◌%◌, ◌^◌, false, List, [], ◌∷◌, length, take, drop, map, slice_index_or, sum_by, Option, None, Some}
 use Rattle.std.specs.List.{AllByRecursion}
 use Rattle.bfd_gather.specs.declared.key.Key.{Key}
 use Rattle.bfd_gather.specs.declared.key.Mark.{Mark}
@@ -45,31 +45,26 @@ abbrev pub first_drops : List Piece → ℕ
 first_drops [] = 0
 first_drops (p ∷ rest) = p.drops
 
--- the better of the best part so far, with its first key, and the part s, whose first key is this
-abbrev pub better : Option (ℕ × Key) → ℕ → Option Key → Option (ℕ × Key)
-better best s None = best
-better None s (Some key) = Some (s, key)
-better (Some b) s (Some key) = if precedes key b.1 then Some (s, key) else Some b
+-- the key whose rank this is: the event's number is in the upper 32 bits, the discriminator in the lower ones
+abbrev pub rank_key : ℕ → Key
+rank_key rank = key (rank / 2 ^ 32) (rank % 2 ^ 32)
 
--- of the first n parts none begins with a piece that precedes the first one of this part
-pub record IsBest (parts : List (List Piece)) (n : ℕ) (b : ℕ × Key) : Type 0 where
-  pub inside : b.0 < length parts
-  pub there : first_key (slice_index_or parts b.0 []) ≡ Some b.1
-  pub least : (r : ℕ) (key : Key) → r < n → first_key (slice_index_or parts r []) ≡ Some key → precedes key b.1 ≡ false
+abbrev pub head_key : Option ℕ → Option Key
+head_key None = None
+head_key (Some rank) = Some (rank_key rank)
 
--- the best of the first n parts, or none has a piece
-abbrev pub BestOf : List (List Piece) → ℕ → Option (ℕ × Key) → Type 0
-BestOf parts n None = (r : ℕ) → r < n → first_key (slice_index_or parts r []) ≡ None
-BestOf parts n (Some b) = IsBest parts n b
+-- the first keys of parts, one each, whose ranks these are
+abbrev pub keys : List (Option ℕ) → List (Option Key)
+keys heads = map head_key heads
 
--- the part s begins with a piece that none of the others' first pieces precedes
-pub record IsLeast (parts : List (List Piece)) (s : ℕ) : Type 0 where
-  pub inside : s < length parts
+-- heads are first keys of parts: the part s begins with a piece that none of the others' first pieces precedes
+pub record IsLeast (heads : List (Option Key)) (s : ℕ) : Type 0 where
+  pub inside : s < length heads
   pub key : Key
-  pub there : first_key (slice_index_or parts s []) ≡ Some key
-  pub least : (r : ℕ) (other : Key) → r < length parts → first_key (slice_index_or parts r []) ≡ Some other → precedes other key ≡ false
+  pub there : slice_index_or heads s None ≡ Some key
+  pub least : (r : ℕ) (other : Key) → r < length heads → slice_index_or heads r None ≡ Some other → precedes other key ≡ false
 
 -- no other part than s has a piece
-pub record HasAll (parts : List (List Piece)) (s : ℕ) : Type 0 where
-  pub inside : s < length parts
-  pub others : (r : ℕ) → r < length parts → r ≢ s → first_key (slice_index_or parts r []) ≡ None
+pub record HasAll (heads : List (Option Key)) (s : ℕ) : Type 0 where
+  pub inside : s < length heads
+  pub others : (r : ℕ) → r < length heads → r ≢ s → slice_index_or heads r None ≡ None

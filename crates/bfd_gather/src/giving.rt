@@ -1,15 +1,15 @@
 //! The parts' pieces, taken in the order of a report and given to a sink.
-ghost use Rattle.std.specs.Prelude.{ℕ, ◌≡◌, ◌<◌, ◌+◌, ◌++◌, List, IfOk, OnOk, drop, length, sum_by};
+ghost use Rattle.std.specs.Prelude.{ℕ, ◌≡◌, ◌<◌, ◌+◌, ◌++◌, List, IfOk, OnOk, drop, length, map, sum_by};
 ghost use Rattle.bfd_edge.specs.Faults.{HasCause};
-ghost use Rattle.bfd_gather.specs.Inside.{first_text, first_txs, first_drops};
+ghost use Rattle.bfd_gather.specs.Inside.{first_key, first_text, first_txs, first_drops, keys};
 ghost use Rattle.bfd_gather.specs.Spread.{Dealt, IsSpread, dealt_text};
 ghost use Rattle.bfd_gather.specs.Written.{TookFront, TookUpTo};
 
-use crate::gathering::{least, sole};
+use crate::gathering::{heads_of, least, sole};
 use crate::output::give_on;
 use crate::part::Part;
 use bfd_edge::{Fault, Sink};
-use std::alloc::AllocError;
+use std::alloc::{AllocError, Global};
 
 /// Takes the first piece off a part, appends its text, and adds to these counts the packets that it tells were sent and were
 /// dropped. The one refusal is want of memory, as which 2^64 packets count.
@@ -31,14 +31,16 @@ fn take_counted(
     }
 }
 
-/// Takes all pieces off the parts, in the order of a report. Appends their text, which the sink takes where it is long, and gives how
-/// many packets they tell were sent and were dropped. It is refused as Failed where the sink failed, and as Memory where memory was
-/// wanting, here or there, as which 2^64 packets count.
+/// Takes all pieces off the parts, which have these heads, in the order of a report. Appends their text, which the sink takes
+/// where it is long, and gives how many packets they tell were sent and were dropped. It is refused as Failed where the sink failed, and
+/// as Memory where memory was wanting, here or there, as which 2^64 packets count.
 fn give<K: Sink>(
+    heads: &mut [Option<u64>],
     parts: &mut Vec<Part>,
     text: &mut Vec<u8>,
     sink: &mut K,
 ) -> Result<(u64, u64), Fault>
+    requires { keys heads.old ≡ map first_key parts.old.items }
     ensures told { (dealt : List Dealt) → IsSpread dealt parts.old.items
         → OnOk result (TookUpTo (K.taken sink.old) (K.taken sink.new)
         (text.old.items ++ dealt_text dealt) text.new.items) }
@@ -52,10 +54,12 @@ fn give<K: Sink>(
     ensures calm { OnOk result (K.faults sink.new ≡ K.faults sink.old) }
 {
     let mut counts = (0u64, 0u64);
-    while let Some(s) = least(parts) {
-        let Ok(sums) = take_counted(&mut parts[s], text, counts) else {
+    while let Some(s) = least(heads) {
+        let part = &mut parts[s];
+        let Ok(sums) = take_counted(part, text, counts) else {
             return Err(Fault::Memory);
         };
+        heads[s] = part.first();
         counts = sums;
         give_on(text, sink)?;
     }
@@ -64,6 +68,7 @@ fn give<K: Sink>(
 
 /// The same; the text of a part that has all pieces is given at once.
 pub(crate) fn give_all<K: Sink>(
+    alloc: Global,
     parts: &mut Vec<Part>,
     text: &mut Vec<u8>,
     sink: &mut K,
@@ -80,8 +85,11 @@ pub(crate) fn give_all<K: Sink>(
     ensures cause { HasCause (K.faults sink.old) (K.faults sink.new) result }
     ensures calm { OnOk result (K.faults sink.new ≡ K.faults sink.old) }
 {
-    let Some(s) = sole(parts) else {
-        return give(parts, text, sink);
+    let Ok(mut heads) = heads_of(alloc, parts) else {
+        return Err(Fault::Memory);
+    };
+    let Some(s) = sole(&heads) else {
+        return give(&mut heads, parts, text, sink);
     };
     let Ok(counts) = parts[s].take_all(text) else {
         return Err(Fault::Memory);

@@ -1,7 +1,6 @@
 //! The order of a report.
 ghost use Rattle.std.specs.Prelude.{◌≡◌, ◌≤◌, ◌⊎◌, ◌^◌, IfNone, IfSome};
 ghost use Rattle.bfd_gather.specs.Inside as inside;
-ghost use Rattle.bfd_gather.specs.Pieces as pieces;
 
 /// Where a piece stands in a report: by the number of its event, then by discriminator.
 #[derive(Clone, Copy)]
@@ -37,14 +36,12 @@ impl Mark {
         })
     }
 
-    /// The piece's key.
-    pub(crate) fn key(self) -> Key
-        ensures { result ≡ inside.mark_key self }
+    /// The rank of the piece's key: its event's number, and behind it the discriminator in 32 bits. Ranks stand in the order of
+    /// keys.
+    pub(crate) fn rank(self) -> u64
+        ensures { inside.rank_key result ≡ inside.mark_key self }
     {
-        Key {
-            event: u64::from(self.event),
-            discr: self.discr,
-        }
+        u64::from(self.event) * (1 << 32) + u64::from(self.discr)
     }
 
     /// How many bytes of text it has.
@@ -60,14 +57,5 @@ impl Mark {
         ensures drops { result.1 ≡ self.drops }
     {
         (u64::from(self.txs), u64::from(self.drops))
-    }
-}
-
-impl Key {
-    /// This key stands before the other.
-    pub(crate) fn precedes(self, other: Key) -> bool
-        ensures { result ≡ pieces.precedes self other }
-    {
-        self.event < other.event || self.event == other.event && self.discr < other.discr
     }
 }

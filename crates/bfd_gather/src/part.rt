@@ -3,7 +3,7 @@ ghost use Rattle.std.specs.Prelude.{◌≡◌, ◌<◌, ◌≤◌, ◌+◌, ◌+
 ghost use Rattle.std.specs.List.{AllByRecursion};
 ghost use Rattle.bfd_script.specs.Report.{event_lines};
 ghost use Rattle.bfd_gather.specs.Pieces.{texts, whole_piece, item_piece};
-ghost use Rattle.bfd_gather.specs.Inside.{mark_of, first_key, first_text, first_txs, first_drops};
+ghost use Rattle.bfd_gather.specs.Inside.{mark_of, head_key, first_key, first_text, first_txs, first_drops};
 
 use crate::counts::{dropped, named, packets, sent};
 use crate::key::{Key, Mark};
@@ -217,6 +217,24 @@ fn append_left(
     Ok(())
 }
 
+/// For how many bytes of text, and for how many pieces, a part makes room for each event that it will tell, and for how many events at
+/// most: guesses.
+const BYTES_AN_EVENT: usize = 320;
+
+const PIECES_AN_EVENT: usize = 5;
+
+const MOST_EVENTS: usize = 32_768;
+
+/// An empty list with this room, or with none where there is no memory for it.
+fn roomy<T>(alloc: Global, room: usize) -> Vec<T>
+    ensures { result.items ≡ [] }
+{
+    match Vec::with_capacity(alloc, room) {
+        Ok(list) => list,
+        Err(_) => Vec::new(alloc),
+    }
+}
+
 impl Part {
     /// A part that tells nothing.
     pub fn new(alloc: Global) -> Part
@@ -225,6 +243,20 @@ impl Part {
         Part {
             text: Vec::new(alloc),
             marks: Vec::new(alloc),
+            next: 0,
+            at: 0,
+        }
+    }
+
+    /// The same, with room for what so many events may tell, up to a bound, where there is memory for it: a list that grows by and by
+    /// is moved again and again.
+    pub fn with_room(alloc: Global, events: usize) -> Part
+        ensures { result ≡ [] }
+    {
+        let most = events.min(MOST_EVENTS);
+        Part {
+            text: roomy(alloc, most * BYTES_AN_EVENT),
+            marks: roomy(alloc, most * PIECES_AN_EVENT),
             next: 0,
             at: 0,
         }
@@ -278,12 +310,12 @@ impl Part {
         self.text.len() - self.at
     }
 
-    /// The key of the first piece that is left.
-    pub(crate) fn first(&self) -> Option<Key>
-        ensures { result ≡ first_key self.now }
+    /// The rank of the key of the first piece that is left.
+    pub(crate) fn first(&self) -> Option<u64>
+        ensures { head_key result ≡ first_key self.now }
     {
         if self.next < self.marks.len() {
-            Some(self.marks[self.next].key())
+            Some(self.marks[self.next].rank())
         } else {
             None
         }

@@ -74,7 +74,7 @@ pub fn report(alloc: Global, parts: Vec<Part>, events: u64) -> Result<Gathered, 
 {
     let mut parts = parts;
     let mut text = Vec::new(alloc);
-    let (txs, drops) = gather_all(&mut parts, &mut text)?;
+    let (txs, drops) = gather_all(alloc, &mut parts, &mut text)?;
     let done = done_text(alloc, events, txs, drops)?;
     text.extend_from_slice(done.as_bytes())?;
     Ok(Gathered { text, txs, drops })
@@ -103,6 +103,6 @@ pub fn report_to<K: Sink>(
 {
     let mut parts = parts;
     let mut text = Vec::new(alloc);
-    let (txs, drops) = give_all(&mut parts, &mut text, sink)?;
+    let (txs, drops) = give_all(alloc, &mut parts, &mut text, sink)?;
     write_last(alloc, text, events, txs, drops, sink)
 }

@@ -1,5 +1,5 @@
 -- Lines in runs, and what was planned of the runs, put one behind another.
-use Rattle.bfd_plan.proofs.Common.{◌≡◌, ◌<◌, ◌≤◌, ◌+◌, ◌++◌, ℕ, zero, suc, List, [], ◌∷◌, length, map, get_or, take, drop, refl, sym, ap, ◌∙◌, subst, append_assoc, append-nil, arith, length-append, Result, Ok, slice_index_or, AllByRecursion, flat_map, map-append, length-map, take-append-drop, Reflector, SessionConfig, Line, queue, told_apart, AreQueues, AreRuns, Follow, IsMet, IsPlanOf, IsRunPlanned, behind, columns_are, happenings, happening, run_lines, flat_map-append, Numbered, Piece, queue_append, apart_append}
+use Rattle.bfd_plan.proofs.Common.{◌≡◌, ◌<◌, ◌≤◌, ◌+◌, ◌++◌, ℕ, zero, suc, List, [], ◌∷◌, length, map, get_or, take, drop, refl, sym, ap, ◌∙◌, subst, append_assoc, arith, length-append, Result, Ok, slice_index_or, AllByRecursion, map-append, length-map, take-append-drop, Reflector, SessionConfig, Line, queue, told_apart, AreQueues, AreRuns, Follow, IsMet, IsPlanOf, IsRunPlanned, behind, happenings, happening, run_lines, Numbered, Piece, queue_append, apart_append}
 use Rattle.std.specs.Global.{Vec}
 use Rattle.std.proofs.lemmas.List.Elements.{All-from_recursion}
 use Rattle.bfd_script.proofs.Elements.{each_more}
@@ -77,15 +77,11 @@ behind_at (x ∷ xs) [] k same = absurd (omega (arith, same))
 behind_at (x ∷ xs) (y ∷ ys) zero same = refl
 behind_at (x ∷ xs) (y ∷ ys) (suc k) same = behind_at xs ys k (omega (arith, same))
 
--- a queue more behind one shard's pieces
-pub behind_next : (all done : List (Vec (Vec Numbered))) {after left rest : List (Vec (Vec Numbered))} (qs : List (Vec Numbered)) {more less : List (Vec Numbered)} {column : Vec (Vec Numbered)} (pieces : Vec (Vec Numbered)) {q : Vec Numbered}
-    → left ≡ column ∷ rest → more ≡ q ∷ less → pieces.items ≡ column.items ++ q ∷ [] → after ≡ done ++ pieces ∷ []
-    → columns_are done ++ behind (columns_are left) (map (λ x. x.items) more) ≡ behind (columns_are all) (map (λ x. x.items) qs)
-    → columns_are after ++ behind (columns_are rest) (map (λ x. x.items) less) ≡ behind (columns_are all) (map (λ x. x.items) qs)
-behind_next all done {rest} qs {less} {column} pieces {q} split one is last so_far =
-    let piece : flat_map (λ (x : Vec Numbered). x.items) pieces.items ≡ flat_map (λ (x : Vec Numbered). x.items) column.items ++ q.items =
-    cc (flat_map-append (λ x. x.items) column.items (q ∷ []), append-nil q.items) in
-    cc (map-append (λ c. flat_map (λ x. x.items) c.items) done (pieces ∷ []), append_assoc (columns_are done) (columns_are (pieces ∷ [])) (behind (columns_are rest) (map (λ x. x.items) less)))
+-- a queue more behind one shard's
+pub behind_next : (done : List (List Numbered)) {xs ys all after left rest : List (List Numbered)} {x q both : List Numbered}
+    → left ≡ x ∷ rest → all ≡ q ∷ ys → both ≡ x ++ q → after ≡ done ++ both ∷ []
+    → done ++ behind left all ≡ xs → after ++ behind rest ys ≡ xs
+behind_next done {ys} {rest} {x} {q} split one two is so_far = cc (append_assoc done ((x ++ q) ∷ []) (behind rest ys))
 
 -- one run more
 put_run : {configs : List SessionConfig} {pool : List Reflector} {all lines : List Line} (rest : List Line) {shards number : ℕ} {before queues after : List (List Numbered)} {apart told apart2 : List Piece}
@@ -158,9 +154,9 @@ ended p = record {
   met = p.met;
 }
 
-pub put_end : {configs : List SessionConfig} {pool : List Reflector} {all : List Line} {shards : ℕ} {queues wholes : List (List Numbered)} {apart : List Piece} {plans : List (Vec (Vec Numbered) × List Piece)}
-    → plans ≡ [] → wholes ≡ queues → IsPut configs pool all shards queues apart plans → IsEndOfPlan configs pool all shards wholes apart
-put_end none same p = ended (rw same (put_last p.runs (rw (← none) p.planned) p.on))
+pub put_end : {configs : List SessionConfig} {pool : List Reflector} {all : List Line} {shards : ℕ} {queues : List (List Numbered)} {apart : List Piece} {plans : List (Vec (Vec Numbered) × List Piece)}
+    → plans ≡ [] → IsPut configs pool all shards queues apart plans → IsEndOfPlan configs pool all shards queues apart
+put_end none p = ended (put_last p.runs (rw (← none) p.planned) p.on)
 
 -- values that were all there
 module _ {A E : Type 0} where
@@ -171,11 +167,3 @@ module _ {A E : Type 0} where
   there_at results [] i x is h = absurd (omega (arith, h))
   there_at results (v ∷ vs) zero x is h = cc
   there_at results (v ∷ vs) (suc i) x is h = cc (there_at (map (λ y. Ok y) vs) vs i x refl (omega (arith, h)))
-
-module _ {A B C : Type 0} where
-  pub same_maps : (f : A → C) (g : B → C) (xs : List A) (ys : List B) → length xs ≡ length ys → ((i : ℕ) (x : A) (y : B) → i < length xs → f (get_or xs i x) ≡ g (get_or ys i y)) → map f xs ≡ map g ys
-  same_maps f g [] [] long each = refl
-  same_maps f g [] (y ∷ ys) long each = absurd (omega (arith, long))
-  same_maps f g (x ∷ xs) [] long each = absurd (omega (arith, long))
-  same_maps f g (x ∷ xs) (y ∷ ys) long each =
-      cc (each 0 x y (omega arith), same_maps f g xs ys (omega (arith, long)) (λ i x2 y2 h. each (suc i) x2 y2 (omega (arith, h))))

@@ -102,10 +102,6 @@ pub record IsRunPlanned (configs : List SessionConfig) (pool : List Reflector) (
 abbrev pub IsPlanOf : List SessionConfig → List Reflector → ℕ → Run → Vec (Vec Numbered) × List Piece → Type 0
 IsPlanOf configs pool shards run plan = IsRunPlanned configs pool shards run.first run.lines.items (map (λ q. q.items) plan.0.items) plan.1
 
--- each shard's pieces of its queue, one behind another
-abbrev pub columns_are : List (Vec (Vec Numbered)) → List (List Numbered)
-columns_are columns = map (λ c. flat_map (λ q. q.items) c.items) columns
-
 -- a queue more behind each, as far as there are queues
 abbrev pub behind : List (List Numbered) → List (List Numbered) → List (List Numbered)
 behind [] more = []

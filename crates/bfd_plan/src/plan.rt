@@ -1,20 +1,21 @@
 //! A script's events, dealt out to shards.
-ghost use Rattle.std.specs.Prelude.{ℕ, ◌≡◌, ◌<◌, ◌≤◌, ◌+◌, [], IfOk, OnOk, length, map, slice_index_or};
+ghost use Rattle.std.specs.Prelude.{ℕ, ◌≡◌, ◌<◌, ◌≤◌, ◌+◌, [], IfOk, OnOk, None, length, map, slice_index_or};
 ghost use Rattle.std.specs.List.{All, AllByRecursion};
 ghost use Rattle.bfd_demux.specs.Rows.{build_fault};
 ghost use Rattle.bfd_sbfd.specs.Reflect.{Ascends as PoolAscends};
 ghost use Rattle.bfd_session.specs.Rows.{Ascends, table_of as table_in};
 ghost use Rattle.bfd_gather.specs.Happenings.{told_apart};
 ghost use Rattle.bfd_replay.specs.Stage.{IsTable};
-ghost use Rattle.bfd_plan.specs.Planned.{IsMet, AreQueues, IsPlanned, IsPlanOf, happenings, route_is};
+ghost use Rattle.bfd_plan.specs.Planned.{IsMet, AreQueues, AreRuns, IsPlanned, IsPlanOf, happenings, route_is};
 ghost use Rattle.bfd_plan.specs.declared.runs.Run.{Run as RunIn};
 
-use crate::columns::{empty_columns, push_pieces, whole_each};
+use crate::places::Places;
+use crate::queues::{Queue, new_queues, push_pieces};
 use crate::results::all_of;
 use crate::routing::{Route, route_of};
 use crate::runs::{Run, cut};
 use crate::shrinking::next_of;
-use bfd_demux::{BuildFault, Demux};
+use bfd_demux::{Demux, Row};
 use bfd_gather::{Numbered, Part, queue_event};
 use bfd_line::Line;
 use bfd_rules::Out;
@@ -35,11 +36,7 @@ pub fn table(
     ensures { IfOk result (λ demux. demux ≡ table_in configs.now.items pool.now.items) }
 {
     let rows = table_of(alloc, configs, pool)?;
-    match Demux::build(alloc, &rows) {
-        Ok(demux) => Ok(demux),
-        Err(BuildFault::Memory) => Err(AllocError),
-        Err(_) => unreachable!(),
-    }
+    Demux::of_sound(alloc, rows)
 }
 
 /// As many empty queues, each with this room.
@@ -64,10 +61,9 @@ fn greater(a: usize, b: usize) -> usize
 }
 
 /// How many events the longest queue has.
-pub fn longest(queues: &Vec<Vec<Numbered>>) -> usize
-    ensures all { (s : ℕ) → length (slice_index_or (map (λ q. q.items) queues.now.items) s []) ≤ result }
-    ensures least { (most : ℕ) → ((s : ℕ) → length (slice_index_or (map (λ q. q.items) queues.now.items) s []) ≤ most)
-        → result ≤ most }
+pub fn longest(queues: &Vec<Queue>) -> usize
+    ensures all { (s : ℕ) → length (slice_index_or queues.now.items s []) ≤ result }
+    ensures least { (most : ℕ) → ((s : ℕ) → length (slice_index_or queues.now.items s []) ≤ most) → result ≤ most }
 {
     let mut most = 0;
     for shard in 0..queues.len() {
@@ -105,20 +101,20 @@ fn take_in(
 fn plan_run(
     alloc: Global,
     demux: &Demux,
-    configs: &[SessionConfig],
+    places: &Places,
     pool: &[Reflector],
     run: Run,
     shards: u32,
     all: usize,
 ) -> Result<(Vec<Vec<Numbered>>, Part), AllocError>
-    requires table { demux.now ≡ table_in configs.now pool.now }
-    requires ascends { Ascends configs.now }
-    requires few { length configs.now ≤ 65536 }
+    requires table { demux.now ≡ table_in places.now pool.now }
+    requires ascends { Ascends places.now }
+    requires few { length places.now ≤ 65536 }
     requires climbs { PoolAscends pool.now }
     requires shards { (0 < shards) × (shards ≤ 64) }
     requires all { all ≤ 200000 }
     requires within { run.first + length run.lines.items ≤ 1 + all }
-    ensures { IfOk result (λ r. IsPlanOf configs.now pool.now shards run r) }
+    ensures { IfOk result (λ r. IsPlanOf places.now pool.now shards run r) }
 {
     let Run { first, lines } = run;
     let room = if first == 1 { all } else { lines.len() };
@@ -136,7 +132,7 @@ fn plan_run(
             &mut queues,
             &mut apart,
             number,
-            route_of(demux, configs, pool, line),
+            route_of(demux, places, pool, line),
         )?;
         number += 1;
     }
@@ -148,101 +144,117 @@ fn plan_each<R: Threads + Sync>(
     rt: &R,
     alloc: Global,
     demux: &Demux,
-    configs: &[SessionConfig],
+    places: &Places,
     pool: &[Reflector],
     runs: Vec<Run>,
     shards: u32,
     all: usize,
 ) -> Result<Vec<(Vec<Vec<Numbered>>, Part)>, AllocError>
-    requires table { demux.now ≡ table_in configs.now pool.now }
-    requires ascends { Ascends configs.now }
-    requires few { length configs.now ≤ 65536 }
+    requires table { demux.now ≡ table_in places.now pool.now }
+    requires ascends { Ascends places.now }
+    requires few { length places.now ≤ 65536 }
     requires climbs { PoolAscends pool.now }
     requires shards { (0 < shards) × (shards ≤ 64) }
     requires all { all ≤ 200000 }
     requires within { All (λ (r : RunIn). r.first + length r.lines.items ≤ 1 + all) runs.items }
     ensures long { IfOk result (λ plans. length plans.items ≡ length runs.items) }
     ensures each { IfOk result (λ plans. (i : ℕ) (r : RunIn) (p : _) → i < length runs.items
-        → IsPlanOf configs.now pool.now shards (slice_index_or runs.items i r) (slice_index_or plans.items i p)) }
+        → IsPlanOf places.now pool.now shards (slice_index_or runs.items i r) (slice_index_or plans.items i p)) }
 {
     let done = thread::map_vec(
         rt,
         runs,
         &|run: Run|
-            requires table { demux.now ≡ table_in configs.now pool.now }
-            requires ascends { Ascends configs.now }
-            requires few { length configs.now ≤ 65536 }
+            requires table { demux.now ≡ table_in places.now pool.now }
+            requires ascends { Ascends places.now }
+            requires few { length places.now ≤ 65536 }
             requires climbs { PoolAscends pool.now }
             requires shards { (0 < shards) × (shards ≤ 64) }
             requires all { all ≤ 200000 }
             requires within { run.first + length run.lines.items ≤ 1 + all }
-            ensures { IfOk result (λ r. IsPlanOf configs.entry.now pool.entry.now shards run r) }
-        { plan_run(alloc, demux, configs, pool, run, shards, all) },
+            ensures { IfOk result (λ r. IsPlanOf places.entry.now pool.entry.now shards run r) }
+        { plan_run(alloc, demux, places, pool, run, shards, all) },
     )?;
     let plans = all_of(alloc, done)?;
     Ok(plans)
 }
 
-/// The lines of a script: the queue of each shard, and what is told of the events of no session. The lines are cut into
-/// runs, one for each worker or fewer, which are planned at once, and then the runs' queues and what they tell are put one behind another.
-/// The one refusal is want of memory.
-fn plan<R: Threads + Sync>(
+/// The table of rows that have no fault, and the lines in at most as many runs as there are workers, made at once: the table in a
+/// thread of its own where one can be had. The one refusal is want of memory.
+fn table_and_runs<R: Threads + Sync>(
     rt: &R,
     alloc: Global,
-    demux: &Demux,
-    configs: &[SessionConfig],
-    pool: &[Reflector],
+    rows: Vec<Row>,
     events: Vec<Line>,
-    shards: u32,
     workers: u32,
-) -> Result<(Vec<Vec<Numbered>>, Part), AllocError>
-    requires table { demux.now ≡ table_in configs.now pool.now }
-    requires ascends { Ascends configs.now }
-    requires few { length configs.now ≤ 65536 }
-    requires climbs { PoolAscends pool.now }
-    requires shards { (0 < shards) × (shards ≤ 64) }
-    requires workers { (0 < workers) × (workers ≤ 64) }
-    requires events { length events.items ≤ 200000 }
-    ensures queues { IfOk result (λ r. AreQueues shards (happenings configs.now pool.now events.items)
-        (map (λ q. q.items) r.0.items)) }
-    ensures apart { IfOk result (λ r. r.1 ≡ told_apart 1 (happenings configs.now pool.now events.items)) }
-    ensures met { IfOk result (λ r. AllByRecursion (IsMet configs.now) (happenings configs.now pool.now events.items)) }
+) -> Result<(Demux, Vec<Run>), AllocError>
+    requires sound { build_fault rows.items ≡ None }
+    requires some { 0 < workers }
+    requires few { length events.items ≤ 200000 }
+    ensures demux { IfOk result (λ r. r.0 ≡ rows.items) }
+    ensures runs { IfOk result (λ r. AreRuns events.items r.1.items) }
 {
-    let all = events.len();
-    let runs = cut(alloc, events, workers as usize)?;
-    let mut left = plan_each(rt, alloc, demux, configs, pool, runs, shards, all)?;
-    left.reverse();
-    let mut columns = empty_columns(alloc, shards as usize)?;
-    let mut apart = Part::new(alloc);
-    'runs: while let Some((queues, told)) = next_of(&mut left) {
-        columns = push_pieces(alloc, columns, queues)?;
-        apart.append(&told)?;
-    }
-    let queues = whole_each(rt, alloc, columns)?;
-    Ok((queues, apart))
+    let (demux, runs) = thread::join(
+        rt,
+        move || -> Result<Demux, AllocError>
+            requires { build_fault rows.items ≡ None }
+            ensures { IfOk result (λ demux. demux ≡ rows.items) }
+        { Demux::of_sound(alloc, rows) },
+        move || -> Result<Vec<Run>, AllocError>
+            requires { (0 < workers) × (length events.items ≤ 200000) }
+            ensures { IfOk result (λ runs. AreRuns events.items runs.items) }
+        { cut(alloc, events, workers as usize) },
+    );
+    Ok((demux?, runs?))
 }
 
-/// The same, of sessions and reflectors that make this table.
+/// What a replay on an engine begins with.
+#[derive(Drop)]
+pub struct Plan {
+    /// The table by which packets are selected.
+    pub demux: Demux,
+    /// The queue of each shard, in pieces.
+    pub queues: Vec<Queue>,
+    /// What is told of the events of no session.
+    pub apart: Part,
+}
+
+/// What a replay on an engine begins with, by the rows of the sessions and the pool: their table, the queue of each shard, and what is
+/// told of the events of no session. The table is built while the lines are cut into runs, one for each worker or fewer. The runs are
+/// planned at once, and then their queues and what they tell are put one behind another. The one refusal is want of memory.
 pub fn planned<R: Threads + Sync>(
     rt: &R,
     alloc: Global,
-    demux: &Demux,
-    configs: &Vec<SessionConfig>,
+    rows: Vec<Row>,
+    places: &Places,
     pool: &Vec<Reflector>,
     events: Vec<Line>,
     shards: u32,
     workers: u32,
-) -> Result<(Vec<Vec<Numbered>>, Part), AllocError>
-    requires table { IsTable configs.now.items pool.now.items }
-    requires rows { demux.now ≡ table_in configs.now.items pool.now.items }
+) -> Result<Plan, AllocError>
+    requires table { IsTable places.now pool.now.items }
+    requires rows { rows.items ≡ table_in places.now pool.now.items }
     requires shards { (0 < shards) × (shards ≤ 64) }
     requires workers { (0 < workers) × (workers ≤ 64) }
     requires events { length events.items ≤ 200000 }
-    ensures queues { IfOk result (λ r. AreQueues shards (happenings configs.now.items pool.now.items events.items)
-        (map (λ q. q.items) r.0.items)) }
-    ensures apart { IfOk result (λ r. r.1 ≡ told_apart 1 (happenings configs.now.items pool.now.items events.items)) }
-    ensures met { IfOk result (λ r. AllByRecursion (IsMet configs.now.items)
-        (happenings configs.now.items pool.now.items events.items)) }
+    ensures demux { IfOk result (λ plan. plan.demux ≡ table_in places.now pool.now.items) }
+    ensures queues { IfOk result (λ plan. AreQueues shards (happenings places.now pool.now.items events.items) plan.queues.items) }
+    ensures apart { IfOk result (λ plan. plan.apart ≡ told_apart 1 (happenings places.now pool.now.items events.items)) }
+    ensures met { IfOk result (λ plan. AllByRecursion (IsMet places.now) (happenings places.now pool.now.items events.items)) }
 {
-    plan(rt, alloc, demux, configs, pool, events, shards, workers)
+    let all = events.len();
+    let (demux, runs) = table_and_runs(rt, alloc, rows, events, workers)?;
+    let mut left = plan_each(rt, alloc, &demux, places, pool, runs, shards, all)?;
+    left.reverse();
+    let mut queues = new_queues(alloc, shards as usize)?;
+    let mut apart = Part::new(alloc);
+    'runs: while let Some((more, told)) = next_of(&mut left) {
+        queues = push_pieces(alloc, queues, more)?;
+        apart.append(&told)?;
+    }
+    Ok(Plan {
+        demux,
+        queues,
+        apart,
+    })
 }

@@ -1,5 +1,5 @@
 //! What each line of a script is to the sessions.
-ghost use Rattle.std.specs.Prelude.{◌≡◌, ◌<◌, ◌≤◌, List, Some, IfOk, IfSome, OnOk, None, length, slice_get};
+ghost use Rattle.std.specs.Prelude.{◌≡◌, ◌<◌, ◌≤◌, List, Some, IfOk, OnOk, None, length, slice_get};
 ghost use Rattle.std.specs.Result.{result_err};
 ghost use Rattle.bfd_demux.specs.Selection.{first_header_failing, first_table_failing, target_of};
 ghost use Rattle.bfd_sbfd.specs.Reflect.{Ascends as PoolAscends, reflect as reflect_of};
@@ -14,13 +14,14 @@ ghost use Rattle.bfd_line.specs.declared.entries.Line.TheVariants.{Rx};
 ghost use Rattle.bfd_gather.specs.Happenings.{Apart};
 ghost use Rattle.bfd_plan.specs.Planned.{route_is, happening, happening_by, reflecting, IsMet};
 
+use crate::places::Places;
 use bfd_demux::{Demux, Target};
 use bfd_line::Line;
 use bfd_num::{Moment, Steps};
 use bfd_packet::{Arrival, Datagram, Test};
 use bfd_rules::Refusal;
 use bfd_sbfd::{Reflector, reflect};
-use bfd_session::{Answer, Event, SessionConfig as Config};
+use bfd_session::{Answer, Event};
 use bfd_shard::ShardEvent;
 use std::marker::Brand;
 use std::sync::ledger::{Blank, Ledger};
@@ -54,16 +55,16 @@ fn reflected(pool: &[Reflector], place: usize, arrival: &Arrival) -> Route
 /// What a selected arrival is.
 fn directed(
     pool: &[Reflector],
-    configs: &[Config],
+    places: &Places,
     moment: Moment,
     target: Target,
     arrival: Arrival,
 ) -> Route
     requires climbs { PoolAscends pool.now }
-    requires arrives { Arrives configs.now pool.now arrival target }
+    requires arrives { Arrives places.now pool.now arrival target }
     ensures route { route_is result
         ≡ happening_by pool.now (arriving moment arrival (coming_to (Some target) arrival)) }
-    ensures met { IsMet configs.now (route_is result) }
+    ensures met { IsMet places.now (route_is result) }
 {
     match target {
         Target::Session(place) => Route::Happens(ShardEvent::Own {
@@ -96,45 +97,34 @@ fn screened<L: Ledger>(demux: &Demux, arrival: &Arrival, blank: Blank) -> Result
 #[tactic(auto, using(bfd_engine::proofs::Reaching::arrives))]
 fn arrived(
     demux: &Demux,
-    configs: &[Config],
+    places: &Places,
     pool: &[Reflector],
     moment: Moment,
     arrival: Arrival,
 ) -> Route
-    requires table { demux.now ≡ table_of configs.now pool.now }
-    requires ascends { Ascends configs.now }
+    requires table { demux.now ≡ table_of places.now pool.now }
+    requires ascends { Ascends places.now }
     requires climbs { PoolAscends pool.now }
-    ensures route { route_is result ≡ happening configs.now pool.now (Rx moment arrival) }
-    ensures met { IsMet configs.now (route_is result) }
+    ensures route { route_is result ≡ happening places.now pool.now (Rx moment arrival) }
+    ensures met { IsMet places.now (route_is result) }
 {
     match screened::<Brand>(demux, &arrival, Blank::new(1)) {
-        Ok(target) => directed(pool, configs, moment, target, arrival),
+        Ok(target) => directed(pool, places, moment, target, arrival),
         Err(test) => Route::Rests(Answer::Dropped(test)),
     }
 }
 
-/// The place of the session with this discriminator, by a binary search: the sessions stand by ascending discriminator.
-fn place_of(configs: &[Config], discr: u32) -> Option<usize>
-    requires ascends { Ascends configs.now }
-    ensures value { result ≡ place_in discr configs.now }
-    ensures within { IfSome result (λ place. place < length configs.now) }
-{
-    configs
-        .binary_search_by_key(&discr, |config| config.discr())
-        .ok()
-}
-
 /// What a command or a question to the session with this discriminator is.
 #[tactic(auto, using(crate::proofs::Standing::taken_within))]
-fn asked(configs: &[Config], moment: Moment, discr: u32, event: Event) -> Route
+fn asked(places: &Places, moment: Moment, discr: u32, event: Event) -> Route
     requires free { (config : SessionConfig) → CanTake config event }
-    requires ascends { Ascends configs.now }
-    requires few { length configs.now ≤ 65536 }
+    requires ascends { Ascends places.now }
+    requires few { length places.now ≤ 65536 }
     ensures route { (pool : List ReflectorIn)
-        → route_is result ≡ happening_by pool (asking moment event (place_in discr configs.now)) }
-    ensures met { IsMet configs.now (route_is result) }
+        → route_is result ≡ happening_by pool (asking moment event (place_in discr places.now)) }
+    ensures met { IsMet places.now (route_is result) }
 {
-    match place_of(configs, discr) {
+    match places.place_of(discr) {
         Some(place) => Route::Happens(ShardEvent::Own {
             place: place as u32,
             moment,
@@ -144,20 +134,20 @@ fn asked(configs: &[Config], moment: Moment, discr: u32, event: Event) -> Route
     }
 }
 
-/// What a line of a script is to the sessions of these configurations and the reflectors of the pool, which make this table: an
+/// What a line of a script is to the sessions of these places and the reflectors of the pool, which make this table: an
 /// event of no session, or one of theirs, which they may be given.
-pub fn route_of(demux: &Demux, configs: &[Config], pool: &[Reflector], line: Line) -> Route
-    requires table { demux.now ≡ table_of configs.now pool.now }
-    requires ascends { Ascends configs.now }
-    requires few { length configs.now ≤ 65536 }
+pub fn route_of(demux: &Demux, places: &Places, pool: &[Reflector], line: Line) -> Route
+    requires table { demux.now ≡ table_of places.now pool.now }
+    requires ascends { Ascends places.now }
+    requires few { length places.now ≤ 65536 }
     requires climbs { PoolAscends pool.now }
-    ensures route { route_is result ≡ happening configs.now pool.now line }
-    ensures met { IsMet configs.now (route_is result) }
+    ensures route { route_is result ≡ happening places.now pool.now line }
+    ensures met { IsMet places.now (route_is result) }
 {
     match line {
-        Line::Rx { moment, arrival } => arrived(demux, configs, pool, moment, arrival),
+        Line::Rx { moment, arrival } => arrived(demux, places, pool, moment, arrival),
         Line::Tick(t) => Route::Happens(ShardEvent::Tick(t)),
-        Line::Cmd { moment, discr, cmd } => asked(configs, moment, discr, Event::Command(cmd)),
-        Line::Show { moment, discr } => asked(configs, moment, discr, Event::Show),
+        Line::Cmd { moment, discr, cmd } => asked(places, moment, discr, Event::Command(cmd)),
+        Line::Show { moment, discr } => asked(places, moment, discr, Event::Show),
     }
 }

@@ -177,6 +177,21 @@ impl<W: Timers> ShardState<W> {
         Ok(())
     }
 
+    /// Lets the journal take `limit` entries, no fewer than before, and makes room for them as `make` does. Nothing else changes.
+    /// It is refused only for want of memory, and then the limit is as before too.
+    pub fn raise_limit(&mut self, limit: usize) -> Result<(), AllocError>
+        requires { self.old.limit ≤ limit }
+        ensures limit { OnOk result (self.new.limit ≡ limit) }
+        ensures same { OnErr result (self.new.limit ≡ self.old.limit) }
+        ensures sessions { self.new.sessions ≡ self.old.sessions }
+        ensures last { self.new.last ≡ self.old.last }
+        ensures journal { self.new.journal ≡ self.old.journal }
+    {
+        self.journal.reserve(limit.min(MOST_AT_ONCE))?;
+        self.limit = limit;
+        Ok(())
+    }
+
     /// One event, brought by this caller. The shard is prepared; an own event is one that the session at its place takes;
     /// and `outs` has room for five outputs, or at a tick for five of each session.
     ///

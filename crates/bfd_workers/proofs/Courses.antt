@@ -1,5 +1,5 @@
 -- A worker on its way, through a queue and from shard to shard.
-use Rattle.bfd_workers.proofs.Common.{◌≡◌, ◌≢◌, inl, inr, ◌<◌, ◌≤◌, ◌+◌, ◌++◌, ◌∙◌, ◌∷◌, ℕ, [], List, length, map, sym, ap, refl, append_assoc, arith, length-append, slice_index_or, length-map, get_or_append_left, get_or-append_seam, cases_lt, dite, ℕ_discrete, EngineFault, Shards, Knows, IsOf, AllThere, seen_at, taken_at, Numbered, Piece, HasDoneAt, HasFinished, HasLeft, HasStopped, HasTold, HasUsed, IsElsewhere, IsIdle, IsTurnRefused, IsStopAt}
+use Rattle.bfd_workers.proofs.Common.{◌≡◌, ◌≢◌, inl, inr, ◌<◌, ◌≤◌, ◌+◌, ◌++◌, ◌∙◌, ◌∷◌, ℕ, [], List, length, sym, ap, refl, append_assoc, arith, length-append, slice_index_or, get_or_append_left, get_or-append_seam, cases_lt, dite, ℕ_discrete, EngineFault, Shards, Knows, IsOf, AllThere, seen_at, taken_at, Numbered, Piece, HasDoneAt, HasFinished, HasLeft, HasStopped, HasTold, HasUsed, IsElsewhere, IsIdle, IsTurnRefused, IsStopAt}
 use Rattle.bfd_workers.proofs.Soles.{done_more, stopped_at}
 
 -- the events of the queue up to here were done on the shard, and these are left
@@ -109,16 +109,6 @@ pub stopped_here : (fault : EngineFault) (engine : Shards) (queues : List (List 
     → slice_index_or queues shard [] ≡ queue → IsStopAt fault engine shard (length queue) l → HasStopped engine queues l fault
 stopped_here fault engine queues {shard} l inside is stop = record { shard = shard; inside = inside; stop = rw is stop }
 
-next_here : {V : Type 0} (f : V → List Numbered) (xs ys zs : List V) (q : V) → xs ++ q ∷ ys ≡ zs → slice_index_or (map f zs) (length xs) [] ≡ f q
-next_here f [] ys zs q e = cc
-next_here f (x ∷ xs) ys zs q e = cc (next_here f xs ys (xs ++ q ∷ ys) q refl)
-
 -- the next of the queues that are left
-pub next_queue : {V : Type 0} (f : V → List Numbered) (xs ys zs : List V) (q : V) (n : ℕ) → xs ++ q ∷ ys ≡ zs → n ≡ length xs → (n < length zs) × (slice_index_or (map f zs) n [] ≡ f q)
-next_queue f xs ys zs q n e at = (
-  omega (arith, ap length e, length-append xs (q ∷ ys), at),
-  ap (λ i. slice_index_or (map f zs) i []) at ∙ next_here f xs ys zs q e,
-)
-
-pub long_map : {V : Type 0} (f : V → List Numbered) (xs : List V) → length (map f xs) ≡ length xs
-long_map f xs = length-map xs f
+pub next_queue : (xs ys zs : List (List Numbered)) (q : List Numbered) (n : ℕ) → xs ++ q ∷ ys ≡ zs → n ≡ length xs → (n < length zs) × (slice_index_or zs n [] ≡ q)
+next_queue xs ys zs q n e at = (omega (arith, ap length e, length-append xs (q ∷ ys), at), cc (get_or-append_seam xs q ys []))

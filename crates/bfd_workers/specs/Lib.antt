@@ -3,3 +3,4 @@ pub mod Jobs
 pub mod Ends
 pub mod Counts
 pub mod Replayed
+pub mod Beginning

@@ -8,8 +8,9 @@ ghost use Rattle.bfd_workers.specs.Working.{IsWorkerReady, HasLeft};
 use crate::working::all_shards;
 use bfd_edge::Gate;
 use bfd_engine::{Engine, EngineFault, EnginePass};
-use bfd_gather::{Numbered, Part};
+use bfd_gather::Part;
 use bfd_num::Steps;
+use bfd_plan::Queue;
 use bfd_rules::Outs;
 use bfd_wheel::Timers;
 use std::alloc::{AllocError, Global};
@@ -23,7 +24,7 @@ use std::{mem, thread};
 #[derive(Drop)]
 pub(crate) struct Job {
     pub(crate) pass: EnginePass,
-    pub(crate) queues: Vec<Vec<Numbered>>,
+    pub(crate) queues: Vec<Queue>,
     pub(crate) told: Result<Vec<Part>, EngineFault>,
 }
 
@@ -35,7 +36,7 @@ impl Model for Job {
 
     ghost view = { λ j. record {
       pass = j.pass;
-      queues = map (λ q. q.items) j.queues.items;
+      queues = j.queues.items;
       told = seen_as (λ parts. parts.items) j.told;
     } };
 }
@@ -46,18 +47,18 @@ fn run<W: Timers, R: Wait, G: Gate, L: Ledger>(
     alloc: Global,
     engine: &Engine<W>,
     pass: &mut EnginePass,
-    queues: Vec<Vec<Numbered>>,
+    queues: Vec<Queue>,
     room: usize,
     gate: &G,
     blank: Blank,
 ) -> Result<Vec<Part>, EngineFault>
-    requires ready { IsWorkerReady engine.now (map (λ q. q.items) queues.items) pass.old }
+    requires ready { IsWorkerReady engine.now queues.items pass.old }
     requires room { (shard : ℕ) → 5 * length (configs_at engine.now shard) + 5 ≤ room }
     requires name { blank.name ≡ L.name }
     requires parts { blank.parts ≡ L.parts }
     requires some { 0 < blank.parts }
-    ensures left { HasLeft engine.now (map (λ q. q.items) queues.items) pass.old pass.new }
-    ensures ended { HasEnded engine.now (map (λ q. q.items) queues.items)
+    ensures left { HasLeft engine.now queues.items pass.old pass.new }
+    ensures ended { HasEnded engine.now queues.items
         pass.new (seen_as (λ parts. parts.items) result) }
 {
     let Ok(mut outs) = Outs::make(alloc, room) else {
@@ -139,42 +140,34 @@ pub(crate) fn work_all<W: Timers + Send, R: Threads + Wait + Sync, G: Gate + Syn
 }
 
 /// Takes a queue out where it is the worker's own, and gives an empty one where it isn't.
-fn take_own(
-    alloc: Global,
-    queues: &mut Vec<Vec<Numbered>>,
-    shard: usize,
-    own: bool,
-) -> Vec<Numbered>
+fn take_own(alloc: Global, queues: &mut Vec<Queue>, shard: usize, own: bool) -> Queue
     requires { shard < length queues.old.items }
-    ensures taken { result.items ≡ (if own then slice_index_or (map (λ q. q.items) queues.old.items) shard [] else []) }
+    ensures taken { result ≡ (if own then slice_index_or queues.old.items shard [] else []) }
     ensures long { length queues.new.items ≡ length queues.old.items }
     ensures others { (r : ℕ) → (r ≡ shard → ⊥)
-        → slice_index_or (map (λ q. q.items) queues.new.items) r []
-        ≡ slice_index_or (map (λ q. q.items) queues.old.items) r [] }
+        → slice_index_or queues.new.items r [] ≡ slice_index_or queues.old.items r [] }
     ensures left { own ≡ false → queues.new.items ≡ queues.old.items }
 {
     if own {
-        mem::replace(&mut queues[shard], Vec::new(alloc))
+        mem::replace(&mut queues[shard], Queue::new(alloc))
     } else {
-        Vec::new(alloc)
+        Queue::new(alloc)
     }
 }
 
 /// The queues of the worker at this place of so many, taken out of these.
 pub(crate) fn own_queues(
     alloc: Global,
-    queues: &mut Vec<Vec<Numbered>>,
+    queues: &mut Vec<Queue>,
     workers: u32,
     at: u32,
-) -> Result<Vec<Vec<Numbered>>, AllocError>
+) -> Result<Vec<Queue>, AllocError>
     requires some { 0 < workers }
     requires few { length queues.old.items ≤ 64 }
-    ensures own { IfOk result (λ own. AreOwn workers at (map (λ q. q.items) queues.old.items)
-        (map (λ q. q.items) own.items)) }
+    ensures own { IfOk result (λ own. AreOwn workers at queues.old.items own.items) }
     ensures long { OnOk result (length queues.new.items ≡ length queues.old.items) }
     ensures others { OnOk result ((shard : ℕ) → (shard % workers ≡ at → ⊥)
-        → slice_index_or (map (λ q. q.items) queues.new.items) shard []
-        ≡ slice_index_or (map (λ q. q.items) queues.old.items) shard []) }
+        → slice_index_or queues.new.items shard [] ≡ slice_index_or queues.old.items shard []) }
 {
     let mut own = Vec::new(alloc);
     for shard in 0..queues.len() {

@@ -1,14 +1,16 @@
 //! A script, replayed on shards.
 //!
 //! The lines of a script are planned (`bfd_plan`): each shard has a queue of its events, and what is of no session is told apart.
-//! The sessions stand in an engine of 1 to 64 shards, which are made at once. Each of 1 to 64 workers has a pass of the engine and
+//! The sessions stand in an engine of 1 to 64 shards, which are made meanwhile. Each of 1 to 64 workers has a pass of the engine and
 //! takes the shards of its own, in a thread of its own where one can be had; what each shard's events give is told in a part, and
 //! the parts are gathered into one report. [`replay`] hands out the report, the counts and the shards, and [`reported`] lets the
 //! shards go, each in a thread of its own where one can be had, before it puts the report together. [`reported_in_parts`] lets them
-//! go too, and hands out a [`ReportInParts`], which is put together when it is written.
+//! go in a thread for which nobody waits, where one can be had, and hands out a [`ReportInParts`], which is put together when it is
+//! written.
 //!
-//! Modules: `working` is one worker's turns, `jobs` all workers, `passes` their passes, `running` the engine from opening to
-//! closing, `finish` puts the parts in order, `counting` counts, `in_parts` is a report that is written from its parts.
+//! Modules: `beginning` makes shards and plan at once, `working` is one worker's turns, `jobs` all workers, `passes` their passes,
+//! `running` the engine from opening to closing, `finish` puts the parts in order, `counting` counts, `in_parts` is a report that is
+//! written from its parts.
 //!
 //! It stands on `bfd_plan` for the queues, on `bfd_engine` for the turns, on `bfd_gather` for the report and on `bfd_edge` for the gate
 //! and the sink. It promises that the text, also one that is written from its parts, is that of `bfd_replay`'s `specs/World.antt`,
@@ -18,6 +20,7 @@
 //! and so that no journal was full and no lock spent.
 #![tactic(auto)]
 
+mod beginning;
 mod counting;
 mod finish;
 mod in_parts;

@@ -6,7 +6,8 @@ ghost use Rattle.bfd_workers.specs.Jobs.{AllJobsJoined, AreJobs, IsJoining, Work
 
 use crate::jobs::{Job, own_queues};
 use bfd_engine::{Engine, EngineFault, EnginePass};
-use bfd_gather::{Numbered, Part};
+use bfd_gather::Part;
+use bfd_plan::Queue;
 use bfd_wheel::Timers;
 use std::alloc::{AllocError, Global};
 
@@ -15,13 +16,13 @@ pub(crate) fn deal_jobs<W: Timers>(
     alloc: Global,
     engine: &Engine<W>,
     first: &mut EnginePass,
-    queues: Vec<Vec<Numbered>>,
+    queues: Vec<Queue>,
     workers: u32,
 ) -> Result<Vec<Job>, AllocError>
     requires new { IsNewPass engine.now first.old }
     requires workers { (0 < workers) × (workers ≤ 64) }
     requires few { length queues.items ≤ 64 }
-    ensures { IfOk result (λ jobs. AreJobs engine.now (map (λ q. q.items) queues.items)
+    ensures { IfOk result (λ jobs. AreJobs engine.now queues.items
         workers workers first.new jobs.items) }
 {
     let mut queues = queues;

@@ -8,6 +8,7 @@ ghost use Rattle.bfd_replay.specs.Stage.{IsTable};
 ghost use Rattle.bfd_plan.specs.Planned.{happenings, script_with};
 ghost use Rattle.bfd_workers.specs.Replayed.{HaveReplayed};
 
+use crate::beginning::{begun, places_and_rows};
 use crate::counting::{up_all, up_at_last};
 use crate::finish::in_order;
 use crate::in_parts::ReportInParts;
@@ -15,7 +16,7 @@ use crate::running::{opened, run_all};
 use bfd_edge::Gate;
 use bfd_gather::{Part, report};
 use bfd_line::Line;
-use bfd_plan::{longest, planned, table};
+use bfd_plan::{Plan, longest};
 use bfd_sbfd::Reflector;
 use bfd_script::Script;
 use bfd_session::SessionConfig;
@@ -24,6 +25,7 @@ use bfd_wheel::Timers;
 use std::alloc::{AllocError, Global};
 use std::snapshot::Snapshot;
 use std::sync::Wait;
+use std::thread;
 use std::thread::Threads;
 
 /// What a replay gives, with its shards.
@@ -79,10 +81,17 @@ fn worked<W: Timers + Send, R: Threads + Wait + Sync, G: Gate + Sync>(
         shards workers r.1.items) }
 {
     let room = 5 * configs.len() + 5;
-    let demux = table(alloc, &configs, &pool)?;
-    let (queues, apart) = planned(rt, alloc, &demux, &configs, &pool, events, shards, workers)?;
+    let (places, rows) = places_and_rows(rt, alloc, &configs, &pool)?;
+    let (made, plan) = begun(
+        rt, alloc, configs, &places, rows, &pool, events, shards, workers,
+    )?;
+    let Plan {
+        demux,
+        queues,
+        apart,
+    } = plan;
     let most = longest(&queues);
-    let (engine, first) = opened(rt, alloc, demux, configs, pool, shards, most)?;
+    let (engine, first) = opened(rt, alloc, demux, made, places, pool, most)?;
     let (states, all) = run_all(rt, alloc, engine, first, queues, workers, room, gate)?;
     let parts = in_order(alloc, all, shards, apart)?;
     Ok((parts, states))
@@ -232,10 +241,17 @@ pub fn reported<W: Timers + Send, R: Threads + Wait + Sync, G: Gate + Sync>(
     report_lists::<W, R, G>(rt, alloc, configs, pool, events, shards, workers, gate)
 }
 
-/// The same replay, whose report is put together only when it is written: the shards with their journals are let go here. The one refusal
-/// is want of memory.
+/// Lets shards go, in a thread of its own where one can be had, for which nobody waits.
+fn let_go_beside<W: Timers + Send + 'static, R: Threads>(rt: &R, states: Vec<ShardState<W>>) {
+    let _ = thread::spawn(rt, move || {
+        let _states = states;
+    });
+}
+
+/// The same replay, whose report is put together only when it is written. The shards with their journals are let go meanwhile, in a
+/// thread for which nobody waits, where one can be had: they may still be there when this returns. The one refusal is want of memory.
 #[tactic(auto, using(bfd_plan::proofs::Worlds::is_table))]
-pub fn reported_in_parts<W: Timers + Send, R: Threads + Wait + Sync, G: Gate + Sync>(
+pub fn reported_in_parts<W: Timers + Send + 'static, R: Threads + Wait + Sync, G: Gate + Sync>(
     rt: &R,
     alloc: Global,
     script: Script,
@@ -258,8 +274,7 @@ pub fn reported_in_parts<W: Timers + Send, R: Threads + Wait + Sync, G: Gate + S
     let (parts, states) = worked::<W, R, G>(
         rt, alloc, configs, pool, events, shards, workers, gate,
     )?;
-    // Counted or not, each shard is let go in a thread of its own.
-    let _up = up_at_last(rt, states)?;
+    let_go_beside(rt, states);
     Ok(ReportInParts {
         script: known,
         parts,

@@ -1,7 +1,7 @@
 //! The engine of a replay, from its opening to its closing.
 ghost use Rattle.std.specs.Prelude.{ℕ, ◌≡◌, ◌≤◌, ◌<◌, ◌+◌, ◌*◌, [], IfOk, length, map, slice_index_or};
 ghost use Rattle.bfd_engine.specs.Engines.{configs_at};
-ghost use Rattle.bfd_engine.specs.Opening.{IsNewPass};
+ghost use Rattle.bfd_engine.specs.Opening.{AreNewStates, IsNewPass};
 ghost use Rattle.bfd_workers.specs.Ends.{AreStates, AreTold};
 ghost use Rattle.bfd_session.specs.Rows.{table_of as table_in};
 ghost use Rattle.bfd_replay.specs.Stage.{IsTable};
@@ -13,35 +13,37 @@ use crate::passes::{deal_jobs, join_all};
 use bfd_demux::Demux;
 use bfd_edge::Gate;
 use bfd_engine::{Engine, EnginePass, Unclosed};
-use bfd_gather::{Numbered, Part};
+use bfd_gather::Part;
+use bfd_plan::{Places, Queue};
 use bfd_sbfd::Reflector;
-use bfd_session::SessionConfig;
 use bfd_shard::ShardState;
 use bfd_wheel::Timers;
 use std::alloc::{AllocError, Global};
 use std::sync::Wait;
 use std::thread::Threads;
 
-/// An engine of the sessions and the pool, which make this table.
+/// An engine of these shards, which are new ones of the sessions at these places, with this table of the sessions and the pool.
 #[tactic(auto, using(bfd_replay::proofs::Stages::no_fault))]
 pub(crate) fn opened<W: Timers + Send, R: Threads + Sync>(
     rt: &R,
     alloc: Global,
     demux: Demux,
-    configs: Vec<SessionConfig>,
+    states: Vec<ShardState<W>>,
+    places: Places,
     pool: Vec<Reflector>,
-    shards: u32,
     limit: usize,
 ) -> Result<(Engine<W>, EnginePass), AllocError>
-    requires shards { (0 < shards) × (shards ≤ 64) }
-    requires table { IsTable configs.items pool.items }
-    requires rows { demux ≡ table_in configs.items pool.items }
-    ensures shards { IfOk result (λ r. length r.0.locks ≡ shards) }
-    ensures configs { IfOk result (λ r. r.0.configs ≡ configs.items) }
+    requires shards { (0 < length states.items) × (length states.items ≤ 64) }
+    requires new { AreNewStates (length states.items) places states.items }
+    requires table { IsTable places pool.items }
+    requires rows { demux ≡ table_in places pool.items }
+    ensures shards { IfOk result (λ r. length r.0.locks ≡ length states.items) }
+    ensures configs { IfOk result (λ r. r.0.configs ≡ places) }
     ensures limit { IfOk result (λ r. r.0.limit ≡ limit) }
     ensures pass { IfOk result (λ r. IsNewPass r.0 r.1) }
 {
-    Engine::open_with(rt, alloc, demux, configs, pool, shards, limit)
+    let (discrs, configs) = places.apart();
+    Engine::of_shards(rt, alloc, demux, states, configs, discrs, pool, limit)
 }
 
 /// The queues of an engine's shards, done by so many workers: the closed shards, and what each worker told of each shard. The
@@ -51,7 +53,7 @@ pub(crate) fn run_all<W: Timers + Send, R: Threads + Wait + Sync, G: Gate + Sync
     alloc: Global,
     engine: Engine<W>,
     first: EnginePass,
-    queues: Vec<Vec<Numbered>>,
+    queues: Vec<Queue>,
     workers: u32,
     room: usize,
     gate: &G,
@@ -61,12 +63,12 @@ pub(crate) fn run_all<W: Timers + Send, R: Threads + Wait + Sync, G: Gate + Sync
     requires locks { (0 < length engine.locks) × (length engine.locks ≤ 64) }
     requires long { length queues.items ≡ length engine.locks }
     requires met { (s : ℕ) → s < length engine.locks
-        → AreMet engine s (slice_index_or (map (λ q. q.items) queues.items) s []) }
+        → AreMet engine s (slice_index_or queues.items s []) }
     requires room { (s : ℕ) → 5 * length (configs_at engine s) + 5 ≤ room }
-    requires short { (s : ℕ) → length (slice_index_or (map (λ q. q.items) queues.items) s []) ≤ engine.limit }
+    requires short { (s : ℕ) → length (slice_index_or queues.items s []) ≤ engine.limit }
     requires small { engine.limit ≤ 200000 }
-    ensures states { IfOk result (λ r. AreStates engine (map (λ q. q.items) queues.items) workers r.0.items) }
-    ensures told { IfOk result (λ r. AreTold engine (map (λ q. q.items) queues.items)
+    ensures states { IfOk result (λ r. AreStates engine queues.items workers r.0.items) }
+    ensures told { IfOk result (λ r. AreTold engine queues.items
         workers (map (λ parts. parts.items) r.1.items)) }
 {
     let mut first = first;

@@ -14,7 +14,7 @@ use bfd_edge::Gate;
 use bfd_engine::{Engine, EngineFault, EnginePass};
 use bfd_gather::{Numbered, Part};
 use bfd_num::Steps;
-use bfd_plan::next_of;
+use bfd_plan::{Queue, next_of};
 use bfd_rules::{Out, Outs};
 use bfd_session::Answer;
 use bfd_shard::ShardEvent;
@@ -137,23 +137,28 @@ pub(crate) fn all_shards<W: Timers, R: Wait, G: Gate, L: Ledger>(
     alloc: Global,
     engine: &Engine<W>,
     pass: &mut EnginePass,
-    queues: Vec<Vec<Numbered>>,
+    queues: Vec<Queue>,
     outs: &mut Outs,
     steps: &mut Steps<L>,
     gate: &G,
 ) -> Result<Vec<Part>, EngineFault>
-    requires ready { IsWorkerReady engine.now (map (λ q. q.items) queues.items) pass.old }
+    requires ready { IsWorkerReady engine.now queues.items pass.old }
     requires room { (shard : ℕ) → 5 * length (configs_at engine.now shard) + 5 ≤ outs.old.room }
-    ensures left { HasLeft engine.now (map (λ q. q.items) queues.items) pass.old pass.new }
-    ensures done { IfOk result (λ parts. HasFinished engine.now (map (λ q. q.items) queues.items)
+    ensures left { HasLeft engine.now queues.items pass.old pass.new }
+    ensures done { IfOk result (λ parts. HasFinished engine.now queues.items
         pass.new parts.items) }
-    ensures stopped { IfErr result (HasStopped engine.now (map (λ q. q.items) queues.items) pass.new) }
+    ensures stopped { IfErr result (HasStopped engine.now queues.items pass.new) }
 {
     let mut parts = Vec::new(alloc);
     for queue in queues {
-        let mut part = Part::new(alloc);
+        let Ok(events) = queue.whole(alloc) else {
+            return Err(EngineFault::Memory);
+        };
+        let mut part = Part::with_room(alloc, events.len());
         let shard = parts.len() as u32;
-        match one_shard(rt, engine, pass, shard, queue, &mut part, outs, steps, gate) {
+        match one_shard(
+            rt, engine, pass, shard, events, &mut part, outs, steps, gate,
+        ) {
             Ok(()) => {}
             Err(fault) => return Err(fault),
         }

@@ -1,10 +1,12 @@
-use Rattle.bfd_engine.proofs.Common.{map}
-use Rattle.bfd_engine.proofs.Making.{Apart}
+use Rattle.bfd_engine.proofs.Common.{◌≡◌, ◌++◌, map, Some}
 use Rattle.bfd_engine.proofs.open.apart.Given as goal
 
-abbrev pub invariant-loop-shard : goal.invariant-loop-shard
-invariant-loop-shard g l = record {
-  can : (goal.iterator-loop-shard g).can_next l.shard-iterator;
-  finite : (goal.iterator-loop-shard g).is_finite l.shard-iterator;
-  apart : Apart l.limit (map (λ q. q.items) l.parts.value.items) l.shard-iterator.rest.items l.locks.items l.passes.items l.sizes.items;
+abbrev pub invariant-loop-lock : goal.invariant-loop-lock
+invariant-loop-lock g l = record {
+  can : (goal.iterator-loop-lock g).can_next l.lock-iterator;
+  finite : (goal.iterator-loop-lock g).is_finite l.lock-iterator;
+  all : l.yielded ++ l.lock-iterator.rest.items ≡ l.fn.shards.items;
+  locks : l.locks.items ≡ map (λ s. s.0) l.yielded;
+  passes : l.passes.items ≡ map (λ s. Some s.1) l.yielded;
+  sizes : l.sizes.items ≡ map (λ s. s.2) l.yielded;
 }

@@ -1,11 +1,12 @@
 -- What is left of the pieces is dealt out to the parts, and the others were taken.
-use Rattle.bfd_gather.proofs.Common.{List, length, ◌+◌, ◌≤◌, Dealt, IsSpread, sum_by}
+use Rattle.bfd_gather.proofs.Common.{List, length, map, ◌≡◌, ◌+◌, ◌≤◌, Dealt, IsSpread, first_key, keys, sum_by}
 use Rattle.bfd_gather.proofs.Taking.{Going}
 use Rattle.bfd_gather.proofs.gathering.gather.Given as goal
 
 abbrev pub invariant-loop-s : goal.invariant-loop-s
 invariant-loop-s l = record {
   goes : (dealt : List Dealt) → IsSpread dealt l.initial.parts.items → Going dealt l.parts.items l.initial.text.items l.text.items l.txs l.drops;
+  heads : keys l.heads ≡ map first_key l.parts.items;
   few : l.txs + l.drops + length l.initial.text.items ≤ length l.text.items;
 }
 

@@ -1,5 +1,5 @@
 -- One piece more is taken, and given on or kept; at the end all are.
-use Rattle.bfd_gather.proofs.Common.{◌≡◌, ◌∙◌, ◌<◌, ℕ, [], List, length, set, get_or, subst, None, get_or_default, Piece, Dealt, IsSpread, IsLeast, first_key}
+use Rattle.bfd_gather.proofs.Common.{◌∙◌, List, map-set, set, Dealt, IsSpread, first_key, head_key}
 use Rattle.bfd_gather.proofs.PiecesGiven.{Giving, all_given, give_more, given_broken, given_front, take_more}
 use Rattle.bfd_gather.proofs.giving.give.Given.{Over}
 use Rattle.bfd_gather.proofs.giving.give.Goals as goal
@@ -8,14 +8,13 @@ use Rattle.bfd_gather.proofs.giving.give.Goals.{In-Ok}
 taken : (g : Over) (c : In-Ok g) {dealt : List Dealt} → IsSpread dealt c.args.parts.now.items
     → Giving dealt (set c.loop-s.parts.items c.in-Some.s c.take_counted.new.part) (g.K.Sink.taken c.args.sink.now) (g.K.Sink.taken c.loop-s.sink) c.args.text.now.items c.take_counted.new.text.items c.in-Ok.sums.0 c.in-Ok.sums.1
 taken g c {dealt} h =
-    let least : IsLeast c.loop-s.parts.items c.in-Some.s = rw (← c.deref.ensures.value) c.in-Some.ensures.some in
-    let is = c.index_mut.ensures.value ∙ get_or_default c.loop-s.parts.items c.in-Some.s c.index_mut.result.now [] least.inside in
-    take_more least (cc (c.in-Ok.ensures.rest)) (cc (c.in-Ok.ensures.text)) (cc (c.in-Ok.ensures.txs)) (cc (c.in-Ok.ensures.drops))
+    take_more c.loop-s.invariant.heads c.in-Some.ensures.some c.index_mut-part.ensures.value (cc (c.in-Ok.ensures.rest)) (cc (c.in-Ok.ensures.text)) (cc (c.in-Ok.ensures.txs)) (cc (c.in-Ok.ensures.drops))
     (c.loop-s.invariant.goes dealt h)
 
 pub loop-s-preserved : goal.loop-s-preserved
 loop-s-preserved g c = record {
   goes = λ dealt h. give_more c.in_ok-give_on.ensures.text (taken g (goal.at.loop-s-preserved g c).In-Ok h);
+  heads = cc (map-set first_key c.loop-s.parts.items c.in-Some.s c.take_counted.new.part, map-set head_key c.loop-s.heads c.in-Some.s c.first.result, c.loop-s.invariant.heads);
   calm = c.in_ok-give_on.ensures.calm ∙ c.loop-s.invariant.calm;
 }
 
@@ -26,19 +25,13 @@ pub returns-in_err-give_on-clause-front : goal.returns-in_err-give_on-clause-fro
 returns-in_err-give_on-clause-front g c = λ dealt h. given_broken _ (taken g (goal.at.returns-in_err-give_on-clause-front g c).In-Ok h) c.give_on.ensures.front
 
 pub returns-clause-told : goal.returns-clause-told
-returns-clause-told g c = λ dealt h. (all_given
-    (subst (λ (ps : List (List Piece)). (s : ℕ) → s < length ps → first_key (get_or ps s []) ≡ None) c.deref.ensures.value c.in_default.ensures.none)
-    (c.loop-s.invariant.goes dealt h)).0
+returns-clause-told g c = λ dealt h. (all_given _ c.loop-s.invariant.heads c.in_default.ensures.none (c.loop-s.invariant.goes dealt h)).0
 
 pub returns-clause-front : goal.returns-clause-front
 returns-clause-front g c = λ dealt h. given_front (c.loop-s.invariant.goes dealt h)
 
 pub returns-clause-txs : goal.returns-clause-txs
-returns-clause-txs g c = λ dealt h. (all_given
-    (subst (λ (ps : List (List Piece)). (s : ℕ) → s < length ps → first_key (get_or ps s []) ≡ None) c.deref.ensures.value c.in_default.ensures.none)
-    (c.loop-s.invariant.goes dealt h)).1
+returns-clause-txs g c = λ dealt h. (all_given _ c.loop-s.invariant.heads c.in_default.ensures.none (c.loop-s.invariant.goes dealt h)).1
 
 pub returns-clause-drops : goal.returns-clause-drops
-returns-clause-drops g c = λ dealt h. (all_given
-    (subst (λ (ps : List (List Piece)). (s : ℕ) → s < length ps → first_key (get_or ps s []) ≡ None) c.deref.ensures.value c.in_default.ensures.none)
-    (c.loop-s.invariant.goes dealt h)).2
+returns-clause-drops g c = λ dealt h. (all_given _ c.loop-s.invariant.heads c.in_default.ensures.none (c.loop-s.invariant.goes dealt h)).2

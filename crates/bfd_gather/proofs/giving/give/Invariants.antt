@@ -1,5 +1,5 @@
 -- What is left of the pieces is dealt out to the parts; the others were taken, and given or kept. No write failed.
-use Rattle.bfd_gather.proofs.Common.{◌≡◌, List, length, Dealt, IsSpread, sum_by}
+use Rattle.bfd_gather.proofs.Common.{◌≡◌, List, length, map, Dealt, IsSpread, first_key, keys, sum_by}
 use Rattle.bfd_gather.proofs.PiecesGiven.{Giving}
 use Rattle.bfd_gather.proofs.giving.give.Given as goal
 
@@ -7,6 +7,7 @@ abbrev pub invariant-loop-s : goal.invariant-loop-s
 invariant-loop-s g l = record {
   goes : (dealt : List Dealt) → IsSpread dealt l.initial.parts.items
       → Giving dealt l.parts.items (g.K.Sink.taken l.initial.sink) (g.K.Sink.taken l.sink) l.initial.text.items l.text.items l.counts.0 l.counts.1;
+  heads : keys l.heads ≡ map first_key l.parts.items;
   calm : g.K.Sink.faults l.sink ≡ g.K.Sink.faults l.initial.sink;
 }
 

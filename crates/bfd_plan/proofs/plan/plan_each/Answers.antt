@@ -9,4 +9,4 @@ returns-clause-each g c = λ i r p h.
     let done : vec_len c.in_ok-done.done ≡ length c.in_ok-done.done.items = search rules in
     let given : vec_len c.args.runs ≡ length c.args.runs.items = search rules in
     let k = (c.in_ok-done.ensures.each i (Ok p) h).1 in
-    rw (k.job_is r) (subst (λ x. IfOk x (λ y. IsPlanOf c.args.configs.now c.args.pool.now c.args.shards k.job y)) (there_at _ plans i p c.in_ok-plans.ensures (omega (arith, h, done, given, c.in_ok-done.ensures.len, all_there plans c.in_ok-plans.ensures))) k.call.met)
+    rw (k.job_is r) (subst (λ x. IfOk x (λ y. IsPlanOf c.args.places.now c.args.pool.now c.args.shards k.job y)) (there_at _ plans i p c.in_ok-plans.ensures (omega (arith, h, done, given, c.in_ok-done.ensures.len, all_there plans c.in_ok-plans.ensures))) k.call.met)

@@ -1,5 +1,5 @@
 -- One pass more is taken in.
-use Rattle.bfd_workers.proofs.Common.{◌≡◌, ◌∷◌, [], length, ap, append_assoc, append-nil, nil_from_length, Work, seen_as}
+use Rattle.bfd_workers.proofs.Common.{◌≡◌, ◌∷◌, [], ap, append_assoc, append-nil, nil_from_length, Work, seen_as}
 use Rattle.bfd_workers.proofs.Ordering.{told_more}
 use Rattle.bfd_workers.proofs.Joining.{joined_none, joined_more, next_here}
 use Rattle.bfd_workers.proofs.passes.join_all.Goals as goal
@@ -16,21 +16,21 @@ loop-job-init g c = record {
 pub join-requires-clause-of : goal.join-requires-clause-of
 join-requires-clause-of g c = (
   c.loop-job.invariant.joined.of,
-  rw (ap (λ (x : Work). x.pass) c.job.view_is) (c.requires.others (length c.loop-job.yielded) c.in-Some.job (next_here c.loop-job.yielded c.next.new.self.rest.items c.in-Some.job
+  rw (ap (λ (x : Work). x.pass) c.job.view_is) (c.requires.others _ _ (next_here c.loop-job.yielded c.next.new.self.rest.items c.in-Some.job
       (cc (c.in-Some.ensures.steps.0)))).of,
 )
 
 pub join-requires-clause-there : goal.join-requires-clause-there
 join-requires-clause-there g c = (
   c.loop-job.invariant.joined.there,
-  rw (ap (λ (x : Work). x.pass) c.job.view_is) (c.requires.others (length c.loop-job.yielded) c.in-Some.job (next_here c.loop-job.yielded c.next.new.self.rest.items c.in-Some.job
+  rw (ap (λ (x : Work). x.pass) c.job.view_is) (c.requires.others _ _ (next_here c.loop-job.yielded c.next.new.self.rest.items c.in-Some.job
       (cc (c.in-Some.ensures.steps.0)))).there,
 )
 
 pub join-requires-clause-numbers : goal.join-requires-clause-numbers
 join-requires-clause-numbers g c = (
   c.loop-job.invariant.joined.number,
-  rw (ap (λ (x : Work). x.pass) c.job.view_is) (c.requires.others (length c.loop-job.yielded) c.in-Some.job (next_here c.loop-job.yielded c.next.new.self.rest.items c.in-Some.job
+  rw (ap (λ (x : Work). x.pass) c.job.view_is) (c.requires.others _ _ (next_here c.loop-job.yielded c.next.new.self.rest.items c.in-Some.job
       (cc (c.in-Some.ensures.steps.0)))).number,
 )
 
@@ -40,7 +40,7 @@ loop-job-preserved g c = let i = c.loop-job.invariant in
       can = tt;
       ends = tt;
       all = cc (append_assoc c.loop-job.yielded (c.in-Some.job ∷ []) c.next.new.self.rest.items, c.in-Some.ensures.steps.0);
-      joined = joined_more i.joined (c.requires.others (length c.loop-job.yielded) c.in-Some.job (next_here c.loop-job.yielded c.next.new.self.rest.items c.in-Some.job
+      joined = joined_more i.joined (c.requires.others _ _ (next_here c.loop-job.yielded c.next.new.self.rest.items c.in-Some.job
           (cc (c.in-Some.ensures.steps.0)))) c.join.ensures.of c.join.ensures.there c.join.ensures.number
           (λ s h. rw (← ap (λ (x : Work). x.pass) c.job.view_is) (c.join.ensures.joined s h));
       told = told_more (seen_as (λ parts. parts.items)) (λ x. x.told) c.loop-job.tolds.items c.loop-job.yielded i.told

@@ -2,5 +2,5 @@
 use Rattle.bfd_workers.proofs.Sorting.{sorted}
 use Rattle.bfd_workers.proofs.running.opened.Goals as goal
 
-pub open_with-requires-clause-sorted : goal.open_with-requires-clause-sorted
-open_with-requires-clause-sorted g c κs within = sorted c.requires.table
+pub of_shards-requires-clause-sorted : goal.of_shards-requires-clause-sorted
+of_shards-requires-clause-sorted g c = λ κs within. rw c.apart-discrs.ensures.configs (sorted c.requires.table)

@@ -1,5 +1,5 @@
 -- The shards up to here are done.
-use Rattle.bfd_workers.proofs.Common.{◌≡◌, ◌++◌, length, map}
+use Rattle.bfd_workers.proofs.Common.{◌≡◌, ◌++◌, length}
 use Rattle.bfd_workers.proofs.Courses.{OverShards}
 use Rattle.bfd_workers.proofs.working.all_shards.Given as goal
 
@@ -10,5 +10,5 @@ invariant-loop-queue g l = record {
   all : l.yielded ++ l.queue-iterator.rest.items ≡ l.fn.queues.items;
   long : length l.parts.items ≡ length l.yielded;
   room : l.outs.room ≡ l.initial.outs.room;
-  over : OverShards l.engine (map (λ q. q.items) l.fn.queues.items) l.initial.pass l.pass l.parts.items;
+  over : OverShards l.engine l.fn.queues.items l.initial.pass l.pass l.parts.items;
 }

@@ -8,7 +8,7 @@ lift-own-requires g c =
     let i = c.loop-lock.invariant in
     let n = next_pass c.args.self c.loop-lock.yielded c.next.new.self.rest.items c.in-Some.lock c.args.pass.1 c.loop-lock.pass.1 (length c.loop-lock.shards.items)
     (cc (c.in-Some.ensures.steps.0)) i.long c.requires.of c.requires.there i.left in
-    (n.pass, cc ((c.len-in-loop-lock.ensures ∙ c.loop-lock.shards.ok.0)))
+    (n.pass, cc (c.len-in-loop-lock.ensures, c.loop-lock.shards.ok.0))
 
 pub close-shard-requires-clause-pass : goal.close-shard-requires-clause-pass
 close-shard-requires-clause-pass g c =
@@ -16,7 +16,7 @@ close-shard-requires-clause-pass g c =
     let n = next_pass c.args.self c.loop-lock.yielded c.next.new.self.rest.items c.in-Some.lock c.args.pass.1 c.loop-lock.pass.1 (length c.loop-lock.shards.items)
     (cc (c.in-Some.ensures.steps.0)) i.long c.requires.of c.requires.there i.left in (
       (lifted c.args.self c.args.pass.1 c.loop-lock.pass.1 c.in-Some.lock (length c.loop-lock.shards.items) c.lift-own.result n
-          (cc ((c.len-in-loop-lock.ensures ∙ c.loop-lock.shards.ok.0)))).2,
+          (cc (c.len-in-loop-lock.ensures, c.loop-lock.shards.ok.0))).2,
       cc,
     )
 
@@ -26,7 +26,7 @@ close-shard-requires-clause-joined g c =
     let n = next_pass c.args.self c.loop-lock.yielded c.next.new.self.rest.items c.in-Some.lock c.args.pass.1 c.loop-lock.pass.1 (length c.loop-lock.shards.items)
     (cc (c.in-Some.ensures.steps.0)) i.long c.requires.of c.requires.there i.left in
     joined_here c.args.self c.args.pass (length c.loop-lock.shards.items) c.lift-own.result (lifted c.args.self c.args.pass.1 c.loop-lock.pass.1 c.in-Some.lock (length c.loop-lock.shards.items) c.lift-own.result n
-    (cc ((c.len-in-loop-lock.ensures ∙ c.loop-lock.shards.ok.0)))).1 n.within_is c.requires.joined
+    (cc (c.len-in-loop-lock.ensures, c.loop-lock.shards.ok.0))).1 n.within_is c.requires.joined
 
 pub loop-lock-preserved : goal.loop-lock-preserved
 loop-lock-preserved g c =

@@ -31,10 +31,10 @@ put-requires-clause-callers g c = rw c.lift-pass.ensures.rest (still c.join.new.
 
 pub returns-clause-numbers : goal.returns-clause-numbers
 returns-clause-numbers g c =
-    (cc ((put_back c.args.first.now c.lift-pass.new.self c.put.new.self c.args.at c.join.new.first c.lift-pass.ensures.rest c.put.ensures)), cc)
+    (cc (put_back c.args.first.now c.lift-pass.new.self c.put.new.self c.args.at c.join.new.first c.lift-pass.ensures.rest c.put.ensures), cc)
 
 pub returns-clause-used : goal.returns-clause-used
-returns-clause-used g c = cc ((put_back c.args.first.now c.lift-pass.new.self c.put.new.self c.args.at c.join.new.first c.lift-pass.ensures.rest c.put.ensures))
+returns-clause-used g c = cc (put_back c.args.first.now c.lift-pass.new.self c.put.new.self c.args.at c.join.new.first c.lift-pass.ensures.rest c.put.ensures)
 
 pub returns-clause-glued : goal.returns-clause-glued
 returns-clause-glued g c =

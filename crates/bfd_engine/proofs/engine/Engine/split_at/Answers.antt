@@ -27,11 +27,11 @@ returns-clause-of g c =
 
 pub returns-clause-number : goal.returns-clause-number
 returns-clause-number g c =
-    cc ((put_back c.args.first.now c.lift-pass.new.self c.put.new.self c.args.at c.split-made.new.first c.lift-pass.ensures.rest c.put.ensures))
+    cc (put_back c.args.first.now c.lift-pass.new.self c.put.new.self c.args.at c.split-made.new.first c.lift-pass.ensures.rest c.put.ensures)
 
 pub returns-clause-used : goal.returns-clause-used
 returns-clause-used g c =
-    cc ((put_back c.args.first.now c.lift-pass.new.self c.put.new.self c.args.at c.split-made.new.first c.lift-pass.ensures.rest c.put.ensures))
+    cc (put_back c.args.first.now c.lift-pass.new.self c.put.new.self c.args.at c.split-made.new.first c.lift-pass.ensures.rest c.put.ensures)
 
 pub returns-clause-there : goal.returns-clause-there
 returns-clause-there g c =
