@@ -26,6 +26,10 @@ class Wrong(Exception):
     """What a test found."""
 
 
+class Late(Wrong):
+    """What a test found that other work on the machine may have caused: something came late or not at all."""
+
+
 class Skip(Exception):
     """Why a test can't be made here."""
 
@@ -184,17 +188,31 @@ def outcome(title, function, program, kept):
         try:
             function(program, folder, after)
         except Skip as why:
-            return None, str(why)
+            return None, why
         except (Wrong, OSError, ValueError, IndexError, subprocess.SubprocessError) as wrong:
-            return str(wrong) or repr(wrong), None
+            return wrong, None
         finally:
             if kept:
                 keep(folder, title, kept)
     return None, None
 
 
-def main(name, tests, prepare=None, long=()):
-    """Runs the tests of a table: (name, function), and with the word --long those of `long` as well."""
+def found(wrong):
+    """What is wrong, as lines of a comment."""
+    return "#   " + (str(wrong) or repr(wrong)).replace("\n", "\n#   ")
+
+
+def tried(title, function, program, kept, tries):
+    """What the last of so many tries at most found, and which try that was. Only what came late is tried again, and it is told."""
+    for number in range(1, tries + 1):
+        wrong, why = outcome(title if number == 1 else f"{title}.{number}", function, program, kept)
+        if not isinstance(wrong, Late) or number == tries:
+            return wrong, why, number
+        print(f"# {title} is tried again, since\n{found(wrong)}", file=sys.stderr, flush=True)
+
+
+def main(name, tests, prepare=None, long=(), tries=1):
+    """Runs the tests of a table: (name, function), and with the word --long those of `long` as well. Each has so many tries where it is Late."""
     parser = argparse.ArgumentParser(usage=f"{name} [--install] [--keep FOLDER] [--program COMMAND] {'[--long] ' if long else ''}[WORD..]")
     if long:
         parser.add_argument("--long", action="store_true", help="the long tests as well")
@@ -217,10 +235,11 @@ def main(name, tests, prepare=None, long=()):
     failed = skipped = 0
     print(f"1..{len(chosen)}", flush=True)
     for number, (title, function) in enumerate(chosen, 1):
-        wrong, why = outcome(title, function, program, told.keep)
-        failed, skipped = failed + bool(wrong), skipped + bool(why)
-        print(f"{'not ok' if wrong else 'ok'} {number} - {title}" + (f" # SKIP {why}" if why else ""), flush=True)
-        if wrong:
-            print(f"# {title}\n#   " + wrong.replace("\n", "\n#   "), file=sys.stderr, flush=True)
+        wrong, why, at = tried(title, function, program, told.keep, tries)
+        failed, skipped = failed + (wrong is not None), skipped + (why is not None)
+        note = f" # SKIP {why}" if why is not None else f" # at try {at}" if at > 1 else ""
+        print(f"{'ok' if wrong is None else 'not ok'} {number} - {title}{note}", flush=True)
+        if wrong is not None:
+            print(f"# {title}\n{found(wrong)}", file=sys.stderr, flush=True)
     print(f"# {name}: {len(chosen) - failed - skipped} passed, {failed} failed, {skipped} skipped")
     sys.exit(1 if failed else 0)
