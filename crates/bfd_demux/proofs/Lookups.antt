@@ -213,10 +213,10 @@ session_level kind other discr key e = nat_level discr key
 module _ {rows : List Row} {names : List (Name × Option Port)} {addresses : List (RowKind × ℕ)} {sessions : ℕ} (index : IsIndex rows names addresses sessions) where
   -- the names of the table have an entry that passes where a row has
   any_name : (test : Name × Option Port → Bool) → list_any test names ≡ list_any (λ row. test (row_name row, heard_on row.kind)) rows
-  any_name test = sym (list_any-IsPermutation test (names_of rows) names index.named) ∙ list_any-map test (λ row. (row_name row, heard_on row.kind)) rows
+  any_name test = sym (list_any-IsPermutation test (names_of rows) names index.by_name.named) ∙ list_any-map test (λ row. (row_name row, heard_on row.kind)) rows
 
   many_names : (test : Name × Option Port → Bool) → how_many test names ≡ how_many (λ row. test (row_name row, heard_on row.kind)) rows
-  many_names test = how_many-IsPermutation test index.named ∙ how_many-map test (λ row. (row_name row, heard_on row.kind)) rows
+  many_names test = how_many-IsPermutation test index.by_name.named ∙ how_many-map test (λ row. (row_name row, heard_on row.kind)) rows
 
   -- one row at most is of the port's kind and has the discriminator
   one_named : (port : Port) (discr : ℕ) → how_many (row_has_discr port discr) rows ≤ 1
@@ -228,7 +228,7 @@ module _ {rows : List Row} {names : List (Name × Option Port)} {addresses : Lis
   pub name_known : (port : Port) (discr place : ℕ) (d : Name × Option Port) → IsPlaceOf name_order.ghosts.cmp names (name_on port discr) place →
       is_heard port (get_or names place d).1 ≡ knows rows port discr
   name_known port discr place d at =
-      cc (any_at name_laws.total-law _ (name_on port discr) place (λ entry. is_heard port entry.1) d index.names_ascend at, any_name (λ entry. is_eq (name_order.ghosts.cmp entry.0 (name_on port discr)) && is_heard port entry.1), list_any_agree (name_test port discr) rows)
+      cc (any_at name_laws.total-law _ (name_on port discr) place (λ entry. is_heard port entry.1) d index.by_name.names_ascend at, any_name (λ entry. is_eq (name_order.ghosts.cmp entry.0 (name_on port discr)) && is_heard port entry.1), list_any_agree (name_test port discr) rows)
 
   -- the name isn't found
   pub name_unknown : (port : Port) (discr : ℕ) → list_any (λ (entry : Name × Option Port). is_eq (name_order.ghosts.cmp entry.0 (name_on port discr))) names ≡ false → false ≡ knows rows port discr
@@ -255,14 +255,14 @@ module _ {rows : List Row} {names : List (Name × Option Port)} {addresses : Lis
   few_names =
       let few = (sound_rows rows index.sound).few in
       let mapped : length (names_of rows) ≡ length rows = length-map rows (λ row. (row_name row, heard_on row.kind)) in
-      omega (arith, length_permutation (names_of rows) names index.named)
+      omega (arith, length_permutation (names_of rows) names index.by_name.named)
 
   pub few_addresses : length addresses ≤ 65536
   few_addresses =
       let few = (sound_rows rows index.sound).few in
       let mapped : length (addresses_of rows) ≡ length (filter (λ row. has_addresses row.kind) rows) = length-map (filter (λ row. has_addresses row.kind) rows) (λ row. (row.kind, row.discr)) in
       let fewer = length-filter-le (λ row. has_addresses row.kind) rows in
-      omega (arith, length_permutation (addresses_of rows) addresses index.addressed)
+      omega (arith, length_permutation (addresses_of rows) addresses index.by_addresses.addressed)
 
   -- no row is of the port's kind and has the discriminator
   pub none_named : (port : Port) (discr : ℕ) → false ≡ knows rows port discr → the_one (row_has_discr port discr) rows ≡ None
@@ -286,7 +286,7 @@ module _ {rows : List Row} {names : List (Name × Option Port)} {addresses : Lis
 
   any_address : (test : RowKind × ℕ → Bool) → list_any test addresses ≡ list_any (λ row. has_addresses row.kind && test (row.kind, row.discr)) rows
   any_address test =
-      cc (list_any-IsPermutation test (addresses_of rows) addresses index.addressed, list_any-map test (λ row. (row.kind, row.discr)) (filter (λ row. has_addresses row.kind) rows), list_any-filter (λ row. test (row.kind, row.discr)) (λ row. has_addresses row.kind) rows)
+      cc (list_any-IsPermutation test (addresses_of rows) addresses index.by_addresses.addressed, list_any-map test (λ row. (row.kind, row.discr)) (filter (λ row. has_addresses row.kind) rows), list_any-filter (λ row. test (row.kind, row.discr)) (λ row. has_addresses row.kind) rows)
 
   -- the addresses aren't found
   pub address_unknown : (kind : RowKind) → has_addresses kind ≡ true → list_any (λ (entry : RowKind × ℕ). is_eq (kind_order.ghosts.cmp entry.0 kind)) addresses ≡ false →
@@ -300,7 +300,7 @@ module _ {rows : List Row} {names : List (Name × Option Port)} {addresses : Lis
   address_known kind place d with_addresses at = list_any_agree (λ row.
       cc (address_test kind with_addresses row, and_assoc (has_addresses row.kind) (is_eq (kind_order.ghosts.cmp row.kind kind)) (row.discr == (get_or addresses place d).1)))
       rows ∙ sym (any_address (λ entry. is_eq (kind_order.ghosts.cmp entry.0 kind) && (entry.1 == (get_or addresses place d).1)))
-      ∙ any_at kind_laws.total-law _ kind place (λ entry. entry.1 == (get_or addresses place d).1) d index.addresses_ascend at ∙ grind (arith, nat_tests)
+      ∙ any_at kind_laws.total-law _ kind place (λ entry. entry.1 == (get_or addresses place d).1) d index.by_addresses.addresses_ascend at ∙ grind (arith, nat_tests)
 
   -- so the addresses are known
   pub address_named : (kind : RowKind) (place : ℕ) (d : RowKind × ℕ) → has_addresses kind ≡ true → IsPlaceOf kind_order.ghosts.cmp addresses kind place →

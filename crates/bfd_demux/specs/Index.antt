@@ -63,11 +63,19 @@ discrs_of rows = map (λ row. (row.discr, tt)) rows
 abbrev pub addresses_of : List Row → List (RowKind × ℕ)
 addresses_of rows = map (λ row. (row.kind, row.discr)) (filter (λ row. has_addresses row.kind) rows)
 
+-- the names of the rows in ascending order, with their ports
+pub record AreNames (rows : List Row) (names : List (Name × Option Port)) : Type 0 where
+  pub named : IsPermutation (names_of rows) names
+  pub names_ascend : IsAscending name_order.ghosts.cmp names
+
+-- the addresses of the rows in ascending order, with their discriminators
+pub record AreAddresses (rows : List Row) (addresses : List (RowKind × ℕ)) : Type 0 where
+  pub addressed : IsPermutation (addresses_of rows) addresses
+  pub addresses_ascend : IsAscending kind_order.ghosts.cmp addresses
+
 -- rows without a fault, their names and their addresses in ascending order, and the number of sessions
 pub record IsIndex (rows : List Row) (names : List (Name × Option Port)) (addresses : List (RowKind × ℕ)) (sessions : ℕ) : Type 0 where
   pub sound : build_fault rows ≡ None
-  pub named : IsPermutation (names_of rows) names
-  pub names_ascend : IsAscending name_order.ghosts.cmp names
-  pub addressed : IsPermutation (addresses_of rows) addresses
-  pub addresses_ascend : IsAscending kind_order.ghosts.cmp addresses
+  pub by_name : AreNames rows names
+  pub by_addresses : AreAddresses rows addresses
   pub counted : sessions ≡ how_many (λ row. is_session row.kind) rows

@@ -10,15 +10,16 @@ ghost use Rattle.bfd_packet.specs.States.{is_init_or_up};
 ghost use Rattle.bfd_demux.specs.Rows.{build_fault, early_fault, has_addresses, same_selector};
 ghost use Rattle.bfd_demux.specs.Selection.{first_header_failing, first_table_failing, row_has_discr, row_has_selector, is_by_addresses, is_echo_form, is_session, knows, reflector_index, selector_on, session_index, target_of, the_one};
 ghost use Rattle.bfd_demux.specs.Parts.{echo_target, first_echo_failing, first_past_header, first_session_failing, index_on, names_session, target_named};
-ghost use Rattle.bfd_demux.specs.Index.{names_of};
+ghost use Rattle.bfd_demux.specs.Index.{AreNames, AreAddresses};
 ghost use Rattle.bfd_demux.specs.Table.{how_many};
 
 use crate::fault::BuildFault;
 use crate::guess::{guess_by_discr, guess_by_peer};
-use crate::name::{Name, heard_on, is_heard, name_on, names_before, row_name};
-use crate::repeats::{addresses_of, repeated_addresses, repeated_discr};
+use crate::lists::{Addresses, Names};
+use crate::name::{Name, is_heard, name_on, names_before};
+use crate::repeats::{repeated_addresses, repeated_discr};
 use crate::row::{Row, RowKind};
-use crate::table::{place_near, sort_by_key};
+use crate::table::place_near;
 use crate::target::Target;
 use bfd_num::Steps;
 use bfd_packet::{Arrival, Control, Port, Test, read};
@@ -112,16 +113,24 @@ impl Demux {
         requires { build_fault rows.items ≡ None }
         ensures { IfOk result (λ demux. demux ≡ rows.items) }
     {
-        let mut names = names_of(alloc, &rows)?;
-        sort_by_key(&mut names);
-        let mut addresses = addresses_of(alloc, &rows)?;
-        sort_by_key(&mut addresses);
-        Ok(Demux {
+        let names = Names::of(alloc, &rows)?;
+        let addresses = Addresses::of(alloc, &rows)?;
+        Ok(Demux::of_lists(rows, names, addresses))
+    }
+
+    /// The same table, of the two lists of its rows, which may have been made at once.
+    pub fn of_lists(rows: Vec<Row>, names: Names, addresses: Addresses) -> Demux
+        requires sound { build_fault rows.items ≡ None }
+        requires names { AreNames rows.items names }
+        requires addresses { AreAddresses rows.items addresses }
+        ensures { result ≡ rows.items }
+    {
+        Demux {
             rows: Snapshot::of(&rows),
-            names,
-            addresses,
+            names: names.list,
+            addresses: addresses.list,
             sessions: count_sessions(&rows),
-        })
+        }
     }
 }
 
@@ -379,15 +388,6 @@ fn selector_of(arrival: &Arrival) -> Option<RowKind>
         Port::Multi => Some(RowKind::Multi { local, remote }),
         _ => None,
     }
-}
-
-// The name of each row and its port.
-fn names_of(alloc: Global, rows: &[Row]) -> Result<Vec<(Name, Option<Port>)>, AllocError>
-    ensures { IfOk result (λ names. names.items ≡ names_of rows.now) }
-{
-    rows.iter()
-        .map(|row| (row_name(row), heard_on(row)))
-        .collect(alloc)
 }
 
 // How many rows are sessions.

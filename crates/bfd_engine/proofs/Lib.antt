@@ -1,4 +1,5 @@
 mod Common
+mod Calls
 pub mod Rooms
 pub mod Places
 pub mod Sharing

@@ -48,7 +48,7 @@ fn following(next: usize, count: usize) -> usize
 }
 
 /// The configurations by shard: session k goes to shard k % shards. The one refusal is want of memory.
-pub fn deal_sessions(
+pub(crate) fn deal_sessions(
     alloc: Global,
     configs: Vec<SessionConfig>,
     shards: usize,

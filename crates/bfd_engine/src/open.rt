@@ -6,11 +6,11 @@ ghost use Rattle.bfd_session.specs.Rows as rows;
 ghost use Rattle.bfd_session.specs.Rows.{AreFit};
 ghost use Rattle.bfd_engine.specs.Opening.{IsSorted, IsNewPass, IsOpenFault, AreNewStates, MayLock, ArePassed, IsMade, AreOpened, AreShares, HaveOpened};
 
+use crate::beside::{all_there, each};
 use crate::dealing::deal_sessions;
 use crate::engine::Engine;
 use crate::fault::OpenFault;
 use crate::locked::{Base, Locked};
-use crate::making::all_there;
 use crate::pass::EnginePass;
 use bfd_demux::{BuildFault, Demux};
 use bfd_sbfd::Reflector;
@@ -20,7 +20,6 @@ use bfd_turn::{Pass, TurnLock};
 use bfd_wheel::Timers;
 use std::alloc::{AllocError, Global};
 use std::snapshot::Snapshot;
-use std::thread;
 use std::thread::Threads;
 
 /// The discriminators of the sessions.
@@ -239,8 +238,9 @@ impl<W: Timers> Engine<W> {
 impl<W: Timers + Send> Engine<W> {
     /// An engine of the shards that `make_shards` made of the sessions, and the pass of caller 0, with a table that is there
     /// already: that of the sessions and the reflectors, which has no fault. `discrs` are the sessions' discriminators in their
-    /// order, and each shard's journal takes `limit` entries. Each lock is made in a thread of its own where one can be had,
-    /// so that workers of different shards don't write side by side. The one refusal is want of memory.
+    /// order, and each shard's journal takes `limit` entries. With `at_once` each lock is made in a thread of its own
+    /// where one can be had, so that workers of different shards don't write side by side; else they are made in turn. The one
+    /// refusal is want of memory.
     pub fn of_shards<R: Threads + Sync>(
         rt: &R,
         alloc: Global,
@@ -250,6 +250,7 @@ impl<W: Timers + Send> Engine<W> {
         discrs: Vec<u32>,
         pool: Vec<Reflector>,
         limit: usize,
+        at_once: bool,
     ) -> Result<(Engine<W>, EnginePass), AllocError>
         requires shards { (0 < length states.items) × (length states.items ≤ 64) }
         requires new { AreNewStates (length states.items) configs.value.items states.items }
@@ -263,8 +264,10 @@ impl<W: Timers + Send> Engine<W> {
         ensures limit { IfOk result (λ r. r.0.limit ≡ limit) }
         ensures pass { IfOk result (λ r. IsNewPass r.0 r.1) }
     {
-        let made = thread::map_vec(
+        let made = each(
             rt,
+            alloc,
+            at_once,
             states,
             &|state: ShardState<W>| -> Result<NewShard<W>, AllocError>
                 requires { MayLock limit state }

@@ -1,5 +1,5 @@
 -- Lines in runs, and what was planned of the runs, put one behind another.
-use Rattle.bfd_plan.proofs.Common.{◌≡◌, ◌<◌, ◌≤◌, ◌+◌, ◌++◌, ℕ, zero, suc, List, [], ◌∷◌, length, map, get_or, take, drop, refl, sym, ap, ◌∙◌, subst, append_assoc, arith, length-append, Result, Ok, slice_index_or, AllByRecursion, map-append, length-map, take-append-drop, Reflector, SessionConfig, Line, queue, told_apart, AreQueues, AreRuns, Follow, IsMet, IsPlanOf, IsRunPlanned, behind, happenings, happening, run_lines, Numbered, Piece, queue_append, apart_append}
+use Rattle.bfd_plan.proofs.Common.{◌≡◌, ◌<◌, ◌≤◌, ◌+◌, ◌++◌, ℕ, zero, suc, List, [], ◌∷◌, length, map, get_or, take, drop, refl, sym, ap, subst, append_assoc, arith, length-append, slice_index_or, AllByRecursion, map-append, length-map, take-append-drop, Reflector, SessionConfig, Line, queue, told_apart, AreQueues, AreRuns, Follow, IsMet, IsPlanOf, IsRunPlanned, behind, happenings, happening, run_lines, Numbered, Piece, queue_append, apart_append}
 use Rattle.std.specs.Global.{Vec}
 use Rattle.std.proofs.lemmas.List.Elements.{All-from_recursion}
 use Rattle.bfd_script.proofs.Elements.{each_more}
@@ -157,13 +157,3 @@ ended p = record {
 pub put_end : {configs : List SessionConfig} {pool : List Reflector} {all : List Line} {shards : ℕ} {queues : List (List Numbered)} {apart : List Piece} {plans : List (Vec (Vec Numbered) × List Piece)}
     → plans ≡ [] → IsPut configs pool all shards queues apart plans → IsEndOfPlan configs pool all shards queues apart
 put_end none p = ended (put_last p.runs (rw (← none) p.planned) p.on)
-
--- values that were all there
-module _ {A E : Type 0} where
-  pub all_there : {results : List (Result A E)} (values : List A) → results ≡ map (λ y. Ok y) values → length results ≡ length values
-  all_there values is = ap length is ∙ length-map values (λ y. Ok y)
-
-  pub there_at : (results : List (Result A E)) (values : List A) (i : ℕ) (x : A) → results ≡ map (λ y. Ok y) values → i < length values → get_or results i (Ok x) ≡ Ok (get_or values i x)
-  there_at results [] i x is h = absurd (omega (arith, h))
-  there_at results (v ∷ vs) zero x is h = cc
-  there_at results (v ∷ vs) (suc i) x is h = cc (there_at (map (λ y. Ok y) vs) vs i x refl (omega (arith, h)))

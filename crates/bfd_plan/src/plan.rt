@@ -1,6 +1,7 @@
 //! A script's events, dealt out to shards.
 ghost use Rattle.std.specs.Prelude.{ℕ, ◌≡◌, ◌<◌, ◌≤◌, ◌+◌, [], IfOk, OnOk, None, length, map, slice_index_or};
 ghost use Rattle.std.specs.List.{All, AllByRecursion};
+ghost use Rattle.bfd_demux.specs.Index.{AreAddresses, AreNames};
 ghost use Rattle.bfd_demux.specs.Rows.{build_fault};
 ghost use Rattle.bfd_sbfd.specs.Reflect.{Ascends as PoolAscends};
 ghost use Rattle.bfd_session.specs.Rows.{Ascends, table_of as table_in};
@@ -11,11 +12,11 @@ ghost use Rattle.bfd_plan.specs.declared.runs.Run.{Run as RunIn};
 
 use crate::places::Places;
 use crate::queues::{Queue, new_queues, push_pieces};
-use crate::results::all_of;
 use crate::routing::{Route, route_of};
 use crate::runs::{Run, cut};
 use crate::shrinking::next_of;
-use bfd_demux::{Demux, Row};
+use bfd_demux::{Addresses, Demux, Names, Row};
+use bfd_engine::{all_there, both};
 use bfd_gather::{Numbered, Part, queue_event};
 use bfd_line::Line;
 use bfd_rules::Out;
@@ -175,12 +176,39 @@ fn plan_each<R: Threads + Sync>(
             ensures { IfOk result (λ r. IsPlanOf places.entry.now pool.entry.now shards run r) }
         { plan_run(alloc, demux, places, pool, run, shards, all) },
     )?;
-    let plans = all_of(alloc, done)?;
+    let plans = all_there(alloc, done)?;
     Ok(plans)
 }
 
-/// The table of rows that have no fault, and the lines in at most as many runs as there are workers, made at once: the table in a
-/// thread of its own where one can be had. The one refusal is want of memory.
+/// The table of rows that have no fault, its two lists made at once or in turn. The one refusal is want of memory.
+fn table_of_rows<R: Threads>(
+    rt: &R,
+    alloc: Global,
+    at_once: bool,
+    rows: Vec<Row>,
+) -> Result<Demux, AllocError>
+    requires { build_fault rows.items ≡ None }
+    ensures { IfOk result (λ demux. demux ≡ rows.items) }
+{
+    let (names, addresses) = both(
+        rt,
+        at_once,
+        || -> Result<Names, AllocError>
+            requires { build_fault rows.items ≡ None }
+            ensures { IfOk result (AreNames rows.items) }
+        { Names::of(alloc, &rows) },
+        || -> Result<Addresses, AllocError>
+            requires { build_fault rows.items ≡ None }
+            ensures { IfOk result (AreAddresses rows.items) }
+        { Addresses::of(alloc, &rows) },
+    );
+    let names = names?;
+    let addresses = addresses?;
+    Ok(Demux::of_lists(rows, names, addresses))
+}
+
+/// The table of rows that have no fault, and the lines in at most as many runs as there are workers: made at once where there are
+/// several workers. The one refusal is want of memory.
 fn table_and_runs<R: Threads + Sync>(
     rt: &R,
     alloc: Global,
@@ -194,12 +222,14 @@ fn table_and_runs<R: Threads + Sync>(
     ensures demux { IfOk result (λ r. r.0 ≡ rows.items) }
     ensures runs { IfOk result (λ r. AreRuns events.items r.1.items) }
 {
-    let (demux, runs) = thread::join(
+    let at_once = 1 < workers;
+    let (demux, runs) = both(
         rt,
+        at_once,
         move || -> Result<Demux, AllocError>
             requires { build_fault rows.items ≡ None }
             ensures { IfOk result (λ demux. demux ≡ rows.items) }
-        { Demux::of_sound(alloc, rows) },
+        { table_of_rows(rt, alloc, at_once, rows) },
         move || -> Result<Vec<Run>, AllocError>
             requires { (0 < workers) × (length events.items ≤ 200000) }
             ensures { IfOk result (λ runs. AreRuns events.items runs.items) }
@@ -220,8 +250,9 @@ pub struct Plan {
 }
 
 /// What a replay on an engine begins with, by the rows of the sessions and the pool: their table, the queue of each shard, and what is
-/// told of the events of no session. The table is built while the lines are cut into runs, one for each worker or fewer. The runs are
-/// planned at once, and then their queues and what they tell are put one behind another. The one refusal is want of memory.
+/// told of the events of no session. With several workers the table is built, its two lists at once, while the lines are cut into runs,
+/// one for each worker or fewer, and the runs are planned at once; with one all is done in turn. Then the runs' queues and what they tell
+/// are put one behind another. The one refusal is want of memory.
 pub fn planned<R: Threads + Sync>(
     rt: &R,
     alloc: Global,

@@ -177,8 +177,8 @@ impl<W: Timers> ShardState<W> {
         Ok(())
     }
 
-    /// Lets the journal take `limit` entries, no fewer than before, and makes room for them as `make` does. Nothing else changes.
-    /// It is refused only for want of memory, and then the limit is as before too.
+    /// Lets the journal take `limit` entries, no fewer than before, and makes room for so many more, 200,000 at most. Nothing else
+    /// changes. It is refused only for want of memory, and then the limit is as before too.
     pub fn raise_limit(&mut self, limit: usize) -> Result<(), AllocError>
         requires { self.old.limit ≤ limit }
         ensures limit { OnOk result (self.new.limit ≡ limit) }

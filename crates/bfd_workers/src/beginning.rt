@@ -1,4 +1,4 @@
-//! Shards and plan of a replay, made at once.
+//! Shards and plan of a replay, made at once or in turn.
 ghost use Rattle.std.specs.Prelude.{◌≡◌, ◌≤◌, ◌<◌, IfOk, length};
 ghost use Rattle.bfd_engine.specs.Opening.{AreNewStates, MayOpen};
 ghost use Rattle.bfd_session.specs.Rows.{table_of as table_in};
@@ -6,7 +6,7 @@ ghost use Rattle.bfd_replay.specs.Stage.{IsTable};
 ghost use Rattle.bfd_workers.specs.Beginning.{IsBeginning};
 
 use bfd_demux::Row;
-use bfd_engine::make_shards;
+use bfd_engine::{both, make_shards};
 use bfd_line::Line;
 use bfd_plan::{Places, Plan, planned};
 use bfd_sbfd::Reflector;
@@ -14,21 +14,22 @@ use bfd_session::{SessionConfig, table_of};
 use bfd_shard::ShardState;
 use bfd_wheel::Timers;
 use std::alloc::{AllocError, Global};
-use std::thread;
 use std::thread::Threads;
 
-/// The places of the sessions and, made beside them, the rows of the sessions and the pool. The one refusal is want of memory.
+/// The places of the sessions and the rows of the sessions and the pool, made at once or in turn. The one refusal is want of memory.
 pub(crate) fn places_and_rows<R: Threads + Sync>(
     rt: &R,
     alloc: Global,
+    at_once: bool,
     configs: &Vec<SessionConfig>,
     pool: &Vec<Reflector>,
 ) -> Result<(Places, Vec<Row>), AllocError>
     ensures places { IfOk result (λ r. r.0 ≡ configs.now.items) }
     ensures rows { IfOk result (λ r. r.1.items ≡ table_in configs.now.items pool.now.items) }
 {
-    let (places, rows) = thread::join(
+    let (places, rows) = both(
         rt,
+        at_once,
         || -> Result<Places, AllocError>
             ensures { IfOk result (λ places. places ≡ configs.entry.now.items) }
         { Places::of(alloc, configs) },
@@ -39,7 +40,8 @@ pub(crate) fn places_and_rows<R: Threads + Sync>(
     Ok((places?, rows?))
 }
 
-/// New shards of the sessions, and what the replay begins with, which is planned meanwhile. The one refusal is want of memory.
+/// New shards of the sessions, and what the replay begins with: at once where there are several workers, and in turn, with no thread
+/// started, where there is one. The one refusal is want of memory.
 pub(crate) fn begun<W: Timers + Send, R: Threads + Sync>(
     rt: &R,
     alloc: Global,
@@ -60,13 +62,15 @@ pub(crate) fn begun<W: Timers + Send, R: Threads + Sync>(
     ensures new { IfOk result (λ r. AreNewStates shards configs.items r.0.items) }
     ensures planned { IfOk result (λ r. IsBeginning configs.items pool.now.items events.items shards r.1) }
 {
-    let (states, plan) = thread::join(
+    let at_once = 1 < workers;
+    let (states, plan) = both(
         rt,
+        at_once,
         move || -> Result<Vec<ShardState<W>>, AllocError>
             requires shards { (0 < shards) × (shards ≤ 64) }
             requires sessions { MayOpen configs.items }
             ensures { IfOk result (λ states. AreNewStates shards configs.items states.items) }
-        { make_shards(rt, alloc, configs, shards) },
+        { make_shards(rt, alloc, configs, shards, at_once) },
         move || -> Result<Plan, AllocError>
             requires table { IsTable places.now pool.now.items }
             requires rows { rows.items ≡ table_in places.now pool.now.items }

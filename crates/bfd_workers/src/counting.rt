@@ -4,12 +4,12 @@ ghost use Rattle.bfd_rules.specs.Quantities as quantities;
 ghost use Rattle.bfd_shard.specs.Shard.{Shard, IsShard};
 ghost use Rattle.bfd_workers.specs.Counts.{one_up, sum_to};
 
+use bfd_engine::each;
 use bfd_packet::State;
 use bfd_session::Session;
 use bfd_shard::ShardState;
 use bfd_wheel::Timers;
-use std::alloc::AllocError;
-use std::thread;
+use std::alloc::{AllocError, Global};
 use std::thread::Threads;
 
 /// Counts a session that is Up.
@@ -81,10 +81,11 @@ fn total(counts: &Vec<u32>) -> u32
     count
 }
 
-/// The same as `up_all`, of shards that are let go: each is counted and let go in a thread of its own where one can be had. The
-/// one refusal is want of memory.
+/// The same as `up_all`, of shards that are counted and let go, at once or in turn. The one refusal is want of memory.
 pub(crate) fn up_at_last<W: Timers + Send, R: Threads + Sync>(
     rt: &R,
+    alloc: Global,
+    at_once: bool,
     states: Vec<ShardState<W>>,
 ) -> Result<u32, AllocError>
     requires few { length states.items ≤ 64 }
@@ -93,8 +94,10 @@ pub(crate) fn up_at_last<W: Timers + Send, R: Threads + Sync>(
     ensures kept { IfOk result (λ _. (k : ℕ) (d : Shard) → k < length states.items
         → IsShard (slice_index_or states.items k d)) }
 {
-    let counts = thread::map_vec(
+    let counts = each(
         rt,
+        alloc,
+        at_once,
         states,
         &|state: ShardState<W>| -> u32
             ensures value { result ≡ sum_by one_up state.sessions }

@@ -6,11 +6,11 @@
 //! the parts are gathered into one report. [`replay`] hands out the report, the counts and the shards, and [`reported`] lets the
 //! shards go, each in a thread of its own where one can be had, before it puts the report together. [`reported_in_parts`] lets them
 //! go in a thread for which nobody waits, where one can be had, and hands out a [`ReportInParts`], which is put together when it is
-//! written.
+//! written. With one worker no thread is started, and all is done in turn.
 //!
-//! Modules: `beginning` makes shards and plan at once, `working` is one worker's turns, `jobs` all workers, `passes` their passes,
-//! `running` the engine from opening to closing, `finish` puts the parts in order, `counting` counts, `in_parts` is a report that is
-//! written from its parts.
+//! Modules: `beginning` makes shards and plan, at once or in turn, `working` is one worker's turns, `jobs` all workers, `passes` their
+//! passes, `running` the engine from opening to closing, `finish` puts the parts in order, `counting` counts, `in_parts` is a report that
+//! is written from its parts.
 //!
 //! It stands on `bfd_plan` for the queues, on `bfd_engine` for the turns, on `bfd_gather` for the report and on `bfd_edge` for the gate
 //! and the sink. It promises that the text, also one that is written from its parts, is that of `bfd_replay`'s `specs/World.antt`,

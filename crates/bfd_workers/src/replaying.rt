@@ -80,8 +80,9 @@ fn worked<W: Timers + Send, R: Threads + Wait + Sync, G: Gate + Sync>(
     ensures states { IfOk result (λ r. HaveReplayed (script_with configs.items pool.items events.items)
         shards workers r.1.items) }
 {
+    let at_once = 1 < workers;
     let room = 5 * configs.len() + 5;
-    let (places, rows) = places_and_rows(rt, alloc, &configs, &pool)?;
+    let (places, rows) = places_and_rows(rt, alloc, at_once, &configs, &pool)?;
     let (made, plan) = begun(
         rt, alloc, configs, &places, rows, &pool, events, shards, workers,
     )?;
@@ -91,7 +92,7 @@ fn worked<W: Timers + Send, R: Threads + Wait + Sync, G: Gate + Sync>(
         apart,
     } = plan;
     let most = longest(&queues);
-    let (engine, first) = opened(rt, alloc, demux, made, places, pool, most)?;
+    let (engine, first) = opened(rt, alloc, demux, made, places, pool, most, at_once)?;
     let (states, all) = run_all(rt, alloc, engine, first, queues, workers, room, gate)?;
     let parts = in_order(alloc, all, shards, apart)?;
     Ok((parts, states))
@@ -169,7 +170,7 @@ fn report_lists<W: Timers + Send, R: Threads + Wait + Sync, G: Gate + Sync>(
     let (parts, states) = worked::<W, R, G>(
         rt, alloc, configs, pool, events, shards, workers, gate,
     )?;
-    let up = up_at_last(rt, states)?;
+    let up = up_at_last(rt, alloc, 1 < workers, states)?;
     let gathered = report(alloc, parts, count as u64)?;
     Ok(Report {
         text: gathered.text,
@@ -241,15 +242,22 @@ pub fn reported<W: Timers + Send, R: Threads + Wait + Sync, G: Gate + Sync>(
     report_lists::<W, R, G>(rt, alloc, configs, pool, events, shards, workers, gate)
 }
 
-/// Lets shards go, in a thread of its own where one can be had, for which nobody waits.
-fn let_go_beside<W: Timers + Send + 'static, R: Threads>(rt: &R, states: Vec<ShardState<W>>) {
-    let _ = thread::spawn(rt, move || {
-        let _states = states;
-    });
+/// Lets shards go: with `beside` in a thread for which nobody waits, where one can be had, and else before it returns.
+fn let_go<W: Timers + Send + 'static, R: Threads>(
+    rt: &R,
+    beside: bool,
+    states: Vec<ShardState<W>>,
+) {
+    if beside {
+        let _ = thread::spawn(rt, move || {
+            let _states = states;
+        });
+    }
 }
 
-/// The same replay, whose report is put together only when it is written. The shards with their journals are let go meanwhile, in a
-/// thread for which nobody waits, where one can be had: they may still be there when this returns. The one refusal is want of memory.
+/// The same replay, whose report is put together only when it is written. With several workers the shards with their journals are let
+/// go meanwhile, in a thread for which nobody waits, where one can be had: they may still be there when this returns. With one worker
+/// they are gone by then. The one refusal is want of memory.
 #[tactic(auto, using(bfd_plan::proofs::Worlds::is_table))]
 pub fn reported_in_parts<W: Timers + Send + 'static, R: Threads + Wait + Sync, G: Gate + Sync>(
     rt: &R,
@@ -274,7 +282,7 @@ pub fn reported_in_parts<W: Timers + Send + 'static, R: Threads + Wait + Sync, G
     let (parts, states) = worked::<W, R, G>(
         rt, alloc, configs, pool, events, shards, workers, gate,
     )?;
-    let_go_beside(rt, states);
+    let_go(rt, 1 < workers, states);
     Ok(ReportInParts {
         script: known,
         parts,

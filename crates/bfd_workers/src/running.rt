@@ -22,7 +22,8 @@ use std::alloc::{AllocError, Global};
 use std::sync::Wait;
 use std::thread::Threads;
 
-/// An engine of these shards, which are new ones of the sessions at these places, with this table of the sessions and the pool.
+/// An engine of these shards, which are new ones of the sessions at these places, with this table of the sessions and the pool. Its
+/// locks are made at once or in turn.
 #[tactic(auto, using(bfd_replay::proofs::Stages::no_fault))]
 pub(crate) fn opened<W: Timers + Send, R: Threads + Sync>(
     rt: &R,
@@ -32,6 +33,7 @@ pub(crate) fn opened<W: Timers + Send, R: Threads + Sync>(
     places: Places,
     pool: Vec<Reflector>,
     limit: usize,
+    at_once: bool,
 ) -> Result<(Engine<W>, EnginePass), AllocError>
     requires shards { (0 < length states.items) × (length states.items ≤ 64) }
     requires new { AreNewStates (length states.items) places states.items }
@@ -43,7 +45,9 @@ pub(crate) fn opened<W: Timers + Send, R: Threads + Sync>(
     ensures pass { IfOk result (λ r. IsNewPass r.0 r.1) }
 {
     let (discrs, configs) = places.apart();
-    Engine::of_shards(rt, alloc, demux, states, configs, discrs, pool, limit)
+    Engine::of_shards(
+        rt, alloc, demux, states, configs, discrs, pool, limit, at_once,
+    )
 }
 
 /// The queues of an engine's shards, done by so many workers: the closed shards, and what each worker told of each shard. The

@@ -1,21 +1,20 @@
 -- What each thread is given, and what it makes of it.
-use Rattle.bfd_engine.proofs.Common.{◌≡◌, rules, arith, Ok, ◌∙◌, length, share, IsNewState}
+use Rattle.bfd_engine.proofs.Common.{arith, Ok, ◌∙◌, share, IsNewState}
 use Rattle.std.proofs.lemmas.Result.{IfOk-weaker}
 use Rattle.bfd_engine.proofs.Opening.{are_shares, may_open}
 use Rattle.bfd_engine.proofs.States.{passed_at, part_is, all_long, made_at}
 use Rattle.bfd_engine.proofs.making.make_shards.Goals as goal
 
-pub map_vec-requires-after_bounds : goal.map_vec-requires-after_bounds
-map_vec-requires-after_bounds g c κs within = passed_at (λ q. q.items) c.in_ok-parts.parts.items (may_open
+pub each-requires-after_bounds : goal.each-requires-after_bounds
+each-requires-after_bounds g c κs within = passed_at (λ q. q.items) c.in_ok-parts.parts.items (may_open
     (are_shares (λ q. q.items) c.args.configs.items c.in_ok-parts.parts.items c.in_ok-parts.ensures.long c.in_ok-parts.ensures.each) c.requires.few c.requires.fit)
 
 pub returns : goal.returns
 returns g c =
     let parts = c.in_ok-parts.parts.items in
     let shares = are_shares (λ q. q.items) c.args.configs.items parts c.in_ok-parts.ensures.long c.in_ok-parts.ensures.each in
-    let made : length c.in_ok-made.made.items ≡ length parts = search rules in
     IfOk-weaker c.all_there.result _ _ (λ states all. record {
-      long = all_long states.items all (made ∙ c.in_ok-parts.ensures.long);
+      long = all_long states.items all (c.in_ok-made.ensures.long ∙ c.in_ok-parts.ensures.long);
       each = λ r d h. (
           let j = (c.in_ok-made.ensures.each r (Ok d) (omega (arith, c.in_ok-parts.ensures.long, h))).1 in
           made_at (IsNewState (share c.args.shards r c.args.configs.items)) states.items r d all

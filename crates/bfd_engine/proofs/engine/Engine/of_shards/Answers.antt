@@ -4,8 +4,8 @@ use Rattle.bfd_engine.proofs.Opening.{made_each, opened}
 use Rattle.bfd_engine.proofs.States.{of, all_long, made_at, shares_of_new}
 use Rattle.bfd_engine.proofs.engine.Engine.of_shards.Goals as goal
 
-pub map_vec-requires-after_bounds : goal.map_vec-requires-after_bounds
-map_vec-requires-after_bounds g c κs within i x h is =
+pub each-requires-after_bounds : goal.each-requires-after_bounds
+each-requires-after_bounds g c κs within i x h is =
     let n = c.requires.new.each i x h in
     rw is (n.journal, omega (arith, n.limit))
 

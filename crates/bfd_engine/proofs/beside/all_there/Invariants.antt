@@ -1,5 +1,5 @@
 use Rattle.bfd_engine.proofs.Common.{◌≡◌, ◌++◌, map, Ok}
-use Rattle.bfd_engine.proofs.making.all_there.Given as goal
+use Rattle.bfd_engine.proofs.beside.all_there.Given as goal
 
 abbrev pub invariant-loop-one : goal.invariant-loop-one
 invariant-loop-one g l = record {

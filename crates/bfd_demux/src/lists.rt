@@ -1,0 +1,77 @@
+//! The two lists of a table, each in order. They ask nothing of one another, so they may be made at once.
+
+ghost use Rattle.std.specs.Prelude.{◌≡◌, IfOk, None};
+ghost use Rattle.bfd_demux.specs.Rows.{build_fault};
+ghost use Rattle.bfd_demux.specs.Index.{AreNames, AreAddresses, names_of};
+
+use crate::name::{Name, heard_on, row_name};
+use crate::repeats::addresses_of;
+use crate::row::{Row, RowKind};
+use crate::table::sort_by_key;
+use bfd_packet::Port;
+use std::alloc::{AllocError, Global};
+use std::marker::Model;
+
+/// The names of a table's rows: sessions, then reflectors, each in ascending order of discriminator.
+#[derive(Drop)]
+pub struct Names {
+    pub(crate) list: Vec<(Name, Option<Port>)>,
+}
+
+impl Model for Names {
+    ghost use Rattle.std.specs.Prelude.{List, Option};
+    ghost use Rattle.bfd_packet.specs.declared.arrival.Port.{Port};
+    ghost use Rattle.bfd_demux.specs.declared.name.Name.{Name};
+
+    ghost Value = { List (Name × Option Port) };
+
+    ghost view = { λ names. names.list.items };
+}
+
+impl Names {
+    /// The names of rows that have no fault. The one refusal is want of memory.
+    pub fn of(alloc: Global, rows: &[Row]) -> Result<Names, AllocError>
+        requires { build_fault rows.now ≡ None }
+        ensures { IfOk result (AreNames rows.now) }
+    {
+        let mut list = names_of(alloc, rows)?;
+        sort_by_key(&mut list);
+        Ok(Names { list })
+    }
+}
+
+/// The kinds and addresses of a table's rows that have addresses, in order, each with the row's discriminator.
+#[derive(Drop)]
+pub struct Addresses {
+    pub(crate) list: Vec<(RowKind, u32)>,
+}
+
+impl Model for Addresses {
+    ghost use Rattle.std.specs.Prelude.{ℕ, List};
+    ghost use Rattle.bfd_demux.specs.declared.row.RowKind.{RowKind};
+
+    ghost Value = { List (RowKind × ℕ) };
+
+    ghost view = { λ addresses. addresses.list.items };
+}
+
+impl Addresses {
+    /// The addresses of rows that have no fault. The one refusal is want of memory.
+    pub fn of(alloc: Global, rows: &[Row]) -> Result<Addresses, AllocError>
+        requires { build_fault rows.now ≡ None }
+        ensures { IfOk result (AreAddresses rows.now) }
+    {
+        let mut list = addresses_of(alloc, rows)?;
+        sort_by_key(&mut list);
+        Ok(Addresses { list })
+    }
+}
+
+// The name of each row and its port.
+fn names_of(alloc: Global, rows: &[Row]) -> Result<Vec<(Name, Option<Port>)>, AllocError>
+    ensures { IfOk result (λ names. names.items ≡ names_of rows.now) }
+{
+    rows.iter()
+        .map(|row| (row_name(row), heard_on(row)))
+        .collect(alloc)
+}
