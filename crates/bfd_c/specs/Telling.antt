@@ -15,7 +15,7 @@ use Rattle.bfd_fields.specs.declared.fault.LineFault.{LineFault}
 use Rattle.bfd_fields.specs.declared.fault.LineFault.TheVariants as faults
 use Rattle.bfd_fields.specs.declared.fault.BadLine.{BadLine}
 use Rattle.bfd_c.specs.declared.opening.Complaint.{Complaint}
-use Rattle.bfd_script.specs.Report.{refusal_name}
+use Rattle.bfd_rules.specs.Names.{refusal_name}
 use Rattle.bfd_c.specs.declared.telling.Output.{Output}
 use Rattle.bfd_c.specs.declared.telling.Answered.{Answered}
 use Rattle.bfd_c.specs.declared.wire.Address.{Address}

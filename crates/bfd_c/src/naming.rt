@@ -2,7 +2,7 @@
 ghost use Rattle.std.specs.Prelude.{◌≡◌, ◌≤◌, length};
 ghost use Rattle.bfd_packet.specs.TestNames.{name_of};
 ghost use Rattle.bfd_packet.specs.Layout.{state_number as number_of_state};
-ghost use Rattle.bfd_script.specs.Report as report;
+ghost use Rattle.bfd_rules.specs.Names as names;
 ghost use Rattle.bfd_c.specs.Telling as telling;
 
 use crate::packing::packed_name;
@@ -40,16 +40,10 @@ fn test_text(test: Test) -> &'static str
 
 /// The name of a refusal, which has at most 15 bytes.
 fn refusal_text(refusal: Refusal) -> &'static str
-    ensures name { result.now ≡ report.refusal_name refusal }
+    ensures name { result.now ≡ names.refusal_name refusal }
     ensures short { length result.now ≤ 15 }
 {
-    match refusal {
-        Refusal::PollBusy => "PollBusy",
-        Refusal::WrongState => "WrongState",
-        Refusal::OutOfRange => "OutOfRange",
-        Refusal::WrongKind => "WrongKind",
-        Refusal::UnknownSession => "UnknownSession",
-    }
+    refusal.name()
 }
 
 /// The name of a test for C.
@@ -61,7 +55,7 @@ pub(crate) fn test_name(test: Test) -> [u8; 16]
 
 /// The name of a refusal for C.
 pub(crate) fn refusal_name(refusal: Refusal) -> [u8; 16]
-    ensures { result ≡ telling.name_bytes (report.refusal_name refusal) }
+    ensures { result ≡ telling.name_bytes (names.refusal_name refusal) }
 {
     packed_name(refusal_text(refusal).as_bytes())
 }

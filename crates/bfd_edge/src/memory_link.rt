@@ -1,13 +1,13 @@
 // A link over memory.
-ghost use Rattle.std.specs.Prelude.{◌≡◌, [], IfOk, slice_get};
+ghost use Rattle.std.specs.Prelude.{◌≡◌, [], slice_get};
 ghost use Rattle.bfd_edge.specs.Links.{after_receive, after_send, no_counts};
 ghost use Rattle.bfd_edge.specs.MemoryLink.{told_of, items_used, Answers, AnswersSend, Hears};
 
 use crate::fault::Fault;
 use crate::link::{Link, LinkCounts, Received};
 use bfd_num::Moment;
-use bfd_packet::{Arrival, Datagram, Payload, Wire};
-use std::alloc::{AllocError, Global};
+use bfd_packet::{Arrival, Datagram, Wire};
+use std::alloc::Global;
 use std::marker::Model;
 
 /// One answer of a link over memory.
@@ -85,21 +85,6 @@ impl MemLink {
     }
 }
 
-/// A copy of a packet.
-fn copied(alloc: Global, arrival: &Arrival) -> Result<Arrival, AllocError>
-    ensures { IfOk result (λ copy. copy ≡ arrival.now) }
-{
-    Ok(Arrival {
-        port: arrival.port,
-        iface: arrival.iface,
-        src: arrival.src,
-        sport: arrival.sport,
-        dst: arrival.dst,
-        ttl: arrival.ttl,
-        payload: Payload::keep(alloc, arrival.payload.as_slice())?,
-    })
-}
-
 /// A copy of a packet that goes out.
 fn copied_out(datagram: &Datagram) -> Datagram
     ensures { result ≡ datagram.now }
@@ -123,7 +108,7 @@ fn heard_at(alloc: Global, heard: &[Heard], at: usize) -> Received
         None => Received::Ended,
         Some(Heard::Quiet) => Received::Quiet,
         Some(Heard::Failed) => Received::Failed,
-        Some(Heard::Got(moment, arrival)) => match copied(alloc, arrival) {
+        Some(Heard::Got(moment, arrival)) => match arrival.copy(alloc) {
             Ok(arrival) => Received::Got {
                 moment: *moment,
                 arrival,

@@ -1,8 +1,6 @@
 -- How fields, names and bytes are spelled.
 use Rattle.std.specs.Prelude.{ℕ, List, [], ◌∷◌, ◌++◌, codes}
 use Rattle.hex.specs.Hex.{encode_lower}
-use Rattle.bfd_packet.specs.declared.control.State.{State}
-use Rattle.bfd_packet.specs.declared.control.State.TheVariants.{AdminDown, Down, Init, Up}
 
 -- fields with a space between each two, and what stands behind the last
 abbrev pub spaced : List (List ℕ) → List ℕ → List ℕ
@@ -18,10 +16,3 @@ line fields = spaced fields (10 ∷ [])
 abbrev pub hex_field : List ℕ → List ℕ
 hex_field [] = codes "-"
 hex_field (byte ∷ bytes) = encode_lower (byte ∷ bytes)
-
--- the name of a session state (RFC 5880 section 4.1)
-abbrev pub state_name : State → List ℕ
-state_name AdminDown = codes "AdminDown"
-state_name Down = codes "Down"
-state_name Init = codes "Init"
-state_name Up = codes "Up"

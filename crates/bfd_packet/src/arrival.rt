@@ -1,6 +1,8 @@
 //! Where a packet came from or goes to.
+ghost use Rattle.std.specs.Prelude.{◌≡◌, IfOk};
 
 use crate::{Bits128, Payload, Wire};
+use std::alloc::{AllocError, Global};
 
 /// The UDP port that every packet is sent from (RFC 5881 section 4: one of 49152 to 65535, the same for all of a session).
 pub const SOURCE_PORT: u16 = 49_152;
@@ -38,6 +40,24 @@ pub struct Arrival {
     pub sport: u16,
     pub ttl: u8,
     pub port: Port,
+}
+
+impl Arrival {
+    /// An equal arrival. The one refusal is want of memory, for the payload.
+    pub fn copy(&self, alloc: Global) -> Result<Arrival, AllocError>
+        ensures { IfOk result (λ copied. copied ≡ self.now) }
+    {
+        let payload = self.payload.copy(alloc)?;
+        Ok(Arrival {
+            port: self.port,
+            iface: self.iface,
+            src: self.src,
+            sport: self.sport,
+            dst: self.dst,
+            ttl: self.ttl,
+            payload,
+        })
+    }
 }
 
 /// A packet as it goes out.

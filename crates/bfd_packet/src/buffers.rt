@@ -102,6 +102,14 @@ impl Payload {
         Ok(Payload { bytes })
     }
 
+    /// An equal payload. It fails only for want of memory.
+    pub fn copy(&self, alloc: Global) -> Result<Self, AllocError>
+        ensures { IfOk result (λ copied. copied ≡ self.now) }
+    {
+        let bytes = Vec::from_slice(alloc, self.as_slice())?;
+        Ok(Payload { bytes })
+    }
+
     /// The bytes, at most 256.
     pub fn as_slice(&self) -> &[u8]
         ensures value { result.now ≡ self.now }

@@ -11,13 +11,25 @@ pub enum State {
 
 impl State {
     ghost use Rattle.std.specs.Prelude.{◌≡◌};
-    ghost use Rattle.bfd_packet.specs.States.{is_init_or_up};
+    ghost use Rattle.bfd_packet.specs.States.{is_init_or_up, state_name};
 
     /// Whether it is Init or Up: who is in one of them has heard the other side (RFC 5880 section 6.2).
     pub fn is_init_or_up(self) -> bool
         ensures { result ≡ is_init_or_up self }
     {
         matches!(self, State::Init | State::Up)
+    }
+
+    /// The state's name, as it is written in the enum.
+    pub fn name(self) -> &'static str
+        ensures { result.now ≡ state_name self }
+    {
+        match self {
+            State::AdminDown => "AdminDown",
+            State::Down => "Down",
+            State::Init => "Init",
+            State::Up => "Up",
+        }
     }
 }
 

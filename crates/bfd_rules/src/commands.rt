@@ -1,4 +1,6 @@
 //! Commands to a session, and why one is refused.
+ghost use Rattle.std.specs.Prelude.{◌≡◌};
+ghost use Rattle.bfd_rules.specs.Names.{refusal_name};
 
 /// A command (RFC 5880 sections 6.8.10 to 6.8.17). The numbers are as they were given: one that is out of its range is refused.
 #[derive(Clone, Copy, Debug, PartialEq, Eq)]
@@ -38,4 +40,19 @@ pub enum Refusal {
     WrongKind = 4,
     /// No session has the discriminator.
     UnknownSession = 5,
+}
+
+impl Refusal {
+    /// The refusal's name, as it is written in the enum.
+    pub fn name(self) -> &'static str
+        ensures { result.now ≡ refusal_name self }
+    {
+        match self {
+            Refusal::PollBusy => "PollBusy",
+            Refusal::WrongState => "WrongState",
+            Refusal::OutOfRange => "OutOfRange",
+            Refusal::WrongKind => "WrongKind",
+            Refusal::UnknownSession => "UnknownSession",
+        }
+    }
 }

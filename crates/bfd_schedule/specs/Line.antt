@@ -5,7 +5,8 @@ use Rattle.bfd_packet.specs.declared.control.State.{State}
 use Rattle.bfd_rules.specs.declared.outputs.Out.{Out}
 use Rattle.bfd_rules.specs.declared.outputs.Out.TheVariants.{Changed, Sent}
 use Rattle.bfd_rules.specs.Quantities.{is_up}
-use Rattle.bfd_fields.specs.Spelling.{line, state_name}
+use Rattle.bfd_fields.specs.Spelling.{line}
+use Rattle.bfd_packet.specs.States.{state_name}
 use Rattle.bfd_pair.specs.declared.event.PairEvent.{PairEvent}
 use Rattle.bfd_pair.specs.declared.event.PairEvent.TheVariants.{Give}
 use Rattle.bfd_pair.specs.declared.event.PairAnswer.{PairAnswer}

@@ -1,7 +1,6 @@
 //! Playing a schedule, and the line of it.
 ghost use Rattle.std.specs.Prelude.{◌≡◌, ◌<◌, ◌≤◌, ◌+◌, ◌*◌, ℕ, IfOk, OnOk, count_by, length, string_bytes};
 ghost use Rattle.bfd_pair.specs.Run.{Both, side_of, pair_run, turn};
-ghost use Rattle.bfd_fields.specs.Spelling.{state_name};
 ghost use Rattle.bfd_schedule.specs.Schedule as schedule;
 ghost use Rattle.bfd_schedule.specs.Line as line;
 ghost use Rattle.bfd_schedule.specs.Inside.{IsPlayed};
@@ -19,18 +18,6 @@ pub(crate) struct Tally {
     pub(crate) draw: u32,
     pub(crate) given: u64,
     pub(crate) rises: u64,
-}
-
-/// The name of a session state.
-fn state_name(state: State) -> &'static str
-    ensures { result.now ≡ state_name state }
-{
-    match state {
-        State::AdminDown => "AdminDown",
-        State::Down => "Down",
-        State::Init => "Init",
-        State::Up => "Up",
-    }
 }
 
 /// The packets that an event gives, by its answer.
@@ -109,8 +96,8 @@ fn line_bytes(
     ensures { IfOk result (λ text. string_bytes text ≡ line.line_by events sent tally.given left right tally.rises) }
 {
     let Tally { given, rises, .. } = tally;
-    let left = state_name(left);
-    let right = state_name(right);
+    let left = left.name();
+    let right = right.name();
     let mut text = String::new(alloc);
     writeln!(text, "pair {events} {sent} {given} {left} {right} {rises}")?;
     Ok(text)

@@ -2,23 +2,15 @@
 use Rattle.std.specs.Prelude.{ℕ, ◌+◌, List, [], ◌∷◌, ◌++◌, length, sum_by, codes}
 use Rattle.std.specs.List.{flat_map}
 use Rattle.std.specs.Fmt.{decimal}
+use Rattle.bfd_packet.specs.States.{state_name}
 use Rattle.bfd_packet.specs.TestNames.{name_of}
-use Rattle.bfd_rules.specs.declared.commands.Refusal.{Refusal}
-use Rattle.bfd_rules.specs.declared.commands.Refusal.TheVariants.{PollBusy, WrongState, OutOfRange, WrongKind, UnknownSession}
+use Rattle.bfd_rules.specs.Names.{refusal_name}
 use Rattle.bfd_rules.specs.declared.outputs.Out.{Out}
 use Rattle.bfd_rules.specs.declared.outputs.Out.TheVariants.{Changed, Sent}
 use Rattle.bfd_session.specs.declared.event.Answer.{Answer}
 use Rattle.bfd_session.specs.declared.event.Answer.TheVariants.{Handled, Ticked, Dropped, Refused, Shown as Showing}
 use Rattle.bfd_session.specs.Alone.{Outcome}
-use Rattle.bfd_fields.specs.Spelling.{line, hex_field, state_name}
-
--- the name of a refusal of a command
-abbrev pub refusal_name : Refusal → List ℕ
-refusal_name PollBusy = codes "PollBusy"
-refusal_name WrongState = codes "WrongState"
-refusal_name OutOfRange = codes "OutOfRange"
-refusal_name WrongKind = codes "WrongKind"
-refusal_name UnknownSession = codes "UnknownSession"
+use Rattle.bfd_fields.specs.Spelling.{line, hex_field}
 
 -- an output of the event of this number: `N state DISCR OLD NEW DIAG`, or `N tx DISCR HEX`
 abbrev pub item_line : ℕ → Out → List ℕ

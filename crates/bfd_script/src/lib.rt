@@ -15,7 +15,6 @@
 //! `arrayvec` and `itoa`.
 #![tactic(auto)]
 
-mod names;
 mod places;
 mod pool;
 mod reading;

@@ -4,9 +4,9 @@ ghost use Rattle.std.specs.Prelude.{◌≡◌, ◌≤◌, ◌+◌, ◌*◌, ◌+
 ghost use Rattle.hex.specs.Hex.{encode_lower};
 ghost use Rattle.std.specs.List.{flat_map};
 ghost use Rattle.bfd_script.specs.Report.{answer_line, event_lines, item_line};
-ghost use Rattle.bfd_fields.specs.Spelling.{hex_field, line, state_name};
+ghost use Rattle.bfd_fields.specs.Spelling.{hex_field, line};
+ghost use Rattle.bfd_packet.specs.States.{state_name};
 
-use crate::names::{refusal_name, state_name};
 use arrayvec::ArrayVec;
 use bfd_fields::{BYTES, digits_of_run};
 use bfd_packet::{State, Test};
@@ -84,9 +84,9 @@ fn put_states(line: &mut Draft, old: State, new: State)
     ensures long { array_vec_len line.new ≤ array_vec_len line.old + 21 }
 {
     put(line, b" ");
-    put(line, state_name(old).as_bytes());
+    put(line, old.name().as_bytes());
     put(line, b" ");
-    put(line, state_name(new).as_bytes());
+    put(line, new.name().as_bytes());
     put(line, b" ");
 }
 
@@ -172,8 +172,8 @@ fn shown_text(alloc: Global, number: u64, shown: &Shown) -> Result<String, Alloc
         detect,
         poll,
     } = *shown;
-    let state = state_name(state);
-    let remote = state_name(remote_state);
+    let state = state.name();
+    let remote = remote_state.name();
     let mut text = String::new(alloc);
     writeln!(
         text,
@@ -186,7 +186,7 @@ fn shown_text(alloc: Global, number: u64, shown: &Shown) -> Result<String, Alloc
 fn refused_text(alloc: Global, number: u64, refusal: Refusal) -> Result<String, AllocError>
     ensures { IfOk result (λ text. string_bytes text ≡ answer_line number (Answer.Refused refusal)) }
 {
-    let refusal = refusal_name(refusal);
+    let refusal = refusal.name();
     format!(in alloc; "{number} refuse {refusal}\n")
 }
 

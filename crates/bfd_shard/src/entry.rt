@@ -2,7 +2,6 @@
 ghost use Rattle.std.specs.Prelude.{◌≡◌, IfOk};
 
 use bfd_num::{Moment, Tick};
-use bfd_packet::{Arrival, Payload};
 use bfd_session::Event;
 use std::alloc::{AllocError, Global};
 
@@ -69,35 +68,11 @@ fn copy_event(alloc: Global, event: &Event) -> Result<Event, AllocError>
 {
     match event {
         Event::Packet(arrival) => {
-            let arrival = copy_arrival(alloc, arrival)?;
+            let arrival = arrival.copy(alloc)?;
             Ok(Event::Packet(arrival))
         }
         Event::Returned(sequence) => Ok(Event::Returned(*sequence)),
         Event::Command(cmd) => Ok(Event::Command(*cmd)),
         Event::Show => Ok(Event::Show),
     }
-}
-
-/// An equal arrival.
-fn copy_arrival(alloc: Global, arrival: &Arrival) -> Result<Arrival, AllocError>
-    ensures { IfOk result (λ copied. copied ≡ arrival.now) }
-{
-    let payload = copy_payload(alloc, &arrival.payload)?;
-    Ok(Arrival {
-        port: arrival.port,
-        iface: arrival.iface,
-        src: arrival.src,
-        sport: arrival.sport,
-        dst: arrival.dst,
-        ttl: arrival.ttl,
-        payload,
-    })
-}
-
-/// An equal payload: no more of it was kept than fits a payload again.
-fn copy_payload(alloc: Global, payload: &Payload) -> Result<Payload, AllocError>
-    ensures { IfOk result (λ copied. copied ≡ payload.now) }
-{
-    let copied = Payload::keep(alloc, payload.as_slice())?;
-    Ok(copied)
 }

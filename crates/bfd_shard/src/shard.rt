@@ -1,5 +1,5 @@
 //! A shard.
-ghost use Rattle.std.specs.Prelude.{ℕ, ◌≡◌, ◌+◌, ◌<◌, ◌≤◌, ◌++◌, ◌∷◌, [], IfErr, IfOk, OnErr, OnOk, IsTrue, ◌↔◌, length, map};
+ghost use Rattle.std.specs.Prelude.{ℕ, ◌≡◌, ◌+◌, ◌<◌, ◌≤◌, ◌++◌, ◌∷◌, [], IfErr, IfOk, OnErr, OnOk, IsTrue, ◌↔◌, length, map, min};
 ghost use Rattle.std.specs.List.{AllByRecursion};
 ghost use Rattle.bfd_num.specs.Numbers.{greatest_tick};
 ghost use Rattle.bfd_lanes.specs.Held.{room_of};
@@ -161,11 +161,13 @@ impl<W: Timers> ShardState<W> {
         }
     }
 
-    /// Makes room for one entry more in the journal, where it is below its limit. Nothing else changes, also where it is
-    /// refused, which it is only for want of memory, and only below the limit.
+    /// Makes room for one entry more in the journal, where it is below its limit. Nothing else changes. It is refused only for
+    /// want of memory, and only below the limit, and then all is as before.
     pub fn prepare(&mut self) -> Result<(), AllocError>
         ensures ready { OnOk result (length self.new.journal < self.new.limit → 0 < self.new.room) }
+        ensures room { self.old.room ≤ self.new.room }
         ensures below { OnErr result (length self.new.journal < self.new.limit) }
+        ensures same { OnErr result (self.new ≡ self.old) }
         ensures sessions { self.new.sessions ≡ self.old.sessions }
         ensures last { self.new.last ≡ self.old.last }
         ensures journal { self.new.journal ≡ self.old.journal }
@@ -178,11 +180,12 @@ impl<W: Timers> ShardState<W> {
     }
 
     /// Lets the journal take `limit` entries, no fewer than before, and makes room for so many more, 200,000 at most. Nothing else
-    /// changes. It is refused only for want of memory, and then the limit is as before too.
+    /// changes. It is refused only for want of memory, and then all is as before.
     pub fn raise_limit(&mut self, limit: usize) -> Result<(), AllocError>
         requires { self.old.limit ≤ limit }
         ensures limit { OnOk result (self.new.limit ≡ limit) }
-        ensures same { OnErr result (self.new.limit ≡ self.old.limit) }
+        ensures room { OnOk result (min limit 200000 ≤ self.new.room) }
+        ensures same { OnErr result (self.new ≡ self.old) }
         ensures sessions { self.new.sessions ≡ self.old.sessions }
         ensures last { self.new.last ≡ self.old.last }
         ensures journal { self.new.journal ≡ self.old.journal }

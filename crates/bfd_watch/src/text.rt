@@ -1,26 +1,12 @@
 //! The watched text.
 ghost use Rattle.std.specs.Prelude.{◌≡◌, ◌++◌, IfOk, OnErr, OnOk, string_bytes};
 ghost use Rattle.std.specs.List.{flat_map};
-ghost use Rattle.bfd_fields.specs.Spelling.{state_name};
 ghost use Rattle.bfd_watch.specs.Groups.{group_after, is_group_up};
 ghost use Rattle.bfd_watch.specs.Watched.{change_line, watched_lines, group_line, if_moved, up_word, watched_line};
 
 use crate::change::Change;
 use crate::group::LinkGroup;
-use bfd_packet::State;
 use std::alloc::{AllocError, Global};
-
-/// The name of a session state.
-fn state_name(state: State) -> &'static str
-    ensures { result.now ≡ state_name state }
-{
-    match state {
-        State::AdminDown => "AdminDown",
-        State::Down => "Down",
-        State::Init => "Init",
-        State::Up => "Up",
-    }
-}
 
 /// Whether a group is up, in a word.
 fn up_word(up: bool) -> &'static str
@@ -40,8 +26,8 @@ fn change_text(alloc: Global, number: u64, change: &Change) -> Result<String, Al
         diag,
         ..
     } = *change;
-    let old = state_name(old);
-    let new = state_name(new);
+    let old = old.name();
+    let new = new.name();
     format!(in alloc; "{number} change {discr} {old} {new} {diag}\n")
 }
 
