@@ -146,8 +146,10 @@ pub extern "C" fn bfdd_tick(alloc: Global, handle: &mut Handle, ms: u64) -> u32
     call(alloc, handle, tick(ms))
 }
 
-/// A command to the session of this discriminator: 1 disable, 2 enable, 3 reset, 4 path, 5 tx, 6 rx, 7 mult, 8 demand, 9 echo,
-/// 10 key, with the value where it has one.
+/// A command to the session of this discriminator, at this moment in microseconds: 1 disable, 2 enable, 3 reset, 4 path, 5 tx,
+/// 6 rx, 7 mult, 8 demand, 9 echo, 10 key. The value counts from 4 on. It is 0, 6 or 8 of path (RFC 5880 section 6.8.17), microseconds
+/// of tx, rx and echo, where 0 turns echo off, Detect Mult 1 to 255, 0 or 1 of demand, and a key's id of key. One that is out of
+/// its range the session refuses.
 ///
 /// 1 comes exactly where the handle is closed; 3 exactly where it's open and the moment is 2^60 or above, the discriminator is
 /// 0, or the command none of these. Then nothing has changed. What the session refuses is an answer, with the code 0.
@@ -165,7 +167,8 @@ pub extern "C" fn bfdd_command(
     call(alloc, handle, command(moment, discr, verb, value))
 }
 
-/// A question: the session of this discriminator is to show itself. What has come due by the moment is done first.
+/// A question: the session of this discriminator is to show itself. What has come due by the moment, in microseconds, is done
+/// first.
 ///
 /// 1 comes exactly where the handle is closed; 3 exactly where it's open and the moment is 2^60 or above, or the discriminator
 /// is 0. Then nothing has changed.

@@ -61,7 +61,8 @@ impl<W: Timers> Engine<W> {
     /// Gives a command to the session with this discriminator. It may wait.
     ///
     /// Where no session has it, a reflector's among them, the answer is `Refused(UnknownSession)` and no turn is taken. Otherwise
-    /// it is one turn, whose entry is the session's own event at this moment. `outs` has room for five.
+    /// it is one turn, whose entry is the session's own event at this moment. `outs` has room for five. A turn is refused as
+    /// `turn_on` says.
     pub fn command<R: Wait, L: Ledger>(
         &self,
         rt: &R,
@@ -87,7 +88,7 @@ impl<W: Timers> Engine<W> {
     }
 
     /// Asks the session with this discriminator what it shows of itself, by the same rule. What has come due by this moment is
-    /// done first, so it is one turn and an entry too.
+    /// done first, so it is one turn and an entry too. A turn is refused as `turn_on` says.
     pub fn show<R: Wait, L: Ledger>(
         &self,
         rt: &R,

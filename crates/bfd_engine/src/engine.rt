@@ -79,7 +79,7 @@ impl<W: Timers> Engine<W> {
         self.locks.len() as u32
     }
 
-    /// The number of a shard's sessions.
+    /// The number of a shard's sessions. The shard's number is below `shards()`.
     pub fn sessions(&self, shard: u32) -> usize
         requires { shard < length self.now.locks }
         ensures { result ≡ length (configs_at self.now shard) }
@@ -89,7 +89,11 @@ impl<W: Timers> Engine<W> {
 
     /// One turn of a shard, with an event that its sessions take, for a caller that knows already whose it is. It may wait.
     ///
-    /// Its entry is this event, at a place of the shard. `outs` has room for five outputs, or at a tick for five of each session of the shard.
+    /// Its entry is this event, at a place of the shard, whose number is below `shards()`. `outs` has room for five outputs, or at
+    /// a tick for five of each session of the shard.
+    ///
+    /// Full comes where the journal has as many entries as its limit, Spent where the lock has no turn left, and Memory for want
+    /// of memory, with a journal below its limit. Then no entry and no output is added, and the sessions are as before.
     pub fn turn_on<R: Wait, L: Ledger>(
         &self,
         rt: &R,

@@ -45,7 +45,7 @@ pub enum HoldFault {
 }
 
 impl<W: Timers> Engine<W> {
-    /// The turn of a shard, if nobody has it. It doesn't wait.
+    /// The turn of a shard, whose number is below `shards()`, if nobody has it. It doesn't wait.
     ///
     /// Busy comes exactly where the word read is odd or the exchange finds another word, and Spent exactly where the word read
     /// is 2^64 - 2. Either way all is as before but the last word that the pass has met: where no turn was held, none is.

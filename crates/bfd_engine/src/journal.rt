@@ -88,8 +88,8 @@ impl<W: Timers> Engine<W> {
         outcome
     }
 
-    /// Appends a shard's history from a place on, which is at most the length of what the pass has seen of it; the pass has then
-    /// seen it whole. It may wait.
+    /// Appends the history of a shard, whose number is below `shards()`, from a place on, which is at most the length of what the
+    /// pass has seen of it; the pass has then seen it whole. It may wait.
     ///
     /// It is one turn that adds no entry. Each entry may be given to a shard of the same sessions. Memory for want of memory,
     /// Spent where no turn is left, and never Full; after either `out` is as before.

@@ -99,7 +99,7 @@ fn open_shards<W: Timers>(
 {
     let mut shards = Vec::with_capacity(alloc, parts.len())?;
     for part in parts {
-        let state = ShardState::make(alloc, part, limit)?;
+        let state = ShardState::make(alloc, part, 0)?;
         let shard = lock_shard(alloc, state, limit)?;
         shards.push(shard)?;
     }

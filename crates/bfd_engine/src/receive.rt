@@ -144,7 +144,7 @@ impl<W: Timers> Engine<W> {
     /// is answered by it: its answer is put out as `Sent` in the reflector's name, or it is `Dropped`. Neither takes a turn.
     /// Any other arrival is one turn, whose entry is the session's own event at this moment. A packet of a session is `Dropped` by
     /// the first test that it fails, over the session's variables after settling, and `Handled` where it fails none (RFC 5880
-    /// section 6.8.6). `outs` has room for five. At most 40 steps are taken.
+    /// section 6.8.6). `outs` has room for five. At most 40 steps are taken. A turn is refused as `turn_on` says.
     pub fn receive<R: Wait, L: Ledger>(
         &self,
         rt: &R,
@@ -173,10 +173,11 @@ impl<W: Timers> Engine<W> {
         }
     }
 
-    /// Advances a shard to this tick; one below its last tick counts as the last. It may wait.
+    /// Advances a shard, whose number is below `shards()`, to this tick; one below its last tick counts as the last. It may wait.
     ///
     /// It is one turn, whose entry is this tick. Of the sessions of the shard exactly those forget that a packet was heard whose
-    /// Detection Time has expired by it (RFC 5880 section 6.8.4), and nothing is left that is due. `outs` has room for five outputs for each session of the shard.
+    /// Detection Time has expired by it (RFC 5880 section 6.8.4), and nothing is left that is due. `outs` has room for five outputs
+    /// for each session of the shard. A turn is refused as `turn_on` says.
     pub fn advance<R: Wait, L: Ledger>(
         &self,
         rt: &R,

@@ -61,7 +61,7 @@ pub all_made_next : {X Y : Type 0} (P : Y → Type 0) (f : X → Y) {items : Lis
 all_made_next P f {items} xs ys x is all = all_next P _ (map f xs) (map f ys) (f x) (cc (map-append f xs (x ∷ ys))) all
 
 -- a ready job more
-pub ready_more : {engine : Shards} {before after : List Job} {calls : List Call} {room : ℕ} → All (λ j. IsJobReady engine j) before → HasAdded engine before after calls room → All (λ j. IsJobReady engine j) after
+pub ready_more : {engine : Shards} {k l : Knows} {before after : List Job} {calls : List Call} {room : ℕ} → All (λ j. IsJobReady engine j) before → HasAdded engine k l before after calls room → All (λ j. IsJobReady engine j) after
 ready_more {engine} {before} all added = rw added.after_is (All-push (λ j. IsJobReady engine j) before added.job all added.ready)
 
 -- what is made of each, with one more

@@ -5,7 +5,7 @@ use Rattle.bfd_turn.specs.Lists.{Begins, numbers_of}
 use Rattle.bfd_shard.specs.Shard.{Shard}
 use Rattle.bfd_engine.specs.Engines.{Shards, Knows, IsOf, AllThere}
 use Rattle.bfd_engine.specs.Calls.{seen_at, made_at, kept_at, mine}
-use Rattle.bfd_engine.specs.Passes.{AreClosed}
+use Rattle.bfd_engine.specs.Passes.{AreClosed, Parted}
 use Rattle.bfd_engine_use.specs.declared.threads.Call.{Call}
 use Rattle.bfd_engine_use.specs.declared.threads.Job.{Job}
 use Rattle.bfd_engine_use.specs.Ready.{IsJobReady}
@@ -19,11 +19,12 @@ pub record HasOpen (engine : Shards) (first : Knows) (numbers : List ℕ) : Type
   pub others : All (λ n. n ≢ 0) numbers
   pub made : (shard : ℕ) → shard < length engine.locks → made_at first shard ≡ numbers_of (kept_at first shard) ++ numbers
 
--- a job more, which is ready and has seen nothing
-pub record HasAdded (engine : Shards) (before after : List Job) (calls : List Call) (room : ℕ) : Type 0 where
+-- a job more, which is ready and has seen nothing. Its pass is one that caller 0 made, who knew k, and knows l then
+pub record HasAdded (engine : Shards) (k l : Knows) (before after : List Job) (calls : List Call) (room : ℕ) : Type 0 where
   pub job : Job
   pub after_is : after ≡ before ++ job ∷ []
   pub ready : IsJobReady engine job
+  pub parted : (shard : ℕ) → shard < length engine.locks → Parted k l job.pass shard
   pub calls_are : job.calls.items ≡ calls
   pub unseen : job.saw.items ≡ []
   pub room_is : job.room ≡ room

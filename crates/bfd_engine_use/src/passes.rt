@@ -11,8 +11,9 @@ use bfd_shard::ShardState;
 use bfd_wheel::Timers;
 use std::alloc::{AllocError, Global};
 
-/// A job more, for a thread more: a further pass, with these calls, the last first, and room for so many outputs of each. Want of
-/// memory is the one refusal, and leaves the jobs that there were.
+/// A job more, for a thread more: a further pass, which has seen what caller 0 has seen, with these calls, the last first, and
+/// room for so many outputs of each. Want of memory is the one refusal. It leaves the jobs and every shard's pass as they were,
+/// and may use a number up.
 pub fn add_job<W: Timers>(
     alloc: Global,
     engine: &Engine<W>,
@@ -28,8 +29,8 @@ pub fn add_job<W: Timers>(
     ensures passes { HasOpen engine.now first.new (map number_of jobs.new.items) }
     ensures ready { All (λ (j : _). IsJobReady engine.now j) jobs.new.items }
     ensures used { first.new.2 ≤ first.old.2 + 1 }
-    ensures added { OnOk result (HasAdded engine.now jobs.old.items jobs.new.items calls.items room) }
-    ensures same { OnErr result (jobs.new.items ≡ jobs.old.items) }
+    ensures added { OnOk result (HasAdded engine.now first.old first.new jobs.old.items jobs.new.items calls.items room) }
+    ensures same { OnErr result ((jobs.new.items ≡ jobs.old.items) × (first.new.1 ≡ first.old.1)) }
 {
     jobs.reserve(1)?;
     let pass = engine.split(alloc, first)?;

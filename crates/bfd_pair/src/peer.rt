@@ -13,7 +13,7 @@ ghost use Rattle.bfd_pair.specs.Run as run;
 ghost use Rattle.bfd_pair.specs.Inside.{seen, by_way, IsPeer};
 
 use crate::PairAnswer;
-use bfd_demux::{BuildFault, Demux, Row, Target};
+use bfd_demux::{BuildFault, Demux, Target};
 use bfd_num::Steps;
 use bfd_p2p::control_port;
 use bfd_packet::{Addr, Arrival, Payload, Port, SOURCE_PORT, Test, Wire};

@@ -64,6 +64,9 @@ module _ (engine : Shards) where
     untried = w.untried;
     did = done_of m w.did num none grows;
     ends = worker_end_grows (seen_at o) (seen_at m) t u turns (worker_acts engine w.cut) w.untried end (λ s. begins_length (seen_at o s) _ (grows s)) words w.ends;
+    turned = w.turned;
+    gave = w.gave;
+    each = w.each;
     few = w.few;
   }
 

@@ -30,20 +30,26 @@ module _ (engine : Shards) where
   one_cut (z ∷ z2 ∷ xs) ys is = absurd (cc is)
 
   worked_cut : {k m : Knows} {t w : LinkTold} (done : List (ℕ × Arrival)) (a : ℕ × Arrival) {xs ys : List Act} {untried : List Datagram} {lost turns : ℕ} (end : End) → ((xs ≡ []) × (ys ≡ act_at engine a ∷ [])) ⊎ ((xs ≡ act_at engine a ∷ []) × (ys ≡ []))
-      → Did engine k m t w (done ++ a ∷ []) (worker_acts engine done ++ xs) ys untried 0 lost → IsWorkerEnd engine (seen_at m) (met_word m) t w turns ys untried end → length (done ++ a ∷ []) ≤ turns → HasWorked engine k m t w turns end lost
-  worked_cut {k} {m} {t} {w} done a {untried} {lost} end (inl (p, q)) d i few = record {
+      → Did engine k m t w (done ++ a ∷ []) (worker_acts engine done ++ xs) ys untried 0 lost → IsWorkerEnd engine (seen_at m) (met_word m) t w turns ys untried end → (n : ℕ) → w.counts.gave ≡ risen t.counts.gave n → length (done ++ a ∷ []) ≤ n → n ≤ turns → HasWorked engine k m t w turns end lost
+  worked_cut {k} {m} {t} {w} done a {untried} {lost} end (inl (p, q)) d i n gave each few = record {
     done = done;
     cut = a ∷ [];
     untried = untried;
+    turned = n;
+    gave = gave;
+    each = each;
     few = few;
     did = subst (λ (y : List Act × List Act). Did engine k m t w (done ++ a ∷ []) y.0 y.1 untried 0 lost) (λ j. ((ap (λ z. worker_acts engine done ++ z) p ∙ append-nil (worker_acts engine done)) j, q j)) d;
     ends = rw (← q) i;
   }
-  worked_cut {k} {m} {t} {w} done a {untried} {lost} end (inr (p, q)) d i few = record {
+  worked_cut {k} {m} {t} {w} done a {untried} {lost} end (inr (p, q)) d i n gave each few = record {
     done = done ++ a ∷ [];
     cut = [];
     untried = untried;
-    few = omega (arith, ap length (append-nil (done ++ a ∷ [])));
+    turned = n;
+    gave = gave;
+    each = omega (arith, ap length (append-nil (done ++ a ∷ [])));
+    few = few;
     did = subst (λ (y : List (ℕ × Arrival) × List Act × List Act). Did engine k m t w y.0 y.1 y.2 untried 0 lost)
         (λ j. (sym (append-nil (done ++ a ∷ [])) j, (ap (λ z. worker_acts engine done ++ z) p ∙ sym (acts_append done (a ∷ []))) j, q j)) d;
     ends = rw (← q) i;
@@ -86,34 +92,37 @@ module _ (engine : Shards) where
         λ y same. absurd (cc same),
         λ turns end2 less same. let ends : end ≡ end2 = cc same in rw (← ends) (worked_cut g.done a end (one_cut made.done made.cut made.all) (did_as (append-nil (g.done ++ a ∷ [])) (cc (append-nil (worker_acts engine g.done))) (did_then engine heard made.did))
             (worker_end (seen_at m) (met_word m) t w turns made.cut made.untried end made.stops (made.aside.over ∙ (ap (λ x. x.counts.over) is ∙ g.over)) (made.aside.receive_faults ∙ (ap (λ x. x.counts.receive_faults) is ∙ g.no_fault)))
-            (omega (arith, length-append g.done (a ∷ [])))),
+            (n + 1) (made.aside.gave ∙ (ap (λ x. x.counts.gave) is ∙ (ap (λ x. risen x 1) g.gave ∙ risen_join t.counts.gave n 1))) (omega (arith, length-append g.done (a ∷ []))) (omega arith)),
       )
 
   pub worked_without : (k : Knows) (t : LinkTold) (turns : ℕ) → t.counts.over ≡ false → HasWorked engine k k t t turns Memory 0
-  worked_without k t turns over = record { done = []; cut = []; untried = []; did = did_none engine k t 0; ends = (over, refl); few = omega arith }
+  worked_without k t turns over = record { done = []; cut = []; untried = []; did = did_none engine k t 0; ends = (over, refl); turned = 0; gave = risen_same t.counts.gave; each = le_refl 0; few = omega arith }
 
   -- nothing was left out
-  working_end : {k l : Knows} {t u : LinkTold} (v : LinkTold) {n lost turns : ℕ} (end : End) → IsWorking engine k l t u n lost → n ≤ turns → v.traffic ≡ u.traffic → v.counts.send_faults ≡ u.counts.send_faults
+  working_end : {k l : Knows} {t u : LinkTold} (v : LinkTold) {n lost turns : ℕ} (end : End) → IsWorking engine k l t u n lost → n ≤ turns → v.traffic ≡ u.traffic → v.counts.send_faults ≡ u.counts.send_faults → v.counts.gave ≡ u.counts.gave
       → IsWorkerEnd engine (seen_at l) (met_word l) t v turns [] [] end → HasWorked engine k l t v turns end lost
-  working_end v end g few traffic faults i = record {
+  working_end v {n} end g few traffic faults gave i = record {
     done = g.done;
     cut = [];
     untried = [];
     ends = i;
-    few = omega (arith, g.few, ap length (append-nil g.done));
+    turned = n;
+    gave = gave ∙ g.gave;
+    each = omega (arith, g.few, ap length (append-nil g.done));
+    few = few;
     did = did_as (sym (append-nil g.done)) refl (did_told v traffic faults g.did);
   }
 
   pub working_over : {k l : Knows} {t u v : LinkTold} {n lost turns : ℕ} → IsWorking engine k l t u n lost → n ≤ turns → v ≡ after_receive received.Ended u → HasWorked engine k l t v turns Ended lost
-  working_over {u} {v} g few is = working_end v Ended g few (cc (traffic_same u.traffic)) (ap (λ x. x.counts.send_faults) is)
+  working_over {u} {v} g few is = working_end v Ended g few (cc (traffic_same u.traffic)) (ap (λ x. x.counts.send_faults) is) (ap (λ x. x.counts.gave) is)
       (refl, refl, ap (λ x. x.counts.over) is, ap (λ x. x.counts.receive_faults) is ∙ g.no_fault)
 
   pub working_fault : {k l : Knows} {t u v : LinkTold} {n lost turns : ℕ} → IsWorking engine k l t u n lost → n ≤ turns → v ≡ after_receive received.Failed u → HasWorked engine k l t v turns LinkFault lost
-  working_fault {u} {v} g few is = working_end v LinkFault g few (cc (traffic_same u.traffic)) (ap (λ x. x.counts.send_faults) is)
+  working_fault {u} {v} g few is = working_end v LinkFault g few (cc (traffic_same u.traffic)) (ap (λ x. x.counts.send_faults) is) (ap (λ x. x.counts.gave) is)
       (refl, refl, ap (λ x. x.counts.over) is ∙ g.over, ap (λ x. x.counts.receive_faults) is ∙ ap (λ x. risen x 1) g.no_fault)
 
   pub working_memory : {k l : Knows} {t u v : LinkTold} {n lost turns : ℕ} → IsWorking engine k l t u n lost → n ≤ turns → v ≡ after_receive received.Memory u → HasWorked engine k l t v turns Memory lost
-  working_memory {u} {v} g few is = working_end v Memory g few (cc (traffic_same u.traffic)) (cc) (cc, cc)
+  working_memory {u} {v} g few is = working_end v Memory g few (cc (traffic_same u.traffic)) (cc) (cc) (cc, cc)
 
   pub working_turns : {k l : Knows} {t u : LinkTold} {n lost turns : ℕ} → IsWorking engine k l t u n lost → n ≡ turns → HasWorked engine k l t u turns (TurnsMade turns) lost
-  working_turns {u} {turns} g is = working_end u (TurnsMade turns) g (omega arith) refl refl (refl, refl, g.over, g.no_fault, refl, cc)
+  working_turns {u} {turns} g is = working_end u (TurnsMade turns) g (omega arith) refl refl refl (refl, refl, g.over, g.no_fault, refl, cc)

@@ -38,14 +38,18 @@ pub record HasDone (engine : Shards) (caller : ℕ) (own histories : ℕ → Lis
   pub send_faults : u.counts.send_faults ≡ risen t.counts.send_faults missing
   pub lost_is : lost ≡ risen 0 missing
 
--- what a worker did: of the arrivals that its link gave, those of `done` were handled, and those of `cut` were not
+-- what a worker did: of the arrivals that its link gave, those of `done` were handled, and those of `cut` were not. The link gave
+-- `turned` answers, some of them Quiet
 pub record WorkerDid (engine : Shards) (caller : ℕ) (own histories : ℕ → List Entry) (words : ℕ → ℕ) (t u : LinkTold) (turns : ℕ) (end : End) (lost : ℕ) : Type 0 where
   pub done : List (ℕ × Arrival)
   pub cut : List (ℕ × Arrival)
   pub untried : List Datagram
   pub did : HasDone engine caller own histories t u (done ++ cut) (worker_acts engine done) untried lost
   pub ends : IsWorkerEnd engine histories words t u turns (worker_acts engine cut) untried end
-  pub few : length (done ++ cut) ≤ turns
+  pub turned : ℕ
+  pub gave : u.counts.gave ≡ risen t.counts.gave turned
+  pub each : length (done ++ cut) ≤ turned
+  pub few : turned ≤ turns
 
 -- what the timer did: of all that it had to do at the ticks that its ticker gave, the acts of `done` were done, and those of
 -- `cut` were not

@@ -138,14 +138,17 @@ IsWorkerEnd engine histories words t u turns cut untried Memory =
 IsWorkerEnd engine histories words t u turns cut untried ClockFault = ⊥
 
 -- what a worker did: of the arrivals that its link gave in this run, those of `done` were handled, and those of `cut`, of which
--- there are none but after Full, Spent or Memory, were not
+-- there are none but after Full, Spent or Memory, were not. The link gave `turned` answers, some of them Quiet
 pub record HasWorked (engine : Shards) (k l : Knows) (t u : LinkTold) (turns : ℕ) (end : End) (lost : ℕ) : Type 0 where
   pub done : List (ℕ × Arrival)
   pub cut : List (ℕ × Arrival)
   pub untried : List Datagram
   pub did : Did engine k l t u (done ++ cut) (worker_acts engine done) (worker_acts engine cut) untried 0 lost
   pub ends : IsWorkerEnd engine (seen_at l) (met_word l) t u turns (worker_acts engine cut) untried end
-  pub few : length (done ++ cut) ≤ turns
+  pub turned : ℕ
+  pub gave : u.counts.gave ≡ risen t.counts.gave turned
+  pub each : length (done ++ cut) ≤ turned
+  pub few : turned ≤ turns
 
 -- the same after so many turns, with no end
 pub record IsWorking (engine : Shards) (k l : Knows) (t u : LinkTold) (count : ℕ) (lost : ℕ) : Type 0 where

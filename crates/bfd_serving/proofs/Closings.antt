@@ -99,7 +99,7 @@ module _ {L : Type 0} (told : L → LinkTold) (engine : Shards) (l : Knows) (own
           own = w.own;
           own_is = λ s less. (let a = at_shard less in
               ap (calls by (at + 1)) (ap journal_in a.1) ∙ kept_here (kept_at l s) a.0.journal at (at + 1) (w.own s) (w.kept s less) a.2.kept);
-          did = record { done = d.done; cut = d.cut; untried = d.untried; did = d.did; ends = x.1; few = d.few };
+          did = record { done = d.done; cut = d.cut; untried = d.untried; did = d.did; ends = x.1; turned = d.turned; gave = d.gave; each = d.each; few = d.few };
         },
       )
 

@@ -1,5 +1,5 @@
 -- What the lock's calls promise, over what its callers see of a pass.
-use Rattle.std.specs.Prelude.{◌≡◌, ◌≢◌, ◌⊎◌, ℕ, ◌+◌, ◌*◌, ◌%◌, ◌^◌, ◌<◌, ◌≤◌, true, not, List, [], ◌∷◌, ◌++◌, Some, filter, All}
+use Rattle.std.specs.Prelude.{◌≡◌, ◌≢◌, ◌⊎◌, ℕ, ◌+◌, ◌*◌, ◌%◌, ◌^◌, ◌<◌, ◌≤◌, true, List, [], ◌∷◌, ◌++◌, Some, All}
 pub use Rattle.atomic_table.specs.Seated.{TableId}
 use Rattle.bfd_turn.specs.declared.view.Known.{Known}
 use Rattle.bfd_turn.specs.Lists.{longer, calls, has, numbers_of}
@@ -34,10 +34,6 @@ module _ {N B : Type 0} where
   abbrev pub AllJoined : Known N B → Type 0
   AllJoined v = (n : ℕ) → has n v.made ≡ true → has n (numbers_of v.joined) ≡ true
 
-  -- the numbers that were made and not joined yet
-  abbrev pub open_of : Known N B → List ℕ
-  open_of v = filter (λ n. not (has n (numbers_of v.joined))) v.made
-
   -- the number is above each that was made
   abbrev pub IsNew : ℕ → Known N B → Type 0
   IsNew n v = All (λ m. m < n) v.made
@@ -66,10 +62,6 @@ module _ {N B : Type 0} where
   -- the pass of this lock with the word n, and all else as it was
   abbrev pub IsBack : TableId → Known N B → ℕ → TableId × Known N B → Type 0
   IsBack id v n p = (p.0 ≡ id) × (p.1 ≡ having_met n v)
-
-  -- a pass of this lock, with the number, the passes made and those joined as they were
-  abbrev pub IsPassOf : TableId → Known N B → TableId × Known N B → Type 0
-  IsPassOf id v p = (p.0 ≡ id) × (p.1.number ≡ v.number) × (p.1.made ≡ v.made) × (p.1.joined ≡ v.joined)
 
   -- the word read was odd, or the exchange found another word
   abbrev pub WasBusy : Known N B → ℕ → ℕ → Type 0

@@ -110,7 +110,7 @@ pub enum Job {
         /// The members of the link group.
         members: Members,
 
-        /// How many shards, 1 to 64.
+        /// How many shards, 1 to 64. It is read as with the other jobs, and changes nothing: sessions are watched over a plain list.
         shards: u32,
     },
 }

@@ -1,5 +1,5 @@
 -- What a worker does on a shard, and what of it stands once nobody else's entry turns out to be there.
-use Rattle.std.specs.Prelude.{ℕ, Bool, true, false, ◌≡◌, ◌≢◌, ◌≤◌, ◌<◌, ◌++◌, List, [], ◌∷◌, length, map, slice_index_or, Result, Ok, Err}
+use Rattle.std.specs.Prelude.{ℕ, Bool, true, false, ◌≡◌, ◌≢◌, ◌≤◌, ◌<◌, ◌++◌, List, [], ◌∷◌, length, map, slice_index_or}
 use Rattle.std.specs.List.{AllByRecursion}
 use Rattle.bfd_session.specs.Step.{started}
 use Rattle.bfd_shard.specs.declared.entry.Entry.{Entry}
@@ -105,11 +105,6 @@ pub record HasStopped (engine : Shards) (queues : List (List Numbered)) (l : Kno
   pub shard : ℕ
   pub inside : shard < length engine.locks
   pub stop : IsStopAt fault engine shard (length (slice_index_or queues shard [])) l
-
--- how it ended
-abbrev pub HasEnded : Shards → List (List Numbered) → Knows → Result (List (List Piece)) EngineFault → Type 0
-HasEnded engine queues l (Ok parts) = HasFinished engine queues l parts
-HasEnded engine queues l (Err fault) = HasStopped engine queues l fault
 
 -- what every worker leaves, however it ended
 pub record HasLeft (engine : Shards) (queues : List (List Numbered)) (k l : Knows) : Type 0 where

@@ -1,7 +1,5 @@
 //! A worker's turns on the shards that it takes.
 ghost use Rattle.std.specs.Prelude.{ℕ, ◌≡◌, ◌≤◌, ◌<◌, ◌+◌, ◌*◌, ◌++◌, ◌∷◌, true, [], List, IfOk, IfErr, IfSome, None, OnOk, length, map, reverse, slice_index_or};
-ghost use Rattle.bfd_rules.specs.declared.outputs.Out.{Out as OutIn};
-ghost use Rattle.bfd_session.specs.Alone.{Outcome};
 ghost use Rattle.bfd_shard.specs.declared.entry.ShardEvent.{ShardEvent as EventIn};
 ghost use Rattle.bfd_shard.specs.Shard.{CanHappen};
 ghost use Rattle.bfd_engine.specs.Engines.{IsOf, AllThere, configs_at};
@@ -20,9 +18,8 @@ use bfd_session::Answer;
 use bfd_shard::ShardEvent;
 use bfd_wheel::Timers;
 use std::alloc::{AllocError, Global};
-use std::marker::Brand;
 use std::sync::Wait;
-use std::sync::ledger::{Blank, Ledger};
+use std::sync::ledger::Ledger;
 
 /// Whether it is an event of every session.
 fn is_for_all(event: &ShardEvent) -> bool

@@ -86,7 +86,8 @@ where
     // No fault is passed over: where the count of the source rose, the status is ReadFault.
     ensures calm_source { result ≢ Status.ReadFault → S.faults source.new ≡ S.faults source.old }
 
-    // And where that of the sink rose, it is WriteFault, or BadLine where the faulty line was being told.
+    // And where that of the sink rose, it is WriteFault, or what it would have been without: BadLine, where the faulty line was
+    // being told, or a faulty end of `serve`, whose text was being written.
     ensures calm_sink { UnlessWriting result (K.faults sink.new ≡ K.faults sink.old) }
 
     // With an outside that doesn't fail, what is wanted comes, or memory ran out.

@@ -11,6 +11,7 @@ returns-clause-added g c =
       job = job;
       after_is = cc (c.in_ok-reserve.ensures.items);
       ready = record { of = new.1; there = new.2; room = c.requires.room };
+      parted = c.in_ok-pass.ensures.parted;
       calls_are = refl;
       unseen = c.new.ensures.items;
       room_is = refl;
