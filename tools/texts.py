@@ -6,6 +6,7 @@ import functools
 import importlib
 import ipaddress
 import os
+import re
 import shlex
 import subprocess
 import sys
@@ -19,6 +20,9 @@ SOURCE_PORT = 49152
 EVENTS = ("tick", "rx", "cmd", "show")
 ECHO = bytes.fromhex("42464465")  # the first word of an echo packet
 BITS = {"P": 0x20, "F": 0x10, "C": 0x08, "A": 0x04, "D": 0x02, "M": 0x01}
+MOST_BYTES, LONGEST_LINE = 67108864, 4096  # of a packet file
+LAST_TICK, LAST_MOMENT = 1152921504606846, 1152921504606846975
+REFUSED = {7: f": the packet file has more than {MOST_BYTES:,} bytes", 11: ": there was no memory"}  # what some statuses mean
 
 
 class Complaint(Exception):
@@ -89,6 +93,19 @@ def shown(address):
     return str(ipaddress.ip_address(address))
 
 
+def number_of(text, most):
+    """A number of a packet file or a report, from 0 to `most`."""
+    if not text.isdigit() or len(text) > 20 or int(text) > most:
+        raise ValueError
+    return int(text)
+
+
+def quoted(line):
+    """What a message has of a line that is wrong: its beginning, and whatever of it can't be seen."""
+    start = line[:80] if line.isprintable() else repr(line[:80])
+    return start + (" (there is a carriage return in it)" if "\r" in line else "")
+
+
 class Session(NamedTuple):
     """A session of the table. A tail's addresses are its group and its source, and a head's second one is its group."""
     discr: int
@@ -133,20 +150,23 @@ class Script:
         self.sessions, self.reflectors, self.events, self.last_tick = {}, set(), [], 0
         for number, line in enumerate(text.split("\n"), 1):
             try:
+                if len(line) > LONGEST_LINE or not line.isprintable():
+                    raise ValueError
                 self.take(line.split(" "))
             except (ValueError, IndexError):
-                raise Complaint(f"{name}: line {number} is in no packet file: {line[:80]}") from None
+                raise Complaint(f"{name}: line {number} is in no packet file: {quoted(line)}") from None
         self.by_addresses = {session.selectors(): session.discr for session in self.sessions.values()
                              if session.kind in ("single", "multi", "tail")}
 
     def take(self, fields):
         word = fields[0]
         if word in ("p2p", "sbfd", "head", "tail"):
-            discr, at = int(fields[1]), 2 if word == "head" else 3
-            self.sessions[discr] = Session(discr, fields[2] if word == "p2p" else word, int(fields[at]), address_of(fields[at + 1]),
-                                           address_of(fields[at + 2]), int(fields[2]) if word == "tail" else None)
+            discr, at = number_of(fields[1], 2**32 - 1), 2 if word == "head" else 3
+            head = number_of(fields[2], 2**32 - 1) if word == "tail" else None
+            self.sessions[discr] = Session(discr, fields[2] if word == "p2p" else word, number_of(fields[at], 65535),
+                                           address_of(fields[at + 1]), address_of(fields[at + 2]), head)
         elif word == "reflector":
-            self.reflectors.add(int(fields[1]))
+            self.reflectors.add(number_of(fields[1], 2**32 - 1))
         elif word in EVENTS:
             self.events.append(self.event_of(fields))
         elif word not in ("bfd", "auth", "key", "run", "end", ""):
@@ -156,28 +176,28 @@ class Script:
         """The event of a line, which is behind those that were asked for before."""
         word = fields[0]
         if word == "tick":
-            self.last_tick = max(self.last_tick, int(fields[1]) * 1000)
+            self.last_tick = max(self.last_tick, number_of(fields[1], LAST_TICK) * 1000)
             return Event(word, self.last_tick, None, None, fields)
         if word == "rx":
-            arrival = Arrival(fields[2], int(fields[3]), address_of(fields[4]), address_of(fields[5]), int(fields[6]),
-                              bytes.fromhex(fields[7].replace("-", "")))
+            arrival = Arrival(fields[2], number_of(fields[3], 65535), address_of(fields[4]), address_of(fields[5]),
+                              number_of(fields[6], 255), bytes.fromhex(fields[7].replace("-", "")))
             return Event(word, self.effective(fields[1]), None, arrival, fields)
-        return Event(word, self.effective(fields[1]), int(fields[2]), None, fields)
+        return Event(word, self.effective(fields[1]), number_of(fields[2], 2**32 - 1), None, fields)
 
     def may_have(self, word, words):
         """Whether a report may have such a line, by what a tool looks at."""
         if word in ("drop", "refuse"):
             return True
-        discr = int(words[0]) if words[0].isdigit() else None
+        discr = int(words[0]) if words[0].isdigit() and len(words[0]) <= 10 else None
         if word == "tx":
             known = discr in self.sessions or discr in self.reflectors
-            return known and len(words) == 2 and len(words[1]) % 2 == 0 and not words[1].strip("0123456789abcdef")
+            return known and len(words) == 2 and len(words[1]) in range(2, 513, 2) and not words[1].strip("0123456789abcdef")
         return discr in self.sessions and (word == "show" or word == "state" and len(words) == 4 and words[1] in STATES
                                            and words[2] in STATES)
 
     def effective(self, moment):
         """A moment before the last tick counts as that tick's."""
-        return max(int(moment), self.last_tick)
+        return max(number_of(moment, LAST_MOMENT), self.last_tick)
 
     def session_of(self, event):
         """The discriminator of the session that an event is of, or None where it is of all or of none."""
@@ -207,24 +227,39 @@ class Line(NamedTuple):
     words: list
 
 
+def refusal_of(report):
+    """The line and the fault of a report that refuses its packet file, or None."""
+    bad = re.match(r"bad (\d{1,9}) (\w+)\n", report)
+    return (int(bad[1]), bad[2]) if bad else None
+
+
 def report_of(text, script, name):
     """The lines of a report of this packet file, without its last."""
-    bad = text.split("\n", 1)[0].split(" ")
-    if bad[0] == "bad":
-        raise Complaint(f"the packet file isn't in the grammar: line {bad[1]}, {bad[2]}; bin/bfdd says more at a terminal")
+    if refusal := refusal_of(text):
+        raise Complaint(f"the packet file isn't in the grammar: line {refusal[0]}, {refusal[1]}; bin/bfdd says more at a terminal")
     lines = []
-    for at, line in enumerate(text.splitlines(), 1):
-        fields = line.split(" ")
-        if fields[0] == "done":
-            if int(fields[1]) != len(script.events):
-                raise Complaint(f"{name} is the report of another packet file: it has {fields[1]} events, and the file has "
-                                f"{len(script.events)}")
-            return lines
-        if not fields[0].isdigit() or not 1 <= int(fields[0]) <= len(script.events) or len(fields) < 3 \
-                or not script.may_have(fields[1], fields[2:]):
-            raise Complaint(f"{name}: line {at} is in no report of this packet file: {line[:80]}")
-        lines.append(Line(int(fields[0]), fields[1], fields[2:]))
-    raise Complaint(f"{name} isn't a whole report: its last line `done ..` is missing")
+    for at, line in enumerate(text.split("\n")[:-1], 1):
+        try:
+            fields = line.split(" ")
+            if fields[0] == "done":
+                check_end(fields, script, name)
+                return lines
+            number = number_of(fields[0], len(script.events))
+            if number == 0 or len(fields) < 3 or not script.may_have(fields[1], fields[2:]):
+                raise ValueError
+        except ValueError:
+            raise Complaint(f"{name}: line {at} is in no report of this packet file: {quoted(line)}") from None
+        lines.append(Line(number, fields[1], fields[2:]))
+    raise Complaint(f"{name} isn't a whole report: its last line `done ..` is missing, or cut off")
+
+
+def check_end(fields, script, name):
+    """The last line of a report has to count the events of its packet file."""
+    if len(fields) != 4:
+        raise ValueError
+    events, *_ = [number_of(field, LAST_MOMENT) for field in fields[1:]]
+    if events != len(script.events):
+        raise Complaint(f"{name} is the report of another packet file: it has {events} events, and the file has {len(script.events)}")
 
 
 def happenings(script, report):
@@ -238,7 +273,7 @@ def happenings(script, report):
 def text_of(path):
     """The text of a file; `-` is standard input."""
     try:
-        data = sys.stdin.buffer.read() if path == "-" else Path(path).read_bytes()
+        data = standard_input().read() if path == "-" else Path(path).read_bytes()
     except OSError as fault:
         raise Complaint(f"{path}: {fault.strerror}") from None
     if not data:
@@ -249,12 +284,40 @@ def text_of(path):
         raise Complaint(f"{path}: byte {fault.start + 1} is no ASCII, so it's no text of bfdd") from None
 
 
+def standard_input():
+    """Its bytes, where it isn't closed."""
+    if sys.stdin is None:
+        raise Complaint("standard input is closed")
+    return sys.stdin.buffer
+
+
+def standard_output():
+    """Its bytes, where it isn't closed."""
+    if sys.stdout is None:
+        raise Complaint("standard output is closed")
+    return sys.stdout.buffer
+
+
 def replayed(program, text):
     """The report that a program writes for a packet file."""
-    ran = subprocess.run([*program, "replay"], input=text.encode("ascii"), stdout=subprocess.PIPE)
+    try:
+        ran = subprocess.run([*program, "replay"], input=text.encode("ascii"), stdout=subprocess.PIPE)
+    except OSError as fault:
+        raise Complaint(f"{' '.join(program)} can't be run: {fault.strerror}") from None
     if ran.returncode not in (0, 2):
-        raise Complaint(f"{' '.join(program)} replay ended with status {ran.returncode}")
-    return ran.stdout.decode("ascii")
+        raise Complaint(f"{' '.join(program)} replay ended with status {ran.returncode}{REFUSED.get(ran.returncode, '')}")
+    try:
+        return ran.stdout.decode("ascii")
+    except UnicodeDecodeError:
+        raise Complaint(f"{' '.join(program)} replay wrote what is no ASCII, so it's no report") from None
+
+
+def command(text):
+    """A command as it is given to --program."""
+    words = shlex.split(text)
+    if not words:
+        raise ValueError
+    return words
 
 
 def add_replay_arguments(parser):
@@ -263,7 +326,7 @@ def add_replay_arguments(parser):
     either = parser.add_mutually_exclusive_group()
     either.add_argument("--report", metavar="REPORT", help="its report; without, the file is replayed")
     either.add_argument("--served", metavar="SERVED", help="the served text of a run whose script is FILE")
-    parser.add_argument("--program", type=shlex.split, metavar="COMMAND", default=[str(TOP / "bin/bfdd")],
+    parser.add_argument("--program", type=command, metavar="COMMAND", default=[str(TOP / "bin/bfdd")],
                         help="what replays it, in place of bin/bfdd")
 
 
@@ -286,14 +349,37 @@ def tool_name():
 
 def run_tool(work):
     """Runs a tool: 0, or 1 with what is wrong on standard error."""
+    sys.stderr = sys.stderr or open(os.devnull, "w")
     try:
-        work()
-        sys.stdout.flush()
+        finish(work)
     except Complaint as fault:
-        print(f"{tool_name()}: {fault}", file=sys.stderr)
-        sys.exit(1)
+        fail(str(fault))
     except BrokenPipeError:
-        os.dup2(os.open(os.devnull, os.O_WRONLY), 1)
-        sys.exit(1)
+        fail("")
+    except OSError as fault:
+        fail(f"{fault.filename or 'standard output'}: {fault.strerror}")
     except KeyboardInterrupt:
         sys.exit(130)
+
+
+def finish(work):
+    """Does a tool's work, or writes its help, until standard output has taken all of it."""
+    try:
+        work()
+    except SystemExit as ended:
+        if ended.code:
+            raise
+    if sys.stdout and not sys.stdout.closed:
+        sys.stdout.flush()
+
+
+def fail(why):
+    """Ends a tool with status 1. What standard output or standard error hasn't taken by then goes nowhere."""
+    try:
+        if why:
+            print(f"{tool_name()}: {why}", file=sys.stderr, flush=True)
+    except OSError:
+        os.dup2(os.open(os.devnull, os.O_WRONLY), sys.stderr.fileno())
+    if sys.stdout and not sys.stdout.closed:
+        os.dup2(os.open(os.devnull, os.O_WRONLY), sys.stdout.fileno())
+    sys.exit(1)
