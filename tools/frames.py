@@ -98,10 +98,10 @@ class Capture:
                 body = self.take(max(struct.unpack(order + "I", head[4:])[0] - 12, 0))
             else:
                 body = self.take(max(struct.unpack(order + "I", head[4:])[0] - 8, 0))
-            if body is None:
+            kind = struct.unpack(order + "I", kind)[0]
+            if body is None or kind == 1 and len(body) < 12:
                 self.cut = f"the file is cut off or damaged behind frame {self.count}"
                 return
-            kind = struct.unpack(order + "I", kind)[0]
             if kind == 1:
                 interfaces.append(interface_of(body, order))
             elif kind in (2, 6):
@@ -122,7 +122,7 @@ def interface_of(body, order):
         value = body[at + 4:at + 4 + size]
         if code == 9 and size == 1:
             per_second = 2 ** (value[0] & 127) if value[0] & 128 else 10 ** value[0]
-        elif code == 14 and size == 8:
+        elif code == 14 and len(value) == size == 8:
             offset = struct.unpack(order + "q", value)[0]
         at += 4 + (size + 3) // 4 * 4
     return link, per_second, offset

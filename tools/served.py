@@ -5,7 +5,7 @@ here is proved.
 """
 import heapq
 
-from texts import EVENTS, Complaint, Line, Script, text_of
+from texts import EVENTS, Complaint, Line, Script, quoted, text_of
 
 SESSIONS = ("p2p", "sbfd", "head", "tail")
 REPORTED = ("state", "tx", "drop", "refuse", "show")
@@ -29,11 +29,11 @@ class Served:
         self.name, self.shards, self.entries, self.sent, self.lost = name, [], None, None, None
         for place, line in enumerate(lines_of(text), 1):
             try:
-                if self.entries is not None:
+                if self.entries is not None or not line.isprintable():
                     raise ValueError
                 self.take(place, line)
             except (ValueError, IndexError):
-                raise Complaint(f"{name}: line {place} is in no served text: {line[:80]}") from None
+                raise Complaint(f"{name}: line {place} is in no served text: {quoted(line)}") from None
         if self.entries is None or text[-1] != "\n":
             raise Complaint(f"{name} isn't a whole served text: its last line `served ..` is missing, or cut off")
 
@@ -99,7 +99,7 @@ def event_line(live, served, place, event):
         payload = b"BFDe" + int(discr).to_bytes(4, "big") + int(sequence).to_bytes(4, "big") + bytes(4)
         local = next(line for line in live.tables[int(discr)] if line.startswith("p2p")).split(" ")[4]
     except (ValueError, KeyError, StopIteration, OverflowError):
-        raise Complaint(f"{served.name}: line {place} is no event of this script: {event[:80]}") from None
+        raise Complaint(f"{served.name}: line {place} is no event of this script: {quoted(event)}") from None
     return f"rx {moment} echo {session.iface} {local} {local} {BACK_TTL} {payload.hex()}"
 
 
@@ -124,12 +124,12 @@ def entries_of(live, served, shard):
         try:
             event = reader.event_of(event_line(live, served, place, text).split(" "))
         except (ValueError, IndexError):
-            raise Complaint(f"{served.name}: line {place} is no event of this script: {text[:80]}") from None
+            raise Complaint(f"{served.name}: line {place} is no event of this script: {quoted(text)}") from None
         lines = []
         while at < len(shard.lines) and shard.lines[at][0] == place + len(lines) + 1:
             number, word, *words = shard.lines[at][1].split(" ")
             if not live.script.may_have(word, words):
-                raise Complaint(f"{served.name}: line {shard.lines[at][0]} tells nothing of this script: {shard.lines[at][1][:80]}")
+                raise Complaint(f"{served.name}: line {shard.lines[at][0]} tells nothing of this script: {quoted(shard.lines[at][1])}")
             lines.append(Line(int(number), word, words))
             at += 1
         latest = max(latest, event.moment)

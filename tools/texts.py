@@ -245,7 +245,7 @@ def report_of(text, script, name):
                 check_end(fields, script, name)
                 return lines
             number = number_of(fields[0], len(script.events))
-            if number == 0 or len(fields) < 3 or not script.may_have(fields[1], fields[2:]):
+            if number == 0 or len(fields) < 3 or not line.isprintable() or not script.may_have(fields[1], fields[2:]):
                 raise ValueError
         except ValueError:
             raise Complaint(f"{name}: line {at} is in no report of this packet file: {quoted(line)}") from None
