@@ -2,6 +2,7 @@
 
 Nothing here is proved. A packet file is taken as one that the program reads: only what a tool needs of a line is looked at.
 """
+import argparse
 import functools
 import importlib
 import ipaddress
@@ -282,6 +283,17 @@ def text_of(path):
         return data.decode("ascii")
     except UnicodeDecodeError as fault:
         raise Complaint(f"{path}: byte {fault.start + 1} is no ASCII, so it's no text of bfdd") from None
+
+
+def moment_of(text):
+    """A moment of the command line: seconds."""
+    try:
+        value = float(text)
+    except ValueError:
+        value = -1
+    if not 0 <= value < 1e12:
+        raise argparse.ArgumentTypeError(f"a number of seconds from 0 to below 1,000,000,000,000 is wanted, and {text!r} was given")
+    return value
 
 
 def standard_input():
