@@ -170,7 +170,9 @@ class Script:
             self.reflectors.add(number_of(fields[1], 2**32 - 1))
         elif word in EVENTS:
             self.events.append(self.event_of(fields))
-        elif word not in ("bfd", "auth", "key", "run", "end", ""):
+        elif word in ("auth", "key"):
+            number_of(fields[1], 2**32 - 1)
+        elif word not in ("bfd", "run", "end", ""):
             raise ValueError
 
     def event_of(self, fields):
