@@ -55,14 +55,27 @@ static void open_socket(int place, struct in_addr local) {
     sockets[place] = (struct pollfd){.fd = fd, .events = POLLIN};
 }
 
-static void open_engine(bfdd_handle *engine, const char *path) {
-    static uint8_t text[1 << 20];
-    bfdd_complaint complaint = {0};
+/* All that a file has, in memory that the caller frees. */
+static uint8_t *read_file(const char *path, size_t *length) {
     FILE *file = fopen(path, "rb");
     if (!file) fail(path);
-    size_t length = fread(text, 1, sizeof text, file);
+    size_t room = 1 << 16;
+    uint8_t *text = malloc(room);
+    for (*length = 0; text; text = realloc(text, room *= 2)) {
+        *length += fread(text + *length, 1, room - *length, file);
+        if (*length < room) break; /* the end, or an error */
+    }
+    if (!text || ferror(file)) fail(path);
     fclose(file);
+    return text;
+}
+
+static void open_engine(bfdd_handle *engine, const char *path) {
+    bfdd_complaint complaint = {0};
+    size_t length;
+    uint8_t *text = read_file(path, &length);
     uint32_t code = bfdd_open(engine, text, length, &complaint);
+    free(text);
     if (code == BFDD_TEXT) fprintf(stderr, "%s: line %" PRIu64 " has fault %" PRIu32 "\n", path, complaint.line, complaint.fault);
     else if (code != BFDD_DONE) fprintf(stderr, "%s: not opened, for code %" PRIu32 "\n", path, code);
     if (code != BFDD_DONE) exit(2);
