@@ -211,6 +211,15 @@ def tried(title, function, program, kept, tries):
         print(f"# {title} is tried again, since\n{found(wrong)}", file=sys.stderr, flush=True)
 
 
+def chosen(tests, words, lister):
+    """Those whose names have one of the words. A word that no name has ends the command, and tells which command lists the names."""
+    unknown = [word for word in words if not any(word in title for title, _ in tests)]
+    if unknown:
+        print(f"{lister.split()[0]}: no test is named {' or '.join(unknown)}; `{lister}` lists them", file=sys.stderr)
+        sys.exit(2)
+    return [(title, function) for title, function in tests if not words or any(word in title for word in words)]
+
+
 def main(name, tests, prepare=None, long=(), tries=1):
     """Runs the tests of a table: (name, function), and with the word --long those of `long` as well. Each has so many tries where it is Late."""
     parser = argparse.ArgumentParser(usage=f"{name} [--install] [--keep FOLDER] [--program COMMAND] {'[--long] ' if long else ''}[WORD..]")
@@ -223,9 +232,9 @@ def main(name, tests, prepare=None, long=(), tries=1):
     parser.add_argument("words", nargs="*", help="parts of names")
     told = parser.parse_args()
     tests = [*tests, *long] if long and told.long else tests
-    chosen = [(title, function) for title, function in tests if not told.words or any(word in title for word in told.words)]
+    tests = chosen(tests, told.words, f"{name} --long --list" if long else f"{name} --list")
     if told.list:
-        print("\n".join(title for title, _ in chosen))
+        print("\n".join(title for title, _ in tests))
         return
     if IN_OWN not in os.environ and prepare:
         prepare(told.install)
@@ -233,13 +242,13 @@ def main(name, tests, prepare=None, long=(), tries=1):
     enter_own_network()
     signal.signal(signal.SIGTERM, lambda *_: sys.exit(143))  # (so that daemons and namespaces are ended then too)
     failed = skipped = 0
-    print(f"1..{len(chosen)}", flush=True)
-    for number, (title, function) in enumerate(chosen, 1):
+    print(f"1..{len(tests)}", flush=True)
+    for number, (title, function) in enumerate(tests, 1):
         wrong, why, at = tried(title, function, program, told.keep, tries)
         failed, skipped = failed + (wrong is not None), skipped + (why is not None)
         note = f" # SKIP {why}" if why is not None else f" # at try {at}" if at > 1 else ""
         print(f"{'ok' if wrong is None else 'not ok'} {number} - {title}{note}", flush=True)
         if wrong is not None:
             print(f"# {title}\n{found(wrong)}", file=sys.stderr, flush=True)
-    print(f"# {name}: {len(chosen) - failed - skipped} passed, {failed} failed, {skipped} skipped")
+    print(f"# {name}: {len(tests) - failed - skipped} passed, {failed} failed, {skipped} skipped")
     sys.exit(1 if failed else 0)
