@@ -1,5 +1,5 @@
 /* libbfdd: a Bidirectional Forwarding Detection engine (RFC 5880, 5881, 5883, 7880, 7881 and 8562), of which every function
- * is proved. docs/EMBEDDING.md tells when to call what, and what is proved.
+ * is proved. docs/EMBEDDING.md tells when to call what, and what is proved; an installation has it in PREFIX/lib/bfdd/docs.
  *
  * The library does no input, no output and no waiting, and knows no clock and no thread: the caller hands packets and ticks
  * in, and sends what comes out.
