@@ -1,0 +1,67 @@
+"""What the tests of tests/tools stand on: how one is marked, what it finds, and the folder that it has."""
+import shlex
+import shutil
+import subprocess
+from pathlib import Path
+
+TOP = Path(__file__).resolve().parent.parent.parent
+EXAMPLES = sorted((TOP / "examples").glob("*.script"))
+TESTS = []
+
+
+def test(*needs):
+    """Marks a test, with the libraries and commands that it needs."""
+    def mark(function):
+        TESTS.append((function.__name__.replace("_", "-"), function, needs))
+        return function
+    return mark
+
+
+class Wrong(Exception):
+    """What a test found."""
+
+
+def same(got, wanted, what):
+    if got != wanted:
+        raise Wrong(f"{what}: wanted\n{wanted}\nand got\n{got}")
+
+
+def has(text, *parts):
+    for part in parts:
+        if part not in text:
+            raise Wrong(f"wanted {part!r} in\n{text}")
+
+
+class Place:
+    """A folder for a test, with the program in it."""
+
+    def __init__(self, folder, program):
+        self.folder, self.program = Path(folder), program
+
+    def file(self, name, data):
+        path = self.folder / name
+        path.write_bytes(data if isinstance(data, bytes) else data.encode("utf-8"))
+        return str(path)
+
+    def tool(self, name, *words, status=0, text=b""):
+        """What a tool wrote to standard output and to standard error."""
+        more = ["--program", shlex.join(self.program)] if name != "capture" else []
+        ran = subprocess.run([TOP / "tools" / name, *map(str, words), *more], input=text, capture_output=True, timeout=1200)
+        complaint = ran.stderr.decode("utf-8")
+        if ran.returncode != status or "Traceback" in complaint:
+            raise Wrong(f"tools/{name} {words}: status {ran.returncode}, and must be {status}: {complaint}")
+        return ran.stdout.decode("ascii", "replace"), complaint
+
+    def replay(self, text):
+        return subprocess.run([*self.program, "replay"], input=text.encode("ascii"), stdout=subprocess.PIPE).stdout.decode("ascii")
+
+    def tree(self):
+        """A copy of what bin/install needs, in which the program counts as proved."""
+        top = self.folder / "tree"
+        for part in ("bin", "tools", "man", "docs", "include"):
+            shutil.copytree(TOP / part, top / part, ignore=shutil.ignore_patterns("__pycache__"))
+        (top / "stand-in").write_text(f'#!/bin/sh\nexec {shlex.join(self.program)} "$@"\n')
+        (top / "bin/proved").write_text(f"#!/bin/sh\necho {shlex.quote(str(top / 'stand-in'))}\n")
+        (top / "bin/library").write_text('#!/bin/sh\necho a stand-in >"$1/libbfdd.a"\n')
+        (top / "stand-in").chmod(0o755)
+        return top
