@@ -2,9 +2,13 @@
 import shlex
 import shutil
 import subprocess
+import sys
 from pathlib import Path
 
 TOP = Path(__file__).resolve().parent.parent.parent
+sys.path.insert(0, str(TOP / "tests"))
+from outside import Wrong, has, same
+
 EXAMPLES = sorted((TOP / "examples").glob("*.script"))
 TESTS = []
 
@@ -15,21 +19,6 @@ def test(*needs):
         TESTS.append((function.__name__.replace("_", "-"), function, needs))
         return function
     return mark
-
-
-class Wrong(Exception):
-    """What a test found."""
-
-
-def same(got, wanted, what):
-    if got != wanted:
-        raise Wrong(f"{what}: wanted\n{wanted}\nand got\n{got}")
-
-
-def has(text, *parts):
-    for part in parts:
-        if part not in text:
-            raise Wrong(f"wanted {part!r} in\n{text}")
 
 
 class Place:
