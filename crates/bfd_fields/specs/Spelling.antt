@@ -1,4 +1,4 @@
--- How fields, names and bytes are spelled.
+-- How fields and bytes are spelled.
 use Rattle.std.specs.Prelude.{ℕ, List, [], ◌∷◌, ◌++◌, codes}
 use Rattle.hex.specs.Hex.{encode_lower}
 

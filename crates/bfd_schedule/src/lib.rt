@@ -5,7 +5,7 @@
 //! [`pair_line`] plays it and writes the line. `specs/Schedule.antt` is the schedule and `specs/Line.antt` the line, as
 //! definitions over the pair run of `bfd_pair`.
 //!
-//! It stands on `bfd_pair` and what that stands on, and on `bfd_fields`, which spells states. It promises that
+//! It stands on `bfd_pair` and what that stands on, and on `bfd_fields`, which spells a line. It promises that
 //! `pair_line` answers that line of that schedule, or there was no memory.
 #![tactic(auto)]
 

@@ -9,7 +9,7 @@
 //! defines. The one spelling of a script is for `bfd_spelling`.
 //!
 //! Layers, lowest first: `places`, `rows`, `table` and `pool` (the sessions and the reflectors so far), `state` (what is kept from line
-//! to line), `reading` (the whole text); beside them `names` and `report`.
+//! to line), `reading` (the whole text); beside them `report`.
 //!
 //! It stands on `bfd_fields` and `bfd_line`, on `bfd_packet`, `bfd_rules`, `bfd_sbfd`, `bfd_demux` and `bfd_session`, and on
 //! `arrayvec` and `itoa`.

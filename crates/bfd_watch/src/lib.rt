@@ -5,7 +5,7 @@
 //! followed. A [`LinkGroup`] is up while enough of its members are Up; it is told the changes, and writes the watched text:
 //! the changes of each event, and each move of the group.
 //!
-//! It stands on `bfd_shard` and what that stands on, and on `bfd_fields` for how states are spelled. It promises that what a
+//! It stands on `bfd_shard` and what that stands on, and on `bfd_fields` for how a line is spelled. It promises that what a
 //! watch has told after any entries is exactly the changes of that history, each once and in order; that the lines of a
 //! group are those of the definition; and that after a refusal all is as before.
 #![tactic(auto)]
