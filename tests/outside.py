@@ -221,7 +221,8 @@ def chosen(tests, words, lister):
 
 
 def main(name, tests, prepare=None, long=(), tries=1):
-    """Runs the tests of a table: (name, function), and with the word --long those of `long` as well. Each has so many tries where it is Late."""
+    """Runs the tests of a table: (name, function), and with the word --long those of `long` as well. Each has so many tries where it is
+    Late."""
     parser = argparse.ArgumentParser(usage=f"{name} [--install] [--keep FOLDER] [--program COMMAND] {'[--long] ' if long else ''}[WORD..]")
     if long:
         parser.add_argument("--long", action="store_true", help="the long tests as well")

@@ -173,7 +173,7 @@ def capture_makes_no_session_of_discriminator_0(place):
 
 @test("dpkt")
 def capture_makes_files_that_are_replayed_of_any_packets(place):
-    draws = random.Random(20260101)
+    draws, read = random.Random(20260101), 0
     for number in range(15):
         frames = [(at * 1000, framed(ETHERNET, odd_packet(draws))) for at in range(draws.choice((1, 10, 400)))]
         path = place.file("a.pcap", pcap(frames))
@@ -181,6 +181,8 @@ def capture_makes_files_that_are_replayed_of_any_packets(place):
         report = place.replay(ran.stdout.decode("ascii"))
         if ran.returncode not in (0, 1) or b"Traceback" in ran.stderr or ran.returncode == 0 and "\ndone " not in "\n" + report:
             raise Wrong(f"capture {number}: status {ran.returncode}, replayed {report[:80]!r}: {ran.stderr.decode('utf-8')}")
+        read += ran.returncode == 0
+    same(read >= 10, True, f"most of the captures are read, and not {read} of 15")
 
 
 def odd_packet(draws):
