@@ -1,5 +1,6 @@
 -- A part that has all pieces.
-use Rattle.bfd_gather.proofs.Common.{◌≡◌, ◌≢◌, ◌⊎◌, inl, inr, ◌<◌, ℕ, List, [], ◌∷◌, length, take, drop, map, get_or, refl, ap, ◌∙◌, arith, length-drop, take-append-drop, Option, None, AllByRecursion, get_or_default, sum_by-cons, Key, Mark, Piece, texts, Dealt, pieces_in, IsSpread, dealt_text, HasAll, IsPart, first_key, mark_key, pieces_at, sum_by}
+use Rattle.bfd_gather.proofs.Common.{◌≡◌, ◌≢◌, ◌⊎◌, inl, inr, ◌<◌, ◌++◌, ℕ, List, [], ◌∷◌, length, take, drop, map, get_or, refl, ap, ◌∙◌, arith, length-drop, take-append-drop, Option, None, Some, IfSome, subst, AllByRecursion, get_or_default, sum_by-cons, Key, Mark, Piece, texts, Dealt, pieces_in, IsSpread, dealt_text, HasAll, first_key, mark_key, pieces_at, sum_by}
+use Rattle.bfd_gather.specs.Spread.{Gathers}
 use Rattle.bfd_gather.proofs.Marks.{long_of}
 use Rattle.bfd_gather.proofs.Taking.{head_of, inside_of, within_heads, here, away, same_or_not, txs_of, drops_of}
 
@@ -40,15 +41,34 @@ pub drops_dealt : (ds : List Dealt) → sum_by (λ (p : Piece). p.drops) (map (�
 drops_dealt [] = refl
 drops_dealt (d ∷ ds) = omega (arith, drops_dealt ds, sum_by-cons (λ p. p.drops) d.piece (map (λ d. d.piece) ds), sum_by-cons (λ x. x.piece.drops) d ds)
 
+-- so the part gives what all parts give
+module _ {dealt : List Dealt} {parts : List (List Piece)} {s : ℕ} {part : List Piece} (h : IsSpread dealt parts) (all : HasAll (map first_key parts) s) (is : part ≡ get_or parts s part) where
+  pub sole_texts : texts part ≡ dealt_text dealt
+  sole_texts = ap texts (whole h refl all is) ∙ texts_dealt dealt
+
+  pub sole_txs : sum_by (λ (p : Piece). p.txs) part ≡ txs_of dealt
+  sole_txs = ap (sum_by (λ (p : Piece). p.txs)) (whole h refl all is) ∙ txs_dealt dealt
+
+  pub sole_drops : sum_by (λ (p : Piece). p.drops) part ≡ drops_of dealt
+  sole_drops = ap (sum_by (λ (p : Piece). p.drops)) (whole h refl all is) ∙ drops_dealt dealt
+
+pub sole_gathers : {parts : List (List Piece)} {s : ℕ} {part : List Piece} {none text : List ℕ} {sent fell : ℕ} → HasAll (map first_key parts) s → part ≡ get_or parts s part
+    → none ≡ [] → text ≡ none ++ texts part → sent ≡ sum_by (λ p. p.txs) part → fell ≡ sum_by (λ p. p.drops) part → Gathers parts text sent fell
+sole_gathers all is nothing told sent fell = λ dealt h. (cc (sole_texts h all is), sent ∙ sole_txs h all is, fell ∙ sole_drops h all is)
+
+-- where one part has all of them
+pub is_all : (parts : List (List Piece)) {one : Option ℕ} {s : ℕ} → one ≡ Some s → IfSome one (λ r. HasAll (map first_key parts) r) → HasAll (map first_key parts) s
+is_all parts is all = subst (λ o. IfSome o (λ r. HasAll (map first_key parts) r)) is all
+
 -- the text and the packets of all marks
-texts_at : (ms : List Mark) (t : List ℕ) → long_of ms ≡ length t → texts (pieces_at ms t) ≡ t
+pub texts_at : (ms : List Mark) (t : List ℕ) → long_of ms ≡ length t → texts (pieces_at ms t) ≡ t
 texts_at [] [] h = refl
 texts_at [] (x ∷ t) h = absurd (omega (arith, h))
 texts_at (m ∷ ms) t h =
     let left : long_of ms ≡ length (drop m.long t) = omega (arith, h, sum_by-cons (λ n. n.long) m ms, length-drop m.long t) in
     cc (texts_at ms _ left, take-append-drop m.long t)
 
-txs_at : (ms : List Mark) (t : List ℕ) → sum_by (λ (p : Piece). p.txs) (pieces_at ms t) ≡ sum_by (λ (m : Mark). m.txs) ms
+pub txs_at : (ms : List Mark) (t : List ℕ) → sum_by (λ (p : Piece). p.txs) (pieces_at ms t) ≡ sum_by (λ (m : Mark). m.txs) ms
 txs_at [] t = refl
 txs_at (m ∷ ms) t = omega (
   arith,
@@ -57,7 +77,7 @@ txs_at (m ∷ ms) t = omega (
   sum_by-cons (λ p. p.txs) (record { key = mark_key m; text = take m.long t; txs = m.txs; drops = m.drops }) (pieces_at ms (drop m.long t)),
 )
 
-drops_at : (ms : List Mark) (t : List ℕ) → sum_by (λ (p : Piece). p.drops) (pieces_at ms t) ≡ sum_by (λ (m : Mark). m.drops) ms
+pub drops_at : (ms : List Mark) (t : List ℕ) → sum_by (λ (p : Piece). p.drops) (pieces_at ms t) ≡ sum_by (λ (m : Mark). m.drops) ms
 drops_at [] t = refl
 drops_at (m ∷ ms) t = omega (
   arith,
@@ -65,15 +85,3 @@ drops_at (m ∷ ms) t = omega (
   sum_by-cons (λ n. n.drops) m ms,
   sum_by-cons (λ p. p.drops) (record { key = mark_key m; text = take m.long t; txs = m.txs; drops = m.drops }) (pieces_at ms (drop m.long t)),
 )
-
--- the text and the packets that a part has left
-pub all_text : (ms : List Mark) (t : List ℕ) (next at : ℕ) (ps : List Piece) → IsPart ms t next at → pieces_at (drop next ms) (drop at t) ≡ ps → texts ps ≡ drop at t
-all_text ms t next at ps s v = cc (texts_at (drop next ms) (drop at t) (omega (arith, s.whole, length-drop at t)))
-
-pub all_txs : (ms : List Mark) (t : List ℕ) (next at : ℕ) (ps : List Piece) → pieces_at (drop next ms) (drop at t) ≡ ps
-    → sum_by (λ (p : Piece). p.txs) ps ≡ sum_by (λ (m : Mark). m.txs) (drop next ms)
-all_txs ms t next at ps v = cc (txs_at (drop next ms) (drop at t))
-
-pub all_drops : (ms : List Mark) (t : List ℕ) (next at : ℕ) (ps : List Piece) → pieces_at (drop next ms) (drop at t) ≡ ps
-    → sum_by (λ (p : Piece). p.drops) ps ≡ sum_by (λ (m : Mark). m.drops) (drop next ms)
-all_drops ms t next at ps v = cc (drops_at (drop next ms) (drop at t))

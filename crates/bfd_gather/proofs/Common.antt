@@ -4,7 +4,7 @@ pub use Rattle.std.proofs.lemmas.Bool.{cases_eq, eq-eqb, ne_eqb}
 pub use Rattle.std.proofs.lemmas.List.{drop-append-le, get_or-map, get_or_default, length-map, map-append, map-set, take-append-le}
 pub use Rattle.std.proofs.lemmas.List.Sums.{sum_by-append, sum_by-cons}
 pub use Rattle.std.specs.List.{AllByRecursion, cons_option, filter, filter_map, flat_map, sum_by}
-pub use Rattle.std.specs.Prelude.{nat_lt, slice_get, ◌^◌}
+pub use Rattle.std.specs.Prelude.{IfOk, IfSome, nat_lt, slice_get, ◌^◌}
 pub use Rattle.bfd_gather.specs.Happenings.{Among, Apart, AreParts, Happening, happening_outcomes, in_shard, numbered, queue, session_event, shard_tells, told_apart, told_whole}
 pub use Rattle.bfd_gather.specs.Inside.{HasAll, IsLeast, IsPart, first_drops, first_key, first_text, first_txs, head_key, keys, mark, mark_key, mark_of, pieces_at, rank_key}
 pub use Rattle.bfd_gather.specs.Pieces.{Piece, event_pieces, item_piece, key, precedes, texts, whole_piece}

@@ -11,3 +11,4 @@ pub mod Histories
 pub mod Telling
 pub mod Whole
 pub mod PiecesGiven
+pub mod Seams

@@ -1,5 +1,5 @@
 -- A part's marks and text, as pieces are told and taken.
-use Rattle.bfd_gather.proofs.Common.{◌≡◌, ◌≤◌, ◌<◌, ◌+◌, ◌++◌, ℕ, suc, zero, List, [], ◌∷◌, length, take, drop, map, get_or, Result, Ok, Err, OnOk, OnErr, drop-cons, refl, sym, ap, ◌∙◌, append_assoc, append-nil, arith, length-append, length-drop, AllByRecursion, flat_map, take-append-le, drop-append-le, map-append, sum_by-append, sum_by-cons, Out, Outcome, event_lines, item_line, packets_sent_by, Mark, Piece, texts, key, whole_piece, item_piece, pieces_at, mark, mark_of, IsPart, sum_by, Handled, flat_map-append, named, each_more, item_some}
+use Rattle.bfd_gather.proofs.Common.{◌≡◌, ◌≤◌, ◌+◌, ◌++◌, ℕ, List, [], ◌∷◌, length, take, drop, map, get_or, Result, Ok, Err, OnOk, OnErr, refl, ap, ◌∙◌, append_assoc, append-nil, arith, length-append, length-drop, AllByRecursion, flat_map, take-append-le, drop-append-le, map-append, sum_by-append, sum_by-cons, Out, Outcome, event_lines, item_line, packets_sent_by, Mark, Piece, texts, key, whole_piece, item_piece, pieces_at, mark, mark_of, IsPart, sum_by, Handled, flat_map-append, named, each_more, item_some}
 use Rattle.std.proofs.Math.Seq.{take-append_seam, drop-append_seam, take-add}
 use Rattle.bfd_gather.proofs.Sizes.{event_some}
 
@@ -19,7 +19,7 @@ pieces_back (p ∷ ps) =
     ∙ (ap (λ t. p ∷ pieces_at (map mark_of ps) t) (drop-append_seam p.text (texts ps)) ∙ ap (λ qs. p ∷ qs) (pieces_back ps))
 
 -- marks that have all the text, and others behind them
-pieces_append : (ms ns : List Mark) (t u : List ℕ) → long_of ms ≡ length t → pieces_at (ms ++ ns) (t ++ u) ≡ pieces_at ms t ++ pieces_at ns u
+pub pieces_append : (ms ns : List Mark) (t u : List ℕ) → long_of ms ≡ length t → pieces_at (ms ++ ns) (t ++ u) ≡ pieces_at ms t ++ pieces_at ns u
 pieces_append [] ns [] u h = refl
 pieces_append [] ns (x ∷ t) u h = absurd (omega (arith, h))
 pieces_append (m ∷ ms) ns t u h =
@@ -39,67 +39,27 @@ all_append [] (p ∷ ps) h k = (k.0, all_append [] ps tt k.1)
 all_append (m ∷ ms) ps h k = (h.0, all_append ms ps h.1 k)
 
 -- a part where these pieces more were told
-part_more : (ms ms2 : List Mark) (t t2 : List ℕ) (next at : ℕ) (ps : List Piece) → IsPart ms t next at → ms2 ≡ ms ++ map mark_of ps → t2 ≡ t ++ texts ps
-    → AllByRecursion HasText ps → IsPart ms2 t2 next at
-part_more ms ms2 t t2 next at ps s m e k =
+part_more : (ms ms2 : List Mark) (t t2 : List ℕ) (ps : List Piece) → IsPart ms t → ms2 ≡ ms ++ map mark_of ps → t2 ≡ t ++ texts ps → AllByRecursion HasText ps → IsPart ms2 t2
+part_more ms ms2 t t2 ps s m e k =
     rw m (rw e (record {
-      inside = omega (arith, s.inside, length-append ms (map mark_of ps));
-      whole = omega (
-        arith,
-        s.whole,
-        length-append t (texts ps),
-        long_marks ps,
-        ap long_of (drop-append-le next ms (map mark_of ps) s.inside),
-        sum_by-append (λ n. n.long) (drop next ms) (map mark_of ps),
-      );
+      whole = omega (arith, s.whole, length-append t (texts ps), long_marks ps, sum_by-append (λ n. n.long) ms (map mark_of ps));
       counts = all_append ms ps s.counts k;
     }))
 
 -- and what it tells then
-told_more : (ms ms2 : List Mark) (t t2 : List ℕ) (next at : ℕ) (ps : List Piece) → IsPart ms t next at → ms2 ≡ ms ++ map mark_of ps → t2 ≡ t ++ texts ps
-    → pieces_at (drop next ms2) (drop at t2) ≡ pieces_at (drop next ms) (drop at t) ++ ps
-told_more ms ms2 t t2 next at ps s m e =
-    let fits : at ≤ length t = omega (arith, s.whole) in
-    cc (drop-append-le next ms (map mark_of ps) s.inside, drop-append-le at t (texts ps) fits, pieces_append (drop next ms) (map mark_of ps) (drop at t) (texts ps) (omega (arith, s.whole, length-drop at t)), pieces_back ps)
+told_more : (ms ms2 : List Mark) (t t2 : List ℕ) (ps : List Piece) → IsPart ms t → ms2 ≡ ms ++ map mark_of ps → t2 ≡ t ++ texts ps → pieces_at ms2 t2 ≡ pieces_at ms t ++ ps
+told_more ms ms2 t t2 ps s m e = cc (pieces_append ms (map mark_of ps) t (texts ps) s.whole, pieces_back ps)
 
--- marks that have all of this text, and so many packets that each has a byte of it
-pub record HasLeft (ms : List Mark) (t : List ℕ) : Type 0 where
-  pub whole : long_of ms ≡ length t
-  pub counts : AllByRecursion (λ m. m.txs + m.drops ≤ m.long) ms
-
-all_behind : (n : ℕ) (ms : List Mark) → AllByRecursion (λ m. m.txs + m.drops ≤ m.long) ms → AllByRecursion (λ m. m.txs + m.drops ≤ m.long) (drop n ms)
-all_behind zero ms h = h
-all_behind (suc n) [] h = tt
-all_behind (suc n) (m ∷ ms) h = all_behind n ms h.1
-
--- what is left of a part
-pub has_left : (ms : List Mark) (t : List ℕ) (next at : ℕ) → IsPart ms t next at → HasLeft (drop next ms) (drop at t)
-has_left ms t next at s = record {
-  whole = omega (arith, s.whole, length-drop at t);
-  counts = all_behind next ms s.counts;
-}
-
--- a part where this was told behind it
-part_left : (ms ms2 ns : List Mark) (t t2 u : List ℕ) (next at : ℕ) → IsPart ms t next at → HasLeft ns u → ms2 ≡ ms ++ ns → t2 ≡ t ++ u → IsPart ms2 t2 next at
-part_left ms ms2 ns t t2 u next at s l m e =
+-- a part where all of another was told behind it
+part_both : (ms ms2 ns : List Mark) (t t2 u : List ℕ) → IsPart ms t → IsPart ns u → ms2 ≡ ms ++ ns → t2 ≡ t ++ u → IsPart ms2 t2
+part_both ms ms2 ns t t2 u s l m e =
     rw m (rw e (record {
-      inside = omega (arith, s.inside, length-append ms ns);
-      whole = omega (
-        arith,
-        s.whole,
-        length-append t u,
-        l.whole,
-        ap long_of (drop-append-le next ms ns s.inside),
-        sum_by-append (λ n. n.long) (drop next ms) ns,
-      );
+      whole = omega (arith, s.whole, l.whole, length-append t u, sum_by-append (λ n. n.long) ms ns);
       counts = each_more (λ n. n.txs + n.drops ≤ n.long) ms ns s.counts l.counts;
     }))
 
-told_left : (ms ms2 ns : List Mark) (t t2 u : List ℕ) (next at : ℕ) → IsPart ms t next at → ms2 ≡ ms ++ ns → t2 ≡ t ++ u
-    → pieces_at (drop next ms2) (drop at t2) ≡ pieces_at (drop next ms) (drop at t) ++ pieces_at ns u
-told_left ms ms2 ns t t2 u next at s m e =
-    let fits : at ≤ length t = omega (arith, s.whole) in
-    cc (drop-append-le next ms ns s.inside, drop-append-le at t u fits, pieces_append (drop next ms) ns (drop at t) u (omega (arith, s.whole, length-drop at t)))
+told_both : (ms ms2 ns : List Mark) (t t2 u : List ℕ) → IsPart ms t → ms2 ≡ ms ++ ns → t2 ≡ t ++ u → pieces_at ms2 t2 ≡ pieces_at ms t ++ pieces_at ns u
+told_both ms ms2 ns t t2 u s m e = cc (pieces_append ms ns t u s.whole)
 
 -- the pieces of a tick and of an event have text
 pub items_have : (n : ℕ) (os : List Out) → AllByRecursion HasText (map (item_piece n) os)
@@ -121,47 +81,30 @@ one_mark n (x ∷ []) o long txs drops m h e l t d is =
     cc
 one_mark n os o long txs drops m h e l t d is = absurd (omega (arith, h))
 
--- a part has a mark for each piece
-long_at : (ms : List Mark) (t : List ℕ) → length (pieces_at ms t) ≡ length ms
-long_at [] t = refl
-long_at (m ∷ ms) t = ap suc (long_at ms (drop m.long t))
-
-pub has_next : (ms : List Mark) (t : List ℕ) (next at : ℕ) (ps : List Piece) → pieces_at (drop next ms) (drop at t) ≡ ps → 0 < length ps → next < length ms
-has_next ms t next at ps e h = omega (arith, h, ap length e, long_at (drop next ms) (drop at t), length-drop next ms)
-
--- the first mark that is left, and those behind it
-rest_marks : (ms : List Mark) {next : ℕ} {m : Mark} → next < length ms → m ≡ get_or ms next m → drop next ms ≡ m ∷ drop (next + 1) ms
-rest_marks ms {next} {m} h e =
-    drop-cons ms next m h ∙ (ap (λ k. get_or ms next m ∷ drop k ms) (let one : suc next ≡ next + 1 = omega arith in one)
-    ∙ ap (λ x. x ∷ drop (next + 1) ms) (sym e))
-
-pub first_fits : (ms : List Mark) (t : List ℕ) (next at : ℕ) (m : Mark) → IsPart ms t next at → next < length ms → m ≡ get_or ms next m → at + m.long ≤ length t
-first_fits ms t next at m s h e = omega (arith, s.whole, ap long_of (rest_marks ms h e), sum_by-cons (λ n. n.long) m (drop (next + 1) ms))
-
 -- pieces more were told, or none
 module _ {T E : Type 0} where
-  pub part_by : (r : Result T E) (ms ms2 : List Mark) (t t2 : List ℕ) (next at : ℕ) (ps : List Piece) → IsPart ms t next at
+  pub part_by : (r : Result T E) (ms ms2 : List Mark) (t t2 : List ℕ) (ps : List Piece) → IsPart ms t
       → OnOk r (ms2 ≡ ms ++ map mark_of ps) → OnOk r (t2 ≡ t ++ texts ps) → OnErr r (ms2 ≡ ms) → OnErr r (t2 ≡ t)
-      → AllByRecursion HasText ps → IsPart ms2 t2 next at
-  part_by (Ok x) ms ms2 t t2 next at ps s m e n f k = part_more ms ms2 t t2 next at ps s m e k
-  part_by (Err x) ms ms2 t t2 next at ps s m e n f k = rw n (rw f s)
+      → AllByRecursion HasText ps → IsPart ms2 t2
+  part_by (Ok x) ms ms2 t t2 ps s m e n f k = part_more ms ms2 t t2 ps s m e k
+  part_by (Err x) ms ms2 t t2 ps s m e n f k = rw n (rw f s)
 
-  pub told_by : (r : Result T E) (ms ms2 : List Mark) (t t2 : List ℕ) (next at : ℕ) (ps before : List Piece) → IsPart ms t next at → pieces_at (drop next ms) (drop at t) ≡ before
-      → OnOk r (ms2 ≡ ms ++ map mark_of ps) → OnOk r (t2 ≡ t ++ texts ps) → OnOk r (pieces_at (drop next ms2) (drop at t2) ≡ before ++ ps)
-  told_by (Ok x) ms ms2 t t2 next at ps before s v m e = cc (told_more ms ms2 t t2 next at ps s m e)
-  told_by (Err x) ms ms2 t t2 next at ps before s v m e = tt
+  pub told_by : (r : Result T E) (ms ms2 : List Mark) (t t2 : List ℕ) (ps before : List Piece) → IsPart ms t → pieces_at ms t ≡ before
+      → OnOk r (ms2 ≡ ms ++ map mark_of ps) → OnOk r (t2 ≡ t ++ texts ps) → OnOk r (pieces_at ms2 t2 ≡ before ++ ps)
+  told_by (Ok x) ms ms2 t t2 ps before s v m e = cc (told_more ms ms2 t t2 ps s m e)
+  told_by (Err x) ms ms2 t t2 ps before s v m e = tt
 
-  -- what is left of another part was told, or nothing
-  pub left_by : (r : Result T E) (ms ms2 ns : List Mark) (t t2 u : List ℕ) (next at : ℕ) → IsPart ms t next at → HasLeft ns u
-      → OnOk r (ms2 ≡ ms ++ ns) → OnOk r (t2 ≡ t ++ u) → OnErr r (ms2 ≡ ms) → OnErr r (t2 ≡ t) → IsPart ms2 t2 next at
-  left_by (Ok x) ms ms2 ns t t2 u next at s l m e n f = part_left ms ms2 ns t t2 u next at s l m e
-  left_by (Err x) ms ms2 ns t t2 u next at s l m e n f = rw n (rw f s)
+  -- all of another part was told, or nothing
+  pub both_by : (r : Result T E) (ms ms2 ns : List Mark) (t t2 u : List ℕ) → IsPart ms t → IsPart ns u
+      → OnOk r (ms2 ≡ ms ++ ns) → OnOk r (t2 ≡ t ++ u) → OnErr r (ms2 ≡ ms) → OnErr r (t2 ≡ t) → IsPart ms2 t2
+  both_by (Ok x) ms ms2 ns t t2 u s l m e n f = part_both ms ms2 ns t t2 u s l m e
+  both_by (Err x) ms ms2 ns t t2 u s l m e n f = rw n (rw f s)
 
-  pub left_told : (r : Result T E) (ms ms2 ns : List Mark) (t t2 u : List ℕ) (next at : ℕ) (before more : List Piece) → IsPart ms t next at
-      → pieces_at (drop next ms) (drop at t) ≡ before → pieces_at ns u ≡ more
-      → OnOk r (ms2 ≡ ms ++ ns) → OnOk r (t2 ≡ t ++ u) → OnOk r (pieces_at (drop next ms2) (drop at t2) ≡ before ++ more)
-  left_told (Ok x) ms ms2 ns t t2 u next at before more s v w m e = cc (told_left ms ms2 ns t t2 u next at s m e)
-  left_told (Err x) ms ms2 ns t t2 u next at before more s v w m e = tt
+  pub both_told : (r : Result T E) (ms ms2 ns : List Mark) (t t2 u : List ℕ) (before more : List Piece) → IsPart ms t
+      → pieces_at ms t ≡ before → pieces_at ns u ≡ more
+      → OnOk r (ms2 ≡ ms ++ ns) → OnOk r (t2 ≡ t ++ u) → OnOk r (pieces_at ms2 t2 ≡ before ++ more)
+  both_told (Ok x) ms ms2 ns t t2 u before more s v w m e = cc (told_both ms ms2 ns t t2 u s m e)
+  both_told (Err x) ms ms2 ns t t2 u before more s v w m e = tt
 
   -- one piece's text is the text of it alone
   pub single : (r : Result T E) (t t2 : List ℕ) (p : Piece) → OnOk r (t2 ≡ t ++ p.text) → OnOk r (t2 ≡ t ++ texts (p ∷ []))

@@ -9,10 +9,10 @@ ordered : (ae ad be bd : ℕ) → ad < 2 ^ 32 → bd < 2 ^ 32 → (nat_lt ae be 
 ordered ae ad be bd a b = grind (arith, nat_tests)
 
 -- keys stand as their ranks do
-rank_order : (a b : ℕ) → precedes (rank_key a) (rank_key b) ≡ nat_lt a b
+pub rank_order : (a b : ℕ) → precedes (rank_key a) (rank_key b) ≡ nat_lt a b
 rank_order a b = cc (ordered (a / 2 ^ 32) (a % 2 ^ 32) (b / 2 ^ 32) (b % 2 ^ 32) (mod-lt a (omega arith)) (mod-lt b (omega arith)), div-add-mod' a (2 ^ 32), div-add-mod' b (2 ^ 32))
 
-not_less : {a b : ℕ} → b ≤ a → nat_lt a b ≡ false
+pub not_less : {a b : ℕ} → b ≤ a → nat_lt a b ≡ false
 not_less h = grind (arith, nat_tests)
 
 -- the best so far, of rank lowest

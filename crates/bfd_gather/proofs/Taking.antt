@@ -31,7 +31,7 @@ pub away : (d : Dealt) (ds : List Dealt) (s : ℕ) → d.part ≢ s → pieces_i
 away d ds s e = rw (not_same e) refl
 
 -- the first piece of a part is one of those that were dealt to it
-record Found (s : ℕ) (P : Dealt → Type 0) (key : Key) : Type 0 where
+pub record Found (s : ℕ) (P : Dealt → Type 0) (key : Key) : Type 0 where
   pub dealt : Dealt
   pub is : dealt.piece.key ≡ key
   pub its : dealt.part ≡ s
@@ -45,7 +45,7 @@ found_by {s} P {d} ds {key} (inl e) rest f h =
     record { dealt = d; is = cc; its = e; holds = h.0 }
 found_by {s} P {d} ds (inr e) rest f h = rest (cc (away d ds s e)) h.1
 
-found : (s : ℕ) (P : Dealt → Type 0) (ds : List Dealt) (key : Key) → first_key (pieces_in s ds) ≡ Some key → AllByRecursion P ds → Found s P key
+pub found : (s : ℕ) (P : Dealt → Type 0) (ds : List Dealt) (key : Key) → first_key (pieces_in s ds) ≡ Some key → AllByRecursion P ds → Found s P key
 found s P [] key f h = absurd (cc)
 found s P (d ∷ ds) key f h = found_by P ds (same_or_not d.part s) (found s P ds key) f h
 
@@ -60,7 +60,7 @@ pub within_heads : (parts : List (List Piece)) {s : ℕ} → s < length parts �
 within_heads parts h = omega (arith, h, length-map parts first_key)
 
 -- the least part is that of the first piece
-not_both : {b : Bool} → b ≡ true → b ≡ false → ⊥
+pub not_both : {b : Bool} → b ≡ true → b ≡ false → ⊥
 not_both h k = cc
 
 other_part : {d : Dealt} {ds : List Dealt} {parts : List (List Piece)} {s : ℕ} → IsSpread (d ∷ ds) parts → (l : IsLeast (map first_key parts) s) → d.part ≢ s → ⊥
@@ -79,7 +79,7 @@ its d ds parts s h l = elim (same_or_not d.part s) [ inl same ↦ same | inr apa
 within_set : (ds : List Dealt) {n m : ℕ} → m ≡ n → AllByRecursion (λ d. d.part < n) ds → AllByRecursion (λ d. d.part < m) ds
 within_set ds e h = rw e h
 
-takes : (d : Dealt) (ds : List Dealt) (parts : List (List Piece)) (s : ℕ) → IsSpread (d ∷ ds) parts → d.part ≡ s → s < length parts
+pub takes : (d : Dealt) (ds : List Dealt) (parts : List (List Piece)) (s : ℕ) → IsSpread (d ∷ ds) parts → d.part ≡ s → s < length parts
     → IsSpread ds (set parts s (drop 1 (get_or parts s [])))
 takes d ds parts s h e inside = record {
   each = λ r k.

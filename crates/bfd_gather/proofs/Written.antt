@@ -1,5 +1,5 @@
 -- What a sink took, over several calls.
-use Rattle.bfd_gather.proofs.Common.{ℕ, List, [], ◌++◌, take, drop, Option, Result, Ok, Err, refl, sym, subst, ◌∙◌, append_assoc, Appends, TookUpTo, TookFront, Appends-nil, Appends-trans}
+use Rattle.bfd_gather.proofs.Common.{ℕ, List, [], ◌∷◌, ◌++◌, ◌≡◌, ◌<◌, ap, drop-cons, flat_map, flat_map-append, get_or, length, suc, take, drop, Option, Result, Ok, Err, refl, sym, subst, ◌∙◌, append_assoc, Appends, TookUpTo, TookFront, Appends-nil, Appends-trans}
 use Rattle.std.specs.Prelude.{OnOk}
 use Rattle.std.proofs.lemmas.List.{take-append-drop}
 
@@ -37,3 +37,12 @@ front_of_longer old new text more (rest, took) = (rest ++ more, took_of_longer o
 pub when_ok : {T E : Type 0} {P Q : Type 0} (r : Result T E) → (P → Q) → OnOk r P → OnOk r Q
 when_ok (Ok done) f p = f p
 when_ok (Err e) f p = tt
+
+-- of texts one behind another the sink took some, and of the next one a front
+pub each_front : {X : Type 0} (old mid new : Option (List ℕ)) (f : X → List ℕ) (xs : List X) (at : ℕ) (x : X) {t : List ℕ} → at < length xs → x ≡ get_or xs at x → t ≡ f x
+    → Appends old mid (flat_map f (take at xs)) → TookFront mid new t → TookFront old new (flat_map f xs)
+each_front old mid new f xs at x {t} inside is same took front =
+    let split : take at xs ++ (x ∷ drop (suc at) xs) ≡ xs = ap (λ ys. take at xs ++ ys) (ap (λ y. y ∷ drop (suc at) xs) is ∙ sym (drop-cons xs at x inside)) ∙ take-append-drop at xs in
+    let whole : flat_map f xs ≡ flat_map f (take at xs) ++ (t ++ flat_map f (drop (suc at) xs)) =
+    sym (ap (flat_map f) split) ∙ flat_map-append f (take at xs) (x ∷ drop (suc at) xs) ∙ ap (λ u. flat_map f (take at xs) ++ (u ++ flat_map f (drop (suc at) xs))) (sym same) in
+    took_front old mid new (flat_map f xs) (t ++ flat_map f (drop (suc at) xs)) (flat_map f (take at xs), took, whole) (front_of_longer mid new t (flat_map f (drop (suc at) xs)) front)

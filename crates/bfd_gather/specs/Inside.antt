@@ -22,10 +22,9 @@ pieces_at (m ∷ rest) text =
 abbrev pub mark_of : Piece → Mark
 mark_of p = mark p.key (length p.text) p.txs p.drops
 
--- a part that has given as many pieces as `next`, whose text ends at `at`; each packet that a mark counts has a byte of text
-pub record IsPart (marks : List Mark) (text : List ℕ) (next at : ℕ) : Type 0 where
-  pub inside : next ≤ length marks
-  pub whole : at + sum_by (λ m. m.long) (drop next marks) ≡ length text
+-- marks that have all of the text; each packet that one counts has a byte of text
+pub record IsPart (marks : List Mark) (text : List ℕ) : Type 0 where
+  pub whole : sum_by (λ m. m.long) marks ≡ length text
   pub counts : AllByRecursion (λ m. m.txs + m.drops ≤ m.long) marks
 
 -- of pieces the first

@@ -1,5 +1,5 @@
 -- Pieces of a report that were dealt out to parts.
-use Rattle.std.specs.Prelude.{ℕ, ◌≡◌, ◌⊎◌, ◌<◌, ◌==◌, true, List, [], ◌∷◌, length, map, slice_index_or}
+use Rattle.std.specs.Prelude.{ℕ, ◌≡◌, ◌⊎◌, ◌<◌, ◌==◌, true, List, [], ◌∷◌, length, map, slice_index_or, sum_by}
 use Rattle.std.specs.List.{AllByRecursion, filter, flat_map}
 use Rattle.bfd_gather.specs.Pieces.{Piece, precedes}
 
@@ -33,6 +33,11 @@ pub record IsSpread (dealt : List Dealt) (parts : List (List Piece)) : Type 0 wh
 -- their text
 abbrev pub dealt_text : List Dealt → List ℕ
 dealt_text dealt = flat_map (λ d. d.piece.text) dealt
+
+-- the text of the parts' pieces in the order of the report, and how many packets they tell were sent and were dropped
+abbrev pub Gathers : List (List Piece) → List ℕ → ℕ → ℕ → Type 0
+Gathers parts text txs drops = (dealt : List Dealt) → IsSpread dealt parts
+    → (text ≡ dealt_text dealt) × (txs ≡ sum_by (λ d. d.piece.txs) dealt) × (drops ≡ sum_by (λ d. d.piece.drops) dealt)
 
 -- taken in the order of the report, the parts' pieces are these
 pub record AreGathered (parts : List (List Piece)) (pieces : List Piece) : Type 0 where

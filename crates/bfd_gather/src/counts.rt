@@ -1,10 +1,11 @@
 //! What outputs name, and how many packets outputs and answers tell of.
-ghost use Rattle.std.specs.Prelude.{◌≡◌, ◌≤◌, length, sum_by};
+ghost use Rattle.std.specs.Prelude.{◌≡◌, ◌≤◌, ◌+◌, IfOk, length, sum_by};
 ghost use Rattle.bfd_rules.specs.Names as names;
 ghost use Rattle.bfd_script.specs.Report.{packets_sent_by, dropped_by};
 
 use bfd_rules::Out;
 use bfd_session::Answer;
+use std::alloc::AllocError;
 
 /// The discriminator that an output names.
 pub(crate) fn named(out: &Out) -> u32
@@ -46,5 +47,16 @@ pub fn dropped(answer: &Answer) -> u64
     match answer {
         Answer::Dropped(_) => 1,
         Answer::Handled | Answer::Ticked | Answer::Refused(_) | Answer::Shown(_) => 0,
+    }
+}
+
+/// Adds up how many packets were sent and were dropped. The one refusal is 2^64 packets, which count as want of memory.
+pub(crate) fn added(counts: (u64, u64), more: (u64, u64)) -> Result<(u64, u64), AllocError>
+    ensures sent { IfOk result (λ sums. sums.0 ≡ counts.0 + more.0) }
+    ensures dropped { IfOk result (λ sums. sums.1 ≡ counts.1 + more.1) }
+{
+    match (counts.0.checked_add(more.0), counts.1.checked_add(more.1)) {
+        (Some(txs), Some(drops)) => Ok((txs, drops)),
+        _ => Err(AllocError),
     }
 }

@@ -1,6 +1,7 @@
 //! Text to a sink.
 ghost use Rattle.std.specs.Prelude.{◌≡◌, ◌≤◌, OnErr, OnOk, IsErrOf};
 ghost use Rattle.std.specs.Io.KnownBytes.{Appends};
+ghost use Rattle.std.specs.List.{flat_map};
 ghost use Rattle.bfd_edge.specs.Faults.{HasCause, Rose};
 ghost use Rattle.bfd_gather.specs.Written.{TookFront, TookUpTo};
 
@@ -26,6 +27,19 @@ pub fn write_all<K: Sink>(sink: &mut K, text: &[u8]) -> Result<(), Fault>
             Ok(count) => (_, rest) = rest.split_at(count),
             Err(fault) => return Err(fault),
         }
+    }
+    Ok(())
+}
+
+/// Writes the texts, one behind another. It is refused as `write_all` is; the sink took a front of them then.
+pub fn write_each<K: Sink>(sink: &mut K, texts: &[Vec<u8>]) -> Result<(), Fault>
+    ensures whole { OnOk result (Appends (K.taken sink.old) (K.taken sink.new) (flat_map (λ text. text.items) texts.now)) }
+    ensures front { TookFront (K.taken sink.old) (K.taken sink.new) (flat_map (λ text. text.items) texts.now) }
+    ensures cause { HasCause (K.faults sink.old) (K.faults sink.new) result }
+    ensures calm { OnOk result (K.faults sink.new ≡ K.faults sink.old) }
+{
+    for at in 0..texts.len() {
+        write_all(sink, texts[at].as_slice())?;
     }
     Ok(())
 }

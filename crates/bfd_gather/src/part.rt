@@ -1,12 +1,13 @@
 //! What one shard tells of its events.
-ghost use Rattle.std.specs.Prelude.{◌≡◌, ◌<◌, ◌≤◌, ◌+◌, ◌++◌, ◌∷◌, [], ◌^◌, ◌⊎◌, IfNone, IfOk, IfSome, OnErr, OnOk, drop, length, map, sum_by, take};
+ghost use Rattle.std.specs.Prelude.{◌≡◌, ◌<◌, ◌≤◌, ◌+◌, ◌++◌, ◌∷◌, [], ◌^◌, ◌⊎◌, IfNone, IfOk, IfSome, OnErr, OnOk, length, map, sum_by};
 ghost use Rattle.std.specs.List.{AllByRecursion};
 ghost use Rattle.bfd_script.specs.Report.{event_lines};
 ghost use Rattle.bfd_gather.specs.Pieces.{texts, whole_piece, item_piece};
-ghost use Rattle.bfd_gather.specs.Inside.{mark_of, head_key, first_key, first_text, first_txs, first_drops};
+ghost use Rattle.bfd_gather.specs.Inside.{mark_of};
 
 use crate::counts::{dropped, named, packets, sent};
 use crate::key::{Key, Mark};
+use crate::rest::Rest;
 use bfd_rules::Out;
 use bfd_script::lines;
 use bfd_session::Answer;
@@ -14,26 +15,23 @@ use std::alloc::{AllocError, Global};
 use std::marker::Model;
 use std::mem;
 
-/// What one shard tells of its events, or what is told of the events of no session: text in pieces, of which the first are
-/// taken off again. Its value is the pieces that are left.
+/// What one shard tells of its events, or what is told of the events of no session: text in pieces. Its value is the pieces.
 #[derive(Drop)]
 pub struct Part {
     text: Vec<u8>,
     marks: Vec<Mark>,
-    next: usize,
-    at: usize,
 }
 
 impl Model for Part {
-    ghost use Rattle.std.specs.Prelude.{List, drop};
+    ghost use Rattle.std.specs.Prelude.{List};
     ghost use Rattle.bfd_gather.specs.Pieces.{Piece};
     ghost use Rattle.bfd_gather.specs.Inside.{IsPart, pieces_at};
 
     ghost Value = { List Piece };
 
-    ghost view = { λ p. pieces_at (drop p.next p.marks.items) (drop p.at p.text.items) };
+    ghost view = { λ p. pieces_at p.marks.items p.text.items };
 
-    ghost invariant = { λ p. IsPart p.marks.items p.text.items p.next p.at };
+    ghost invariant = { λ p. IsPart p.marks.items p.text.items };
 }
 
 /// Appends the text of an event, and its mark.
@@ -151,40 +149,28 @@ fn append_items(
     Ok(())
 }
 
-/// Appends so many bytes of the text, from `at` on.
-fn copy(from: &[u8], at: usize, long: usize, text: &mut Vec<u8>) -> Result<(), AllocError>
-    requires { at + long ≤ length from.now }
-    ensures text { OnOk result (text.new.items ≡ text.old.items ++ take long (drop at from.now)) }
-    ensures long { OnOk result (length text.new.items ≡ length text.old.items + long) }
-    ensures same { OnErr result (text.new.items ≡ text.old.items) }
-{
-    text.extend_from_slice(&from[at..at + long])
-}
-
-/// Appends the text from `at` on; all of it is handed over as it lies where it comes behind no text.
-fn hand_over(from: &mut Vec<u8>, at: usize, text: &mut Vec<u8>) -> Result<(), AllocError>
-    requires { at ≤ length from.old.items }
-    ensures text { OnOk result (text.new.items ≡ text.old.items ++ drop at from.old.items) }
+/// Appends the text, which is handed over as it lies where it comes behind no text.
+fn hand_over(from: &mut Vec<u8>, text: &mut Vec<u8>) -> Result<(), AllocError>
+    ensures text { OnOk result (text.new.items ≡ text.old.items ++ from.old.items) }
     ensures same { OnErr result (from.new.items ≡ from.old.items) }
 {
-    if at == 0 && text.is_empty() {
+    if text.is_empty() {
         mem::swap(from, text);
         return Ok(());
     }
-    text.extend_from_slice(&from[at..])
+    text.extend_from_slice(from.as_slice())
 }
 
-/// How many packets the marks from this place on say were sent, and were dropped. Each has a byte of text, so the sums fit.
-fn counts_from(marks: &[Mark], first: usize) -> (u64, u64)
-    requires inside { first ≤ length marks.now }
+/// How many packets the marks say were sent, and were dropped. Each has a byte of text, so the sums fit.
+fn counts_of(marks: &[Mark]) -> (u64, u64)
     requires counts { AllByRecursion (λ m. m.txs + m.drops ≤ m.long) marks.now }
-    requires small { sum_by (λ m. m.long) (drop first marks.now) < 2 ^ 64 }
-    ensures txs { result.0 ≡ sum_by (λ m. m.txs) (drop first marks.now) }
-    ensures drops { result.1 ≡ sum_by (λ m. m.drops) (drop first marks.now) }
+    requires small { sum_by (λ m. m.long) marks.now < 2 ^ 64 }
+    ensures txs { result.0 ≡ sum_by (λ m. m.txs) marks.now }
+    ensures drops { result.1 ≡ sum_by (λ m. m.drops) marks.now }
 {
     let mut txs = 0u64;
     let mut drops = 0u64;
-    for at in first..marks.len() {
+    for at in 0..marks.len() {
         let (sent, dropped) = marks[at].counts();
         txs += sent;
         drops += dropped;
@@ -192,25 +178,21 @@ fn counts_from(marks: &[Mark], first: usize) -> (u64, u64)
     (txs, drops)
 }
 
-/// Appends the marks from `next` on, and the text from `at` on; or neither.
-fn append_left(
+/// Appends these marks, and this text; or neither.
+fn append_all(
     marks: &mut Vec<Mark>,
     text: &mut Vec<u8>,
     more: &Vec<Mark>,
-    next: usize,
     lines: &Vec<u8>,
-    at: usize,
 ) -> Result<(), AllocError>
-    requires next { next ≤ length more.now.items }
-    requires at { at ≤ length lines.now.items }
-    ensures text { OnOk result (text.new.items ≡ text.old.items ++ drop at lines.now.items) }
-    ensures mark { OnOk result (marks.new.items ≡ marks.old.items ++ drop next more.now.items) }
+    ensures text { OnOk result (text.new.items ≡ text.old.items ++ lines.now.items) }
+    ensures mark { OnOk result (marks.new.items ≡ marks.old.items ++ more.now.items) }
     ensures same_text { OnErr result (text.new.items ≡ text.old.items) }
     ensures same_marks { OnErr result (marks.new.items ≡ marks.old.items) }
 {
     let before = marks.len();
-    marks.extend_from_slice(&more[next..])?;
-    if let Err(error) = text.extend_from_slice(&lines[at..]) {
+    marks.extend_from_slice(more.as_slice())?;
+    if let Err(error) = text.extend_from_slice(lines.as_slice()) {
         marks.truncate(before);
         return Err(error);
     }
@@ -243,8 +225,6 @@ impl Part {
         Part {
             text: Vec::new(alloc),
             marks: Vec::new(alloc),
-            next: 0,
-            at: 0,
         }
     }
 
@@ -257,8 +237,6 @@ impl Part {
         Part {
             text: roomy(alloc, most * BYTES_AN_EVENT),
             marks: roomy(alloc, most * PIECES_AN_EVENT),
-            next: 0,
-            at: 0,
         }
     }
 
@@ -287,58 +265,23 @@ impl Part {
         append_items(&mut self.marks, &mut self.text, number, outs)
     }
 
-    /// Tells behind what it told so far all that is left of another part. The one refusal is want of memory, and then the part is
+    /// Tells behind what it told so far all that another part tells. The one refusal is want of memory, and then the part is
     /// as before.
     pub fn append(&mut self, other: &Part) -> Result<(), AllocError>
         ensures told { OnOk result (self.new ≡ self.old ++ other.now) }
         ensures same { OnErr result (self.new ≡ self.old) }
     {
-        append_left(
-            &mut self.marks,
-            &mut self.text,
-            &other.marks,
-            other.next,
-            &other.text,
-            other.at,
-        )
+        append_all(&mut self.marks, &mut self.text, &other.marks, &other.text)
     }
 
-    /// How many bytes of text the pieces have that are left.
-    pub(crate) fn left(&self) -> usize
-        ensures { result ≡ length (texts self.now) }
+    /// Its pieces, by reference.
+    pub(crate) fn rest(&self) -> Rest
+        ensures { result ≡ self.now }
     {
-        self.text.len() - self.at
-    }
-
-    /// The rank of the key of the first piece that is left.
-    pub(crate) fn first(&self) -> Option<u64>
-        ensures { head_key result ≡ first_key self.now }
-    {
-        if self.next < self.marks.len() {
-            Some(self.marks[self.next].rank())
-        } else {
-            None
+        Rest {
+            marks: self.marks.as_slice(),
+            text: self.text.as_slice(),
         }
-    }
-
-    /// Takes the first piece off, appends its text, and gives how many packets it tells were sent and were dropped. The one
-    /// refusal is want of memory, and then all is as before.
-    #[tactic(auto, using(crate::proofs::Marks::first_fits, crate::proofs::Marks::has_next))]
-    pub(crate) fn take(&mut self, text: &mut Vec<u8>) -> Result<(u64, u64), AllocError>
-        requires { 0 < length self.old }
-        ensures rest { OnOk result (self.new ≡ drop 1 self.old) }
-        ensures text { OnOk result (text.new.items ≡ text.old.items ++ first_text self.old) }
-        ensures txs { IfOk result (λ counts. counts.0 ≡ first_txs self.old) }
-        ensures drops { IfOk result (λ counts. counts.1 ≡ first_drops self.old) }
-        ensures few { IfOk result (λ counts. counts.0 + counts.1 + length text.old.items ≤ length text.new.items) }
-        ensures same { OnErr result (self.new ≡ self.old) }
-        ensures same_text { OnErr result (text.new.items ≡ text.old.items) }
-    {
-        let mark = self.marks[self.next];
-        copy(&self.text, self.at, mark.long(), text)?;
-        self.next += 1;
-        self.at += mark.long();
-        Ok(mark.counts())
     }
 
     /// Takes all pieces off, appends their text, and gives how many packets they tell were sent and were dropped. Behind no text
@@ -349,10 +292,10 @@ impl Part {
         ensures txs { IfOk result (λ counts. counts.0 ≡ sum_by (λ p. p.txs) self.old) }
         ensures drops { IfOk result (λ counts. counts.1 ≡ sum_by (λ p. p.drops) self.old) }
     {
-        let counts = counts_from(&self.marks, self.next);
-        hand_over(&mut self.text, self.at, text)?;
-        self.next = self.marks.len();
-        self.at = self.text.len();
+        let counts = counts_of(self.marks.as_slice());
+        hand_over(&mut self.text, text)?;
+        self.marks.clear();
+        self.text.clear();
         Ok(counts)
     }
 }

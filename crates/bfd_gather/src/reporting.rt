@@ -8,7 +8,7 @@ ghost use Rattle.bfd_script.specs.Report as script;
 ghost use Rattle.bfd_gather.specs.Happenings.{Happening, AreParts, happening_outcomes};
 ghost use Rattle.bfd_gather.specs.Written.{TookFront};
 
-use crate::gathering::gather_all;
+use crate::gathering::{Gathered, gather_all};
 use crate::giving::give_all;
 use crate::output::write_all;
 use crate::part::Part;
@@ -17,7 +17,12 @@ use std::alloc::{AllocError, Global};
 
 /// The last line of a report: how many events there were, and how many packets were sent and were dropped. The one refusal is
 /// want of memory.
-fn done_text(alloc: Global, events: u64, txs: u64, drops: u64) -> Result<String, AllocError>
+pub(crate) fn done_text(
+    alloc: Global,
+    events: u64,
+    txs: u64,
+    drops: u64,
+) -> Result<String, AllocError>
     ensures { IfOk result (λ text. string_bytes text ≡ done_line events txs drops) }
 {
     format!(in alloc; "done {events} {txs} {drops}\n")
@@ -49,14 +54,6 @@ pub fn write_last<K: Sink>(
     write_all(sink, text.as_slice())
 }
 
-/// A report, and how many packets it tells were sent and were dropped.
-#[derive(Drop)]
-pub struct Gathered {
-    pub text: Vec<u8>,
-    pub txs: u64,
-    pub drops: u64,
-}
-
 /// The report of a replay of so many events, of the parts of its shards and, last, of what was told of events of no session:
 /// it is what the whole table would tell, whatever the number of shards. The one refusal is want of memory.
 pub fn report(alloc: Global, parts: Vec<Part>, events: u64) -> Result<Gathered, AllocError>
@@ -72,9 +69,11 @@ pub fn report(alloc: Global, parts: Vec<Part>, events: u64) -> Result<Gathered, 
         → AreParts shards 1 last happenings sessions parts.items
         → IfOk result (λ report. report.drops ≡ sum_by script.dropped (happening_outcomes last happenings sessions)) }
 {
-    let mut parts = parts;
-    let mut text = Vec::new(alloc);
-    let (txs, drops) = gather_all(alloc, &mut parts, &mut text)?;
+    let Gathered {
+        mut text,
+        txs,
+        drops,
+    } = gather_all(alloc, parts)?;
     let done = done_text(alloc, events, txs, drops)?;
     text.extend_from_slice(done.as_bytes())?;
     Ok(Gathered { text, txs, drops })

@@ -21,7 +21,7 @@ pub enum Text {
     /// The report of a replay that is made while it is written: the script, and which timers its shard keeps.
     Report(Script, Form),
 
-    /// The report of a replay that was made on shards, and is put together while it is written.
+    /// The report of a replay that was made on shards: texts, or parts that are put together while they are written.
     InParts(ReportInParts),
 }
 
@@ -96,7 +96,7 @@ impl Answer {
         }
     }
 
-    /// This report. It isn't put together yet.
+    /// This report.
     pub(crate) fn in_parts(report: ReportInParts) -> Answer
         ensures { result ≡ done_with report }
     {

@@ -62,7 +62,7 @@ fn script_in(alloc: Global, bytes: Vec<u8>) -> Result<Script, ScriptFault>
 }
 
 /// `replay` of a script. On one shard by one worker there is nothing to deal out, and its report can be made while it is written; on
-/// more of either it is put together while it is written.
+/// more shards it is put together then by one worker, and before by several.
 fn replay_script<R: Threads + Wait + Sync, G: Gate + Sync>(
     rt: &R,
     alloc: Global,

@@ -9,3 +9,4 @@ pub mod Summing
 pub mod Ordering
 pub mod Whole
 pub mod LastLine
+pub mod Reports

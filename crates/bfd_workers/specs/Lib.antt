@@ -4,3 +4,4 @@ pub mod Ends
 pub mod Counts
 pub mod Replayed
 pub mod Beginning
+pub mod Held

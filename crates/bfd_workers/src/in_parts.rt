@@ -1,37 +1,44 @@
-//! A report that is put together when it is written.
+//! A report that is there in texts, or is put together when it is written.
 ghost use Rattle.std.specs.Prelude.{◌≡◌, ◌≢◌, ◌≤◌, [], OnOk, IsErrOf, false};
 ghost use Rattle.std.specs.Io.KnownBytes.{Appends};
 ghost use Rattle.bfd_edge.specs.Faults.{Rose};
 ghost use Rattle.bfd_gather.specs.Written.{TookFront};
 
 use bfd_edge::{Fault, Sink};
-use bfd_gather::{Part, report_to};
+use bfd_gather::{Part, report_to, write_each};
 use bfd_script::Script;
 use std::alloc::Global;
 use std::marker::Model;
 use std::snapshot::Snapshot;
 
-/// The report of a replay in its parts, which is put together when it is written. Contracts see the report.
+/// What there is of a report.
+#[derive(Drop)]
+pub(crate) enum Held {
+    /// What each shard told, and last what was told of events of no session; and how many events there were.
+    Parts(Vec<Part>, u64),
+
+    /// Texts that stand one behind another.
+    Texts(Vec<Vec<u8>>),
+}
+
+/// The report of a replay in texts, or in its parts, and then it is put together when it is written. Contracts see the report.
 #[derive(Drop)]
 pub struct ReportInParts {
     // The script, for clauses alone.
     pub(crate) script: Snapshot<Script>,
-    // What each shard told, and last what was told of events of no session.
-    pub(crate) parts: Vec<Part>,
-    // How many events there were.
-    pub(crate) events: u64,
+    pub(crate) held: Held,
 }
 
 impl Model for ReportInParts {
     ghost use Rattle.std.specs.Prelude.{List, ℕ};
     ghost use Rattle.bfd_replay.specs.World.{replayed};
-    ghost use Rattle.bfd_workers.specs.Replayed.{AreOfScript};
+    ghost use Rattle.bfd_workers.specs.Held.{HoldsReport};
 
     ghost Value = { List ℕ };
 
     ghost view = { λ r. replayed r.script.value };
 
-    ghost invariant = { λ r. AreOfScript r.script.value r.parts.items r.events };
+    ghost invariant = { λ r. HoldsReport r.script.value r.held };
 }
 
 impl ReportInParts {
@@ -46,7 +53,7 @@ impl ReportInParts {
         false
     }
 
-    /// Writes the report in pieces as it is put together. It is refused as Failed where the sink failed, and as Memory where memory was
+    /// Writes the report text by text, or in pieces as it is put together. It is refused as Failed where the sink failed, and as Memory where memory was
     /// wanting, here or there; the sink took a front of the report then.
     pub fn write_to<K: Sink>(self, alloc: Global, sink: &mut K) -> Result<(), Fault>
         ensures whole { OnOk result (Appends (K.taken sink.old) (K.taken sink.new) self) }
@@ -56,6 +63,10 @@ impl ReportInParts {
         ensures calm { OnOk result (K.faults sink.new ≡ K.faults sink.old) }
         ensures calm_memory { IsErrOf result Fault.Memory → K.faults sink.new ≡ K.faults sink.old }
     {
-        report_to(alloc, self.parts, self.events, sink)
+        let ReportInParts { held, .. } = self;
+        match held {
+            Held::Parts(parts, events) => report_to(alloc, parts, events, sink),
+            Held::Texts(texts) => write_each(sink, texts.as_slice()),
+        }
     }
 }

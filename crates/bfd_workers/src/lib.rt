@@ -5,15 +5,16 @@
 //! takes the shards of its own, in a thread of its own where one can be had; what each shard's events give is told in a part, and
 //! the parts are gathered into one report. [`replay`] hands out the report, the counts and the shards, and [`reported`] lets the
 //! shards go, each in a thread of its own where one can be had, before it puts the report together. [`reported_in_parts`] lets them
-//! go in a thread for which nobody waits, where one can be had, and hands out a [`ReportInParts`], which is put together when it is
-//! written. With one worker no thread is started, and all is done in turn.
+//! go in a thread for which nobody waits, where one can be had, puts the report together meanwhile, by up to four threads, and hands out
+//! a [`ReportInParts`]. With one worker no thread is started, all is done in turn, and the report is put together only when it is
+//! written.
 //!
 //! Modules: `beginning` makes shards and plan, at once or in turn, `working` is one worker's turns, `jobs` all workers, `passes` their
-//! passes, `running` the engine from opening to closing, `finish` puts the parts in order, `counting` counts, `in_parts` is a report that
-//! is written from its parts.
+//! passes, `running` the engine from opening to closing, `finish` puts the parts in order, `counting` counts, `in_parts` is a report in
+//! texts, or in its parts.
 //!
 //! It stands on `bfd_plan` for the queues, on `bfd_engine` for the turns, on `bfd_gather` for the report and on `bfd_edge` for the gate
-//! and the sink. It promises that the text, also one that is written from its parts, is that of `bfd_replay`'s `specs/World.antt`,
+//! and the sink. It promises that the text, also one that is still in texts or parts, is that of `bfd_replay`'s `specs/World.antt`,
 //! which knows of no shard, no worker and no lock, for every number of shards and workers; that the counts are `totals`; and that each
 //! shard was made of the sessions that are dealt to it and has, in the order of the script, their own events and every tick in its
 //! journal, all brought by its one worker. A worker can't know that nobody else takes a turn of its shard: the closed engine shows it,

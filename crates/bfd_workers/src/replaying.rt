@@ -11,10 +11,10 @@ ghost use Rattle.bfd_workers.specs.Replayed.{HaveReplayed};
 use crate::beginning::{begun, places_and_rows};
 use crate::counting::{up_all, up_at_last};
 use crate::finish::in_order;
-use crate::in_parts::ReportInParts;
+use crate::in_parts::{Held, ReportInParts};
 use crate::running::{opened, run_all};
 use bfd_edge::Gate;
-use bfd_gather::{Part, report};
+use bfd_gather::{Part, report, report_at_once};
 use bfd_line::Line;
 use bfd_plan::{Plan, longest};
 use bfd_sbfd::Reflector;
@@ -255,9 +255,10 @@ fn let_go<W: Timers + Send + 'static, R: Threads>(
     }
 }
 
-/// The same replay, whose report is put together only when it is written. With several workers the shards with their journals are let
-/// go meanwhile, in a thread for which nobody waits, where one can be had: they may still be there when this returns. With one worker
-/// they are gone by then. The one refusal is want of memory.
+/// The same replay, whose report is written by whoever holds what this gives. With several workers it is put together here, by up to
+/// four threads at once; the shards with their journals are let go meanwhile, in a thread for which nobody waits, where one can be had:
+/// they may still be there when this returns. With one worker they are gone by then, and the report is put together only when it is
+/// written. The one refusal is want of memory, as which 2^64 packets that were sent or were dropped count.
 #[tactic(auto, using(bfd_plan::proofs::Worlds::is_table))]
 pub fn reported_in_parts<W: Timers + Send + 'static, R: Threads + Wait + Sync, G: Gate + Sync>(
     rt: &R,
@@ -282,10 +283,15 @@ pub fn reported_in_parts<W: Timers + Send + 'static, R: Threads + Wait + Sync, G
     let (parts, states) = worked::<W, R, G>(
         rt, alloc, configs, pool, events, shards, workers, gate,
     )?;
-    let_go(rt, 1 < workers, states);
+    let at_once = 1 < workers;
+    let_go(rt, at_once, states);
+    let held = if at_once {
+        Held::Texts(report_at_once(rt, alloc, parts, count)?)
+    } else {
+        Held::Parts(parts, count)
+    };
     Ok(ReportInParts {
         script: known,
-        parts,
-        events: count,
+        held,
     })
 }

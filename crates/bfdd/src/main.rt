@@ -7,7 +7,7 @@
 //! Layers, lowest first: `output` (an answer's text to a sink, and what comes of that), `running` ([`run`] itself).
 //!
 //! It stands on `bfd_words` for the words, on `bfd_jobs` for what each word has to write, on `bfd_alone` for a report that is made while
-//! it is written, on `bfd_workers` for one that is put together then, on `bfd_gather` for a text that is there, and on `bfd_edge` and
+//! it is written, on `bfd_workers` for one of several shards, on `bfd_gather` for a text that is there, and on `bfd_edge` and
 //! `bfd_net` for the outside.
 #![tactic(auto)]
 

@@ -253,9 +253,20 @@ const SENT: &str = "1 tx 1 204003180000000100000000000f4240000f424000000000
 done 1 2 0
 ";
 
-/// A replay on two shards with a session each, whose report is put together while it is written, to a sink of which a call may fail.
-fn on_shards(call: Option<u64>, status: Status, written: &'static str) -> Case<'static> {
-    let mut case = calm(&["replay", "--shards", "2"], TWO, written);
+/// By one worker the report is put together while it is written.
+const BY_ONE: &[&str] = &["replay", "--shards", "2"];
+
+/// By two it is there before, in texts.
+const BY_TWO: &[&str] = &["replay", "--shards", "2", "--workers", "2"];
+
+/// A replay on two shards with a session each, to a sink of which a call may fail.
+fn on_shards(
+    words: &'static [&'static str],
+    call: Option<u64>,
+    status: Status,
+    written: &'static str,
+) -> Case<'static> {
+    let mut case = calm(words, TWO, written);
     case.sink_fails = call;
     case.status = status;
     case
@@ -275,8 +286,10 @@ fn runs(rt: HostRuntime) -> Result<(), Fail> {
         reading(16, Some(2), Status::ReadFault, ""),
         writing(TICKS, 1, Status::WriteFault, "done 2 0 0"),
         writing(TICKS, 0, Status::WriteFault, ""),
-        on_shards(None, Status::Done, SENT),
-        on_shards(Some(1), Status::WriteFault, "1 tx 1 204"),
+        on_shards(BY_ONE, None, Status::Done, SENT),
+        on_shards(BY_ONE, Some(1), Status::WriteFault, "1 tx 1 204"),
+        on_shards(BY_TWO, None, Status::Done, SENT),
+        on_shards(BY_TWO, Some(1), Status::WriteFault, "1 tx 1 204"),
         writing(FAULTY, 9, bad, "bad 3 BadNumber\n"),
         writing(FAULTY, 1, bad, "bad 3 BadN"),
     ];

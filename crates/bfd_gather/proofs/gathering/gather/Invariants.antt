@@ -5,10 +5,10 @@ use Rattle.bfd_gather.proofs.gathering.gather.Given as goal
 
 abbrev pub invariant-loop-s : goal.invariant-loop-s
 invariant-loop-s l = record {
-  goes : (dealt : List Dealt) → IsSpread dealt l.initial.parts.items → Going dealt l.parts.items l.initial.text.items l.text.items l.txs l.drops;
-  heads : keys l.heads ≡ map first_key l.parts.items;
+  goes : (dealt : List Dealt) → IsSpread dealt l.initial.rests.items → Going dealt l.rests.items l.initial.text.items l.text.items l.txs l.drops;
+  heads : keys l.heads ≡ map first_key l.rests.items;
   few : l.txs + l.drops + length l.initial.text.items ≤ length l.text.items;
 }
 
 abbrev pub decreases-loop-s : goal.decreases-loop-s
-decreases-loop-s l = sum_by length l.parts.items
+decreases-loop-s l = sum_by length l.rests.items

@@ -3,4 +3,4 @@ use Rattle.bfd_gather.proofs.Common.{◌≡◌, ◌++◌, drop, map, first_key, 
 use Rattle.bfd_gather.proofs.gathering.heads_of.Given as goal
 
 abbrev pub invariant-loop-s : goal.invariant-loop-s
-invariant-loop-s l = keys l.heads.items ++ map first_key (drop l.s l.parts) ≡ map first_key l.parts
+invariant-loop-s l = keys l.heads.items ++ map first_key (drop l.s l.rests.items) ≡ map first_key l.rests.items

@@ -5,16 +5,16 @@ use Rattle.bfd_gather.proofs.giving.give.Given.{Over}
 use Rattle.bfd_gather.proofs.giving.give.Goals as goal
 use Rattle.bfd_gather.proofs.giving.give.Goals.{In-Ok}
 
-taken : (g : Over) (c : In-Ok g) {dealt : List Dealt} → IsSpread dealt c.args.parts.now.items
-    → Giving dealt (set c.loop-s.parts.items c.in-Some.s c.take_counted.new.part) (g.K.Sink.taken c.args.sink.now) (g.K.Sink.taken c.loop-s.sink) c.args.text.now.items c.take_counted.new.text.items c.in-Ok.sums.0 c.in-Ok.sums.1
+taken : (g : Over) (c : In-Ok g) {dealt : List Dealt} → IsSpread dealt c.args.rests.now.items
+    → Giving dealt (set c.loop-s.rests.items c.in-Some.s c.take_counted.new.rest) (g.K.Sink.taken c.args.sink.now) (g.K.Sink.taken c.loop-s.sink) c.args.text.now.items c.take_counted.new.text.items c.in-Ok.sums.0 c.in-Ok.sums.1
 taken g c {dealt} h =
-    take_more c.loop-s.invariant.heads c.in-Some.ensures.some c.index_mut-part.ensures.value (cc (c.in-Ok.ensures.rest)) (cc (c.in-Ok.ensures.text)) (cc (c.in-Ok.ensures.txs)) (cc (c.in-Ok.ensures.drops))
+    take_more c.loop-s.invariant.heads c.in-Some.ensures.some c.index_mut-rest.ensures.value (cc (c.in-Ok.ensures.rest)) (cc (c.in-Ok.ensures.text)) (cc (c.in-Ok.ensures.txs)) (cc (c.in-Ok.ensures.drops))
     (c.loop-s.invariant.goes dealt h)
 
 pub loop-s-preserved : goal.loop-s-preserved
 loop-s-preserved g c = record {
   goes = λ dealt h. give_more c.in_ok-give_on.ensures.text (taken g (goal.at.loop-s-preserved g c).In-Ok h);
-  heads = cc (map-set first_key c.loop-s.parts.items c.in-Some.s c.take_counted.new.part, map-set head_key c.loop-s.heads c.in-Some.s c.first.result, c.loop-s.invariant.heads);
+  heads = cc (map-set first_key c.loop-s.rests.items c.in-Some.s c.take_counted.new.rest, map-set head_key c.loop-s.heads c.in-Some.s c.first.result, c.loop-s.invariant.heads);
   calm = c.in_ok-give_on.ensures.calm ∙ c.loop-s.invariant.calm;
 }
 

@@ -6,14 +6,11 @@ use Rattle.bfd_gather.proofs.reporting.report.Goals as goal
 
 pub returns-clause-text : goal.returns-clause-text
 returns-clause-text c = λ shards last hs ss count parts.
-    let spread = parts_spread parts in
-    whole_report _ last hs ss _ _ count
-    (cc (c.in_ok-txs.ensures.told (deal_all shards 1 last hs ss) spread)) (c.in_ok-txs.ensures.txs (deal_all shards 1 last hs ss) spread)
-    (c.in_ok-txs.ensures.drops (deal_all shards 1 last hs ss) spread) (c.as_bytes.ensures.value ∙ c.in_ok-done.ensures) c.in_ok-extend_from_slice.ensures.items
+    let told = c.in_ok-text.ensures (deal_all shards 1 last hs ss) (parts_spread parts) in
+    whole_report _ last hs ss _ _ count told.0 told.1 told.2 (c.as_bytes.ensures.value ∙ c.in_ok-done.ensures) c.in_ok-extend_from_slice.ensures.items
 
 pub returns-clause-txs : goal.returns-clause-txs
-returns-clause-txs c = λ shards last hs ss parts. c.in_ok-txs.ensures.txs (deal_all shards 1 last hs ss) (parts_spread parts) ∙ all_txs shards 1 last hs ss
+returns-clause-txs c = λ shards last hs ss parts. (c.in_ok-text.ensures (deal_all shards 1 last hs ss) (parts_spread parts)).1 ∙ all_txs shards 1 last hs ss
 
 pub returns-clause-drops : goal.returns-clause-drops
-returns-clause-drops c = λ shards last hs ss parts.
-    c.in_ok-txs.ensures.drops (deal_all shards 1 last hs ss) (parts_spread parts) ∙ all_drops shards 1 last hs ss
+returns-clause-drops c = λ shards last hs ss parts. (c.in_ok-text.ensures (deal_all shards 1 last hs ss) (parts_spread parts)).2 ∙ all_drops shards 1 last hs ss
