@@ -6,7 +6,7 @@ pub use Rattle.std.proofs.lemmas.List.Sums.{sum_by-append, sum_by-cons}
 pub use Rattle.std.specs.List.{AllByRecursion, cons_option, filter, filter_map, flat_map, sum_by}
 pub use Rattle.std.specs.Prelude.{IfOk, IfSome, nat_lt, slice_get, ◌^◌}
 pub use Rattle.bfd_gather.specs.Happenings.{Among, Apart, AreParts, Happening, happening_outcomes, in_shard, numbered, queue, session_event, shard_tells, told_apart, told_whole}
-pub use Rattle.bfd_gather.specs.Inside.{HasAll, IsLeast, IsPart, first_drops, first_key, first_text, first_txs, head_key, keys, mark, mark_key, mark_of, pieces_at, rank_key}
+pub use Rattle.bfd_gather.specs.Inside.{HasAll, IsLeast, IsPart, first_drops, first_key, first_text, first_txs, head_key, keys, mark_key, mark_of, pieces_at, rank_key}
 pub use Rattle.bfd_gather.specs.Pieces.{Piece, event_pieces, item_piece, key, precedes, texts, whole_piece}
 pub use Rattle.std.specs.Io.KnownBytes.{Appends}
 pub use Rattle.bfd_gather.specs.Written.{TookFront, TookUpTo}
@@ -28,7 +28,7 @@ pub use Rattle.bfd_shard.proofs.Runs.{moved_at, moved_configs, moved_long, runs_
 pub use Rattle.bfd_gather.specs.declared.queue.Numbered.{Numbered}
 pub use Rattle.bfd_shard.proofs.Sharing.{not_there, share_map, share_other, share_set, there}
 pub use Rattle.std.proofs.lemmas.Bool.Decides.{nat_tests}
-pub use Rattle.bfd_session.specs.declared.event.Answer.TheVariants.{Dropped, Handled}
+pub use Rattle.bfd_session.specs.declared.event.Answer.TheVariants.{Dropped}
 pub use Rattle.std.proofs.lemmas.Grind.{flat_map-append}
 pub use Rattle.bfd_rules.specs.Names.{named}
 pub use Rattle.bfd_script.proofs.Elements.{each_more}

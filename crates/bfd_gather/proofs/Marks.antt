@@ -1,6 +1,6 @@
 -- A part's marks and text, as pieces are told and taken.
-use Rattle.bfd_gather.proofs.Common.{◌≡◌, ◌≤◌, ◌+◌, ◌++◌, ℕ, List, [], ◌∷◌, length, take, drop, map, get_or, Result, Ok, Err, OnOk, OnErr, refl, ap, ◌∙◌, append_assoc, append-nil, arith, length-append, length-drop, AllByRecursion, flat_map, take-append-le, drop-append-le, map-append, sum_by-append, sum_by-cons, Out, Outcome, event_lines, item_line, packets_sent_by, Mark, Piece, texts, key, whole_piece, item_piece, pieces_at, mark, mark_of, IsPart, sum_by, Handled, flat_map-append, named, each_more, item_some}
-use Rattle.std.proofs.Math.Seq.{take-append_seam, drop-append_seam, take-add}
+use Rattle.bfd_gather.proofs.Common.{◌≡◌, ◌≤◌, ◌+◌, ◌++◌, ℕ, List, [], ◌∷◌, length, drop, map, Result, Ok, Err, OnOk, OnErr, refl, ap, ◌∙◌, append-nil, arith, length-append, length-drop, AllByRecursion, take-append-le, drop-append-le, sum_by-append, sum_by-cons, Out, Outcome, Mark, Piece, texts, key, whole_piece, item_piece, pieces_at, mark_of, IsPart, sum_by, each_more, item_some}
+use Rattle.std.proofs.Math.Seq.{take-append_seam, drop-append_seam}
 use Rattle.bfd_gather.proofs.Sizes.{event_some}
 
 -- each packet that the piece counts has a byte of text
@@ -69,18 +69,6 @@ items_have n (o ∷ os) = (omega (arith, item_some n o), items_have n os)
 pub whole_has : (n : ℕ) (o : Outcome) → HasText (whole_piece n o)
 whole_has n o = event_some n o
 
--- a list of one output
-pub one_text : (n : ℕ) (os : List Out) → event_lines n (record { items = os; answer = Handled }) ≡ texts (map (item_piece n) os)
-one_text n [] = refl
-one_text n (o ∷ os) = cc (append_assoc (item_line n o) (flat_map (item_line n) os) [], one_text n os)
-
-pub one_mark : (n : ℕ) (os : List Out) (o : Out) (long txs drops : ℕ) (m : Mark) → length os ≡ 1 → o ≡ get_or os 0 o
-    → long ≡ length (event_lines n (record { items = os; answer = Handled })) → txs ≡ packets_sent_by o → drops ≡ 0 → m ≡ mark (key n (named o)) long txs drops → m ∷ [] ≡ map mark_of (map (item_piece n) os)
-one_mark n (x ∷ []) o long txs drops m h e l t d is =
-    let here : long ≡ length (item_line n x) = cc (one_text n (x ∷ []), append-nil (item_line n x)) in
-    cc
-one_mark n os o long txs drops m h e l t d is = absurd (omega (arith, h))
-
 -- pieces more were told, or none
 module _ {T E : Type 0} where
   pub part_by : (r : Result T E) (ms ms2 : List Mark) (t t2 : List ℕ) (ps : List Piece) → IsPart ms t
@@ -110,14 +98,3 @@ module _ {T E : Type 0} where
   pub single : (r : Result T E) (t t2 : List ℕ) (p : Piece) → OnOk r (t2 ≡ t ++ p.text) → OnOk r (t2 ≡ t ++ texts (p ∷ []))
   single (Ok x) t t2 p e = cc (append-nil p.text)
   single (Err x) t t2 p e = tt
-
--- one output more of a tick
-pub texts_next : (n at w : ℕ) (os : List Out) (t u v : List ℕ) → w ≡ 1 → u ≡ t ++ texts (map (item_piece n) (take at os))
-    → v ≡ u ++ texts (map (item_piece n) (take w (drop at os))) → v ≡ t ++ texts (map (item_piece n) (take (at + 1) os))
-texts_next n at w os t u v one e f =
-    cc (append_assoc t (texts (map (item_piece n) (take at os))) (texts (map (item_piece n) (take w (drop at os)))), flat_map-append (λ p. p.text) (map (item_piece n) (take at os)) (map (item_piece n) (take w (drop at os))), map-append (item_piece n) (take at os) (take w (drop at os)), take-add at w os)
-
-pub marks_next : (n at w : ℕ) (os : List Out) (t u v : List Mark) → w ≡ 1 → u ≡ t ++ map mark_of (map (item_piece n) (take at os))
-    → v ≡ u ++ map mark_of (map (item_piece n) (take w (drop at os))) → v ≡ t ++ map mark_of (map (item_piece n) (take (at + 1) os))
-marks_next n at w os t u v one e f =
-    cc (append_assoc t (map mark_of (map (item_piece n) (take at os))) (map mark_of (map (item_piece n) (take w (drop at os)))), map-append mark_of (map (item_piece n) (take at os)) (map (item_piece n) (take w (drop at os))), map-append (item_piece n) (take at os) (take w (drop at os)), take-add at w os)

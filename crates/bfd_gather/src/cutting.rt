@@ -5,20 +5,21 @@ ghost use Rattle.bfd_gather.specs.Cutting.{AreHalved};
 use crate::rest::Rest;
 use std::alloc::{AllocError, Global};
 
-/// The rank of the key of a piece that is somewhere in the middle, or 0 where there is none. It is a guess: the two halves may have
-/// any sizes.
+/// The rank of the key of a piece in the middle of the longest text, or 0 where there is none. It is a guess: the two halves may have any
+/// sizes.
 pub(crate) fn middle_of(rests: &Vec<Rest>) -> u64 {
     let mut most = 0;
-    let mut rank = 0;
+    let mut longest = 0;
     for s in 0..rests.len() {
-        if let Some((pieces, middle)) = rests[s].middle() {
-            if most < pieces {
-                most = pieces;
-                rank = middle;
-            }
+        if most < rests[s].left() {
+            most = rests[s].left();
+            longest = s;
         }
     }
-    rank
+    match rests.get(longest) {
+        Some(rest) => rest.middle(),
+        None => 0,
+    }
 }
 
 /// The pieces of each part up to the first one whose rank is this or above, and those from there on. The one refusal is want of memory.

@@ -8,10 +8,10 @@
 //! the parts at places of the report, without a copy, and gathers what is between two places in a thread of its own, where one can be
 //! had; [`write_each`] writes the texts that come of it.
 //!
-//! It stands on `bfd_shard` for what a shard's events give, on `bfd_script` for the lines and on `bfd_edge` for the sink, and knows no
-//! lock. It promises that of sessions that are dealt out each shard's are what the whole table's would be; that the report of the shards'
-//! parts is the report of the whole table, byte for byte, for every number of shards, also where threads gather it; and that a sink takes
-//! that report where it doesn't fail and memory isn't wanting, and a front of it in any case.
+//! It stands on `bfd_shard` for what a shard's events give, on `bfd_script` and `itoa` for the lines and on `bfd_edge` for the sink, and
+//! knows no lock. It promises that of sessions that are dealt out each shard's are what the whole table's would be; that the report of the
+//! shards' parts is the report of the whole table, byte for byte, for every number of shards, also where threads gather it; and that a sink
+//! takes that report where it doesn't fail and memory isn't wanting, and a front of it in any case.
 #![tactic(auto)]
 
 mod at_once;

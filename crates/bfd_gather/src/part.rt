@@ -1,7 +1,7 @@
 //! What one shard tells of its events.
-ghost use Rattle.std.specs.Prelude.{◌≡◌, ◌<◌, ◌≤◌, ◌+◌, ◌++◌, ◌∷◌, [], ◌^◌, ◌⊎◌, IfNone, IfOk, IfSome, OnErr, OnOk, length, map, sum_by};
+ghost use Rattle.std.specs.Prelude.{◌≡◌, ◌<◌, ◌≤◌, ◌+◌, ◌++◌, ◌∷◌, [], ◌^◌, ◌⊎◌, IfNone, IfOk, IfSome, OnErr, OnOk, decimal, length, map, sum_by};
 ghost use Rattle.std.specs.List.{AllByRecursion};
-ghost use Rattle.bfd_script.specs.Report.{event_lines};
+ghost use Rattle.bfd_script.specs.Report.{item_line};
 ghost use Rattle.bfd_gather.specs.Pieces.{texts, whole_piece, item_piece};
 ghost use Rattle.bfd_gather.specs.Inside.{mark_of};
 
@@ -9,8 +9,9 @@ use crate::counts::{dropped, named, packets, sent};
 use crate::key::{Key, Mark};
 use crate::rest::Rest;
 use bfd_rules::Out;
-use bfd_script::lines;
+use bfd_script::{lines, output_line};
 use bfd_session::Answer;
+use itoa::Buffer;
 use std::alloc::{AllocError, Global};
 use std::marker::Model;
 use std::mem;
@@ -68,28 +69,12 @@ fn append_event(
     }
 }
 
-/// Appends the lines of outputs, and gives how long they are.
-fn append_lines(text: &mut Vec<u8>, number: u64, item: &[Out]) -> Result<usize, AllocError>
-    ensures text { OnOk result (text.new.items
-        ≡ text.old.items ++ event_lines number (record { items = item.now; answer = Answer.Handled })) }
-    ensures long { IfOk result (λ long. long
-        ≡ length (event_lines number (record { items = item.now; answer = Answer.Handled }))) }
-    ensures same { OnErr result (text.new.items ≡ text.old.items) }
-{
-    let before = text.len();
-    lines(number, item, &Answer::Handled, text)?;
-    Ok(text.len() - before)
-}
-
 /// The mark of one output of a tick, whose line is so long, if neither that nor the tick's number is too great.
-#[tactic(auto, using(crate::proofs::Marks::one_mark))]
-fn item_mark(number: u64, item: &[Out], long: usize) -> Option<Mark>
-    requires one { length item.now ≡ 1 }
-    requires long { long ≡ length (event_lines number (record { items = item.now; answer = Answer.Handled })) }
-    ensures mark { IfSome result (λ mark. mark ∷ [] ≡ map mark_of (map (item_piece number) item.now)) }
+fn item_mark(number: u64, out: &Out, long: usize) -> Option<Mark>
+    requires long { long ≡ length (item_line number out.now) }
+    ensures mark { IfSome result (λ mark. mark ≡ mark_of (item_piece number out.now)) }
     ensures none { IfNone result ((2 ^ 32 ≤ number) ⊎ (2 ^ 32 ≤ long)) }
 {
-    let out = &item[0];
     let key = Key {
         event: number,
         discr: named(out),
@@ -97,24 +82,25 @@ fn item_mark(number: u64, item: &[Out], long: usize) -> Option<Mark>
     Mark::of(key, long, packets(out), 0)
 }
 
-/// Appends the line of one output of a tick, and its mark.
-#[tactic(auto, using(crate::proofs::Marks::one_text))]
+/// Appends the line of one output of a tick, whose number is written so, and its mark.
 fn append_item(
     marks: &mut Vec<Mark>,
     text: &mut Vec<u8>,
     number: u64,
-    item: &[Out],
+    digits: &[u8],
+    out: &Out,
 ) -> Result<(), AllocError>
-    requires { length item.now ≡ 1 }
-    ensures text { OnOk result (text.new.items ≡ text.old.items ++ texts (map (item_piece number) item.now)) }
-    ensures mark { OnOk result (marks.new.items ≡ marks.old.items ++ map mark_of (map (item_piece number) item.now)) }
+    requires digits { digits.now ≡ decimal number }
+    requires few { length digits.now ≤ 20 }
+    ensures text { OnOk result (text.new.items ≡ text.old.items ++ (item_piece number out.now).text) }
+    ensures mark { OnOk result (marks.new.items ≡ marks.old.items ++ mark_of (item_piece number out.now) ∷ []) }
     ensures same_text { OnErr result (text.new.items ≡ text.old.items) }
     ensures same_marks { OnErr result (marks.new.items ≡ marks.old.items) }
 {
     marks.reserve(1)?;
     let before = text.len();
-    let long = append_lines(text, number, item)?;
-    match item_mark(number, item, long) {
+    let long = output_line(digits, out, text)?;
+    match item_mark(number, out, long) {
         Some(mark) => {
             marks.push_reserved(mark);
             Ok(())
@@ -139,8 +125,10 @@ fn append_items(
     ensures same_marks { OnErr result (marks.new.items ≡ marks.old.items) }
 {
     let (marks_before, text_before) = (marks.len(), text.len());
-    for at in 0..outs.len() {
-        if let Err(error) = append_item(marks, text, number, &outs[at..at + 1]) {
+    let mut digits = Buffer::new();
+    let digits = digits.format(number).as_bytes();
+    for out in outs {
+        if let Err(error) = append_item(marks, text, number, digits, out) {
             marks.truncate(marks_before);
             text.truncate(text_before);
             return Err(error);

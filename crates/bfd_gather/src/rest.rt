@@ -65,13 +65,17 @@ impl<'a> Rest<'a> {
         Ok(mark.counts())
     }
 
-    /// How many pieces are left, and the rank of the key of the one in the middle, if there is one.
-    pub(crate) fn middle(&self) -> Option<(usize, u64)> {
-        let count = self.marks.len();
-        match self.marks.get(count / 2) {
-            Some(mark) => Some((count, mark.rank())),
-            None => None,
+    /// The rank of the key of a piece that is left, before which half of the text stands or a little more; or 0 where there is none.
+    pub(crate) fn middle(&self) -> u64 {
+        let half = self.text.len() / 2;
+        let mut long = 0usize;
+        for at in 0..self.marks.len() {
+            if half <= long {
+                return self.marks[at].rank();
+            }
+            long = long.saturating_add(self.marks[at].long());
         }
+        0
     }
 
     /// The pieces up to the first one whose rank is this or above, and those from there on.

@@ -1,5 +1,5 @@
 -- What each line of a script is, where its sessions are dealt out to shards.
-use Rattle.std.specs.Prelude.{ℕ, ◌≡◌, ◌<◌, ◌≤◌, ◌+◌, ◌++◌, List, [], ◌∷◌, length, map, slice_get, slice_index_or, Option, None, Some, Result, Ok, Err}
+use Rattle.std.specs.Prelude.{ℕ, ◌≡◌, ◌<◌, ◌≤◌, ◌+◌, ◌++◌, List, [], ◌∷◌, length, map, reverse, slice_get, slice_index_or, Option, None, Some, Result, Ok, Err}
 use Rattle.std.specs.Global.{Vec}
 use Rattle.std.specs.List.{All, AllByRecursion, cons_option, filter_map, flat_map}
 use Rattle.bfd_packet.specs.declared.arrival.Datagram.{Datagram}
@@ -107,6 +107,10 @@ abbrev pub behind : List (List Numbered) → List (List Numbered) → List (List
 behind [] more = []
 behind (x ∷ xs) [] = x ∷ xs
 behind (x ∷ xs) (y ∷ ys) = (x ++ y) ∷ behind xs ys
+
+-- the events that are left of a queue: of the piece that they are taken from, which stands in reverse, and of the pieces behind it
+abbrev pub events_left : List Numbered → List (Vec Numbered) → List Numbered
+events_left left pieces = reverse left ++ flat_map (λ piece. piece.items) pieces
 
 -- a script of these sessions, reflectors and events
 abbrev pub script_with : List SessionConfig → List Reflector → List Line → Lists

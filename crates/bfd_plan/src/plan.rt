@@ -96,9 +96,8 @@ fn take_in(
     }
 }
 
-/// The queues and what is told apart of a run of lines. The queues get room for a shard's even share of the lines and a 64th of all lines
-/// more, which is a guess: shares differ, and a tick comes to every shard. Those of the first run, behind which the others are put, get it
-/// for all lines. The one refusal is want of memory.
+/// The queues and what is told apart of a run of lines. The queues get room for a shard's even share of the run's lines and a 64th of them
+/// more, which is a guess: shares differ, and a tick comes to every shard. The one refusal is want of memory.
 fn plan_run(
     alloc: Global,
     demux: &Demux,
@@ -106,24 +105,18 @@ fn plan_run(
     pool: &[Reflector],
     run: Run,
     shards: u32,
-    all: usize,
 ) -> Result<(Vec<Vec<Numbered>>, Part), AllocError>
     requires table { demux.now ≡ table_in places.now pool.now }
     requires ascends { Ascends places.now }
     requires few { length places.now ≤ 65536 }
     requires climbs { PoolAscends pool.now }
     requires shards { (0 < shards) × (shards ≤ 64) }
-    requires all { all ≤ 200000 }
-    requires within { run.first + length run.lines.items ≤ 1 + all }
+    requires within { run.first + length run.lines.items ≤ 200001 }
     ensures { IfOk result (λ r. IsPlanOf places.now pool.now shards run r) }
 {
     let Run { first, lines } = run;
-    let room = if first == 1 { all } else { lines.len() };
-    let mut queues = empty_queues(
-        alloc,
-        shards as usize,
-        room / shards as usize + room / 64 + 1,
-    )?;
+    let room = lines.len() / shards as usize + lines.len() / 64 + 1;
+    let mut queues = empty_queues(alloc, shards as usize, room)?;
     let mut apart = Part::new(alloc);
     let mut number = first;
     let mut left = lines;
@@ -149,15 +142,13 @@ fn plan_each<R: Threads + Sync>(
     pool: &[Reflector],
     runs: Vec<Run>,
     shards: u32,
-    all: usize,
 ) -> Result<Vec<(Vec<Vec<Numbered>>, Part)>, AllocError>
     requires table { demux.now ≡ table_in places.now pool.now }
     requires ascends { Ascends places.now }
     requires few { length places.now ≤ 65536 }
     requires climbs { PoolAscends pool.now }
     requires shards { (0 < shards) × (shards ≤ 64) }
-    requires all { all ≤ 200000 }
-    requires within { All (λ (r : RunIn). r.first + length r.lines.items ≤ 1 + all) runs.items }
+    requires within { All (λ (r : RunIn). r.first + length r.lines.items ≤ 200001) runs.items }
     ensures long { IfOk result (λ plans. length plans.items ≡ length runs.items) }
     ensures each { IfOk result (λ plans. (i : ℕ) (r : RunIn) (p : _) → i < length runs.items
         → IsPlanOf places.now pool.now shards (slice_index_or runs.items i r) (slice_index_or plans.items i p)) }
@@ -171,10 +162,9 @@ fn plan_each<R: Threads + Sync>(
             requires few { length places.now ≤ 65536 }
             requires climbs { PoolAscends pool.now }
             requires shards { (0 < shards) × (shards ≤ 64) }
-            requires all { all ≤ 200000 }
-            requires within { run.first + length run.lines.items ≤ 1 + all }
+            requires within { run.first + length run.lines.items ≤ 200001 }
             ensures { IfOk result (λ r. IsPlanOf places.entry.now pool.entry.now shards run r) }
-        { plan_run(alloc, demux, places, pool, run, shards, all) },
+        { plan_run(alloc, demux, places, pool, run, shards) },
     )?;
     let plans = all_there(alloc, done)?;
     Ok(plans)
@@ -273,9 +263,8 @@ pub fn planned<R: Threads + Sync>(
     ensures apart { IfOk result (λ plan. plan.apart ≡ told_apart 1 (happenings places.now pool.now.items events.items)) }
     ensures met { IfOk result (λ plan. AllByRecursion (IsMet places.now) (happenings places.now pool.now.items events.items)) }
 {
-    let all = events.len();
     let (demux, runs) = table_and_runs(rt, alloc, rows, events, workers)?;
-    let mut left = plan_each(rt, alloc, &demux, places, pool, runs, shards, all)?;
+    let mut left = plan_each(rt, alloc, &demux, places, pool, runs, shards)?;
     left.reverse();
     let mut queues = new_queues(alloc, shards as usize)?;
     let mut apart = Part::new(alloc);

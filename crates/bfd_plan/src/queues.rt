@@ -1,30 +1,52 @@
-//! Shards' queues, in the pieces that runs of lines gave, which are put in one list by whoever takes the queue.
-ghost use Rattle.std.specs.Prelude.{ℕ, ◌≡◌, ◌++◌, [], IfOk, length, map, slice_index_or};
-ghost use Rattle.bfd_plan.specs.Planned.{behind};
+//! Shards' queues, in the pieces that runs of lines gave.
+ghost use Rattle.std.specs.Prelude.{ℕ, ◌≡◌, ◌++◌, ◌∷◌, [], IfOk, IfSome, None, length, map, slice_index_or};
+ghost use Rattle.bfd_plan.specs.Planned.{behind, events_left};
 
 use crate::shrinking::next_of;
 use bfd_gather::Numbered;
 use std::alloc::{AllocError, Global};
 use std::marker::Model;
 
-/// The queue of a shard, in the pieces that runs of lines gave. Contracts see its events in their order.
+/// The queue of a shard, in the pieces that runs of lines gave, from which its events are taken one by one. Contracts see the events
+/// that are left, in their order.
 #[derive(Drop)]
 pub struct Queue {
+    // What is left of the piece of which events are taken, in reverse.
+    left: Vec<Numbered>,
+    // The pieces behind it.
     pieces: Vec<Vec<Numbered>>,
-    // How many events there are.
+    // How many events are left.
     count: usize,
 }
 
 impl Model for Queue {
     ghost use Rattle.std.specs.Prelude.{◌≡◌, List, length};
-    ghost use Rattle.std.specs.List.{flat_map};
     ghost use Rattle.bfd_gather.specs.declared.queue.Numbered.{Numbered};
+    ghost use Rattle.bfd_plan.specs.Planned.{events_left};
 
     ghost Value = { List Numbered };
 
-    ghost view = { λ q. flat_map (λ piece. piece.items) q.pieces.items };
+    ghost view = { λ q. events_left q.left.items q.pieces.items };
 
-    ghost invariant = { λ q. q.count ≡ length (flat_map (λ piece. piece.items) q.pieces.items) };
+    ghost invariant = { λ q. q.count ≡ length (events_left q.left.items q.pieces.items) };
+}
+
+/// Takes the first event of a list that is kept in reverse, and where that is empty, of the first of these pieces that has one, whose
+/// others are the list then.
+fn next_in(left: &mut Vec<Numbered>, pieces: &mut Vec<Vec<Numbered>>) -> Option<Numbered>
+    ensures first { IfSome result (λ event. events_left left.old.items pieces.old.items
+        ≡ event ∷ events_left left.new.items pieces.new.items) }
+    ensures none { result ≡ None → events_left left.old.items pieces.old.items ≡ [] }
+    ensures empty { result ≡ None → events_left left.new.items pieces.new.items ≡ [] }
+{
+    'pieces: while left.is_empty() {
+        if pieces.is_empty() {
+            return None;
+        }
+        *left = pieces.remove(0);
+        left.reverse();
+    }
+    next_of(left)
 }
 
 impl Queue {
@@ -33,6 +55,7 @@ impl Queue {
         ensures { result ≡ [] }
     {
         Queue {
+            left: Vec::new(alloc),
             pieces: Vec::new(alloc),
             count: 0,
         }
@@ -42,35 +65,36 @@ impl Queue {
     pub(crate) fn with(self, piece: Vec<Numbered>) -> Result<Queue, AllocError>
         ensures { IfOk result (λ queue. queue ≡ self ++ piece.items) }
     {
-        let Queue { pieces, count } = self;
+        let Queue {
+            left,
+            mut pieces,
+            count,
+        } = self;
         let count = count.checked_add(piece.len()).ok_or(AllocError)?;
-        let mut pieces = pieces;
         pieces.push(piece)?;
-        Ok(Queue { pieces, count })
+        Ok(Queue {
+            left,
+            pieces,
+            count,
+        })
     }
 
-    /// How many events it has.
-    pub(crate) fn len(&self) -> usize
+    /// How many events are left.
+    pub fn len(&self) -> usize
         ensures { result ≡ length self.now }
     {
         self.count
     }
 
-    /// Its events in one list. The one refusal is want of memory.
-    pub fn whole(self, alloc: Global) -> Result<Vec<Numbered>, AllocError>
-        ensures { IfOk result (λ events. events.items ≡ self) }
+    /// Takes the first event, or gives None where there is none. The queue gives memory back on its way.
+    pub fn next(&mut self) -> Option<Numbered>
+        ensures first { IfSome result (λ event. self.old ≡ event ∷ self.new) }
+        ensures none { result ≡ None → self.old ≡ [] }
+        ensures empty { result ≡ None → self.new ≡ [] }
     {
-        let mut left = self.pieces;
-        left.reverse();
-        let Some(first) = next_of(&mut left) else {
-            return Ok(Vec::new(alloc));
-        };
-        let mut events = first;
-        'pieces: while let Some(piece) = next_of(&mut left) {
-            let mut piece = piece;
-            events.append(&mut piece)?;
-        }
-        Ok(events)
+        let event = next_in(&mut self.left, &mut self.pieces)?;
+        self.count -= 1;
+        Some(event)
     }
 }
 

@@ -25,6 +25,6 @@ mod state;
 mod table;
 
 pub use reading::read;
-pub use report::lines;
+pub use report::{lines, output_line};
 pub use script::Script;
 pub use table::keys_in;

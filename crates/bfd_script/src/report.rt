@@ -156,6 +156,20 @@ fn push_items(number: u64, outs: &[Out], text: &mut Vec<u8>) -> Result<(), Alloc
     Ok(())
 }
 
+/// Appends the line of one output of the event whose number is written so, and gives how long it is: for whoever tells outputs one by one,
+/// and writes their number once. The one refusal is want of memory; then the text is as before.
+pub fn output_line(number: &[u8], out: &Out, text: &mut Vec<u8>) -> Result<usize, AllocError>
+    requires { length number.now ≤ 20 }
+    ensures text { (n : ℕ) → number.now ≡ decimal n → OnOk result (text.new.items ≡ text.old.items ++ item_line n out.now) }
+    ensures long { (n : ℕ) → number.now ≡ decimal n → IfOk result (λ long. long ≡ length (item_line n out.now)) }
+    ensures same { OnErr result (text.new.items ≡ text.old.items) }
+{
+    let mut draft = Draft::new();
+    make_line(&mut draft, number, out);
+    text.extend_from_slice(draft.as_slice())?;
+    Ok(draft.len())
+}
+
 /// The line of what a session shows.
 fn shown_text(alloc: Global, number: u64, shown: &Shown) -> Result<String, AllocError>
     ensures { IfOk result (λ text. string_bytes text ≡ answer_line number (Answer.Shown shown.now)) }

@@ -4,8 +4,8 @@
 //! The sessions stand in an engine of 1 to 64 shards, which are made meanwhile. Each of 1 to 64 workers has a pass of the engine and
 //! takes the shards of its own, in a thread of its own where one can be had; what each shard's events give is told in a part, and
 //! the parts are gathered into one report. [`replay`] hands out the report, the counts and the shards, and [`reported`] lets the
-//! shards go, each in a thread of its own where one can be had, before it puts the report together. [`reported_in_parts`] lets them
-//! go in a thread for which nobody waits, where one can be had, puts the report together meanwhile, by up to four threads, and hands out
+//! shards go, each in a thread of its own where one can be had, before it puts the report together. [`reported_in_parts`] puts the
+//! report together by up to four threads, then lets the shards go in a thread for which nobody waits, where one can be had, and hands out
 //! a [`ReportInParts`]. With one worker no thread is started, all is done in turn, and the report is put together only when it is
 //! written.
 //!

@@ -256,8 +256,8 @@ fn let_go<W: Timers + Send + 'static, R: Threads>(
 }
 
 /// The same replay, whose report is written by whoever holds what this gives. With several workers it is put together here, by up to
-/// four threads at once; the shards with their journals are let go meanwhile, in a thread for which nobody waits, where one can be had:
-/// they may still be there when this returns. With one worker they are gone by then, and the report is put together only when it is
+/// four threads at once; the shards with their journals are let go then, in a thread for which nobody waits, where one can be had: they
+/// may still be there when this returns. With one worker they are gone by then, and the report is put together only when it is
 /// written. The one refusal is want of memory, as which 2^64 packets that were sent or were dropped count.
 #[tactic(auto, using(bfd_plan::proofs::Worlds::is_table))]
 pub fn reported_in_parts<W: Timers + Send + 'static, R: Threads + Wait + Sync, G: Gate + Sync>(
@@ -284,12 +284,12 @@ pub fn reported_in_parts<W: Timers + Send + 'static, R: Threads + Wait + Sync, G
         rt, alloc, configs, pool, events, shards, workers, gate,
     )?;
     let at_once = 1 < workers;
-    let_go(rt, at_once, states);
     let held = if at_once {
         Held::Texts(report_at_once(rt, alloc, parts, count)?)
     } else {
         Held::Parts(parts, count)
     };
+    let_go(rt, at_once, states);
     Ok(ReportInParts {
         script: known,
         held,

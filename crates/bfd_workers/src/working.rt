@@ -1,5 +1,5 @@
 //! A worker's turns on the shards that it takes.
-ghost use Rattle.std.specs.Prelude.{ℕ, ◌≡◌, ◌≤◌, ◌<◌, ◌+◌, ◌*◌, ◌++◌, ◌∷◌, true, [], List, IfOk, IfErr, IfSome, None, OnOk, length, map, reverse, slice_index_or};
+ghost use Rattle.std.specs.Prelude.{ℕ, ◌≡◌, ◌≤◌, ◌<◌, ◌+◌, ◌*◌, ◌++◌, true, [], IfOk, IfErr, OnOk, length};
 ghost use Rattle.bfd_shard.specs.declared.entry.ShardEvent.{ShardEvent as EventIn};
 ghost use Rattle.bfd_shard.specs.Shard.{CanHappen};
 ghost use Rattle.bfd_engine.specs.Engines.{IsOf, AllThere, configs_at};
@@ -12,7 +12,7 @@ use bfd_edge::Gate;
 use bfd_engine::{Engine, EngineFault, EnginePass};
 use bfd_gather::{Numbered, Part};
 use bfd_num::Steps;
-use bfd_plan::{Queue, next_of};
+use bfd_plan::Queue;
 use bfd_rules::{Out, Outs};
 use bfd_session::Answer;
 use bfd_shard::ShardEvent;
@@ -95,7 +95,7 @@ fn one_shard<W: Timers, R: Wait, G: Gate, L: Ledger>(
     engine: &Engine<W>,
     pass: &mut EnginePass,
     shard: u32,
-    queue: Vec<Numbered>,
+    queue: Queue,
     part: &mut Part,
     outs: &mut Outs,
     steps: &mut Steps<L>,
@@ -104,21 +104,20 @@ fn one_shard<W: Timers, R: Wait, G: Gate, L: Ledger>(
     requires of { IsOf engine.now pass.old.1 }
     requires there { AllThere pass.old.1 }
     requires shard { shard < length engine.now.locks }
-    requires met { AreMet engine.now shard queue.items }
+    requires met { AreMet engine.now shard queue }
     requires room { 5 * length (configs_at engine.now shard) + 5 ≤ outs.old.room }
     requires idle { IsIdle pass.old shard }
     requires empty { part.old ≡ [] }
     ensures of { IsOf engine.now pass.new.1 }
     ensures there { AllThere pass.new.1 }
     ensures elsewhere { IsElsewhere pass.old pass.new shard }
-    ensures used { HasUsed pass.new shard queue.items }
-    ensures done { OnOk result (HasDoneAt engine.now shard queue.items pass.new part.new) }
-    ensures stopped { IfErr result (λ fault. IsStopAt fault engine.now shard (length queue.items) pass.new) }
+    ensures used { HasUsed pass.new shard queue }
+    ensures done { OnOk result (HasDoneAt engine.now shard queue pass.new part.new) }
+    ensures stopped { IfErr result (λ fault. IsStopAt fault engine.now shard (length queue) pass.new) }
     ensures room { outs.new.room ≡ outs.old.room }
 {
     let mut left = queue;
-    left.reverse();
-    'events: while let Some(event) = next_of(&mut left) {
+    'events: while let Some(event) = left.next() {
         match one_event(rt, engine, pass, shard, event, part, outs, steps, gate) {
             Ok(()) => {}
             Err(fault) => return Err(fault),
@@ -148,14 +147,9 @@ pub(crate) fn all_shards<W: Timers, R: Wait, G: Gate, L: Ledger>(
 {
     let mut parts = Vec::new(alloc);
     for queue in queues {
-        let Ok(events) = queue.whole(alloc) else {
-            return Err(EngineFault::Memory);
-        };
-        let mut part = Part::with_room(alloc, events.len());
+        let mut part = Part::with_room(alloc, queue.len());
         let shard = parts.len() as u32;
-        match one_shard(
-            rt, engine, pass, shard, events, &mut part, outs, steps, gate,
-        ) {
+        match one_shard(rt, engine, pass, shard, queue, &mut part, outs, steps, gate) {
             Ok(()) => {}
             Err(fault) => return Err(fault),
         }

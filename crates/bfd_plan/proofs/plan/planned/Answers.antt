@@ -1,5 +1,5 @@
 -- A run more is put behind those before it.
-use Rattle.bfd_plan.proofs.Common.{rules, ap, ◌∙◌, reverse-reverse, length-map}
+use Rattle.bfd_plan.proofs.Common.{rules, arith, ap, ◌∙◌, reverse-reverse, length-map}
 use Rattle.bfd_plan.proofs.Parting.{put_start, put_more, put_end, put_wide}
 use Rattle.bfd_demux.specs.Rows.{build_fault}
 use Rattle.bfd_replay.proofs.Stages.{no_fault}
@@ -7,6 +7,9 @@ use Rattle.bfd_plan.proofs.plan.planned.Goals as goal
 
 pub table_and_runs-requires-clause-sound : goal.table_and_runs-requires-clause-sound
 table_and_runs-requires-clause-sound g c = λ _ _. ap build_fault c.requires.rows ∙ no_fault _ _ c.requires.table
+
+pub plan_each-requires-clause-within : goal.plan_each-requires-clause-within
+plan_each-requires-clause-within g c = λ _ _ k d inside. omega (arith, c.in_ok-demux.ensures.runs.within k d inside, c.requires.events)
 
 pub runs-init : goal.runs-init
 runs-init g c = record {

@@ -1,5 +1,5 @@
--- The events up to here were done; those that are left stand in reverse.
-use Rattle.bfd_workers.proofs.Common.{◌≡◌, length, reverse, IsOf, AllThere, AreMet}
+-- The events up to here were done.
+use Rattle.bfd_workers.proofs.Common.{◌≡◌, length, IsOf, AllThere, AreMet}
 use Rattle.bfd_workers.proofs.Courses.{InQueue}
 use Rattle.bfd_workers.proofs.working.one_shard.Given as goal
 
@@ -7,10 +7,10 @@ abbrev pub invariant-events : goal.invariant-events
 invariant-events g l = record {
   of : IsOf l.engine l.pass.1;
   there : AllThere l.pass.1;
-  met : AreMet l.engine l.shard (reverse l.left.items);
+  met : AreMet l.engine l.shard l.left;
   room : l.outs.room ≡ l.initial.outs.room;
-  did : InQueue l.engine l.shard l.fn.queue.items (reverse l.left.items) l.initial.pass l.pass l.part;
+  did : InQueue l.engine l.shard l.fn.queue l.left l.initial.pass l.pass l.part;
 }
 
 abbrev pub decreases-events : goal.decreases-events
-decreases-events g l = length l.left.items
+decreases-events g l = length l.left
