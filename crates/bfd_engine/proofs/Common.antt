@@ -2,7 +2,7 @@
 pub use Rattle.std.proofs.Common.{Bool, Err, IfErr, IfOk, List, MatchResult, None, Ok, OnErr, Option, Result, Some, [], ap, append-nil, append_assoc, ap₂, arith, drop, false, get_or, if◌then◌else◌, inl, inr, length, length-append, length-set, map, refl, rules, set, set-set, slice_get, slice_set, subst, suc, sym, true, vec_capacity, vec_len, zero, ℕ, ◌%◌, ◌*◌, ◌++◌, ◌+◌, ◌-◌, ◌/◌, ◌<◌, ◌==◌, ◌∙◌, ◌∷◌, ◌≡◌, ◌≢◌, ◌≤◌}
 pub use Rattle.std.proofs.lemmas.Bool.{eq-eqb, le-ltb, lt-ltb, ne_eqb}
 pub use Rattle.std.proofs.lemmas.Bool.Decides.{nat_tests}
-pub use Rattle.std.proofs.lemmas.List.{length-map, nil_from_length}
+pub use Rattle.std.proofs.lemmas.List.{get_or_append_left, get_or_push, length-map, nil_from_length}
 pub use Rattle.std.proofs.lemmas.Option.{get_or_from_slice_get, same_Some, slice_get-get_or, slice_get_within}
 pub use Rattle.std.specs.List.{AllByRecursion, position_from}
 pub use Rattle.std.specs.Option.{option_map, option_or}
@@ -15,7 +15,7 @@ pub use Rattle.bfd_engine.specs.Calls.{IsCall, IsCause, IsDone, IsFailed, Turned
 pub use Rattle.bfd_engine.specs.Engines.{AllOf, AllThere, AreNew, AreNewAt, Held, IsCallers, IsEngine, IsOf, Knows, Shards, base_at, configs_at}
 pub use Rattle.bfd_engine.specs.Inside.{Arrives, IsNamedBy, IsReflected}
 pub use Rattle.bfd_engine.specs.Judging.{IsAnswered, arrival_judged, packet_answer, return_answer}
-pub use Rattle.bfd_engine.specs.Opening.{AreNewStates, AreOpened, ArePassed, AreShares, Climbs, IsMade, IsNewPass, IsNewState, IsOpenedShard, IsSorted, MayOpen, opened_base}
+pub use Rattle.bfd_engine.specs.Opening.{AreNewStates, AreOpened, AreShares, Climbs, IsMade, IsNewPass, IsNewState, IsOpenedShard, IsSorted, MayOpen, opened_base}
 pub use Rattle.bfd_engine.specs.Passes.{AreCut, AreGlued, CutsAt, EachJoined, GluesAt, IsClosed, IsCut, IsGlued, Joined, Parted}
 pub use Rattle.bfd_engine.specs.Turned.{HasLooked, HasTurned, IsSame, IsTimely, IsTurnCause, OfShard, by, configs_in, entry_of, given_after, limit_in, room_in}
 pub use Rattle.bfd_engine.specs.declared.locked.Base.{Base}
@@ -53,5 +53,5 @@ pub use Rattle.bfd_engine.specs.Holds.{HasMet, HasTaken, IsKept}
 pub use Rattle.bfd_packet.specs.Layout.{fields_of}
 pub use Rattle.bfd_demux.specs.Rows.{build_fault, early_fault, first_repeat, repeat_after, same_discr}
 pub use Rattle.bfd_session.proofs.Starting.{started_configs}
-pub use Rattle.bfd_shard.proofs.Sharing.{all_share, few_share, there}
+pub use Rattle.bfd_shard.proofs.Sharing.{there}
 pub use Rattle.bfd_engine.specs.declared.fault.EngineFault.{EngineFault}

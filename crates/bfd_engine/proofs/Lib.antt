@@ -2,7 +2,6 @@ mod Common
 mod Calls
 pub mod Rooms
 pub mod Places
-pub mod Sharing
 pub mod Tables
 pub mod Mirrors
 pub mod Reaching

@@ -1,5 +1,5 @@
 -- Shards that are opened one after another.
-use Rattle.bfd_engine.proofs.Common.{◌≡◌, ℕ, zero, suc, ◌<◌, ◌≤◌, List, [], ◌∷◌, ◌++◌, length, map, length-map, Some, None, slice_get, get_or, refl, ap, sym, ◌∙◌, subst, arith, AllByRecursion, slice_get_within, same_Some, slice_get-get_or, SessionConfig, discr_of, IsFit, AreFit, table_of, TableId, opened_pass, Row, Shards, Held, AllOf, IsOf, AllThere, IsEngine, configs_at, seen_of, met_word_of, taken_of, made_of, kept_of, IsSorted, IsNewPass, opened_base, MayOpen, ArePassed, IsOpenedShard, IsMade, AreOpened, AreShares, share, Reflector, All-nil, build_fault, few_share, all_share}
+use Rattle.bfd_engine.proofs.Common.{◌≡◌, ℕ, zero, suc, ◌<◌, ◌≤◌, List, [], ◌∷◌, ◌++◌, length, map, length-map, Some, None, slice_get, get_or, refl, ap, sym, ◌∙◌, arith, slice_get_within, same_Some, SessionConfig, discr_of, table_of, TableId, opened_pass, Row, Shards, Held, AllOf, IsOf, AllThere, IsEngine, configs_at, seen_of, met_word_of, taken_of, made_of, kept_of, IsSorted, IsNewPass, opened_base, IsOpenedShard, IsMade, AreOpened, AreShares, share, Reflector, All-nil, build_fault}
 use Rattle.bfd_engine.proofs.Places.{K, same_held}
 use Rattle.bfd_engine.proofs.Tables.{few_rows, ascending, pool_ascending}
 
@@ -55,29 +55,12 @@ module _ (limit : ℕ) where
     each = opened_at parts made m;
   })
 
-pub are_shares : {n : ℕ} {V : Type 0} (f : V → List SessionConfig) (configs : List SessionConfig) (parts : List V) → length parts ≡ n → ((r : ℕ) → r < n → get_or (map f parts) r [] ≡ share n r configs) → AreShares n configs (map f parts)
-are_shares f configs parts long each = record {
-  long = length-map parts f ∙ long;
-  each = λ r h. cc (slice_get-get_or (map f parts) r [] (omega (arith, length-map parts f, long, h)), each r h);
-}
-
-pass_each : (P : List SessionConfig → Type 0) (parts : Parts) → ((r : ℕ) (x : List SessionConfig) → slice_get parts r ≡ Some x → P x) → AllByRecursion P parts
-pass_each P [] h = tt
-pass_each P (x ∷ parts) h = (h 0 x refl, pass_each P parts (λ r y e. h (suc r) y e))
-
 long_rows : (configs : List SessionConfig) (pool : List Reflector) → length configs ≤ length (table_of configs pool)
 long_rows [] pool = omega arith
 long_rows (c ∷ configs) pool = omega (arith, long_rows configs pool)
 
 pub few_sessions : (configs : List SessionConfig) (pool : List Reflector) → build_fault (table_of configs pool) ≡ None → length configs ≤ 65536
 few_sessions configs pool sound = omega (arith, long_rows configs pool, few_rows (table_of configs pool) sound)
-
-pub may_open : {n : ℕ} {configs : List SessionConfig} {parts : Parts} → AreShares n configs parts → length configs ≤ 65536 → AreFit configs → ArePassed parts
-may_open {n} {configs} {parts} s few fit = pass_each MayOpen parts (λ r x e.
-    subst MayOpen (same_Some (share n r configs) x (cc (s.each r (omega (arith, slice_get_within parts r x e, s.long))))) (record {
-      few = omega (arith, few_share n r configs, few);
-      fit = all_share IsFit n r configs fit;
-    }))
 
 module _ (limit n : ℕ) (configs : List SessionConfig) (parts : Parts) (locks : List TableId) (passes : List Held) (sizes : List ℕ) (s : AreShares n configs parts) (o : AreOpened limit parts locks passes sizes) where
   one : (k : ℕ) → k < n → IsOpenedShard limit (share n k configs) (slice_get locks k) (slice_get passes k) (slice_get sizes k)

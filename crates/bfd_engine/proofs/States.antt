@@ -1,17 +1,6 @@
--- Shards that were made of parts, and those of them that are taken into an engine.
-use Rattle.bfd_engine.proofs.Common.{◌≡◌, ℕ, zero, suc, ◌<◌, List, [], ◌∷◌, length, map, length-map, get_or, slice_get, Some, Result, Ok, IfOk, ap, sym, ◌∙◌, arith, SessionConfig, configs_of, share, started, started_configs, Shard, MayOpen, ArePassed, AreShares, IsNewState, AreNewStates}
-
--- each part may make a shard
-pub passed_at : {V : Type 0} (f : V → List SessionConfig) (parts : List V) → ArePassed (map f parts) → (i : ℕ) (x : V) → i < length parts → x ≡ get_or parts i x → MayOpen (f x)
-passed_at f [] may i x h is = absurd (omega (arith, h))
-passed_at f (p ∷ parts) may zero x h is = rw is may.0
-passed_at f (p ∷ parts) may (suc i) x h is = passed_at f parts may.1 i x (omega (arith, h)) is
-
--- the part at a place, as the job there has it
-pub part_is : {V : Type 0} (f : V → List SessionConfig) (parts : List V) (i : ℕ) (job : V) {cs : List SessionConfig} → slice_get (map f parts) i ≡ Some cs → ((d : V) → get_or parts i d ≡ job) → f job ≡ cs
-part_is f [] i job there is = cc
-part_is f (p ∷ parts) zero job there is = cc (is job)
-part_is f (p ∷ parts) (suc i) job there is = part_is f parts i job there is
+-- Shards that were made, and those of them that are taken into an engine.
+use Rattle.bfd_engine.proofs.Common.{◌≡◌, ℕ, zero, suc, ◌+◌, ◌<◌, List, [], ◌∷◌, ◌++◌, AllByRecursion, dite, ℕ_discrete, get_or_push, get_or_append_left, length, map, length-map, get_or, slice_get, Some, Result, Ok, IfOk, ap, sym, ◌∙◌, arith, SessionConfig, configs_of, share, started, started_configs, Shard, AreShares, IsNewState, AreNewStates}
+use Rattle.bfd_engine.specs.Opening.{MayLock}
 
 -- where all were made, they are as many, and what is true of each that was is true of each
 pub all_long : {A E : Type 0} {n : ℕ} (all : List A) {made : List (Result A E)} → made ≡ map Ok all → length made ≡ n → length all ≡ n
@@ -25,6 +14,12 @@ at E P (s ∷ all) (suc i) d h = at E P all i d h
 pub made_at : {A E : Type 0} (P : A → Type 0) (all : List A) {made : List (Result A E)} (i : ℕ) (d : A) → made ≡ map Ok all → IfOk (get_or made i (Ok d)) P → P (get_or all i d)
 made_at {E} P all i d is h = at E P all i d (rw (← is) h)
 
+moved : (c r : ℕ) → c + 1 + r ≡ c + suc r
+moved c r = omega arith
+
+from_first : (r : ℕ) → 0 + r ≡ r
+from_first r = omega arith
+
 abbrev pub of : Shard → List SessionConfig
 of state = configs_of state.sessions
 
@@ -35,6 +30,23 @@ part_at : (states : List Shard) (r : ℕ) (cs : List SessionConfig) → r < leng
 part_at [] r cs h new = absurd (omega (arith, h))
 part_at (s ∷ states) zero cs h new = ap Some (made_of cs s (new s).sessions)
 part_at (s ∷ states) (suc r) cs h new = part_at states r cs (omega (arith, h)) new
+
+-- one shard more is made
+pub new_more : (n : ℕ) (configs : List SessionConfig) (states : List Shard) (state : Shard) (k : ℕ) → length states ≡ k → ((r : ℕ) (d : Shard) → r < k → IsNewState (share n r configs) (get_or states r d)) → IsNewState (share n k configs) state
+    → (r : ℕ) (d : Shard) → r < k + 1 → IsNewState (share n r configs) (get_or (states ++ state ∷ []) r d)
+new_more n configs states state k long each one r d h = dite (ℕ_discrete r k)
+    (λ same. rw (same, get_or_push states state d k long) one)
+    (λ other. rw (get_or_append_left states (state ∷ []) d r (omega (arith, long, h, other))) (each r d (omega (arith, h, other))))
+
+locks_each : (limit n c : ℕ) (configs : List SessionConfig) (states : List Shard) → ((r : ℕ) (d : Shard) → r < length states → IsNewState (share n (c + r) configs) (get_or states r d)) → AllByRecursion (MayLock limit) states
+locks_each limit n c configs [] new = tt
+locks_each limit n c configs (s ∷ states) new =
+    let one = new 0 s (omega arith) in
+    ((one.journal, omega (arith, one.limit)), locks_each limit n (c + 1) configs states (λ r d h. rw (moved c r) (new (suc r) d (omega (arith, h)))))
+
+-- new shards may be put behind locks
+pub may_lock : (limit : ℕ) {n : ℕ} {configs : List SessionConfig} (states : List Shard) → AreNewStates n configs states → AllByRecursion (MayLock limit) states
+may_lock limit {n} {configs} states new = locks_each limit n 0 configs states (λ r d h. rw (from_first r) (new.each r d (omega (arith, new.long, h))))
 
 -- new shards are of the shares
 pub shares_of_new : {n : ℕ} {configs : List SessionConfig} (states : List Shard) → AreNewStates n configs states → AreShares n configs (map of states)

@@ -72,10 +72,6 @@ pub record AreNewStates (n : ℕ) (configs : List SessionConfig) (states : List 
 abbrev pub MayLock : ℕ → Shard → Type 0
 MayLock limit state = (state.journal ≡ []) × (state.limit ≤ limit)
 
--- parts each of which may make a shard
-abbrev pub ArePassed : List (List SessionConfig) → Type 0
-ArePassed parts = AllByRecursion MayOpen parts
-
 -- one shard for each part: its lock, the pass of its caller 0, and how many sessions it has
 pub record IsOpenedShard (limit : ℕ) (configs : List SessionConfig) (lock : Option TableId) (pass : Option Held) (size : Option ℕ) : Type 0 where
   pub id : TableId

@@ -21,7 +21,6 @@
 
 mod asking;
 mod beside;
-mod dealing;
 mod engine;
 mod fault;
 mod holding;

@@ -1,15 +1,35 @@
 //! Making shards, at once or in turn.
 ghost use Rattle.std.specs.Prelude.{◌≤◌, ◌<◌, IfOk, length};
 ghost use Rattle.bfd_session.specs.Rows.{AreFit};
+ghost use Rattle.bfd_shard.specs.Dealing.{share};
 ghost use Rattle.bfd_engine.specs.Opening.{AreNewStates, IsNewState, MayOpen};
 
-use crate::beside::{all_there, each};
-use crate::dealing::deal_sessions;
+use crate::beside::all_there;
 use bfd_session::SessionConfig;
 use bfd_shard::ShardState;
 use bfd_wheel::Timers;
 use std::alloc::{AllocError, Global};
+use std::thread;
 use std::thread::Threads;
+
+/// New shards of these sessions by number, made one after another.
+pub(crate) fn make_in_turn<W: Timers>(
+    alloc: Global,
+    configs: &[SessionConfig],
+    shards: u32,
+) -> Result<Vec<ShardState<W>>, AllocError>
+    requires shards { shards ≤ 64 }
+    requires sessions { MayOpen configs.now }
+    ensures { IfOk result (λ states. AreNewStates shards configs.now states.items) }
+{
+    let count = shards as usize;
+    let mut states = Vec::with_capacity(alloc, count)?;
+    for shard in 0..count {
+        let state = ShardState::make_share(alloc, configs, count, shard, 0)?;
+        states.push(state)?;
+    }
+    Ok(states)
+}
 
 /// New shards of these sessions by number, with `at_once` each made in a thread of its own where one can be had, and else in
 /// turn: session k of the list lives in shard k % shards, at place k / shards; all stand at the start, and no journal takes an
@@ -17,25 +37,27 @@ use std::thread::Threads;
 pub fn make_shards<W: Timers + Send, R: Threads + Sync>(
     rt: &R,
     alloc: Global,
-    configs: Vec<SessionConfig>,
+    configs: &[SessionConfig],
     shards: u32,
     at_once: bool,
 ) -> Result<Vec<ShardState<W>>, AllocError>
     requires shards { (0 < shards) × (shards ≤ 64) }
-    requires few { length configs.items ≤ 65536 }
-    requires fit { AreFit configs.items }
-    ensures { IfOk result (λ states. AreNewStates shards configs.items states.items) }
+    requires few { length configs.now ≤ 65536 }
+    requires fit { AreFit configs.now }
+    ensures { IfOk result (λ states. AreNewStates shards configs.now states.items) }
 {
-    let parts = deal_sessions(alloc, configs, shards as usize)?;
-    let made = each(
+    if !at_once {
+        return make_in_turn(alloc, configs, shards);
+    }
+    let count = shards as usize;
+    let made = thread::map_indices(
         rt,
         alloc,
-        at_once,
-        parts,
-        &|part: Vec<SessionConfig>| -> Result<ShardState<W>, AllocError>
-            requires { MayOpen part.items }
-            ensures { IfOk result (λ state. IsNewState part.items state) }
-        { ShardState::make(alloc, part, 0) },
+        count,
+        &|shard: usize| -> Result<ShardState<W>, AllocError>
+            requires { MayOpen configs.now × (shard < count) × (count ≤ 64) }
+            ensures { IfOk result (IsNewState (share count shard configs.entry.now)) }
+        { ShardState::make_share(alloc, configs, count, shard, 0) },
     )?;
     all_there(alloc, made)
 }

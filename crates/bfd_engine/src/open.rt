@@ -1,16 +1,18 @@
 //! Opening an engine.
 ghost use Rattle.std.specs.Prelude.{◌≡◌, ◌≤◌, ◌<◌, None, Some, IfOk, MatchResult, length, map};
+ghost use Rattle.std.specs.List.{AllByRecursion};
 ghost use Rattle.bfd_demux.specs.Rows.{build_fault};
 ghost use Rattle.bfd_session.specs.Kinds.{configs_of, discr_of};
 ghost use Rattle.bfd_session.specs.Rows as rows;
 ghost use Rattle.bfd_session.specs.Rows.{AreFit};
-ghost use Rattle.bfd_engine.specs.Opening.{IsSorted, IsNewPass, IsOpenFault, AreNewStates, MayLock, ArePassed, IsMade, AreOpened, AreShares, HaveOpened};
+ghost use Rattle.bfd_shard.specs.Shard.{Shard};
+ghost use Rattle.bfd_engine.specs.Opening.{IsSorted, IsNewPass, IsOpenFault, AreNewStates, MayLock, IsMade, AreOpened, HaveOpened};
 
 use crate::beside::{all_there, each};
-use crate::dealing::deal_sessions;
 use crate::engine::Engine;
 use crate::fault::OpenFault;
 use crate::locked::{Base, Locked};
+use crate::making::make_in_turn;
 use crate::pass::EnginePass;
 use bfd_demux::{BuildFault, Demux};
 use bfd_sbfd::Reflector;
@@ -88,50 +90,22 @@ fn apart<W: Timers>(alloc: Global, shards: Vec<NewShard<W>>) -> Result<Opened<W>
     Ok((locks, passes, sizes))
 }
 
-/// A shard for each part, one after another.
-fn open_shards<W: Timers>(
+/// Each shard behind its lock, one after another.
+fn lock_in_turn<W: Timers>(
     alloc: Global,
-    parts: Vec<Vec<SessionConfig>>,
+    states: Vec<ShardState<W>>,
     limit: usize,
 ) -> Result<Opened<W>, AllocError>
-    requires fit { ArePassed (map (λ q. q.items) parts.items) }
-    ensures { IfOk result (λ r. AreOpened limit (map (λ q. q.items) parts.items) r.0.items r.1.items r.2.items) }
+    requires { AllByRecursion (MayLock limit) states.items }
+    ensures { IfOk result (λ r. AreOpened limit (map (λ (s : Shard). configs_of s.sessions) states.items)
+        r.0.items r.1.items r.2.items) }
 {
-    let mut shards = Vec::with_capacity(alloc, parts.len())?;
-    for part in parts {
-        let state = ShardState::make(alloc, part, 0)?;
+    let mut shards = Vec::with_capacity(alloc, states.len())?;
+    for state in states {
         let shard = lock_shard(alloc, state, limit)?;
         shards.push(shard)?;
     }
     apart(alloc, shards)
-}
-
-/// Sessions that are dealt out to shards.
-#[derive(Drop)]
-struct Dealt {
-    // Of each session, by place of the table.
-    discrs: Vec<u32>,
-    // By shard.
-    parts: Vec<Vec<SessionConfig>>,
-    // As they were, for clauses alone.
-    known: Snapshot<Vec<SessionConfig>>,
-}
-
-/// Deals these sessions out.
-fn deal_all(alloc: Global, configs: Vec<SessionConfig>, shards: u32) -> Result<Dealt, AllocError>
-    requires { 0 < shards }
-    ensures discrs { IfOk result (λ d. d.discrs.items ≡ map discr_of configs.items) }
-    ensures parts { IfOk result (λ d. AreShares shards configs.items (map (λ q. q.items) d.parts.items)) }
-    ensures known { IfOk result (λ d. d.known.value ≡ configs) }
-{
-    let discrs = discrs_of(alloc, configs.as_slice())?;
-    let known = Snapshot::of(&configs);
-    let parts = deal_sessions(alloc, configs, shards as usize)?;
-    Ok(Dealt {
-        discrs,
-        parts,
-        known,
-    })
 }
 
 /// The engine of these shards, and the pass of caller 0.
@@ -193,12 +167,11 @@ fn alone<W: Timers>(
     ensures limit { IfOk result (λ r. r.0.limit ≡ limit) }
     ensures pass { IfOk result (λ r. IsNewPass r.0 r.1) }
 {
-    let Dealt {
-        discrs,
-        parts,
-        known,
-    } = deal_all(alloc, configs, shards)?;
-    let opened = open_shards(alloc, parts, limit)?;
+    let discrs = discrs_of(alloc, configs.as_slice())?;
+    let known = Snapshot::of(&configs);
+    let states = make_in_turn(alloc, configs.as_slice(), shards)?;
+    drop(configs);
+    let opened = lock_in_turn(alloc, states, limit)?;
     Ok(engine_of(opened, demux, known, pool, discrs, limit))
 }
 

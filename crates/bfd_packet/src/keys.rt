@@ -101,6 +101,18 @@ pub struct Key {
     pub secret: Secret,
 }
 
+impl Key {
+    /// An equal key.
+    fn copy(&self) -> Key
+        ensures { result ≡ self.now }
+    {
+        Key {
+            id: self.id,
+            secret: Secret::of(self.secret.as_slice()),
+        }
+    }
+}
+
 /// At most 4 keys, in the order in which they were given.
 #[derive(Drop)]
 pub struct KeyList {
@@ -124,6 +136,18 @@ impl KeyList {
         KeyList {
             keys: ArrayVec::new(),
         }
+    }
+
+    /// An equal list.
+    fn copy(&self) -> Self
+        ensures { result ≡ self.now }
+    {
+        let own = self.as_slice();
+        let mut list = KeyList::new();
+        for at in 0..own.len() {
+            list.push(own[at].copy());
+        }
+        list
     }
 
     /// Adds a key at the end of a list that has fewer than 4.
@@ -182,6 +206,16 @@ impl Keys {
         ensures { self.new ≡ record self.old { list = self.old.list ++ key ∷ [] } }
     {
         self.list.push(key);
+    }
+
+    /// Equal keys.
+    pub fn copy(&self) -> Self
+        ensures { result ≡ self.now }
+    {
+        Keys {
+            kind: self.kind,
+            list: self.list.copy(),
+        }
     }
 
     /// How many keys there are: 1 to 4.

@@ -54,3 +54,29 @@ pub struct Config {
     /// What the session authenticates with, if it does.
     pub keys: Option<Keys>,
 }
+
+impl Config {
+    /// An equal configuration.
+    pub fn copy(&self) -> Self
+        ensures { result ≡ self.now }
+    {
+        let keys = match &self.keys {
+            Some(keys) => Some(keys.copy()),
+            None => None,
+        };
+        Config {
+            discr: self.discr,
+            role: self.role,
+            iface: self.iface,
+            local: self.local,
+            remote: self.remote,
+            active: self.active,
+            tx: self.tx,
+            rx: self.rx,
+            mult: self.mult,
+            echo: self.echo,
+            seed: self.seed,
+            keys,
+        }
+    }
+}

@@ -1,34 +1,14 @@
 -- Sessions that are copied and dealt out.
-use Rattle.bfd_serving.proofs.Common.{◌≡◌, ℕ, zero, suc, ◌+◌, ◌-◌, ◌<◌, ◌≤◌, List, [], ◌∷◌, ◌++◌, length, map, drop, get_or, refl, sym, ◌∙◌, subst, append_assoc, append-nil, arith, AllByRecursion, recursion_from_All, drop_more, drop_all, length-map, get_or-map, same_lists, get_or_default, drop-drop, get_or_from_slice_get, SessionConfig, configs_of, AreFit, Shard, share, Shards, AreDealt, AreClosedShards, IsFit}
-use Rattle.bfd_shard.proofs.Sharing.{all_share}
+use Rattle.bfd_serving.proofs.Common.{◌≡◌, ℕ, ◌+◌, ◌<◌, ◌≤◌, List, [], ◌∷◌, ◌++◌, length, map, drop, get_or, sym, ◌∙◌, subst, append_assoc, append-nil, arith, AllByRecursion, recursion_from_All, drop_all, length-map, get_or-map, same_lists, get_or_default, get_or_from_slice_get, SessionConfig, configs_of, AreFit, Shard, share, Shards, AreDealt, AreClosedShards, IsFit}
+use Rattle.bfd_shard.proofs.Sharing.{all_share, share_next, share_nothing}
 use Rattle.bfd_serving.proofs.Closings.{there_is}
 
 module _ {A : Type 0} where
-  -- a share begins with what is left after the elements that are passed over
-  pub share_from : (n c : ℕ) (xs : List A) → share n 0 (drop c xs) ≡ share n c xs
-  unfolding share
-  share_from n zero [] = refl
-  share_from n (suc c) (x ∷ xs) = share_from n c xs
-  share_from n c xs = refl
-
-  share_one : (n : ℕ) (x : A) (xs : List A) → share n 0 (x ∷ xs) ≡ x ∷ share n (n - 1) xs
-  unfolding share
-  share_one n x xs = refl
-
   -- one element more of a share
   pub share_more : (n c at next : ℕ) (xs part more : List A) (x : A) → 0 < n → at < length xs → next ≡ at + n → x ≡ get_or xs at x → more ≡ part ++ x ∷ []
       → part ++ share n 0 (drop at xs) ≡ share n c xs → more ++ share n 0 (drop next xs) ≡ share n c xs
   share_more n c at next xs part more x some inside next_is is pushed whole =
-      let split : drop at xs ≡ x ∷ drop (at + 1) xs = cc (drop_more xs at x inside) in
-      let far : drop (n - 1) (drop (at + 1) xs) ≡ drop next xs = (let e : at + 1 + (n - 1) ≡ next = omega (arith, some, next_is) in cc (drop-drop (n - 1) (at + 1) xs)) in
-      let one : share n 0 (drop at xs) ≡ x ∷ share n 0 (drop next xs) =
-      cc (share_one n x (drop (at + 1) xs), share_from n (n - 1) (drop (at + 1) xs)) in
-      cc (append_assoc part (x ∷ []) (share n 0 (drop next xs)))
-
-  share_nothing : (n : ℕ) (xs : List A) → xs ≡ [] → share n 0 xs ≡ []
-  unfolding share
-  share_nothing n [] e = refl
-  share_nothing n (x ∷ xs) e = cc
+      cc (share_next n at next xs x some inside next_is is, append_assoc part (x ∷ []) (share n 0 (drop next xs)))
 
   pub share_over : (n c at : ℕ) (xs part : List A) → length xs ≤ at → part ++ share n 0 (drop at xs) ≡ share n c xs → part ≡ share n c xs
   share_over n c at xs part over whole = cc (append-nil part, share_nothing n _ (drop_all at xs over))

@@ -82,4 +82,16 @@ impl SessionConfig {
             SessionConfig::Tail(config) => config.discr,
         }
     }
+
+    /// An equal configuration.
+    pub fn copy(&self) -> Self
+        ensures { result ≡ self.now }
+    {
+        match self {
+            SessionConfig::Pair(config) => SessionConfig::Pair(config.copy()),
+            SessionConfig::Seek(config) => SessionConfig::Seek(*config),
+            SessionConfig::Head(config) => SessionConfig::Head(*config),
+            SessionConfig::Tail(config) => SessionConfig::Tail(*config),
+        }
+    }
 }

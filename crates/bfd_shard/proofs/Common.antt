@@ -1,7 +1,7 @@
 -- Names that proofs of this crate cite, passed on from one place. Declares nothing.
 pub use Rattle.std.proofs.Common.{Bool, IsSome, IsTrue, List, None, Option, Some, [], add-one, ap, append-nil, append_assoc, arith, drop, drop-cons, ext_get_or, false, get_or, get_or-set_other, get_or-set_same, inl, inr, is_none, is_some, length, length-append, length-set, map, max, refl, rules, set, subst, suc, sym, take, take_all, true, zero, ℕ, ◌%◌, ◌&&◌, ◌*◌, ◌++◌, ◌+◌, ◌-◌, ◌/◌, ◌<◌, ◌||◌, ◌↔◌, ◌∙◌, ◌∷◌, ◌≡◌, ◌≢◌, ◌≤◌, ◌⊎◌}
 pub use Rattle.std.proofs.lemmas.Bool.{cases_eq, eq-eqb, eqb-false, eqb-true, ne_eqb}
-pub use Rattle.std.proofs.lemmas.List.{drop_all, get_or-map, length-map, map-append, map-set}
+pub use Rattle.std.proofs.lemmas.List.{drop-drop, drop_all, drop_more, get_or-map, length-map, map-append, map-set}
 pub use Rattle.std.specs.List.{All, AllByRecursion, cons_option, flat_map}
 pub use Rattle.std.specs.Prelude.{if◌then◌else◌, nat_lt, option_map, slice_get, unwrap_or, vec_capacity, vec_len, zip, ◌==◌}
 pub use Rattle.bfd_lanes.specs.Held.{HeldIds, room_of}
@@ -11,7 +11,7 @@ pub use Rattle.bfd_num.specs.Numbers.{greatest_tick, moment_bound}
 pub use Rattle.bfd_session.specs.Alone.{stepped, tick_items, ticked}
 pub use Rattle.bfd_session.specs.Due.{detects, due}
 pub use Rattle.bfd_session.specs.Kinds.{Running, configs_of}
-pub use Rattle.bfd_session.specs.Step.{CanTake, IsSound, started, tick_emits, tick_next}
+pub use Rattle.bfd_session.specs.Step.{CanTake, IsFit, IsSound, started, tick_emits, tick_next}
 pub use Rattle.bfd_session.specs.declared.event.Event.{Event}
 pub use Rattle.bfd_session.specs.declared.event.SessionConfig.{SessionConfig}
 pub use Rattle.bfd_shard.specs.History.{after, events_of, last_tick, later, own_moved, run, runs}

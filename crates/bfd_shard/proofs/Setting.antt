@@ -59,3 +59,7 @@ shard_made cs limit room ids few made sound empty timed fit =
       timed = timed;
       ids_fit = fit;
     }
+
+-- sessions that stand at the start do so with their own configurations
+pub starts_of : (cs : List SessionConfig) {ss : List Running} → ss ≡ map started cs → ss ≡ map started (configs_of ss)
+starts_of cs e = cc (started_configs cs)

@@ -7,6 +7,7 @@ ghost use Rattle.bfd_session.specs.Due.{due as due_tick};
 ghost use Rattle.bfd_session.specs.Kinds.{configs_of};
 ghost use Rattle.bfd_session.specs.Rows.{AreFit};
 ghost use Rattle.bfd_session.specs.Step.{IsSound, started};
+ghost use Rattle.bfd_shard.specs.Dealing.{share};
 ghost use Rattle.bfd_shard.specs.History.{later, moved, outcome_of};
 ghost use Rattle.bfd_shard.specs.Inside.{MayCome};
 ghost use Rattle.bfd_shard.specs.Shard.{IsShard, IsTaken, IsOwn, IsOver, IsExact, CanHappen, room_for};
@@ -14,7 +15,7 @@ ghost use Rattle.bfd_shard.specs.Shard.{IsShard, IsTaken, IsOwn, IsOver, IsExact
 use crate::entry::{Entry, Full, ShardEvent};
 use crate::law::expiry_laws;
 use crate::own::step_at;
-use crate::start::{sessions_of, timers_of};
+use crate::start::{sessions_of, share_of, timers_of};
 use crate::ticking::tick_all;
 use bfd_lanes::Ids;
 use bfd_num::{Steps, Tick};
@@ -137,6 +138,46 @@ impl<W: Timers> ShardState<W> {
         ensures kept { IfOk result (λ shard. IsShard shard) }
     {
         let sessions = sessions_of(alloc, configs)?;
+        ShardState::at_start(alloc, sessions, limit)
+    }
+
+    /// The same of the shard of this number of so many, out of the configurations of all sessions, which stay: session k of the list stands
+    /// in shard k % shards, at place k / shards.
+    pub fn make_share(
+        alloc: Global,
+        configs: &[SessionConfig],
+        shards: usize,
+        shard: usize,
+        limit: usize,
+    ) -> Result<ShardState<W>, AllocError>
+        requires within { (shard < shards) × (shards ≤ 64) }
+        requires few { length configs.now ≤ 65536 }
+        requires fit { AreFit configs.now }
+        ensures sessions { IfOk result (λ state. state.sessions ≡ map started (share shards shard configs.now)) }
+        ensures last { IfOk result (λ state. state.last ≡ 0) }
+        ensures journal { IfOk result (λ state. state.journal ≡ []) }
+        ensures limit { IfOk result (λ state. state.limit ≡ limit) }
+        ensures kept { IfOk result (λ state. IsShard state) }
+    {
+        let sessions = share_of(alloc, configs, shards, shard)?;
+        ShardState::at_start(alloc, sessions, limit)
+    }
+
+    // A shard of these sessions, which stand at the start.
+    fn at_start(
+        alloc: Global,
+        sessions: Vec<Session>,
+        limit: usize,
+    ) -> Result<ShardState<W>, AllocError>
+        requires few { length sessions.items ≤ 65536 }
+        requires start { sessions.items ≡ map started (configs_of sessions.items) }
+        requires sound { AllByRecursion IsSound sessions.items }
+        ensures sessions { IfOk result (λ shard. shard.sessions ≡ sessions.items) }
+        ensures last { IfOk result (λ shard. shard.last ≡ 0) }
+        ensures journal { IfOk result (λ shard. shard.journal ≡ []) }
+        ensures limit { IfOk result (λ shard. shard.limit ≡ limit) }
+        ensures kept { IfOk result (λ shard. IsShard shard) }
+    {
         let timers = timers_of(alloc, &sessions)?;
         let ids = Ids::make(alloc, sessions.len())?;
         let journal = Vec::with_capacity(alloc, limit.min(MOST_AT_ONCE))?;

@@ -4,6 +4,7 @@ ghost use Rattle.std.specs.List.{AllByRecursion};
 ghost use Rattle.bfd_session.specs.Due.{due as due_tick};
 ghost use Rattle.bfd_session.specs.Rows.{AreFit};
 ghost use Rattle.bfd_session.specs.Step.{IsSound, started};
+ghost use Rattle.bfd_shard.specs.Dealing.{share};
 
 use crate::own::keep_due;
 use bfd_num::Steps;
@@ -25,6 +26,28 @@ pub(crate) fn sessions_of(
     let mut sessions = Vec::with_capacity(alloc, configs.len())?;
     for config in configs {
         sessions.push(Session::make(config))?;
+    }
+    Ok(sessions)
+}
+
+/// The sessions of the shard of this number of so many, at the start, out of the configurations of all.
+pub(crate) fn share_of(
+    alloc: Global,
+    configs: &[SessionConfig],
+    shards: usize,
+    shard: usize,
+) -> Result<Vec<Session>, AllocError>
+    requires within { (shard < shards) × (shards ≤ 64) }
+    requires few { length configs.now ≤ 65536 }
+    requires fit { AreFit configs.now }
+    ensures sessions { IfOk result (λ sessions. sessions.items ≡ map started (share shards shard configs.now)) }
+    ensures sound { IfOk result (λ sessions. AllByRecursion IsSound sessions.items) }
+{
+    let mut sessions = Vec::with_capacity(alloc, configs.len().div_ceil(shards))?;
+    let mut at = shard;
+    while at < configs.len() {
+        sessions.push(Session::make(configs[at].copy()))?;
+        at += shards;
     }
     Ok(sessions)
 }

@@ -9,9 +9,10 @@ use Rattle.bfd_gather.specs.Happenings.{told_apart}
 use Rattle.bfd_plan.specs.Planned.{AreQueues, IsMet, happenings}
 use Rattle.bfd_plan.specs.declared.plan.Plan.{Plan}
 
--- the table of these sessions and reflectors, the queues of so many shards, and what is told of the events of no session; the others are
--- events that the sessions may be given
-pub record IsBeginning (configs : List SessionConfig) (pool : List Reflector) (events : List Line) (shards : ℕ) (plan : Plan) : Type 0 where
+-- where each session stands, the table of the sessions and the reflectors, the queues of so many shards, and what is told of the events
+-- of no session; the others are events that the sessions may be given
+pub record IsBeginning (configs : List SessionConfig) (pool : List Reflector) (events : List Line) (shards : ℕ) (known : List SessionConfig) (plan : Plan) : Type 0 where
+  pub places : known ≡ configs
   pub demux : plan.demux ≡ table_of configs pool
   pub queues : AreQueues shards (happenings configs pool events) plan.queues.items
   pub apart : plan.apart ≡ told_apart 1 (happenings configs pool events)

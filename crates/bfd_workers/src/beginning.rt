@@ -17,7 +17,7 @@ use std::alloc::{AllocError, Global};
 use std::thread::Threads;
 
 /// The places of the sessions and the rows of the sessions and the pool, made at once or in turn. The one refusal is want of memory.
-pub(crate) fn places_and_rows<R: Threads + Sync>(
+fn places_and_rows<R: Threads + Sync>(
     rt: &R,
     alloc: Global,
     at_once: bool,
@@ -40,45 +40,61 @@ pub(crate) fn places_and_rows<R: Threads + Sync>(
     Ok((places?, rows?))
 }
 
-/// New shards of the sessions, and what the replay begins with: at once where there are several workers, and in turn, with no thread
-/// started, where there is one. The one refusal is want of memory.
-pub(crate) fn begun<W: Timers + Send, R: Threads + Sync>(
+/// The places of the sessions, and what a replay on an engine begins with. The one refusal is want of memory.
+fn places_and_plan<R: Threads + Sync>(
     rt: &R,
     alloc: Global,
-    configs: Vec<SessionConfig>,
-    places: &Places,
-    rows: Vec<Row>,
+    configs: &Vec<SessionConfig>,
     pool: &Vec<Reflector>,
     events: Vec<Line>,
     shards: u32,
     workers: u32,
-) -> Result<(Vec<ShardState<W>>, Plan), AllocError>
-    requires table { IsTable configs.items pool.now.items }
-    requires places { places.now ≡ configs.items }
-    requires rows { rows.items ≡ table_in configs.items pool.now.items }
+) -> Result<(Places, Plan), AllocError>
+    requires table { IsTable configs.now.items pool.now.items }
     requires few { length events.items ≤ 200000 }
     requires shards { (0 < shards) × (shards ≤ 64) }
     requires workers { (0 < workers) × (workers ≤ 64) }
-    ensures new { IfOk result (λ r. AreNewStates shards configs.items r.0.items) }
-    ensures planned { IfOk result (λ r. IsBeginning configs.items pool.now.items events.items shards r.1) }
+    ensures { IfOk result (λ r. IsBeginning configs.now.items pool.now.items events.items shards r.0 r.1) }
+{
+    let (places, rows) = places_and_rows(rt, alloc, 1 < workers, configs, pool)?;
+    let plan = planned(rt, alloc, rows, &places, pool, events, shards, workers)?;
+    Ok((places, plan))
+}
+
+/// New shards of the sessions, the places of the sessions, and what the replay begins with: the shards are made meanwhile where there
+/// are several workers, and first, with no thread started, where there is one. The one refusal is want of memory.
+pub(crate) fn begun<W: Timers + Send, R: Threads + Sync>(
+    rt: &R,
+    alloc: Global,
+    configs: &Vec<SessionConfig>,
+    pool: &Vec<Reflector>,
+    events: Vec<Line>,
+    shards: u32,
+    workers: u32,
+) -> Result<(Vec<ShardState<W>>, (Places, Plan)), AllocError>
+    requires table { IsTable configs.now.items pool.now.items }
+    requires few { length events.items ≤ 200000 }
+    requires shards { (0 < shards) × (shards ≤ 64) }
+    requires workers { (0 < workers) × (workers ≤ 64) }
+    ensures new { IfOk result (λ r. AreNewStates shards configs.now.items r.0.items) }
+    ensures planned { IfOk result (λ r. IsBeginning configs.now.items pool.now.items events.items shards r.1.0 r.1.1) }
 {
     let at_once = 1 < workers;
-    let (states, plan) = both(
+    let (states, planned) = both(
         rt,
         at_once,
         move || -> Result<Vec<ShardState<W>>, AllocError>
             requires shards { (0 < shards) × (shards ≤ 64) }
-            requires sessions { MayOpen configs.items }
-            ensures { IfOk result (λ states. AreNewStates shards configs.items states.items) }
-        { make_shards(rt, alloc, configs, shards, at_once) },
-        move || -> Result<Plan, AllocError>
-            requires table { IsTable places.now pool.now.items }
-            requires rows { rows.items ≡ table_in places.now pool.now.items }
+            requires sessions { MayOpen configs.now.items }
+            ensures { IfOk result (λ states. AreNewStates shards configs.entry.now.items states.items) }
+        { make_shards(rt, alloc, configs.as_slice(), shards, at_once) },
+        move || -> Result<(Places, Plan), AllocError>
+            requires table { IsTable configs.now.items pool.now.items }
             requires few { length events.items ≤ 200000 }
             requires shards { (0 < shards) × (shards ≤ 64) }
             requires workers { (0 < workers) × (workers ≤ 64) }
-            ensures { IfOk result (IsBeginning places.entry.now pool.entry.now.items events.items shards) }
-        { planned(rt, alloc, rows, places, pool, events, shards, workers) },
+            ensures { IfOk result (λ r. IsBeginning configs.entry.now.items pool.entry.now.items events.items shards r.0 r.1) }
+        { places_and_plan(rt, alloc, configs, pool, events, shards, workers) },
     );
-    Ok((states?, plan?))
+    Ok((states?, planned?))
 }

@@ -8,7 +8,7 @@ ghost use Rattle.bfd_replay.specs.Stage.{IsTable};
 ghost use Rattle.bfd_plan.specs.Planned.{happenings, script_with};
 ghost use Rattle.bfd_workers.specs.Replayed.{HaveReplayed};
 
-use crate::beginning::{begun, places_and_rows};
+use crate::beginning::begun;
 use crate::counting::{up_all, up_at_last};
 use crate::finish::in_order;
 use crate::in_parts::{Held, ReportInParts};
@@ -82,10 +82,8 @@ fn worked<W: Timers + Send, R: Threads + Wait + Sync, G: Gate + Sync>(
 {
     let at_once = 1 < workers;
     let room = 5 * configs.len() + 5;
-    let (places, rows) = places_and_rows(rt, alloc, at_once, &configs, &pool)?;
-    let (made, plan) = begun(
-        rt, alloc, configs, &places, rows, &pool, events, shards, workers,
-    )?;
+    let (made, (places, plan)) = begun(rt, alloc, &configs, &pool, events, shards, workers)?;
+    drop(configs);
     let Plan {
         demux,
         queues,

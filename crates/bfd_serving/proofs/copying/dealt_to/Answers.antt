@@ -1,6 +1,7 @@
 -- One session more, and at the end all.
 use Rattle.bfd_serving.proofs.Common.{◌+◌, ◌++◌, ◌∷◌, [], refl, ap, ◌∙◌, arith}
-use Rattle.bfd_serving.proofs.Dealing.{share_more, share_over, share_from}
+use Rattle.bfd_serving.proofs.Dealing.{share_more, share_over}
+use Rattle.bfd_shard.proofs.Sharing.{share_from}
 use Rattle.bfd_serving.proofs.copying.dealt_to.Goals as goal
 
 pub loop-at-init : goal.loop-at-init
@@ -12,7 +13,7 @@ loop-at-init c = record {
 pub loop-at-preserved : goal.loop-at-preserved
 loop-at-preserved c = let n = c.args.shards in let at = c.loop-at.at in let inside = c.loop-at-test.true in record {
   whole = share_more n c.args.shard at (at + n) c.args.configs.now c.loop-at.part.items c.push.new.self.items c.index-configs-at.result c.requires.some.0 inside refl c.index-configs-at.is
-      (c.in_ok-push.ensures.items ∙ ap (λ y. c.loop-at.part.items ++ y ∷ []) c.copied.ensures) c.loop-at.invariant.whole;
+      (c.in_ok-push.ensures.items ∙ ap (λ y. c.loop-at.part.items ++ y ∷ []) c.copy.ensures) c.loop-at.invariant.whole;
   few = omega (arith, inside);
 }
 
