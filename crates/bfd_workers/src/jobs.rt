@@ -1,6 +1,7 @@
 //! Workers' jobs.
 ghost use Rattle.std.specs.Prelude.{ℕ, ◌≡◌, ◌≤◌, ◌<◌, ◌+◌, ◌*◌, ◌%◌, [], Ok, IfOk, OnOk, false, if◌then◌else◌, length, map, slice_index_or};
 ghost use Rattle.std.specs.List.{All};
+ghost use Rattle.std.specs.Thread.{IsSend, IsSync};
 ghost use Rattle.bfd_engine.specs.Engines.{configs_at};
 ghost use Rattle.bfd_workers.specs.Jobs.{Work, HasWorkedOn, HasEnded, AreOwn, seen_as};
 ghost use Rattle.bfd_workers.specs.Working.{IsWorkerReady, HasLeft};
@@ -15,10 +16,10 @@ use bfd_rules::Outs;
 use bfd_wheel::Timers;
 use std::alloc::{AllocError, Global};
 use std::marker::{Brand, Model};
+use std::mem;
 use std::sync::Wait;
 use std::sync::ledger::{Blank, Ledger};
-use std::thread::Threads;
-use std::{mem, thread};
+use std::thread::{Threads, join_mut};
 
 /// A worker's pass, its queues by shard, and what it told of each shard, or why it stopped.
 #[derive(Drop)]
@@ -94,14 +95,51 @@ fn work<W: Timers, R: Wait, G: Gate>(
     );
 }
 
-/// Works on all jobs at once, each in a thread of its own where one can be had.
+/// Works on a job in a thread of its own where one can be had, and on all others beside it.
+#[cycle(workers)]
+fn work_beside<W: Timers + Send, R: Threads + Wait + Sync, G: Gate + Sync>(
+    rt: &R,
+    alloc: Global,
+    engine: &Engine<W>,
+    room: usize,
+    gate: &G,
+    job: &mut Job,
+    rest: &mut [Job],
+)
+    requires own { IsWorkerReady engine.now job.old.queues job.old.pass }
+    requires ready { All (λ (j : Work). IsWorkerReady engine.now j.queues j.pass) rest.old }
+    requires room { (shard : ℕ) → 5 * length (configs_at engine.now shard) + 5 ≤ room }
+    ensures own { HasWorkedOn engine.now job.old job.new }
+    ensures worked { (i : ℕ) (d : Work) → i < length rest.old
+        → HasWorkedOn engine.now (slice_index_or rest.old i d) (slice_index_or rest.new i d) }
+    ensures long { length rest.new ≡ length rest.old }
+{
+    let mut own = ||
+        requires ready { IsWorkerReady engine.now job.now.queues job.now.pass }
+        requires room { (shard : ℕ) → 5 * length (configs_at engine.now shard) + 5 ≤ room }
+        ensures { HasWorkedOn engine.entry.now job.entry.now job.exit.now }
+    { work(rt, alloc, engine, job, room, gate) };
+    let mut others = ||
+        requires bounds { IsSync R.row × IsSync G.row × IsSend W.row }
+        requires ready { All (λ (j : Work). IsWorkerReady engine.now j.queues j.pass) rest.now }
+        requires room { (shard : ℕ) → 5 * length (configs_at engine.now shard) + 5 ≤ room }
+        ensures worked { (i : ℕ) (d : Work) → i < length rest.entry.now
+            → HasWorkedOn engine.entry.now (slice_index_or rest.entry.now i d) (slice_index_or rest.exit.now i d) }
+        ensures long { length rest.exit.now ≡ length rest.entry.now }
+    { work_each(rt, alloc, engine, room, gate, rest) };
+    join_mut(rt, &mut own, &mut others);
+}
+
+/// Works on all jobs at once, each but the last in a thread of its own where one can be had. They are started one after another by this
+/// thread: where threads are started by threads that were just started, two are at times set on one processor while another is idle.
+#[cycle(workers)]
 fn work_each<W: Timers + Send, R: Threads + Wait + Sync, G: Gate + Sync>(
     rt: &R,
     alloc: Global,
     engine: &Engine<W>,
-    jobs: &mut [Job],
     room: usize,
     gate: &G,
+    jobs: &mut [Job],
 )
     requires ready { All (λ (j : Work). IsWorkerReady engine.now j.queues j.pass) jobs.old }
     requires room { (shard : ℕ) → 5 * length (configs_at engine.now shard) + 5 ≤ room }
@@ -109,16 +147,13 @@ fn work_each<W: Timers + Send, R: Threads + Wait + Sync, G: Gate + Sync>(
         → HasWorkedOn engine.now (slice_index_or jobs.old i d) (slice_index_or jobs.new i d) }
     ensures long { length jobs.new ≡ length jobs.old }
 {
-    thread::for_each_mut(
-        rt,
-        jobs,
-        64,
-        &|_, job: &mut Job|
-            requires ready { IsWorkerReady engine.now job.now.queues job.now.pass }
-            requires room { (shard : ℕ) → 5 * length (configs_at engine.now shard) + 5 ≤ room }
-            ensures { HasWorkedOn engine.entry.now job.entry.now job.exit.now }
-        { work(rt, alloc, engine, job, room, gate) },
-    );
+    if let Some((job, rest)) = jobs.split_first_mut() {
+        if rest.is_empty() {
+            work(rt, alloc, engine, job, room, gate);
+        } else {
+            work_beside(rt, alloc, engine, room, gate, job, rest);
+        }
+    }
 }
 
 /// The same, of a list of jobs.
@@ -136,7 +171,7 @@ pub(crate) fn work_all<W: Timers + Send, R: Threads + Wait + Sync, G: Gate + Syn
         → HasWorkedOn engine.now (slice_index_or jobs.old.items i d) (slice_index_or jobs.new.items i d) }
     ensures long { length jobs.new.items ≡ length jobs.old.items }
 {
-    work_each(rt, alloc, engine, jobs, room, gate);
+    work_each(rt, alloc, engine, room, gate, jobs);
 }
 
 /// Takes a queue out where it is the worker's own, and gives an empty one where it isn't.
