@@ -10,8 +10,9 @@
 //! `reporting` the whole.
 //!
 //! It stands on `bfd_plan` for what a line is, on `bfd_shard` for what the events give, on `bfd_script` for the
-//! lines, on `bfd_gather` for how a text is written, and on `bfd_edge` for the sink. It promises that a sink which doesn't fail takes the report of `bfd_replay`'s
-//! `specs/World.antt`, byte for byte, as the replays on several shards give it too; and that any sink takes a front of it.
+//! lines, on `bfd_gather` for how a text is written, and on `bfd_edge` for the sink. It promises that a sink which doesn't fail takes the
+//! report of `bfd_replay`'s `specs/World.antt`, byte for byte, as the replays on several shards give it too; and that any sink takes a
+//! front of it.
 #![tactic(auto)]
 
 mod happening;

@@ -41,7 +41,8 @@ pub(crate) fn replay_by<R: Threads + Wait + Sync, G: Gate + Sync>(
     }
 }
 
-/// The same replay, whose report is put together by several threads, or with one worker only when it is written. The one refusal is want of memory.
+/// The same replay, whose report is put together by several threads, or with one worker only when it is written. The one refusal is want of
+/// memory.
 pub(crate) fn replay_in_parts<R: Threads + Wait + Sync, G: Gate + Sync>(
     rt: &R,
     alloc: Global,

@@ -4,8 +4,8 @@
 //! packet is screened and selected here, once. For that the sessions' discriminators are enough ([`Places`]), so whoever plans may move the
 //! configurations elsewhere meanwhile. [`planned`] deals the events of the sessions out to the queues of 1 to 64 shards, tells the others
 //! apart, and gives the table too ([`Plan`]). The table is made while the lines are cut into runs, one for each worker or fewer; the runs
-//! are looked through at once, each in a thread of its own where one can be had, and what was planned of them is put one behind another: the
-//! queues as pieces ([`Queue`]), from which the events are taken one by one. With one worker all is done in turn, and no thread is
+//! are looked through at once, each in a thread of its own where one can be had, and what was planned of them is put one behind another:
+//! the queues as pieces ([`Queue`]), from which the events are taken one by one. With one worker all is done in turn, and no thread is
 //! started.
 //!
 //! Modules: `places` finds a session by its discriminator, `routing` says what a line is, `runs` cuts the lines into runs, `plan`
@@ -14,8 +14,8 @@
 //!
 //! It stands on `bfd_demux` for the table, on `bfd_gather` for queues and parts, on `bfd_script`, and on `bfd_engine` for work that is done
 //! at once or in turn, and for a lemma on what an arrival reaches. It promises that a route is what the definitions say of its line
-//! (`happening`), that each shard's queue has the events of its sessions and every tick, with their numbers, in the order of the script, and
-//! that what is told apart is of all other lines, however many workers there are.
+//! (`happening`), that each shard's queue has the events of its sessions and every tick, with their numbers, in the order of the script,
+//! and that what is told apart is of all other lines, however many workers there are.
 #![tactic(auto)]
 
 mod places;

@@ -141,8 +141,8 @@ impl<W: Timers> ShardState<W> {
         ShardState::at_start(alloc, sessions, limit)
     }
 
-    /// The same of the shard of this number of so many, out of the configurations of all sessions, which stay: session k of the list stands
-    /// in shard k % shards, at place k / shards.
+    /// The same of one shard of 1 to 64, `shard` counted from 0, out of the configurations of all sessions, which stay: session k of the
+    /// list stands in shard k % shards, at place k / shards. It is refused only for want of memory.
     pub fn make_share(
         alloc: Global,
         configs: &[SessionConfig],

@@ -1,4 +1,5 @@
-//! The table of a lock: one word, which is twice the turns given back and one more while a turn is held, and one slot, where the value lies between turns.
+//! The table of a lock: one word, which is twice the turns given back and one more while a turn is held, and one slot, where the value lies
+//! between turns.
 use crate::recorded::Recorded;
 use crate::view::View;
 use atomic_table::{Seat, Table, TableRule};

@@ -41,7 +41,8 @@ impl<V: Recorded> Model for TurnLock<V> {
 }
 
 impl<V: Recorded> TurnLock<V> {
-    /// A lock round a value with no notes, and the pass of caller 0. The word begins as after `turns` turns, mostly 0; a lock has 2^63 - 1 in all.
+    /// A lock round a value with no notes, and the pass of caller 0. The word begins as after `turns` turns, mostly 0; a lock has 2^63 - 1
+    /// in all.
     pub fn new(
         alloc: Global,
         value: V,
@@ -65,7 +66,8 @@ impl<V: Recorded> TurnLock<V> {
         }
     }
 
-    /// A pass with a new number, made by caller 0. It has seen what caller 0 has seen, where no note names the number. A pass takes no memory.
+    /// A pass with a new number, made by caller 0. It has seen what caller 0 has seen, where no note names the number. A pass takes no
+    /// memory.
     pub fn split(&self, first: &mut Pass<V::Note, V::Base>, number: u32) -> Pass<V::Note, V::Base>
         requires first { (first.old.0 ≡ self.now) × (first.old.1.number ≡ 0) }
         requires number { (0 < number) × IsNew number first.old.1 }
@@ -96,8 +98,8 @@ impl<V: Recorded> TurnLock<V> {
         Pass::of(other, number)
     }
 
-    /// Caller 0 takes in another pass. It has then seen the longer of the two lists, of which the other is a beginning, and keeps the number and its calls.
-    /// Its own calls stay the same, and no later note names the number.
+    /// Caller 0 takes in another pass. It has then seen the longer of the two lists, of which the other is a beginning, and keeps the
+    /// number and its calls. Its own calls stay the same, and no later note names the number.
     pub fn join(&self, first: &mut Pass<V::Note, V::Base>, other: Pass<V::Note, V::Base>)
         requires first { (first.old.0 ≡ self.now) × (first.old.1.number ≡ 0) }
         requires other { (other.0 ≡ self.now) × (other.1.number ≢ 0) }
@@ -190,7 +192,8 @@ impl<V: Recorded> TurnLock<V> {
         unreachable!()
     }
 
-    /// Gives the turn back, with a value that has got at most one note since, which names this caller. The pass has then seen all notes of the value.
+    /// Gives the turn back, with a value that has got at most one note since, which names this caller. The pass has then seen all notes of
+    /// the value.
     pub fn done(&self, turn: Turn<V>) -> Pass<V::Note, V::Base>
         requires turn { turn.0 ≡ self.now }
         requires grows { Grows V.noted V.caller turn.1 turn.2 }

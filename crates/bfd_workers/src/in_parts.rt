@@ -53,8 +53,8 @@ impl ReportInParts {
         false
     }
 
-    /// Writes the report text by text, or in pieces as it is put together. It is refused as Failed where the sink failed, and as Memory where memory was
-    /// wanting, here or there; the sink took a front of the report then.
+    /// Writes the report text by text, or in pieces as it is put together. It is refused as Failed where the sink failed, and as Memory
+    /// where memory was wanting, here or there; the sink took a front of the report then.
     pub fn write_to<K: Sink>(self, alloc: Global, sink: &mut K) -> Result<(), Fault>
         ensures whole { OnOk result (Appends (K.taken sink.old) (K.taken sink.new) self) }
         ensures failed { IsErrOf result Fault.Failed → Rose (K.faults sink.old) (K.faults sink.new) }
