@@ -1,5 +1,5 @@
 -- Shards that were made, and those of them that are taken into an engine.
-use Rattle.bfd_engine.proofs.Common.{◌≡◌, ℕ, zero, suc, ◌+◌, ◌<◌, List, [], ◌∷◌, ◌++◌, AllByRecursion, dite, ℕ_discrete, get_or_push, get_or_append_left, length, map, length-map, get_or, slice_get, Some, Result, Ok, IfOk, ap, sym, ◌∙◌, arith, SessionConfig, configs_of, share, started, started_configs, Shard, AreShares, IsNewState, AreNewStates}
+use Rattle.bfd_engine.proofs.Common.{◌≡◌, refl, ℕ, zero, suc, ◌+◌, ◌<◌, List, [], ◌∷◌, ◌++◌, AllByRecursion, dite, ℕ_discrete, get_or_push, get_or_append_left, length, map, length-map, get_or, slice_get, Some, Result, Ok, IfOk, ap, sym, ◌∙◌, arith, SessionConfig, configs_of, share, started, started_configs, Shard, AreShares, IsNewState, AreNewStates}
 use Rattle.bfd_engine.specs.Opening.{MayLock}
 
 -- where all were made, they are as many, and what is true of each that was is true of each
@@ -30,6 +30,12 @@ part_at : (states : List Shard) (r : ℕ) (cs : List SessionConfig) → r < leng
 part_at [] r cs h new = absurd (omega (arith, h))
 part_at (s ∷ states) zero cs h new = ap Some (made_of cs s (new s).sessions)
 part_at (s ∷ states) (suc r) cs h new = part_at states r cs (omega (arith, h)) new
+
+-- where each number of a list is its place, so it is with one number more
+pub number_more : (numbers : List ℕ) (n : ℕ) → length numbers ≡ n → ((k d : ℕ) → k < n → get_or numbers k d ≡ k) → (k d : ℕ) → k < n + 1 → get_or (numbers ++ n ∷ []) k d ≡ k
+number_more numbers n long each k d h = dite (ℕ_discrete k n)
+    (λ same. rw (same, get_or_push numbers n d n long) refl)
+    (λ other. rw (get_or_append_left numbers (n ∷ []) d k (omega (arith, long, h, other))) (each k d (omega (arith, h, other))))
 
 -- one shard more is made
 pub new_more : (n : ℕ) (configs : List SessionConfig) (states : List Shard) (state : Shard) (k : ℕ) → length states ≡ k → ((r : ℕ) (d : Shard) → r < k → IsNewState (share n r configs) (get_or states r d)) → IsNewState (share n k configs) state

@@ -1,6 +1,8 @@
 //! Work that is done at once, or in turn where that is asked for.
 ghost use Rattle.std.specs.Prelude.{◌≡◌, IfOk, Ok, length, map};
 ghost use Rattle.std.specs.Fork.{AcceptsJobs, GivesJobs};
+ghost use Rattle.std.specs.Fork.Halves.{GivesFor};
+ghost use Rattle.std.specs.Thread.{IsSend, IsSync};
 
 use std::alloc::{AllocError, Global};
 use std::thread;
@@ -42,8 +44,40 @@ fn in_turn<J: Drop, X: Drop, F: Fn(J) -> X>(
     Ok(given)
 }
 
-/// Calls `f` with each job, and gives what it gave, in their order. With `at_once` each is called in a thread of its own where one can be
-/// had; without, all are called in this thread, in turn. The one refusal is want of memory.
+/// Calls `f` with each job, with all but the last in a thread of its own where one can be had. They are started one after another by this
+/// thread: where threads are started by threads that were just started, two are at times set on one processor while another is idle.
+#[cycle(jobs)]
+fn beside<R: Threads + Sync, J: Send + Drop, X: Send + Drop, F: Fn(J) -> X + Sync>(
+    rt: &R,
+    alloc: Global,
+    f: &F,
+    mut first: Vec<J>,
+) -> Result<Vec<X>, AllocError>
+    requires { AcceptsJobs F.Fn f.now first.items }
+    ensures { IfOk result (λ given. GivesFor F.Fn f.now first.items given.items) }
+{
+    if first.len() < 2 {
+        return in_turn(alloc, first, f);
+    }
+    let rest = first.split_off(1)?;
+    let own = move || -> Result<Vec<X>, AllocError>
+        requires { AcceptsJobs F.Fn f.now first.items }
+        ensures { IfOk result (λ given. GivesFor F.Fn f.entry.now first.items given.items) }
+    { in_turn(alloc, first, f) };
+    let others = move || -> Result<Vec<X>, AllocError>
+        requires bounds { IsSync R.row × IsSync F.row × IsSend J.row × IsSend X.row }
+        requires accepts { AcceptsJobs F.Fn f.now rest.items }
+        ensures { IfOk result (λ given. GivesFor F.Fn f.entry.now rest.items given.items) }
+    { beside(rt, alloc, f, rest) };
+    let (front, back) = thread::join(rt, own, others);
+    let mut given = front?;
+    let mut more = back?;
+    given.append(&mut more)?;
+    Ok(given)
+}
+
+/// Calls `f` with each job, and gives what it gave, in their order. With `at_once` all but the last are called in a thread of their own
+/// each, where one can be had; without, all are called in this thread, in turn. The one refusal is want of memory.
 pub fn each<R: Threads + Sync, J: Send + Drop, X: Send + Drop, F: Fn(J) -> X + Sync>(
     rt: &R,
     alloc: Global,
@@ -56,7 +90,7 @@ pub fn each<R: Threads + Sync, J: Send + Drop, X: Send + Drop, F: Fn(J) -> X + S
     ensures each { IfOk result (λ given. GivesJobs F.Fn f.now jobs.items given.items) }
 {
     if at_once {
-        return thread::map_vec(rt, jobs, f);
+        return beside(rt, alloc, f, jobs);
     }
     in_turn(alloc, jobs, f)
 }

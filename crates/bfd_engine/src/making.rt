@@ -1,15 +1,14 @@
 //! Making shards, at once or in turn.
-ghost use Rattle.std.specs.Prelude.{◌≤◌, ◌<◌, IfOk, length};
+ghost use Rattle.std.specs.Prelude.{◌≡◌, ◌≤◌, ◌<◌, ℕ, IfOk, length, slice_index_or};
 ghost use Rattle.bfd_session.specs.Rows.{AreFit};
 ghost use Rattle.bfd_shard.specs.Dealing.{share};
 ghost use Rattle.bfd_engine.specs.Opening.{AreNewStates, IsNewState, MayOpen};
 
-use crate::beside::all_there;
+use crate::beside::{all_there, each};
 use bfd_session::SessionConfig;
 use bfd_shard::ShardState;
 use bfd_wheel::Timers;
 use std::alloc::{AllocError, Global};
-use std::thread;
 use std::thread::Threads;
 
 /// New shards of these sessions by number, made one after another.
@@ -31,9 +30,21 @@ pub(crate) fn make_in_turn<W: Timers>(
     Ok(states)
 }
 
-/// New shards of these sessions by number, with `at_once` each made in a thread of its own where one can be had, and else in
-/// turn: session k of the list lives in shard k % shards, at place k / shards; all stand at the start, and no journal takes an
-/// entry yet. The one refusal is want of memory.
+/// The numbers below this one, in order.
+fn numbers_below(alloc: Global, count: usize) -> Result<Vec<usize>, AllocError>
+    ensures long { IfOk result (λ all. length all.items ≡ count) }
+    ensures each { IfOk result (λ all. (k d : ℕ) → k < count → slice_index_or all.items k d ≡ k) }
+{
+    let mut all = Vec::with_capacity(alloc, count)?;
+    for number in 0..count {
+        all.push(number)?;
+    }
+    Ok(all)
+}
+
+/// New shards of these sessions by number, with `at_once` all but the last made in a thread of their own each, where one
+/// can be had, and else in turn: session k of the list lives in shard k % shards, at place k / shards; all stand at the start,
+/// and no journal takes an entry yet. The one refusal is want of memory.
 pub fn make_shards<W: Timers + Send, R: Threads + Sync>(
     rt: &R,
     alloc: Global,
@@ -50,10 +61,12 @@ pub fn make_shards<W: Timers + Send, R: Threads + Sync>(
         return make_in_turn(alloc, configs, shards);
     }
     let count = shards as usize;
-    let made = thread::map_indices(
+    let numbers = numbers_below(alloc, count)?;
+    let made = each(
         rt,
         alloc,
-        count,
+        true,
+        numbers,
         &|shard: usize| -> Result<ShardState<W>, AllocError>
             requires { MayOpen configs.now × (shard < count) × (count ≤ 64) }
             ensures { IfOk result (IsNewState (share count shard configs.entry.now)) }
