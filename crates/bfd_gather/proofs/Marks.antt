@@ -1,5 +1,5 @@
 -- A part's marks and text, as pieces are told and taken.
-use Rattle.bfd_gather.proofs.Common.{◌≡◌, ◌≤◌, ◌+◌, ◌++◌, ℕ, List, [], ◌∷◌, length, drop, map, Result, Ok, Err, OnOk, OnErr, refl, ap, ◌∙◌, append-nil, arith, length-append, length-drop, AllByRecursion, take-append-le, drop-append-le, sum_by-append, sum_by-cons, Out, Outcome, Mark, Piece, texts, key, whole_piece, item_piece, pieces_at, mark_of, IsPart, sum_by, each_more, item_some}
+use Rattle.bfd_gather.proofs.Common.{◌≡◌, ◌≤◌, ◌+◌, ◌++◌, ℕ, List, [], ◌∷◌, length, drop, map, Result, Ok, Err, OnOk, OnErr, refl, ap, ◌∙◌, append-nil, arith, length-append, length-drop, AllByRecursion, take-append-le, drop-append-le, sum_by-append, sum_by-cons, Out, Outcome, Mark, Piece, texts, whole_piece, item_piece, pieces_at, mark_of, IsPart, sum_by, each_more, item_some}
 use Rattle.std.proofs.Math.Seq.{take-append_seam, drop-append_seam}
 use Rattle.bfd_gather.proofs.Sizes.{event_some}
 

@@ -64,24 +64,55 @@ fn put_behind(
     Ok(sums)
 }
 
-/// All pieces, gathered in four quarters, one behind another: at once where threads can be had. The one refusal is want of memory, as
-/// which 2^64 packets count.
-fn in_four<R: Threads + Sync>(rt: &R, alloc: Global, rests: Vec<Rest>) -> Result<Texts, AllocError>
+/// The pieces of one list, gathered whole, and those of another, gathered in two halves: at once where threads can be had.
+fn one_and_two<R: Threads>(
+    rt: &R,
+    alloc: Global,
+    one: Vec<Rest>,
+    two: Vec<Rest>,
+) -> (
+    Result<Gathered, AllocError>,
+    Result<(Gathered, Gathered), AllocError>,
+)
+    ensures one { IfOk result.0 (λ g. Gathers one.entry.items g.text.items g.txs g.drops) }
+    ensures two { IfOk result.1 (λ g. Gathers two.entry.items (g.0.text.items ++ g.1.text.items)
+        (g.0.txs + g.1.txs) (g.0.drops + g.1.drops)) }
+{
+    thread::join(
+        rt,
+        move || -> Result<Gathered, AllocError>
+            ensures { IfOk result (λ g. Gathers one.entry.items g.text.items g.txs g.drops) }
+        { gather_text(alloc, one) },
+        move || -> Result<(Gathered, Gathered), AllocError>
+            ensures { IfOk result (λ g. Gathers two.entry.items (g.0.text.items ++ g.1.text.items)
+                (g.0.txs + g.1.txs) (g.0.drops + g.1.drops)) }
+        { in_two(rt, alloc, two) },
+    )
+}
+
+/// All pieces, gathered in four quarters, one behind another: at once where threads can be had, which are started one after another by
+/// this thread. The one refusal is want of memory, as which 2^64 packets count.
+fn in_four<R: Threads>(rt: &R, alloc: Global, rests: Vec<Rest>) -> Result<Texts, AllocError>
     ensures { IfOk result (λ t. Gathers rests.entry.items (flat_map (λ text. text.items) t.texts.items) t.txs t.drops) }
 {
     let (fronts, backs) = cut_all(alloc, &rests, middle_of(&rests))?;
-    let (front, back) = thread::join(
+    let (first, second) = cut_all(alloc, &fronts, middle_of(&fronts))?;
+    let (first, (second, back)) = thread::join(
         rt,
-        move || -> Result<(Gathered, Gathered), AllocError>
-            ensures { IfOk result (λ g. Gathers fronts.entry.items (g.0.text.items ++ g.1.text.items)
+        move || -> Result<Gathered, AllocError>
+            ensures { IfOk result (λ g. Gathers first.entry.items g.text.items g.txs g.drops) }
+        { gather_text(alloc, first) },
+        move || -> (
+            Result<Gathered, AllocError>,
+            Result<(Gathered, Gathered), AllocError>,
+        )
+            ensures one { IfOk result.0 (λ g. Gathers second.entry.items g.text.items g.txs g.drops) }
+            ensures two { IfOk result.1 (λ g. Gathers backs.entry.items (g.0.text.items ++ g.1.text.items)
                 (g.0.txs + g.1.txs) (g.0.drops + g.1.drops)) }
-        { in_two(rt, alloc, fronts) },
-        move || -> Result<(Gathered, Gathered), AllocError>
-            ensures { IfOk result (λ g. Gathers backs.entry.items (g.0.text.items ++ g.1.text.items)
-                (g.0.txs + g.1.txs) (g.0.drops + g.1.drops)) }
-        { in_two(rt, alloc, backs) },
+        { one_and_two(rt, alloc, second, backs) },
     );
-    let (first, second) = front?;
+    let first = first?;
+    let second = second?;
     let (third, fourth) = back?;
     let mut texts = Vec::new(alloc);
     let counts = put_behind(&mut texts, (0, 0), first)?;
@@ -94,7 +125,7 @@ fn in_four<R: Threads + Sync>(rt: &R, alloc: Global, rests: Vec<Rest>) -> Result
 /// The report of a replay of so many events, as `report` gives it, in texts that stand one behind another. Up to four threads gather it,
 /// each a part of its lines, where they can be had. The one refusal is want of memory, as which 2^64 packets that were sent or were
 /// dropped count.
-pub fn report_at_once<R: Threads + Sync>(
+pub fn report_at_once<R: Threads>(
     rt: &R,
     alloc: Global,
     parts: Vec<Part>,

@@ -16,14 +16,13 @@ use crate::routing::{Route, route_of};
 use crate::runs::{Run, cut};
 use crate::shrinking::next_of;
 use bfd_demux::{Addresses, Demux, Names, Row};
-use bfd_engine::{all_there, both};
+use bfd_engine::{all_there, both, each};
 use bfd_gather::{Numbered, Part, queue_event};
 use bfd_line::Line;
 use bfd_rules::Out;
 use bfd_sbfd::Reflector;
 use bfd_session::{Answer, SessionConfig, table_of};
 use std::alloc::{AllocError, Global};
-use std::thread;
 use std::thread::Threads;
 
 /// The table of the sessions and the pool, which have no fault. The one refusal is want of memory.
@@ -133,7 +132,7 @@ fn plan_run(
     Ok((queues, apart))
 }
 
-/// The same of each run, each in a thread of its own where one can be had.
+/// The same of each run, all but the last in a thread of its own each, where one can be had.
 fn plan_each<R: Threads + Sync>(
     rt: &R,
     alloc: Global,
@@ -153,8 +152,10 @@ fn plan_each<R: Threads + Sync>(
     ensures each { IfOk result (λ plans. (i : ℕ) (r : RunIn) (p : _) → i < length runs.items
         → IsPlanOf places.now pool.now shards (slice_index_or runs.items i r) (slice_index_or plans.items i p)) }
 {
-    let done = thread::map_vec(
+    let done = each(
         rt,
+        alloc,
+        true,
         runs,
         &|run: Run|
             requires table { demux.now ≡ table_in places.now pool.now }
