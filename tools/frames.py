@@ -35,6 +35,7 @@ class Datagram(NamedTuple):
     ttl: int
     port: str  # the kind of port, as an `rx` line names it, or `aggregate`
     payload: bytes
+    source: int = 0  # the source port
 
 
 class Unreadable(Exception):
@@ -187,4 +188,4 @@ def udp_of(frame, tags, ip, is_ipv6):
     if len(payload) < min(udp.ulen - 8, 256):
         raise Unreadable("packets that the capture cut short (its snap length)")
     place = (frame.place if frame.link != COOKED_2 else int.from_bytes(frame.data[4:8], "big"), *tags)
-    return Datagram(place, ip.src, ip.dst, ip.hlim if is_ipv6 else ip.ttl, port, payload)
+    return Datagram(place, ip.src, ip.dst, ip.hlim if is_ipv6 else ip.ttl, port, payload, udp.sport)

@@ -48,8 +48,10 @@ def gaps_of(packets, course):
         while other < len(theirs) and theirs[other][0] <= moment:
             rx = theirs[other][2].rx if theirs[other][2].state == "Up" else rx
             other += 1
-        if packet.state != "Up" or packet.has("F"):
-            before = moment if packet.has("F") and before is not None else None
+        if packet.has("F"):
+            continue
+        if packet.state != "Up":
+            before = None
             continue
         if before is not None and rx is not None and not packet.has("P"):
             rows.append((moment - before, max(packet.tx, rx)))
