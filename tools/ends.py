@@ -27,6 +27,7 @@ class End:
         self.discrs, self.epoch, self.rx_told, self.count, self.cache = [], 0, 1000000, 0, {}
         self.judge = self.noted = None                     # `noted`: what the last packet that was read says
         self.yours = set()                                 # each Your Discriminator
+        self.questions = collections.deque(maxlen=RECENT)  # of an initiator, without an answer yet
         self.reset()
         self.heard_at, self.holes = None, []               # the last packet's moment; between which moments packets are missing
         self.recent = collections.deque(maxlen=RECENT)     # (moment, number, state, drop)
@@ -71,13 +72,13 @@ class End:
             self.find(rule, number, moment, what)
         if drop in OF_DROP and not any(rule == OF_DROP[drop] for rule, _ in said.faults):
             self.find(OF_DROP[drop], number, moment, f"a receiver drops it by {drop}: {DROPS[drop][0]}")
-        if self.port not in ("single", "multi") or not said.is_whole():
+        if self.port in ("sbfd", "answer") and said.is_whole():
+            return self.seamless(number, moment, said)
+        if not said.is_whole() or drop not in (None, "AuthUnexpected", "YourUnknown", "AuthSeq"):
+            self.recent.append((moment, number, said.state, drop or "Version"))
             return
         if self.peer and said.your and self.peer.discrs and said.your != self.peer.discrs[0]:
             self.names_peer(number, moment, said)
-        if drop not in (None, "AuthUnexpected", "YourUnknown", "AuthSeq"):
-            self.recent.append((moment, number, said.state, drop))
-            return
         self.number = number
         if said.seq is not None and not self.sequence(moment, said):
             return
@@ -368,6 +369,21 @@ class End:
         self.find("auth-sequence", self.number, moment, f"sequence number {said.seq} after {self.seq}; allowed: {first} to "
                   f"{(self.seq + window) % 2**32}")
         return False
+
+    # Seamless BFD.
+
+    def seamless(self, number, moment, said):
+        """A question of an initiator is kept; an answer has to be one to a question that isn't answered yet (RFC 7880 section 7.2)."""
+        if self.port == "sbfd":
+            self.questions.append((said.my, said.your, bool(said.flags & POLL)))
+            return
+        asked = self.peer.questions if self.peer else ()
+        question = (said.your, said.my, bool(said.flags & FINAL))
+        if question in asked:
+            asked.remove(question)
+        else:
+            self.find("reflector-answer", number, moment, f"an answer to {said.your} from {said.my} {'with' if question[2] else 'without'} F; "
+                      "allowed: one to each question, as those before it have asked", self.peer is not None)
 
     # The end of the capture.
 

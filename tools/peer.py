@@ -155,8 +155,8 @@ class Peer:
         ttl = next((int.from_bytes(data[:4], "little") for _, kind, data in ancillary), None)
         came = Came(time.monotonic(), packet, payload, ttl, sender[1])
         self.came.append(came)
+        self.your = packet.my
         if self.follows:
-            self.your = packet.my
             self.state = FOLLOWS.get((self.state, packet.state), self.state)
             self.next = min(self.next, self.last_sent + self.interval())  # (it may be shorter now)
         if packet.has("P") and self.answers:
@@ -181,7 +181,8 @@ class Peer:
         self.next = 0.0
         self.run(4, lambda came: came.packet.state == "Down")
         self.sends = False
-        self.run(0.2)
+        self.run(1.5, lambda came: came.packet.state == "Down")  # (a daemon may have another discriminator now)
+        self.run(0.1)
 
     def detection(self):
         """The Detection Time that the daemon has, in seconds, by what both sides tell (RFC 5880 section 6.8.4)."""

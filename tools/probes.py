@@ -15,6 +15,7 @@ WATCH = 0.6         # in which a packet that was taken would show in Up
 SLOW = 1.4          # the same outside Up, where packets come each second
 SPARE = 0.3         # by which a state may be told late
 EARLY = 0.01        # by which a timer may seem early
+STRAY = 0.05        # the part of all gaps that may be too short or too long, since a machine with other work delays packets
 
 
 class Probe(NamedTuple):
@@ -154,8 +155,14 @@ def down_to_init(peer):
 def init_to_up(peer):
     if not to_init(peer):
         return None, "it didn't come to Init"
-    peer.sends, peer.state = False, UP
-    return enters(peer, "Up", 1.5, state=UP)
+    return goes_up(peer, UP)
+
+
+def goes_up(peer, state):
+    """Init, or Up in Init, brings it Up; it may tell so by its next periodic packet, so the peer goes on till then."""
+    peer.follows, peer.sends, peer.state, peer.diag, peer.next = False, True, state, 0, 0.0
+    came = peer.run(SLOW * 2, lambda came: came.packet.state == "Up")
+    return came is not None, "it went Up" if came else f"it wasn't Up within {SLOW * 2} seconds"
 
 
 def down_in_init(peer):
@@ -255,7 +262,7 @@ def jitter(peer, seconds):
     low, high = sum(row < 0.75 - slack for row in rows), sum(row > most + slack for row in rows)
     if rows[-1] - rows[0] < 0.02:
         return False, text + "; no jitter"
-    return not low and not high, text + (f"; {low} too short, {high} too long" if low or high else "")
+    return low + high <= len(rows) * STRAY, text + (f"; {low} too short, {high} too long" if low or high else "")
 
 
 def slower(peer):
@@ -479,7 +486,7 @@ PROBES = [
     Probe("up-in-down", "RFC 5880 section 6.8.6", "Up leaves it Down", up_in_down, "Down", False),
     Probe("down-in-down", "RFC 5880 section 6.8.6", "Down takes it from Down to Init", down_to_init, "Down", False),
     Probe("init-in-down", "RFC 5880 section 6.8.6", "Init takes it from Down to Up",
-          lambda peer: enters(peer, "Up", 1.5, state=INIT), "Down", False),
+          lambda peer: goes_up(peer, INIT), "Down", False),
     Probe("down-in-init", "RFC 5880 section 6.8.6", "Down leaves it Init", down_in_init, "Down", False),
     Probe("up-in-init", "RFC 5880 section 6.8.6", "Up takes it from Init to Up", init_to_up, "Down", False),
     Probe("init-in-up", "RFC 5880 section 6.8.6", "Init leaves it Up", init_in_up, keys=False),
