@@ -109,7 +109,8 @@ class Peer:
         """The bytes of the next packet, with some fields of its own. A sequence number is used up where none is given."""
         if self.keys and "seq" not in given:
             self.seq = (self.seq + 1) % 2**32
-        fields = {"state": self.state, "my": self.my, "your": self.your, "mult": self.mult, "tx": self.tx, "rx": self.rx,
+        tx = self.tx if given.get("state", self.state) == UP else max(self.tx, 1000000)  # (RFC 5880 section 6.8.3)
+        fields = {"state": self.state, "my": self.my, "your": self.your, "mult": self.mult, "tx": tx, "rx": self.rx,
                   "flags": self.flags, "diag": self.diag, "seq": self.seq} | given
         return control(fields, None if given.get("plain") else self.keys)
 

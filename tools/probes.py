@@ -4,6 +4,7 @@ Each is given a peer (peer.py) and answers whether the daemon did right, or None
 wants the session Up gets it so. Nothing here is proved.
 """
 import statistics
+import time
 from typing import NamedTuple
 
 from peer import ADMIN_DOWN, DOWN, INIT, UP
@@ -65,6 +66,15 @@ def stays(peer, present, /, **given):
             return False, f"it went {other.packet.state}"
     heard = [came for came in peer.since(start) if came.moment > start]
     return (True, f"it stayed {present}") if heard else (None, f"it sent nothing in {SLOW} seconds")
+
+
+def refused(peer, present, /, **given):
+    """A packet with P that has to be discarded: no F comes, and the state stays. Without P a daemon that took it may not tell so soon."""
+    peer.send(peer.packet(**({"flags": POLL} | given)))
+    came = peer.run(SLOW, lambda came: came.packet.has("F") or came.packet.state != present)
+    if came is None:
+        return True, f"it stayed {present}, and sent no F"
+    return False, f"it answered by F with State {came.packet.state}" if came.packet.has("F") else f"it went {came.packet.state}"
 
 
 def to_init(peer):
@@ -145,7 +155,7 @@ def up_in_down(peer):
 def zero_in_init(peer):
     if not to_init(peer):
         return None, "it didn't come to Init"
-    return stays(peer, "Init", state=UP, your=0)
+    return refused(peer, "Init", state=UP, your=0)
 
 
 def down_to_init(peer):
@@ -221,8 +231,7 @@ def poll_in_up(peer):
 def poll_till_final(peer):
     """A Poll Sequence of the daemon goes on till F, and then ends. It begins one as it comes Up, where an interval changes there."""
     before = [came.packet for came in peer.came if came.packet.state == "Down"][-1:]
-    peer.answers, peer.follows, peer.sends = False, True, True
-    peer.next = 0.0
+    peer.answers, peer.follows, peer.sends, peer.state, peer.diag, peer.next = False, True, True, DOWN, 0, 0.0
     first = peer.run(8, lambda came: came.packet.state == "Up" and came.packet.has("P"))
     if not first:
         now = peer.came[-1].packet
@@ -425,17 +434,19 @@ def wrapped(peer):
 
 
 def replay_after_expiry(peer):
-    """An old packet after a Detection Time of silence, and before the second one has passed."""
-    old = peer.packet(state=DOWN, your=0)
+    """A packet with an old number after a Detection Time of silence, and before the second one has passed."""
+    old = peer.packet(state=DOWN, your=0, flags=POLL)
     peer.run(1)
     detection = peer.detection()
     peer.sends = peer.follows = False
     start = peer.last_sent
     if not peer.run(detection + SPARE, lambda came: came.packet.state == "Down"):
         return None, "it didn't go Down"
+    if time.monotonic() > start + 2 * detection - SOON / 2:
+        return None, "it went Down too late to ask"
     peer.send(old)
-    came = peer.run(max(start + 2 * detection - peer.last_sent - 0.05, 0.05), lambda came: came.packet.state != "Down")
-    return came is None, "it stayed Down" if came is None else f"it went {came.packet.state} by it"
+    came = peer.run(SOON, lambda came: came.packet.has("F"))
+    return came is None, "it sent no F" if came is None else f"it took it, and answered by F with State {came.packet.state}"
 
 
 DISCARDS = (
@@ -477,9 +488,9 @@ PROBES = [
     Probe("port-3784", "RFC 5881 section 4", "a session over several hops isn't reached on port 3784",
           lambda peer: stays_up(peer, port=3784), keys=False, hops="multi"),
     Probe("your-0-init-in-down", "RFC 5880 section 6.8.6", "Init with Your Discriminator 0 is discarded in Down",
-          lambda peer: stays(peer, "Down", state=INIT, your=0), "Down", False),
+          lambda peer: refused(peer, "Down", state=INIT, your=0), "Down", False),
     Probe("your-0-up-in-down", "RFC 5880 section 6.8.6", "Up with Your Discriminator 0 is discarded in Down",
-          lambda peer: stays(peer, "Down", state=UP, your=0), "Down", False),
+          lambda peer: refused(peer, "Down", state=UP, your=0), "Down", False),
     Probe("your-0-up-in-init", "RFC 5880 section 6.8.6", "Up with Your Discriminator 0 is discarded in Init", zero_in_init, "Down", False),
     Probe("your-0-down-in-up", "RFC 5880 section 6.8.6", "Down with Your Discriminator 0 takes it Down", goes_down(DOWN, "zero", your=0),
           keys=False),
