@@ -12,7 +12,10 @@ _bfdd() {
         esac ;;
     bfdd-capture) words="--help --local --keys --tick --from --to --mode" ;;
     bfdd-evidence) words="--help --output --program" ;;
+    bfdd-explain) words="--help --report --served --program --session --json" ;;
+    bfdd-judge) words="--help --local --keys --slack --json --rules --program" ;;
     bfdd-packets) words="--help --report --served --program --sent --output" ;;
+    bfdd-probe) words="--help --interface --source --multihop --auth --jitter --json --list" ;;
     bfdd-timeline) words="--help --report --served --program --output --from --to --lanes --title" ;;
     esac
     case "$before" in
@@ -24,4 +27,4 @@ _bfdd() {
     *) mapfile -t COMPREPLY < <(compgen -f -- "$word") ;;
     esac
 }
-complete -o filenames -F _bfdd bfdd bfdd-capture bfdd-evidence bfdd-packets bfdd-timeline
+complete -o filenames -F _bfdd bfdd bfdd-capture bfdd-evidence bfdd-explain bfdd-judge bfdd-packets bfdd-probe bfdd-timeline
