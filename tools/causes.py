@@ -285,22 +285,27 @@ def courses_of(part):
 
 
 def after(course, change):
-    """What the first packet behind a change to Down says of the peer: whether it had lost this side too."""
-    came = next(((moment, number, packet) for moment, number, packet in course.came if number > change.event), None)
-    if change.cause != "expiry" or not came or course.session.kind not in ("single", "multi"):
+    """What the first packet behind an expiry says of the peer: whether it restarted, and whether it had lost this side too."""
+    if change.cause != "expiry" or "last_packet" not in change.facts or course.session.kind not in ("single", "multi"):
         return []
+    came = next((row for row in course.came if row[1] > change.event or row[1] == change.event and row[0] == change.moment), None)
+    if not came:
+        return [f"No packet has come since, to the end of the file at {seconds(course.end)}."]
     moment, number, packet = came
-    first = f"The first packet after that came at {seconds(moment)} (event {number}) and says {packet.state}, " \
-            f"diagnostic {diagnostic(packet.diag)}"
-    known = change.facts.get("peer_discr")
-    if known and packet.my != known:
+    first = f"The next packet came at {seconds(moment)} (event {number}), {span(moment - change.facts['last_packet'])} after the last one, " \
+            f"and says {packet.state}, diagnostic {diagnostic(packet.diag)}"
+    known = change.facts["peer_discr"]
+    if packet.my != known:
         return [first + f", with another My Discriminator ({packet.my} after {known}): the peer restarted, or made the session anew."]
-    if packet.state == "Up":
-        return [first + ": the peer still heard this side, so only the direction from the peer to this side failed."]
-    if packet.diag == 1:
-        return [first + ": the peer had lost this side as well, so both directions failed, or the peer stood still."]
-    if packet.diag == 3:
-        return [first + ": the peer heard this side say Down, so the direction to the peer worked."]
-    if packet.diag == 7:
-        return [first + ": the peer was disabled meanwhile."]
-    return [first + "."]
+    return [first + ". " + STILL_THERE.get((packet.state, packet.diag), STILL_THERE.get(packet.state, SAME + "."))]
+
+
+SAME = "Its My Discriminator is the same, so the peer did not restart"
+STILL_THERE = {
+    "Up": SAME + ". It still had the session Up, so packets of this side reached it, and only its own were lost or not sent.",
+    "Init": SAME + ". By Init it says that it has heard this side's Down, so packets of this side reach it.",
+    ("Down", 1): SAME + ". It had lost this side as well, so both directions failed, or the peer stood still.",
+    ("Init", 1): SAME + ". It had lost this side as well, so both directions failed, or the peer stood still.",
+    ("Down", 3): SAME + ". It heard this side say Down, so packets of this side reached it, and only its own were lost or not sent.",
+    "AdminDown": SAME + ". It was taken out of service meanwhile.",
+}
