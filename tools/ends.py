@@ -24,7 +24,8 @@ class End:
         self.port, self.iface, self.src, self.dst, self.is_local = port, iface, src, dst, is_local
         self.peer = self.auth = None
         self.keyed = False
-        self.discrs, self.epoch, self.rx_told, self.count, self.cache = [], 0, 1000000, 0, {}
+        self.discrs, self.epoch, self.rx_told, self.cache = [], 0, 1000000, {}
+        self.count = self.sections = 0                     # packets, and those with an authentication section
         self.judge = self.noted = None                     # `noted`: what the last packet that was read says
         self.yours = set()                                 # each Your Discriminator
         self.questions = collections.deque(maxlen=RECENT)  # of an initiator, without an answer yet
@@ -50,7 +51,6 @@ class End:
 
     def note(self, said):
         """A packet, as it is read: the discriminators that this end has, and its Auth Type."""
-        self.count += 1
         self.yours.add(said.your)
         if said.is_whole() and said.my and (not self.discrs or self.discrs[-1] != said.my):
             self.epoch += bool(self.discrs)
@@ -74,7 +74,7 @@ class End:
             self.find(OF_DROP[drop], number, moment, f"a receiver drops it by {drop}: {DROPS[drop][0]}")
         if self.port in ("sbfd", "answer") and said.is_whole():
             return self.seamless(number, moment, said)
-        if not said.is_whole() or drop not in (None, "AuthUnexpected", "YourUnknown", "AuthSeq"):
+        if not said.is_whole() or drop not in (None, "YourUnknown", "AuthSeq"):
             self.recent.append((moment, number, said.state, drop or "Version"))
             return
         if self.peer and said.your and self.peer.discrs and said.your != self.peer.discrs[0]:
@@ -119,7 +119,7 @@ class End:
         if len(self.values) > 1 and moment - self.values[-1][0] > SETTLED:
             self.values = self.values[-1:]
         self.last = said
-        if drop is None or drop == "AuthUnexpected":
+        if drop is None:
             self.heard_at = moment
             for row, holds in ((self.zero, said.rx == 0), (self.demand, said.flags & DEMAND and said.state == UP)):
                 row[0] = row[0] + 1 if holds else 0
@@ -239,9 +239,9 @@ class End:
         """A change of state: some packet of the peer, or silence, has to have brought it."""
         peer, since = self.peer, max(self.recent[-1][0] - REACTION, 0) if self.recent else 0
         rows = [row for row in peer.recent if row[0] > since] if peer else []
-        heard = [row[2] for row in rows if row[3] in (None, "AuthUnexpected")]
+        heard = [row[2] for row in rows if row[3] is None]
         if said.state in (INIT, UP) and said.state not in reachable(before.state, heard):
-            dropped = [f"packet {row[1]} is dropped by {row[3]}" for row in rows if row[3] not in (None, "AuthUnexpected")]
+            dropped = [f"packet {row[1]} is dropped by {row[3]}" for row in rows if row[3] is not None]
             self.find("state", self.number, moment, f"{STATES[said.state]} after {STATES[before.state]}; allowed: "
                       f"{' or '.join(STATES[state] for state in sorted(reachable(before.state, heard)))}, as the peer said "
                       f"{' and '.join(dict.fromkeys(STATES[state] for state in heard)) or 'nothing'} since {seconds(since)}"
@@ -256,7 +256,7 @@ class End:
                       f"{seconds(since)}", bool(peer), since)
         if said.diag == 1 and peer and peer.values and not said.flags & DEMAND:
             least, slack = self.detection(since - 2 * REACTION)[0], self.judge.slack
-            moments = [row[0] for row in peer.recent if row[3] in (None, "AuthUnexpected")]
+            moments = [row[0] for row in peer.recent if row[3] is None]
             gaps = [later - sooner for sooner, later in zip(moments, [*moments[1:], moment]) if later > since]
             if gaps and max(gaps) < least - max(slack, least // 50):
                 self.find("early-expiry", self.number, moment, f"diagnostic 1, and no more than {span(max(gaps))} passed without a packet "

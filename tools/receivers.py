@@ -2,12 +2,11 @@
 
 Each end that packets go to becomes a session of a packet file, with the discriminator that it told, and again for each discriminator
 that it had later. A session without authentication is given each packet once, however often it came: its discard tests look at the packet
-alone. One with keys is given all, since a sequence number depends on those before. Sessions that can't stand in one packet file, as
+alone, and at most at its first 24 bytes. One with keys is given all, since a sequence number depends on those before. Sessions that can't stand in one packet file, as
 two with one discriminator, are put into several.
 
 Nothing here is proved.
 """
-from rules import AUTH
 from texts import Complaint, replayed, spelled
 
 MOST_LINES, MOST_KEYS, MOST_TEXT = 190000, 4, 60000000
@@ -16,7 +15,7 @@ FREE = 0xF0000001  # discriminators for sessions whose own was never seen
 
 class Slot:
     """A session of a packet file: an end that packets go to, while it had one discriminator. `lines` are the packets, and `targets`
-    what the answer to each is for: a `Said`, or the number of a frame."""
+    what the answer to each is for: each `Said` like it, or the number of a frame."""
 
     def __init__(self, discr, table, selectors):
         self.discr, self.table, self.selectors = discr, table, selectors
@@ -31,24 +30,34 @@ class Slot:
 
 def drops_of(rows, keys, program):
     """Asks the program. Fills `drop` of each Said, and answers {number of a frame: test} for sessions with keys."""
-    slots, given, unkeyed = {}, set(), set()
+    slots, given, unkeyed = {}, {}, set()
     for number, moment, end, said in rows:
         slot = slots.get((end, said.epoch)) or slots.setdefault((end, said.epoch), slot_of(end, said, keys, unkeyed))
         if end.keyed:
             slot.lines.append(line_of(end, moment, said))
             slot.targets.append(number)
-        elif said not in given:
-            given.add(said)
+            continue
+        key = (end, said.epoch, said.payload[:24], len(said.payload), said.ttl)  # (what tests look at without keys)
+        if key not in given:
+            given[key] = set()
             slot.lines.append(line_of(end, moment, said))
-            slot.targets.append(said)
+            slot.targets.append(given[key])
+        given[key].add(said)
     dropped = {}
     for pieces in packed([piece for slot in slots.values() for piece in slot.pieces()]):
         for target, test in answers(pieces, program):
             if isinstance(target, int):
                 dropped[target] = test
-            elif not (test == "AuthUnexpected" and target.flags & AUTH):
-                target.drop = test
+            elif test != "AuthUnexpected" or not uses_keys(target):
+                for said in target:
+                    said.drop = test
     return dropped, unkeyed
+
+
+def uses_keys(alike):
+    """Whether a session without a key here has one there: then most of its packets have a section."""
+    end = next(iter(alike)).end
+    return 2 * end.sections > end.count
 
 
 def slot_of(end, said, keys, unkeyed):

@@ -31,6 +31,7 @@ RULES = {
     "auth-length": Rule("RFC 5880 sections 4.2 to 4.4", "Auth Len is that of the Auth Type"),
     "auth-digest": Rule("RFC 5880 section 6.7", "the digest or the password is that of the key"),
     "auth-missing": Rule("RFC 5880 section 6.8.6", "the A bit is set in a session with authentication"),
+    "auth-unexpected": Rule("RFC 5880 section 6.8.6", "the A bit is clear in a session without authentication"),
     "ttl": Rule("RFC 5881 section 5", "the TTL is 255 over one hop"),
     # of a packet alone, as a sender may not send it
     "source-port": Rule("RFC 5881 section 4 (RFC 5883 section 5)", "the source port is 49152 to 65535"),
@@ -69,18 +70,19 @@ RULES = {
 # The rule that a sender broke whose packet fails a discard test. The others (YourUnknown, AuthSeq, NoSession ..) depend on what came
 # before, and ends.py asks for them.
 OF_DROP = {"Version": "version", "LengthMin": "length", "LengthOver": "length", "Short": "length", "DetectMult": "detect-mult",
-           "Multipoint": "multipoint", "MultipointYour": "multipoint", "NoTail": "multipoint", "NotDemand": "seeker-demand", "MyDiscr": "my-discriminator", "YourZeroState": "zero-discriminator",
-           "AuthMissing": "auth-missing", "AuthType": "auth-type", "AuthKey": "auth-key", "AuthLen": "auth-length",
+           "Multipoint": "multipoint", "MultipointYour": "multipoint", "NoTail": "multipoint", "NotDemand": "seeker-demand",
+           "MyDiscr": "my-discriminator", "YourZeroState": "zero-discriminator",
+           "AuthMissing": "auth-missing", "AuthUnexpected": "auth-unexpected", "AuthType": "auth-type", "AuthKey": "auth-key", "AuthLen": "auth-length",
            "AuthDigest": "auth-digest"}
 
 
 class Said:
     """What a packet says. One is made for all packets with the same bytes from the same end."""
     __slots__ = ("payload", "ttl", "source", "port", "version", "diag", "state", "flags", "mult", "length", "my", "your", "tx", "rx",
-                 "auth", "key", "seq", "contents", "drop", "faults", "epoch")
+                 "auth", "key", "seq", "contents", "drop", "faults", "epoch", "end")
 
-    def __init__(self, payload, ttl, source, port):
-        self.payload, self.ttl, self.source, self.port = payload, ttl, source, port
+    def __init__(self, payload, ttl, source, end):
+        self.payload, self.ttl, self.source, self.end, self.port = payload, ttl, source, end, end.port
         self.drop, self.epoch = None, 0
         head = payload[:24].ljust(24, b"\0")
         self.version, self.diag, self.state, self.flags = head[0] >> 5, head[0] & 31, head[1] >> 6, head[1] & 63
@@ -96,10 +98,6 @@ class Said:
     def is_whole(self):
         """Whether it has the fields of a control packet of this version."""
         return len(self.payload) >= 24 and self.version == 1
-
-    def is_sound(self):
-        """Whether a receiver may take it, as far as it alone says."""
-        return self.drop in (None, "AuthUnexpected", "YourUnknown") and self.is_whole()
 
 
 def faults_of(said):

@@ -3,6 +3,7 @@ import contextlib
 import datetime
 import os
 import re
+import shutil
 import signal
 import struct
 import subprocess
@@ -10,6 +11,7 @@ import time
 
 from trials import Wrong
 
+FRR = "/usr/lib/frr/bfdd"
 CHANGED = re.compile(r"^(\S+ \S+) .*Session to (\S+) changed state from (\w+) to (\w+)", re.MULTILINE)
 
 
@@ -60,6 +62,17 @@ class Net:
                         f'protocol bfd {{ debug all; interface "x{side}" {{ interval 300 ms; idle tx interval 1 s; multiplier 3; {more} }};\n'
                         f'neighbor 10.0.0.{other} dev "x{side}"; }}\n')
         return self.start(side, "bird", "-f", "-c", conf, "-s", folder / f"bird-{side}.ctl")
+
+    def frr(self, side):
+        """FRR's bfdd with a session over several hops to the other side."""
+        number, folder = 1 if side == "a" else 2, self.place.folder / "frr"
+        folder.mkdir()
+        os.chmod(self.place.folder, 0o755)
+        shutil.chown(folder, "frr", "frr")
+        (folder / "conf").write_text(f"bfd\n peer 10.0.0.{3 - number} multihop local-address 10.0.0.{number}\n  receive-interval 100\n"
+                                     "  transmit-interval 100\n !\n!\n")
+        return self.start(side, FRR, "-u", "frr", "-g", "frr", "-f", folder / "conf", "-i", folder / "pid", "--bfdctl", folder / "control",
+                          "-z", folder / "zebra", "--vty_socket", folder, "-P", "0")
 
     @contextlib.contextmanager
     def captured(self, side):
