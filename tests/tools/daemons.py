@@ -34,8 +34,11 @@ class Net:
         return self
 
     def __exit__(self, *_):
+        for name in self.names.values():
+            for process in subprocess.run(["ip", "netns", "pids", name], capture_output=True, text=True).stdout.split():
+                with contextlib.suppress(ProcessLookupError):
+                    os.kill(int(process), signal.SIGKILL)  # (keepalived has a child of its own)
         for process in self.started:
-            process.kill()
             process.wait()
         for name in self.names.values():
             subprocess.run(["ip", "netns", "delete", name], stderr=subprocess.DEVNULL)
@@ -48,9 +51,8 @@ class Net:
     def run(self, side, *words):
         return subprocess.run(["ip", "netns", "exec", self.names[side], *words], capture_output=True, text=True, timeout=300)
 
-    def start(self, side, *words):
-        process = subprocess.Popen(["ip", "netns", "exec", self.names[side], *map(str, words)], stdout=subprocess.DEVNULL,
-                                   stderr=subprocess.DEVNULL)
+    def start(self, side, *words, log=subprocess.DEVNULL):
+        process = subprocess.Popen(["ip", "netns", "exec", self.names[side], *map(str, words)], stdout=log, stderr=log)
         self.started.append(process)
         return process
 
@@ -73,6 +75,15 @@ class Net:
                                      "  transmit-interval 100\n !\n!\n")
         return self.start(side, FRR, "-u", "frr", "-g", "frr", "-f", folder / "conf", "-i", folder / "pid", "--bfdctl", folder / "control",
                           "-z", folder / "zebra", "--vty_socket", folder, "-P", "0")
+
+    def keepalived(self, side):
+        """A keepalived with a session to the other side; its log is `keepalived.log`."""
+        number, folder = 1 if side == "a" else 2, self.place.folder
+        (folder / "keepalived.conf").write_text(f"bfd_instance one {{\n  neighbor_ip 10.0.0.{3 - number}\n  source_ip 10.0.0.{number}\n"
+                                                "  min_rx 300\n  min_tx 300\n  idle_tx 1000\n  multiplier 3\n}\n")
+        with open(folder / "keepalived.log", "wb") as log:
+            return self.start(side, "keepalived", "-n", "-l", "-D", "-f", folder / "keepalived.conf", "-p", folder / "keepalived.pid",
+                              "-b", folder / "keepalived-bfd.pid", log=log)
 
     @contextlib.contextmanager
     def captured(self, side):

@@ -1,5 +1,6 @@
 """Tests of tools/explain: its causes against the daemons' own logs, and against histories whose cause the file itself says."""
 import json
+import re
 import time
 
 import captures
@@ -159,6 +160,32 @@ def explain_and_judge_agree_with_two_birds(place):
     has(down["text"], "with another My Discriminator")
     for local in ("10.0.0.1", "10.0.0.2"):
         has(place.tool("judge", "--local", local, "--slack", "100", path)[0], "0 findings wrong, 0 that can't be told")
+
+
+@test("dpkt", "netns", "bird", "keepalived", "tcpdump")
+def explain_agrees_with_the_log_of_keepalived(place):
+    """A BIRD is killed and started again; keepalived's log names each state that it enters, with its diagnostic."""
+    with Net(place) as net, net.captured("b") as path:
+        net.keepalived("b")
+        other, log = net.bird("a"), place.folder / "keepalived.log"
+        wait_for(lambda: "Entering Up state" in log.read_text(), "keepalived comes Up")
+        time.sleep(1.5)
+        other.kill()
+        other.wait()
+        wait_for(lambda: "Entering Down state" in log.read_text(), "it goes Down")
+        time.sleep(1)
+        net.bird("a")
+        wait_for(lambda: log.read_text().count("Entering Up state") == 2, "it comes Up again")
+        time.sleep(1)
+        said = log.read_text()
+    causes = {"": "handshake", "Control Detection Time Expired": "expiry", "Neighbor Signaled Session Down": "peer"}
+    logged = [(state, causes.get(diag, diag)) for state, diag in re.findall(r"Entering (Up|Down) state(?: \(Local diagnostic - ([^,]+),)?", said)]
+    same(logged, [("Up", "handshake"), ("Down", "expiry"), ("Up", "handshake")], "keepalived's log")
+    script = place.tool("capture", "--local", "10.0.0.2", "--tick", "1", path)[0]
+    changes = explained(place, place.file("a.script", script))[0]["changes"]
+    same([(change["to"], change["cause"]) for change in changes if "Up" in (change["from"], change["to"])][:2], logged[:2], "the causes")
+    # keepalived has another discriminator after each Down, and a packet file has one: the replay's session stays Down, and says why
+    same(set(explained(place, place.file("a.script", script))[0]["summary"]["dropped"]), {"YourUnknown"}, "what is dropped afterwards")
 
 
 @test("dpkt")
