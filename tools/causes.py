@@ -292,7 +292,8 @@ def after(course, change):
     if not came:
         return [f"No packet has come since, to the end of the file at {seconds(course.end)}."]
     moment, number, packet = came
-    first = f"The next packet came at {seconds(moment)} (event {number}), {span(moment - change.facts['last_packet'])} after the last one, " \
+    gap = span(moment - change.facts["last_packet"])
+    first = f"The next packet came at {seconds(moment)} (event {number}), {gap} after the last one, " \
             f"and says {packet.state}, diagnostic {diagnostic(packet.diag)}"
     known = change.facts["peer_discr"]
     if packet.my != known:

@@ -174,7 +174,8 @@ class End:
         late = max(self.gap - interval[1] * 9 // 10, 0)  # the packet before came late, so this one may seem early
         self.gap = gap
         if gap < least - min(slack, least // 20) - late:
-            self.find("too-early", self.number, moment, f"{span(gap)} after the periodic packet before it; allowed: {span(least)} to {span(most)}")
+            self.find("too-early", self.number, moment, f"{span(gap)} after the periodic packet before it; allowed: {span(least)} to "
+                      f"{span(most)}")
         if said.state == UP:
             self.punctual(moment, said, gap, most, interval)
         self.unwanted(moment, said)
@@ -214,8 +215,8 @@ class End:
                       f"{seconds(peer.zero[1])}; allowed: none")
         if (peer.demand[0] and said.state == UP and not said.flags & POLL and (self.is_local or peer.demand[0] >= peer.last.mult)
                 and moment > peer.demand[1] + REACTION):
-            self.find("demand", self.number, moment, f"a periodic packet without P, and the peer has D set since {seconds(peer.demand[1])}; "
-                      "allowed: none")
+            self.find("demand", self.number, moment, f"a periodic packet without P, and the peer has D set since "
+                      f"{seconds(peer.demand[1])}; allowed: none")
 
     # Changes of what is told.
 
@@ -273,7 +274,8 @@ class End:
         elif not said.flags & FINAL:
             self.poll_since = None
             if self.changed_without and said.contents == (self.last.contents if self.last else None):
-                self.find("change-without-poll", self.number, moment, f"{self.changed_without}, and this packet has no P", since=self.recent[-1][0])
+                self.find("change-without-poll", self.number, moment, f"{self.changed_without}, and this packet has no P",
+                          since=self.recent[-1][0])
                 self.changed_without = None
         peer = self.peer
         if (peer and peer.poll_since is not None and peer.poll_packets > 1 and said.state == UP and not said.flags & FINAL
@@ -295,8 +297,8 @@ class End:
         if peer.polls:
             peer.polls.popleft()
         else:
-            self.find("final-without-poll", self.number, moment, f"F, and the peer has sent no P that isn't answered since {seconds(max(oldest, 0))}",
-                      since=oldest)
+            self.find("final-without-poll", self.number, moment, f"F, and the peer has sent no P that isn't answered since "
+                      f"{seconds(max(oldest, 0))}", since=oldest)
         peer.poll_since, peer.old_tx = None, None
 
     # Silence of the peer, and its Down.
@@ -322,8 +324,8 @@ class End:
                       f"allowed: {span(most)}", self.is_local)
         if said.state == DOWN and said.your and self.forgot_told != self.peer.heard_at:
             self.forgot_told = self.peer.heard_at
-            self.find("forgotten-discriminator", self.number, moment, f"Your Discriminator {said.your}, {span(silence)} after the peer's last "
-                      f"packet; allowed: 0 after {span(most)}", self.is_local)
+            self.find("forgotten-discriminator", self.number, moment, f"Your Discriminator {said.your}, {span(silence)} after the peer's "
+                      f"last packet; allowed: 0 after {span(most)}", self.is_local)
 
     def stays_up(self, moment, slack):
         """Up goes on where the peer says Down with this end's discriminator."""
@@ -334,8 +336,8 @@ class End:
         limit = REACTION if self.is_local else most + max(slack, REACTION)
         if moment - self.downs[0] > limit and not self.downs[1]:
             self.downs[1] = True
-            self.find("ignored-down", self.number, moment, f"Up, {span(moment - self.downs[0])} after the peer said {STATES[peer.last.state]} "
-                      f"and went on to; allowed: Down at once")
+            self.find("ignored-down", self.number, moment, f"Up, {span(moment - self.downs[0])} after the peer said "
+                      f"{STATES[peer.last.state]} and went on to; allowed: Down at once")
 
     # Discriminators and sequence numbers.
 
@@ -349,8 +351,8 @@ class End:
             since = peer.born
             most = self.detection(since)[1] if peer.values and self.values else 0
             if moment - since > most + REACTION:
-                self.find("your-discriminator", number, moment, f"Your Discriminator {said.your}, which the peer gave up at {seconds(since)}; "
-                          f"allowed: 0 or {peer.last.my}", self.is_local)
+                self.find("your-discriminator", number, moment, f"Your Discriminator {said.your}, which the peer gave up at "
+                          f"{seconds(since)}; allowed: 0 or {peer.last.my}", self.is_local)
 
     def sequence(self, moment, said):
         """Whether a packet's sequence number may follow the last one; a number that a receiver has forgotten binds nothing."""
@@ -382,7 +384,7 @@ class End:
         if question in asked:
             asked.remove(question)
         else:
-            self.find("reflector-answer", number, moment, f"an answer to {said.your} from {said.my} {'with' if question[2] else 'without'} F; "
+            self.find("reflector-answer", number, moment, f"an answer to {said.your} from {said.my} with F {question[2]:d}; "
                       "allowed: one to each question, as those before it have asked", self.peer is not None)
 
     # The end of the capture.

@@ -267,7 +267,8 @@ def jitter(peer, seconds):
     if len(rows) < 10:
         return None, f"{len(rows)} gaps in {seconds} seconds"
     slack = EARLY / interval
-    text = f"Detect Mult {last.mult}: {len(rows)} gaps of {rows[0]:.2f} / {statistics.median(rows):.2f} / {rows[-1]:.2f} of {interval * 1000:.0f} ms"
+    text = f"Detect Mult {last.mult}: {len(rows)} gaps of {rows[0]:.2f} / {statistics.median(rows):.2f} / {rows[-1]:.2f} of " \
+           f"{interval * 1000:.0f} ms"
     low, high = sum(row < 0.75 - slack for row in rows), sum(row > most + slack for row in rows)
     if rows[-1] - rows[0] < 0.02:
         return False, text + "; no jitter"
@@ -331,7 +332,8 @@ def silence(peer):
         return False, f"it wasn't Down {detection + 2:.1f} seconds after the last packet"
     after = came.moment - start
     right = detection - EARLY <= after <= detection + SPARE and came.packet.diag == 1
-    return right, f"Down after {after * 1000:.0f} ms, diagnostic {diagnostic(came.packet.diag)}; the Detection Time is {detection * 1000:.0f} ms"
+    return right, f"Down after {after * 1000:.0f} ms, diagnostic {diagnostic(came.packet.diag)}; the Detection Time is " \
+                  f"{detection * 1000:.0f} ms"
 
 
 def longer_silence(peer):
@@ -482,7 +484,8 @@ PROBES = [
     Probe("comes-up", "RFC 5880 section 6.8.6", "Down, Init and Up of the peer bring it Up", lambda peer: (True, "it came Up")),
     *(Probe(name, section, says, discard(name, given), keys=False) for name, section, says, given in DISCARDS),
     Probe("auth-unexpected", "RFC 5880 section 6.8.6", "the A bit without keys is discarded", unexpected_section, keys=False),
-    Probe("ttl-254", "RFC 5881 section 5", "TTL 254 is discarded over one hop", lambda peer: stays_up(peer, ttl=254), keys=False, hops="single"),
+    Probe("ttl-254", "RFC 5881 section 5", "TTL 254 is discarded over one hop", lambda peer: stays_up(peer, ttl=254),
+          keys=False, hops="single"),
     Probe("port-4784", "RFC 5883 section 5", "a session over one hop isn't reached on port 4784", lambda peer: stays_up(peer, port=4784),
           keys=False, hops="single"),
     Probe("port-3784", "RFC 5881 section 4", "a session over several hops isn't reached on port 3784",
@@ -517,7 +520,8 @@ PROBES = [
     Probe("demand", "RFC 5880 section 6.8.7", "to a peer in demand mode it sends nothing periodically", demand, keys=False),
     Probe("poll-in-demand", "RFC 5880 section 6.6", "P is answered in demand mode too", poll_in_demand, keys=False),
     Probe("silence", "RFC 5880 section 6.8.4", "it goes Down with diagnostic 1 after the Detection Time", silence),
-    Probe("longer-silence", "RFC 5880 section 6.8.4", "the peer's Detect Mult 5 and 200 ms make the Detection Time", longer_silence, keys=False),
+    Probe("longer-silence", "RFC 5880 section 6.8.4", "the peer's Detect Mult 5 and 200 ms make the Detection Time", longer_silence,
+          keys=False),
     Probe("mult-1", "RFC 5880 section 6.8.4", "the peer's Detect Mult 1 and 400 ms make the Detection Time", shorter_mult, keys=False),
     Probe("forgets", "RFC 5880 section 6.8.1", "its Your Discriminator is 0 after the Detection Time", forgets, keys=False),
     Probe("auth-numbers", "RFC 5880 section 6.7", "its sequence numbers rise, by one with the meticulous types", own_numbers, keys=True),
@@ -526,21 +530,22 @@ PROBES = [
     Probe("auth-key", "RFC 5880 section 6.7", "another Auth Key ID is discarded", another_key, keys=True),
     Probe("auth-length", "RFC 5880 section 6.7", "a wrong Auth Len is discarded", wrong_length, keys=True),
     Probe("auth-digest", "RFC 5880 section 6.7", "a wrong digest or password is discarded", wrong_digest, keys=True),
-    Probe("auth-repeated", "RFC 5880 sections 6.7.3 and 6.7.4", "a repeated number is refused by the meticulous types, and taken by the others",
-          replayed, keys=True),
+    Probe("auth-repeated", "RFC 5880 sections 6.7.3 and 6.7.4",
+          "a repeated number is refused by the meticulous types, and taken by the others", replayed, keys=True),
     Probe("auth-old", "RFC 5880 section 6.7.3", "an old number is refused", old_number, keys=True),
     Probe("auth-far", "RFC 5880 section 6.7.3", "a number beyond three times Detect Mult is refused", far_number, keys=True),
     Probe("auth-wrapped", "RFC 5880 section 6.7.3", "numbers go on from 4294967295 to 0", wrapped, keys=True),
     Probe("auth-replay-late", "RFC 5880 section 6.8.1", "an old packet is refused after one Detection Time of silence", replay_after_expiry,
           keys=True),
-    Probe("jitter", "RFC 5880 section 6.8.7", "periodic packets are 0.75 to 1 of the interval apart, at random", jitter, keys=False, minute=True),
+    Probe("jitter", "RFC 5880 section 6.8.7", "periodic packets are 0.75 to 1 of the interval apart, at random", jitter,
+          keys=False, minute=True),
     Probe("own-fields", "RFC 5880 section 4.1", "Version, Length, flags and diagnostic are right", own_fields, "any"),
     Probe("own-sections", "RFC 5880 sections 4.2 to 4.4", "its authentication sections are right", own_sections, "any", True),
     Probe("own-ttl", "RFC 5881 section 5", "its TTL is 255", own_ttl, "any", None, "single"),
     Probe("own-port-range", "RFC 5881 section 4", "its source port is 49152 to 65535", own_port_range, "any"),
     Probe("own-port-one", "RFC 5881 section 4", "its source port stays", own_port_one, "any"),
-    Probe("own-discriminators", "RFC 5880 section 6.8.7", "My Discriminator is never 0, and Your Discriminator not in Up", own_discriminators,
-          "any"),
+    Probe("own-discriminators", "RFC 5880 section 6.8.7", "My Discriminator is never 0, and Your Discriminator not in Up",
+          own_discriminators, "any"),
     Probe("own-slow-start", "RFC 5880 section 6.8.3", "Desired Min TX is a second or more outside Up", own_slow_start, "any"),
     Probe("own-poll-and-final", "RFC 5880 section 6.5", "P and F are never both set", own_finals, "any"),
 ]

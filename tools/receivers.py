@@ -2,8 +2,8 @@
 
 Each end that packets go to becomes a session of a packet file, with the discriminator that it told, and again for each discriminator
 that it had later. A session without authentication is given each packet once, however often it came: its discard tests look at the packet
-alone, and at most at its first 24 bytes. One with keys is given all, since a sequence number depends on those before. Sessions that can't stand in one packet file, as
-two with one discriminator, are put into several.
+alone, and at most at its first 24 bytes. One with keys is given all, since a sequence number depends on those before. Sessions that can't
+stand in one packet file, as two with one discriminator, are put into several.
 
 Nothing here is proved.
 """

@@ -72,7 +72,8 @@ RULES = {
 OF_DROP = {"Version": "version", "LengthMin": "length", "LengthOver": "length", "Short": "length", "DetectMult": "detect-mult",
            "Multipoint": "multipoint", "MultipointYour": "multipoint", "NoTail": "multipoint", "NotDemand": "seeker-demand",
            "MyDiscr": "my-discriminator", "YourZeroState": "zero-discriminator",
-           "AuthMissing": "auth-missing", "AuthUnexpected": "auth-unexpected", "AuthType": "auth-type", "AuthKey": "auth-key", "AuthLen": "auth-length",
+           "AuthMissing": "auth-missing", "AuthUnexpected": "auth-unexpected", "AuthType": "auth-type",
+           "AuthKey": "auth-key", "AuthLen": "auth-length",
            "AuthDigest": "auth-digest"}
 
 

@@ -116,10 +116,9 @@ def authentication_lines(auth):
     if not auth:
         return
     types = " and ".join(f"{kind} ({TYPES.get(kind, 'unknown')})" for kind in auth["types"])
-    keys = [f"{name} {' then '.join(str(row['key']) for row in rows[:6])}" for name, rows in (("the peer's key", auth["peer_keys"]),
-                                                                                            ("the own key", auth["own_keys"])) if rows]
-    changes = [f"{name} changed to {row['key']} at {seconds(row['moment'])}" for name, rows in (("the peer's", auth["peer_keys"]),
-                                                                                             ("the own", auth["own_keys"])) for row in rows[1:6]]
+    sides = (("the peer's", auth["peer_keys"]), ("the own", auth["own_keys"]))
+    keys = [f"{name} key {' then '.join(str(row['key']) for row in rows[:6])}" for name, rows in sides if rows]
+    changes = [f"{name} changed to {row['key']} at {seconds(row['moment'])}" for name, rows in sides for row in rows[1:6]]
     yield (f"Authentication: Auth Type {types}; {', '.join(keys)}{'; ' + ', '.join(changes) if changes else ''}; "
            f"{counted(auth['refused_numbers'], 'sequence number')} refused.")
 

@@ -24,10 +24,12 @@ class Net:
 
     def __enter__(self):
         a, b = self.names["a"], self.names["b"]
-        for words in (["netns", "add", a], ["netns", "add", b], ["link", "add", "xa", "netns", a, "type", "veth", "peer", "name", "xb", "netns", b]):
+        for words in (["netns", "add", a], ["netns", "add", b],
+                      ["link", "add", "xa", "netns", a, "type", "veth", "peer", "name", "xb", "netns", b]):
             self.ip(*words)
         for number, side in enumerate("ab", 1):
-            for words in (["link", "set", "lo", "up"], ["link", "set", f"x{side}", "up"], ["address", "add", f"10.0.0.{number}/24", "dev", f"x{side}"]):
+            for words in (["link", "set", "lo", "up"], ["link", "set", f"x{side}", "up"],
+                          ["address", "add", f"10.0.0.{number}/24", "dev", f"x{side}"]):
                 self.ip("-n", self.names[side], *words)
             # (BIRD leaves its source port to the kernel, and RFC 5881 section 4 asks for one from 49152 on)
             self.run(side, "sysctl", "-q", "-w", "net.ipv4.ip_local_port_range=49152 65535")
@@ -60,8 +62,9 @@ class Net:
         """A BIRD with a session to the other side; its log is `bird-SIDE.log`."""
         folder, other = self.place.folder, 2 if side == "a" else 1
         conf = folder / f"bird-{side}.conf"
-        conf.write_text(f'router id 10.0.0.{3 - other};\ntimeformat log iso long us;\nlog "{folder}/bird-{side}.log" all;\nprotocol device {{}}\n'
-                        f'protocol bfd {{ debug all; interface "x{side}" {{ interval 300 ms; idle tx interval 1 s; multiplier 3; {more} }};\n'
+        conf.write_text(f'router id 10.0.0.{3 - other};\ntimeformat log iso long us;\nlog "{folder}/bird-{side}.log" all;\n'
+                        f'protocol device {{}}\nprotocol bfd {{ debug all; interface "x{side}" {{ interval 300 ms; idle tx interval 1 s; '
+                        f'multiplier 3; {more} }};\n'
                         f'neighbor 10.0.0.{other} dev "x{side}"; }}\n')
         return self.start(side, "bird", "-f", "-c", conf, "-s", folder / f"bird-{side}.ctl")
 

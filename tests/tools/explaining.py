@@ -33,13 +33,13 @@ def explain_tells_the_detection_time_as_a_product(place):
     """By RFC 5880 section 6.8.4: Detect Mult 4 of the peer times 400 ms, the greater of our Required Min RX and its 200 ms."""
     text = history(TABLE, *UP, rx(300000, "state=Up my=7 your=1 mult=4 tx=200000 rx=300000"), "tick 1000", "tick 1899", "tick 1905")
     change = explained(place, place.file("a.script", text))[0]["changes"][-1]
-    same({name: change[name] for name in ("from", "to", "diagnostic", "cause", "detect_mult", "required_min_rx", "remote_min_tx", "detection_time",
-                                          "last_packet", "late", "missed")},
-         {"from": "Up", "to": "Down", "diagnostic": 1, "cause": "expiry", "detect_mult": 4, "required_min_rx": 400000, "remote_min_tx": 200000,
-          "detection_time": 1600000, "last_packet": 300000, "late": 5000, "missed": 4}, "the facts")
+    wanted = {"from": "Up", "to": "Down", "diagnostic": 1, "cause": "expiry", "detect_mult": 4, "required_min_rx": 400000,
+              "remote_min_tx": 200000, "detection_time": 1600000, "last_packet": 300000, "late": 5000, "missed": 4}
+    same({name: change[name] for name in wanted}, wanted, "the facts")
     said = place.tool("explain", place.file("a.script", text))[0]
     has(" ".join(said.split()), "Up to Down", "the last one came at 0.300000 (event 3), 1.605 s before",
-        "1.6 s: the peer's Detect Mult 4 times 400 ms, the greater of the own Required Min RX in use (400 ms) and the peer's Desired Min TX (200 ms)",
+        "1.6 s: the peer's Detect Mult 4 times 400 ms, the greater of the own Required Min RX in use (400 ms) and the peer's Desired "
+        "Min TX (200 ms)",
         "It ended at 1.900000, and the tick at 1.905000 found it so, 5 ms late", "the peer owed at least 4 packets")
 
 
@@ -47,7 +47,8 @@ def explain_tells_the_detection_time_as_a_product(place):
 def explain_tells_each_cause(place):
     rows = [([rx(300000, "state=Down my=7 your=1 diag=1")], "peer", "The peer said Down, diagnostic 1 (Control Detection Time Expired)",
              "the peer heard nothing from this side"),
-            ([rx(300000, "state=Down my=9 your=0")], "peer", "My Discriminator changed from 7 to 9: it restarted", "Your Discriminator is 0"),
+            ([rx(300000, "state=Down my=9 your=0")], "peer", "My Discriminator changed from 7 to 9: it restarted",
+             "Your Discriminator is 0"),
             ([rx(300000, "state=AdminDown my=7 your=1 diag=7")], "peer", "The peer said AdminDown", "taken out of service there"),
             (["cmd 300000 1 disable"], "disable", "command `disable` (event 3", "6.8.16"),
             (["cmd 300000 1 reset"], "reset", "command `reset` (event 3", "6.8.15"),
@@ -73,7 +74,8 @@ def explain_tells_echo_packets_that_are_missing(place):
 @test()
 def explain_tells_why_a_session_never_came_up(place):
     table = [*TABLE, f"auth 1 5 5 {SECRET}"]
-    for words, name in (("auth=5 key=6 secret=73656372 seq=1", "AuthKey"), ("auth=5 key=5 secret=00 seq=1", "AuthDigest"), ("", "AuthMissing")):
+    for words, name in (("auth=5 key=6 secret=73656372 seq=1", "AuthKey"), ("auth=5 key=5 secret=00 seq=1", "AuthDigest"),
+                        ("", "AuthMissing")):
         text = history(table, rx(100000, f"state=Down my=7 {words}"), rx(200000, f"state=Down my=7 {words}"), "tick 1000")
         said = place.tool("explain", place.file("a.script", text))[0]
         has(" ".join(said.split()), f"It never came Up: all 2 packets that came were dropped: 2 by {name}")
@@ -95,6 +97,19 @@ def explain_asks_without_changing_anything(place):
 
 
 @test()
+def explain_asks_alone_what_would_change_something(place):
+    """By the F at 1.99 s a Desired Min TX of 10 ms is in use at once (RFC 5880 section 6.8.3), so a packet is due that a question there
+    would send before its tick. The report of the file, which is given, has to stay as it is."""
+    slow = "state=Up my=7 your=1 rx=10000"
+    text = history(["p2p 1 single 1 10.0.0.1 10.0.0.2 active 1000000 1000000 3 0 0"], rx(100000, "state=Down my=7 rx=10000"),
+                   rx(200000, "state=Init my=7 your=1 rx=10000"), "tick 1000", rx(1001000, f"{slow} F"), "tick 1900", rx(1950000, slow),
+                   "cmd 1960000 1 tx 10000", rx(1990000, f"{slow} F"), "tick 2000", "tick 2021", "tick 6000")
+    report = place.file("a.report", place.replay(text))
+    session = explained(place, place.file("a.script", text), "--report", report)[0]
+    same((session["changes"][-1]["detection_time"], session["summary"]["used_min_tx"]), (3000000, [1000000, 10000, 1000000]), "the answers")
+
+
+@test()
 def explain_takes_a_served_text(place):
     script = TOP / "examples/flap.script"
     live, served = served_as(script, 2)
@@ -111,13 +126,15 @@ def explain_explains_bad_input(place):
     has(place.tool("explain", place.file("b", "x\n"), status=1)[1], "line 1 is in no packet file")
     has(place.tool("explain", place.folder / "none", status=1)[1], "No such file")
     report = script.with_suffix(".report").read_text().replace("Init Down 1", "Init Down 3")
-    has(place.tool("explain", script, "--report", place.file("r", report), status=1)[1], "event 3 of ", "the program reports state 1 Init Down 1")
+    said = place.tool("explain", script, "--report", place.file("r", report), status=1)[1]
+    has(said, "event 3 of ",
+        "the program reports state 1 Init Down 1")
 
 
 @test("dpkt")
 def explain_agrees_with_the_log_of_frr(place):
-    """examples/live/down.pcap: FRR on fd00::1 and BIRD on fd00::2, while packets from BIRD to FRR were cut off from second 3.99 to 6.5. Their
-    logs, in seconds from the first frame, have: FRR `init -> up` at 0.722, `up -> down reason:control-expired` at 4.777, `down -> up` at
+    """examples/live/down.pcap: FRR on fd00::1 and BIRD on fd00::2, while packets from BIRD to FRR were cut off from second 3.99 to 6.5.
+    Their logs, in seconds from the first frame, have: FRR `init -> up` at 0.722, `up -> down reason:control-expired` at 4.777, `down -> up` at
     7.090; BIRD `Down to Up` at 0.721, `Up to Down` at 4.777, `Down to Init` at 4.875, `Init to Up` at 7.089."""
     logs = {"fd00::1": [(0.722, "Up", "handshake"), (4.777, "Down", "expiry"), (7.090, "Up", "handshake")],
             "fd00::2": [(0.721, "Up", "handshake"), (4.777, "Down", "peer"), (7.089, "Up", "handshake")]}
@@ -179,7 +196,8 @@ def explain_agrees_with_the_log_of_keepalived(place):
         time.sleep(1)
         said = log.read_text()
     causes = {"": "handshake", "Control Detection Time Expired": "expiry", "Neighbor Signaled Session Down": "peer"}
-    logged = [(state, causes.get(diag, diag)) for state, diag in re.findall(r"Entering (Up|Down) state(?: \(Local diagnostic - ([^,]+),)?", said)]
+    entered = re.findall(r"Entering (Up|Down) state(?: \(Local diagnostic - ([^,]+),)?", said)
+    logged = [(state, causes.get(diag, diag)) for state, diag in entered]
     same(logged, [("Up", "handshake"), ("Down", "expiry"), ("Up", "handshake")], "keepalived's log")
     script = place.tool("capture", "--local", "10.0.0.2", "--tick", "1", path)[0]
     changes = explained(place, place.file("a.script", script))[0]["changes"]
@@ -192,4 +210,5 @@ def explain_agrees_with_the_log_of_keepalived(place):
 def explain_and_capture_take_a_handshake(place):
     path = place.file("a.pcap", pcap([(moment, framed(ETHERNET, ip)) for moment, ip in handshake()]))
     script = place.tool("capture", "--local", "10.0.0.1", path)[0]
-    same([change["cause"] for change in explained(place, "-", text=script.encode("ascii"))[0]["changes"]], ["handshake", "handshake"], "causes")
+    changes = explained(place, "-", text=script.encode("ascii"))[0]["changes"]
+    same([change["cause"] for change in changes], ["handshake", "handshake"], "causes")

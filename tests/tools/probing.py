@@ -61,7 +61,8 @@ def probe_finds_no_fault_of_the_engine(place):
         words = [str(TOP / "tools/probe"), "127.0.0.1", "--source", "127.0.0.2", "--jitter", "5", "--json"]
         for _ in range(2):
             with open(script, "rb") as given:
-                served = subprocess.Popen(["ip", "netns", "exec", net.names["a"], *place.program, "serve", "--workers", "5", "--ticks", "190000", "--journal", "200000"],
+                words_of_serve = ["serve", "--workers", "5", "--ticks", "190000", "--journal", "200000"]
+                served = subprocess.Popen(["ip", "netns", "exec", net.names["a"], *place.program, *words_of_serve],
                                           stdin=given, stdout=subprocess.DEVNULL)
             net.started.append(served)
             time.sleep(1)
