@@ -1,7 +1,7 @@
 """A BFD peer that sends what it is told to, over UDP sockets: what tools/probe plays to a daemon.
 
-Left alone it is a correct peer: it follows the daemon's state, answers P with F, and sends its periodic packets. Each of these can be
-turned off, and any packet can be sent between. Nothing here is proved.
+Left alone it follows the daemon's state, answers P with F, and sends its periodic packets, as RFC 5880 has it, but begins no Poll Sequence
+by itself. Each of these can be turned off, and any packet can be sent between. Nothing here is proved.
 """
 import hashlib
 import random
@@ -151,7 +151,7 @@ class Peer:
     def hear(self):
         payload, ancillary, _, sender = self.into.recvmsg(512, 64)
         packet = packet_of(payload)
-        if sender[0].split("%")[0] != self.address or packet is None:
+        if sender[0].split("%")[0] != self.address.split("%")[0] or packet is None:
             return None
         ttl = next((int.from_bytes(data[:4], "little") for _, kind, data in ancillary), None)
         came = Came(time.monotonic(), packet, payload, ttl, sender[1])

@@ -134,8 +134,8 @@ def explain_explains_bad_input(place):
 @test("dpkt")
 def explain_agrees_with_the_log_of_frr(place):
     """examples/live/down.pcap: FRR on fd00::1 and BIRD on fd00::2, while packets from BIRD to FRR were cut off from second 3.99 to 6.5.
-    Their logs, in seconds from the first frame, have: FRR `init -> up` at 0.722, `up -> down reason:control-expired` at 4.777, `down -> up` at
-    7.090; BIRD `Down to Up` at 0.721, `Up to Down` at 4.777, `Down to Init` at 4.875, `Init to Up` at 7.089."""
+    Their logs, in seconds from the first frame, have: FRR `init -> up` at 0.722, `up -> down reason:control-expired` at 4.777,
+    `down -> up` at 7.090; BIRD `Down to Up` at 0.721, `Up to Down` at 4.777, `Down to Init` at 4.875, `Init to Up` at 7.089."""
     logs = {"fd00::1": [(0.722, "Up", "handshake"), (4.777, "Down", "expiry"), (7.090, "Up", "handshake")],
             "fd00::2": [(0.721, "Up", "handshake"), (4.777, "Down", "peer"), (7.089, "Up", "handshake")]}
     for local, logged in logs.items():
