@@ -45,7 +45,7 @@ def probe_finds_birds_faults_and_no_others(place):
 @test("netns", "bird")
 def probe_plays_authentication(place):
     with Net(place) as net:
-        net.bird("b", 'authentication meticulous keyed sha1; password "secret" { id 5; }')
+        net.bird("b", 'authentication meticulous keyed sha1; password "secret" { id 5; };')
         wait_for((place.folder / "bird-b.ctl").exists, "BIRD starts")
         same(twice(net, "a", set(), "10.0.0.2", "--auth", "5:5:secret", "comes-up", "auth-missing", "auth-type", "auth-key", "auth-digest",
                    "auth-repeated", "auth-old", "auth-far", "auth-numbers", "own-sections"), set(), "BIRD with Meticulous Keyed SHA1")
