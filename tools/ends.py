@@ -67,7 +67,7 @@ class End:
 
     # Packet by packet.
 
-    def take(self, number, moment, said, drop):
+    def take(self, number, moment, said, drop, payload):
         for rule, what in said.faults:
             self.find(rule, number, moment, what)
         if drop in OF_DROP and not any(rule == OF_DROP[drop] for rule, _ in said.faults):
@@ -80,7 +80,7 @@ class End:
         if self.peer and said.your and self.peer.discrs and said.your != self.peer.discrs[0]:
             self.names_peer(number, moment, said)
         self.number = number
-        if said.seq is not None and not self.sequence(moment, said):
+        if said.is_numbered and not self.sequence(moment, said, int.from_bytes(payload[28:32], "big")):
             return
         self.follow(moment, said, drop)
 
@@ -354,21 +354,21 @@ class End:
                 self.find("your-discriminator", number, moment, f"Your Discriminator {said.your}, which the peer gave up at "
                           f"{seconds(since)}; allowed: 0 or {peer.last.my}", self.is_local)
 
-    def sequence(self, moment, said):
+    def sequence(self, moment, said, number):
         """Whether a packet's sequence number may follow the last one; a number that a receiver has forgotten binds nothing."""
         if self.seq is None or self.last is not None and said.my != self.last.my:
-            self.seq, self.seq_at = said.seq, moment
+            self.seq, self.seq_at = number, moment
             return True
-        step, window = (said.seq - self.seq) % 2**32, 3 * said.mult
+        step, window = (number - self.seq) % 2**32, 3 * said.mult
         forgotten = 2 * (self.peer.detection(moment)[1] if self.peer and self.peer.values and self.values else 0)
         meticulous = said.auth in (3, 5)
         if forgotten and moment - self.seq_at >= forgotten or (1 if meticulous else 0) <= step <= window:
             if meticulous and 1 < step <= window:
                 self.hole(self.seq_at, moment, f"{step - 1} sequence number{'s are' if step > 2 else ' is'} missing")
-            self.seq, self.seq_at = said.seq, moment
+            self.seq, self.seq_at = number, moment
             return True
         first = (self.seq + meticulous) % 2**32
-        self.find("auth-sequence", self.number, moment, f"sequence number {said.seq} after {self.seq}; allowed: {first} to "
+        self.find("auth-sequence", self.number, moment, f"sequence number {number} after {self.seq}; allowed: {first} to "
                   f"{(self.seq + window) % 2**32}")
         return False
 

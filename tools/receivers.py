@@ -1,9 +1,9 @@
 """What a receiver has to do with each packet of a capture: the discard tests of the program, asked for each direction.
 
 Each end that packets go to becomes a session of a packet file, with the discriminator that it told, and again for each discriminator
-that it had later. A session without authentication is given each packet once, however often it came: its discard tests look at the packet
-alone, and at most at its first 24 bytes. One with keys is given all, since a sequence number depends on those before. Sessions that can't
-stand in one packet file, as two with one discriminator, are put into several.
+that it had later. A session without keys is given each packet once, however often it came, and whatever its sequence number and digest:
+its discard tests look at the packet alone, and at none of these. One with keys is given all, since a sequence number depends on those
+before. Sessions that can't stand in one packet file, as two with one discriminator, are put into several.
 
 Nothing here is proved.
 """
@@ -15,7 +15,7 @@ FREE = 0xF0000001  # discriminators for sessions whose own was never seen
 
 class Slot:
     """A session of a packet file: an end that packets go to, while it had one discriminator. `lines` are the packets, and `targets`
-    what the answer to each is for: each `Said` like it, or the number of a frame."""
+    what the answer to each is for: a `Said`, or the number of a frame."""
 
     def __init__(self, discr, table, selectors):
         self.discr, self.table, self.selectors = discr, table, selectors
@@ -30,33 +30,28 @@ class Slot:
 
 def drops_of(rows, keys, program):
     """Asks the program. Fills `drop` of each Said, and answers {number of a frame: test} for sessions with keys."""
-    slots, given, unkeyed = {}, {}, set()
-    for number, moment, end, said in rows:
+    slots, given, unkeyed = {}, set(), set()
+    for number, moment, end, said, payload in rows:
         slot = slots.get((end, said.epoch)) or slots.setdefault((end, said.epoch), slot_of(end, said, keys, unkeyed))
         if end.keyed:
-            slot.lines.append(line_of(end, moment, said))
+            slot.lines.append(line_of(end, moment, said.ttl, payload))
             slot.targets.append(number)
-            continue
-        key = (end, said.epoch, said.payload[:24], len(said.payload), said.ttl)  # (what tests look at without keys)
-        if key not in given:
-            given[key] = set()
-            slot.lines.append(line_of(end, moment, said))
-            slot.targets.append(given[key])
-        given[key].add(said)
+        elif said not in given:
+            given.add(said)
+            slot.lines.append(line_of(end, moment, said.ttl, payload))
+            slot.targets.append(said)
     dropped = {}
     for pieces in packed([piece for slot in slots.values() for piece in slot.pieces()]):
         for target, test in answers(pieces, program):
             if isinstance(target, int):
                 dropped[target] = test
-            elif test != "AuthUnexpected" or not uses_keys(target):
-                for said in target:
-                    said.drop = test
+            elif test != "AuthUnexpected" or not uses_keys(target.end):
+                target.drop = test
     return dropped, unkeyed
 
 
-def uses_keys(alike):
+def uses_keys(end):
     """Whether a session without a key here has one there: then most of its packets have a section."""
-    end = next(iter(alike)).end
     return 2 * end.sections > end.count
 
 
@@ -84,9 +79,8 @@ def slot_of(end, said, keys, unkeyed):
     return Slot(discr, table, (end.port, end.iface if end.port == "single" else None, end.dst, end.src))
 
 
-def line_of(end, moment, said):
-    return (f"rx {moment} {end.port} {end.iface} {spelled(end.src)} {spelled(end.dst)} {said.ttl} "
-            f"{said.payload[:256].hex() or '-'}")
+def line_of(end, moment, ttl, payload):
+    return f"rx {moment} {end.port} {end.iface} {spelled(end.src)} {spelled(end.dst)} {ttl} {payload[:256].hex() or '-'}"
 
 
 def packed(pieces):

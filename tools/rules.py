@@ -78,9 +78,9 @@ OF_DROP = {"Version": "version", "LengthMin": "length", "LengthOver": "length", 
 
 
 class Said:
-    """What a packet says. One is made for all packets with the same bytes from the same end."""
+    """What a packet says but for its sequence number and digest. One is made for all packets of an end that are alike in the rest."""
     __slots__ = ("payload", "ttl", "source", "port", "version", "diag", "state", "flags", "mult", "length", "my", "your", "tx", "rx",
-                 "auth", "key", "seq", "contents", "drop", "faults", "epoch", "end")
+                 "auth", "key", "is_numbered", "contents", "drop", "faults", "epoch", "end")
 
     def __init__(self, payload, ttl, source, end):
         self.payload, self.ttl, self.source, self.end, self.port = payload, ttl, source, end, end.port
@@ -92,7 +92,7 @@ class Said:
         section = payload[24:] if self.flags & AUTH else b""
         self.auth = section[0] if section else None
         self.key = section[2] if len(section) > 2 else None
-        self.seq = int.from_bytes(section[4:8], "big") if self.auth in (2, 3, 4, 5) and len(section) >= 8 else None
+        self.is_numbered = self.auth in (2, 3, 4, 5) and len(section) >= 8
         self.contents = head[:1] + bytes([head[1] & ~(POLL | FINAL)]) + head[2:]  # what an extra packet may tell (section 6.8.7)
         self.faults = tuple(faults_of(self))
 
@@ -135,7 +135,7 @@ ALONE = (
     ("auth-type", P2P, lambda said: said.auth is not None and said.auth not in AUTH_LENGTHS
      and f"Auth Type {said.auth}; allowed: 1 to 5, others are reserved"),
     ("auth-length", P2P, lambda said: said.auth is not None and auth_length(said)),
-    ("auth-reserved", P2P, lambda said: said.seq is not None and said.payload[27]
+    ("auth-reserved", P2P, lambda said: said.is_numbered and said.payload[27]
      and f"reserved byte {said.payload[27]}; allowed: 0"),
     ("seeker-demand", ("sbfd",), lambda said: not said.flags & DEMAND and "no D bit; allowed: D set"),
     ("reflector-demand", ("answer",), lambda said: said.flags & DEMAND and "D; allowed: D clear"),
