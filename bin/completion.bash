@@ -12,8 +12,9 @@ _bfdd() {
         esac ;;
     bfdd-capture) words="--help --local --keys --tick --from --to --mode" ;;
     bfdd-evidence) words="--help --output --program" ;;
+    bfdd-listing) words="--help --report --served --program --session --peer" ;;
     bfdd-packets) words="--help --report --served --program --sent --output" ;;
-    bfdd-timeline) words="--help --report --served --program --output --from --to --lanes --title" ;;
+    bfdd-timeline) words="--help --report --served --program --output --from --to --lanes --session --peer --title" ;;
     esac
     case "$before" in
     --timers) mapfile -t COMPREPLY < <(compgen -W "hashed levels" -- "$word") && return ;;
@@ -24,4 +25,4 @@ _bfdd() {
     *) mapfile -t COMPREPLY < <(compgen -f -- "$word") ;;
     esac
 }
-complete -o filenames -F _bfdd bfdd bfdd-capture bfdd-evidence bfdd-packets bfdd-timeline
+complete -o filenames -F _bfdd bfdd bfdd-capture bfdd-evidence bfdd-listing bfdd-packets bfdd-timeline

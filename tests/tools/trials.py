@@ -34,7 +34,7 @@ class Place:
 
     def tool(self, name, *words, status=0, text=b""):
         """What a tool wrote to standard output and to standard error."""
-        more = ["--program", shlex.join(self.program)] if name != "capture" else []
+        more = ["--program", shlex.join(self.program)] if name not in ("capture", "script") else []
         ran = subprocess.run([TOP / "tools" / name, *map(str, words), *more], input=text, capture_output=True, timeout=1200)
         complaint = ran.stderr.decode("utf-8")
         if ran.returncode != status or "Traceback" in complaint:
