@@ -10,7 +10,7 @@ _bfdd() {
         serve) words="--shards --workers --turns --ticks --journal --timers" ;;
         watch) words="--shards" ;;
         esac ;;
-    bfdd-capture) words="--help --local --keys --tick --from --to --mode" ;;
+    bfdd-capture) words="--help --local --keys --tick --from --to --mode --output" ;;
     bfdd-evidence) words="--help --output --program" ;;
     bfdd-listing) words="--help --report --served --program --session --peer" ;;
     bfdd-packets) words="--help --report --served --program --sent --output" ;;

@@ -3,8 +3,10 @@
 Files are read here, since dpkt's reader of pcapng knows one interface alone and its readers don't tell where a file was cut off;
 IP and UDP are read by dpkt.
 """
+import gzip
 import re
 import struct
+import zlib
 from typing import NamedTuple
 
 from texts import Complaint, PORTS, library
@@ -17,6 +19,8 @@ LOOPBACK = {0, 108}
 TAGS = {0x8100, 0x88A8, 0x9100}
 SOME_PORT = re.compile(rb"\x0e[\xc8\xc9]|\x12\xb0|\x1a\x80|\x1e\x68")  # 3784, 3785, 4784, 6784, 7784
 KINDS = {6784: "aggregate"} | {port: kind for kind, port in PORTS.items() if kind != "answer"}
+SHORT = "packets that the capture cut short (its snap length)"
+GZIP = b"\x1f\x8b"
 LARGEST = 1 << 26  # a block beyond this is no packet
 
 
@@ -46,10 +50,12 @@ class Capture:
 
     def __init__(self, file, name):
         self.file, self.name, self.cut = file, name, None
-        self.start = file.read(4)
-        if not self.start:
-            raise Complaint(f"{name}: the file is empty")
         self.count = 0
+        if file.peek(2)[:2] == GZIP:
+            self.file = gzip.GzipFile(fileobj=file)
+        self.start = self.read(4)
+        if not self.start:
+            raise Complaint(f"{name}: the file is empty" if not self.cut else f"{name}: {self.cut}")
 
     def __iter__(self):
         if self.start == b"\x0a\x0d\x0d\x0a":
@@ -58,14 +64,24 @@ class Capture:
             frames = self.pcap(*PCAP[self.start])
         else:
             raise Complaint(f"{self.name} is no capture that is read here: pcap and pcapng are, and it begins with "
-                            f"{self.start.hex()}" + (" (gzip)" if self.start[:2] == b"\x1f\x8b" else ""))
+                            f"{self.start.hex()}")
         for frame in frames:
             self.count += 1
             yield frame
 
+    def read(self, size):
+        """So many bytes, or fewer where the file ends before, as where what gzip compressed is cut off or damaged."""
+        data = b""
+        try:
+            while len(data) < size and (part := self.file.read1(size - len(data))):
+                data += part
+        except (EOFError, zlib.error, gzip.BadGzipFile):
+            self.cut = f"the file is cut off or damaged behind frame {self.count}"
+        return data
+
     def take(self, size):
         """So many bytes, or None where the file ends before them."""
-        data = self.file.read(size) if size <= LARGEST else b""
+        data = self.read(size) if size <= LARGEST else b""
         if len(data) == size:
             return data
         if data or size > LARGEST:
@@ -185,6 +201,6 @@ def udp_of(frame, tags, ip, is_ipv6):
         return None
     payload = bytes(udp.data)[:max(udp.ulen - 8, 0)]
     if len(payload) < min(udp.ulen - 8, 256):
-        raise Unreadable("packets that the capture cut short (its snap length)")
+        raise Unreadable(SHORT)
     place = (frame.place if frame.link != COOKED_2 else int.from_bytes(frame.data[4:8], "big"), *tags)
     return Datagram(place, ip.src, ip.dst, ip.hlim if is_ipv6 else ip.ttl, port, payload)
