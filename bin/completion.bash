@@ -14,6 +14,7 @@ _bfdd() {
     bfdd-evidence) words="--help --output --program" ;;
     bfdd-listing) words="--help --report --served --program --session --peer" ;;
     bfdd-packets) words="--help --report --served --program --sent --output" ;;
+    bfdd-script) words="--help --output" ;;
     bfdd-timeline) words="--help --report --served --program --output --from --to --lanes --session --peer --title" ;;
     esac
     case "$before" in
@@ -25,4 +26,4 @@ _bfdd() {
     *) mapfile -t COMPREPLY < <(compgen -f -- "$word") ;;
     esac
 }
-complete -o filenames -F _bfdd bfdd bfdd-capture bfdd-evidence bfdd-listing bfdd-packets bfdd-timeline
+complete -o filenames -F _bfdd bfdd bfdd-capture bfdd-evidence bfdd-listing bfdd-packets bfdd-script bfdd-timeline
