@@ -245,6 +245,11 @@ def capture_leaves_out_echo_packets_of_others(place):
     text, said = captured(place, pcap(frames))
     same((" echo " in text, " drop " in place.replay(text)), (False, False), "echo packets and drops")
     has(said, "left out: 82 echo packets that came", "left out: 82 echo packets that the local side sent to a peer")
+    frames = [(moment, framed(ETHERNET, ip_packet(OURS, OURS, 3785, bytes(24), ttl=ttl)))
+              for at in range(82) for moment, ttl in ((400000 + at * 50000, 255), (400500 + at * 50000, 254))]
+    text, said = captured(place, pcap([(moment, framed(ETHERNET, ip)) for moment, ip in handshake()] + frames))
+    same((" echo " in text, " drop " in place.replay(text)), (False, False), "echo packets to the own address")
+    has(said, "left out: 82 echo packets that came", "left out: 82 echo packets that the local side sent, in another form than bfdd's")
 
 
 @test("dpkt")
