@@ -57,13 +57,14 @@ def framed(link, data, tags=(), interface=1):
     return b"\x02\0\0\0\0\x01\x02\0\0\0\0\x02" + kinds + tail + data
 
 
-def pcap(frames, link=ETHERNET, order="<", per_second=10**6):
-    """A pcap file of (moment, frame)."""
+def pcap(frames, link=ETHERNET, order="<", per_second=10**6, snap=65535):
+    """A pcap file of (moment, frame), of which the first `snap` bytes are kept."""
     magic = 0xA1B2C3D4 if per_second == 10**6 else 0xA1B23C4D
     out = [struct.pack(order + "IHHiIII", magic, 2, 4, 0, 0, 65535, link)]
     for moment, frame in frames:
         seconds, part = divmod(START + moment, 10**6)
-        out.append(struct.pack(order + "IIII", seconds, part * per_second // 10**6, len(frame), len(frame)) + frame)
+        kept = frame[:snap]
+        out.append(struct.pack(order + "IIII", seconds, part * per_second // 10**6, len(kept), len(frame)) + kept)
     return b"".join(out)
 
 

@@ -301,8 +301,9 @@ def capture_explains_bad_input(place):
     bad = {b"": "the file is empty", whole[:10]: "cut off in its header", b"bfd 1\nrun\nend\n": "is no capture that is read here",
            b"\x1f\x8b\x08\0": "cut off or damaged behind frame 0", whole[:24]: "there is no BFD packet",
            pcap([(0, framed(ETHERNET, ip_packet(PEER, OURS, 53, b"x")))]): "there is no BFD packet",
-           pcap([(moment, framed(ETHERNET, ip)[:50]) for moment, ip in handshake()]):
-           "6 packets of BFD's ports are in it, each cut short by the capture's snap length: capture whole frames, as `tcpdump -s 0`",
+           pcap([(moment, framed(ETHERNET, ip)) for moment, ip in handshake()], snap=50):
+           "each of its 6 packets that may be of BFD is cut short by the capture's snap length: capture whole frames, as `tcpdump -s 0`",
+           pcap([(moment, framed(ETHERNET, ip)) for moment, ip in handshake(OURS_6, PEER_6)], snap=50): "each of its 6 packets that may be",
            gzip.compress(b"bfd 1"): "is no capture that is read here", pcap([(0, bytes(60))], 105): "1 frames of link type 105, which isn't read here",
            pcapng([])[:30]: "cut off", b"\x0a\x0d\x0d\x0a": "cut off in its header",
            pcapng([])[:28] + struct.pack("<II", 1, 0) + bytes(16): "left out what is behind: the file is cut off or damaged behind frame 0",
