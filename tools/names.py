@@ -54,7 +54,8 @@ def discriminator(text):
 
 
 def add_choice_arguments(parser):
-    parser.add_argument("--session", type=discriminator, action="append", default=[], metavar="DISCR", help="only this session, and others so named")
+    parser.add_argument("--session", type=discriminator, action="append", default=[], metavar="DISCR",
+                        help="only this session, and others so named")
     parser.add_argument("--peer", type=network, action="append", default=[], metavar="ADDRESS",
                         help="only the sessions with this peer, or with peers of this prefix")
 

@@ -173,13 +173,15 @@ def width_of(label):
 
 def draw_drops(axes, scale, row, drops, detailed, changes=()):
     """A cross for each drop, and over it why; over each change to Down or AdminDown its diagnostic. Reasons that follow each other closely
-    share a label. Diagnostics come first in the uppermost level; one that has no room is written by its number, and else a label is left out."""
+    share a label. Diagnostics come first in the uppermost level; one that has no room is written by its number. Else a label is left
+    out."""
     if not detailed:
         return marks(axes, scale, [moment for moment, _ in drops], row + 0.08, row + 0.92, DROP)
     crosses = thinned(scale, [moment for moment, _ in drops])
     axes.plot(crosses, [row + BAR - 0.075] * len(crosses), "x", color=DROP, markersize=6, markeredgewidth=1.6)
     taken = {level: [] for level in LEVELS}
-    labels = [(moment, reason + (f" ×{count}" if count > 1 else "")) for moment, reason, count in grouped(inside(scale, drops), scale.span / 40)]
+    groups = grouped(inside(scale, drops), scale.span / 40)
+    labels = [(moment, reason + (f" ×{count}" if count > 1 else "")) for moment, reason, count in groups]
     left = [one for one in labels if not place(axes, scale, row, taken, LEVELS[:2], one[0], one[1:], DROP)]
     for state in ("Down", "AdminDown"):
         reasons = [(moment, diag) for moment, new, diag in changes if new == state]
@@ -269,7 +271,8 @@ def legend_of(lanes, detailed):
         keys += [Line2D([], [], color=colour, marker="|", linestyle="", markersize=9, markeredgewidth=1.6, label=label)
                  for colour, label in ((CAME, "packet that came"), (SENT, "packet that was sent"), (ECHO, "echo packet"))
                  if colour != ECHO or any(any(lane.echoes) for lane in every)]
-        keys += [Line2D([], [], color=POLL, linewidth=4, label="poll: own P that waits for the peer's F")] if any(lane.polls for lane in every) else []
+        if any(lane.polls for lane in every):
+            keys.append(Line2D([], [], color=POLL, linewidth=4, label="poll: own P that waits for the peer's F"))
         keys += [Line2D([], [], color=DEMAND, linewidth=4, label="demand mode")] if any(lane.demand for lane in every) else []
         if any(lane.refusals for lane in every):
             keys.append(Line2D([], [], color=REFUSAL, marker="D", linestyle="", markersize=5, label="command refused"))

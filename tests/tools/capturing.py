@@ -107,7 +107,8 @@ def capture_says_which_keys_are_missing(place):
     has(said, "it uses Auth Type 4 (Keyed SHA1), and --keys has no key of it")
     same(("auth" in text, "cmd" in text), (False, False), "a table without keys")
     for line, why in (("* 4 5", "ADDRESS TYPE KEYID SECRET"), ("* 6 5 00", "1 to 5"), ("* 4 5 0", "neither hexadecimal digits"),
-                      ("* 4 5 secret", 'the secret secret is neither hexadecimal digits, two for each byte, nor text between quotation marks'),
+                      ("* 4 5 secret",
+                       'the secret secret is neither hexadecimal digits, two for each byte, nor text between quotation marks'),
                       ("* sha1 5 00", "are numbers, and `sha1` and `5` stand there"),
                       ('* 2 5 "12345678901234567"', "1 to 16 bytes"), ("10.0.0 4 5 00", "10.0.0"), ("* 4 x 00", "x")):
         said = captured(place, keyed(50000), "--keys", place.file("keys", line + "\n"), status=1)[1]
@@ -227,7 +228,8 @@ def capture_tells_echo_packets_that_came_back(place):
          [f"rx {moment} echo 1 10.0.0.1 10.0.0.1 254 42464465000000010000000{number}00000000"
           for moment, number in ((303000, 0), (403000, 1))],
          "what came back")
-    for rest, why in (([echo(302000, 7, 255), echo(303000, 7, 254), echo(402000, 8, 255), echo(403000, 8, 254)], "don't begin with number 0"),
+    for rest, why in (([echo(302000, 7, 255), echo(303000, 7, 254), echo(402000, 8, 255), echo(403000, 8, 254)],
+                       "don't begin with number 0"),
                       ([echo(302000, 0, 255), echo(303000, 0, 254)], "one echo packet tells no interval")):
         text, said = captured(place, pcap([*started, *rest]))
         has(text, TABLE + "\n")
@@ -304,7 +306,8 @@ def capture_explains_bad_input(place):
            pcap([(moment, framed(ETHERNET, ip)) for moment, ip in handshake()], snap=50):
            "each of its 6 packets that may be of BFD is cut short by the capture's snap length: capture whole frames, as `tcpdump -s 0`",
            pcap([(moment, framed(ETHERNET, ip)) for moment, ip in handshake(OURS_6, PEER_6)], snap=50): "each of its 6 packets that may be",
-           gzip.compress(b"bfd 1"): "is no capture that is read here", pcap([(0, bytes(60))], 105): "1 frames of link type 105, which isn't read here",
+           gzip.compress(b"bfd 1"): "is no capture that is read here",
+           pcap([(0, bytes(60))], 105): "1 frames of link type 105, which isn't read here",
            pcapng([])[:30]: "cut off", b"\x0a\x0d\x0d\x0a": "cut off in its header",
            pcapng([])[:28] + struct.pack("<II", 1, 0) + bytes(16): "left out what is behind: the file is cut off or damaged behind frame 0",
            pcapng([])[:28] + struct.pack("<IIHHIHHI", 1, 28, 1, 0, 0, 14, 8, 0) + bytes(4): "there is no BFD packet"}
