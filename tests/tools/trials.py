@@ -10,6 +10,7 @@ sys.path.insert(0, str(TOP / "tests"))
 from outside import Wrong, has, same
 
 EXAMPLES = sorted((TOP / "examples").glob("*.script"))
+TOOLS = sorted(path.name for path in (TOP / "tools").iterdir() if path.is_file() and not path.suffix)
 TESTS = []
 
 
