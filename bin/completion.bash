@@ -10,13 +10,15 @@ _bfdd() {
         serve) words="--shards --workers --turns --ticks --journal --timers" ;;
         watch) words="--shards" ;;
         esac ;;
-    bfdd-capture) words="--help --local --keys --tick --from --to --mode" ;;
+    bfdd-capture) words="--help --local --keys --tick --from --to --mode --output" ;;
     bfdd-evidence) words="--help --output --program" ;;
     bfdd-explain) words="--help --report --served --program --session --json" ;;
     bfdd-judge) words="--help --local --keys --slack --json --rules --program" ;;
+    bfdd-listing) words="--help --report --served --program --session --peer" ;;
     bfdd-packets) words="--help --report --served --program --sent --output" ;;
     bfdd-probe) words="--help --interface --source --multihop --auth --jitter --json --list" ;;
-    bfdd-timeline) words="--help --report --served --program --output --from --to --lanes --title" ;;
+    bfdd-script) words="--help --output" ;;
+    bfdd-timeline) words="--help --report --served --program --output --from --to --lanes --session --peer --title" ;;
     esac
     case "$before" in
     --timers) mapfile -t COMPREPLY < <(compgen -W "hashed levels" -- "$word") && return ;;
@@ -27,4 +29,4 @@ _bfdd() {
     *) mapfile -t COMPREPLY < <(compgen -f -- "$word") ;;
     esac
 }
-complete -o filenames -F _bfdd bfdd bfdd-capture bfdd-evidence bfdd-explain bfdd-judge bfdd-packets bfdd-probe bfdd-timeline
+complete -o filenames -F _bfdd bfdd bfdd-capture bfdd-evidence bfdd-explain bfdd-judge bfdd-listing bfdd-packets bfdd-probe bfdd-script bfdd-timeline

@@ -3,8 +3,10 @@
 Files are read here, since dpkt's reader of pcapng knows one interface alone and its readers don't tell where a file was cut off;
 IP and UDP are read by dpkt.
 """
+import gzip
 import re
 import struct
+import zlib
 from typing import NamedTuple
 
 from texts import Complaint, PORTS, library
@@ -17,6 +19,9 @@ LOOPBACK = {0, 108}
 TAGS = {0x8100, 0x88A8, 0x9100}
 SOME_PORT = re.compile(rb"\x0e[\xc8\xc9]|\x12\xb0|\x1a\x80|\x1e\x68")  # 3784, 3785, 4784, 6784, 7784
 KINDS = {6784: "aggregate"} | {port: kind for kind, port in PORTS.items() if kind != "answer"}
+HEADLESS = "frames whose UDP header is cut off"
+SHORT = "packets that the capture cut short (its snap length)"
+GZIP = b"\x1f\x8b"
 LARGEST = 1 << 26  # a block beyond this is no packet
 
 
@@ -25,6 +30,7 @@ class Frame(NamedTuple):
     link: int    # the link type
     place: int   # the interface, where the file tells them apart
     data: bytes
+    size: int    # how many bytes it had on the wire
 
 
 class Datagram(NamedTuple):
@@ -47,10 +53,12 @@ class Capture:
 
     def __init__(self, file, name):
         self.file, self.name, self.cut = file, name, None
-        self.start = file.read(4)
-        if not self.start:
-            raise Complaint(f"{name}: the file is empty")
         self.count = 0
+        if file.peek(2)[:2] == GZIP:
+            self.file = gzip.GzipFile(fileobj=file)
+        self.start = self.read(4)
+        if not self.start:
+            raise Complaint(f"{name}: the file is empty" if not self.cut else f"{name}: {self.cut}")
 
     def __iter__(self):
         if self.start == b"\x0a\x0d\x0d\x0a":
@@ -59,14 +67,24 @@ class Capture:
             frames = self.pcap(*PCAP[self.start])
         else:
             raise Complaint(f"{self.name} is no capture that is read here: pcap and pcapng are, and it begins with "
-                            f"{self.start.hex()}" + (" (gzip)" if self.start[:2] == b"\x1f\x8b" else ""))
+                            f"{self.start.hex()}")
         for frame in frames:
             self.count += 1
             yield frame
 
+    def read(self, size):
+        """So many bytes, or fewer where the file ends before, as where what gzip compressed is cut off or damaged."""
+        data = b""
+        try:
+            while len(data) < size and (part := self.file.read1(size - len(data))):
+                data += part
+        except (EOFError, zlib.error, gzip.BadGzipFile):
+            self.cut = f"the file is cut off or damaged behind frame {self.count}"
+        return data
+
     def take(self, size):
         """So many bytes, or None where the file ends before them."""
-        data = self.file.read(size) if size <= LARGEST else b""
+        data = self.read(size) if size <= LARGEST else b""
         if len(data) == size:
             return data
         if data or size > LARGEST:
@@ -80,12 +98,12 @@ class Capture:
         link = struct.unpack(order + "I", head[16:])[0] & 0xFFFF
         unpack = struct.Struct(order + "IIII").unpack
         while head := self.take(16):
-            seconds, part, size, _ = unpack(head)
+            seconds, part, size, whole = unpack(head)
             data = self.take(size)
             if data is None:
                 self.cut = f"the file is cut off or damaged behind frame {self.count}"
                 return
-            yield Frame(seconds * 1000000 + part * 1000000 // per_second, link, 0, data)
+            yield Frame(seconds * 1000000 + part * 1000000 // per_second, link, 0, data, whole)
 
     def pcapng(self):
         order, interfaces, first = "<", [], self.start
@@ -138,7 +156,7 @@ def frame_of(kind, body, order, interfaces):
         return None
     link, per_second, offset = interfaces[place]
     moment = offset * 1000000 + (high << 32 | low) * 1000000 // per_second
-    return Frame(moment, link, place, body[20:20 + size])
+    return Frame(moment, link, place, body[20:20 + size], struct.unpack_from(order + "I", body, 16)[0])
 
 
 def network_of(frame):
@@ -160,7 +178,7 @@ def datagram_of(frame):
     """The UDP packet of a frame, or None where it has none for a port of BFD."""
     if frame.link not in RAW | LOOPBACK | {ETHERNET, COOKED, COOKED_2}:
         raise Unreadable(f"frames of link type {frame.link}, which isn't read here")
-    if not SOME_PORT.search(frame.data, 0, 256):
+    if len(frame.data) >= frame.size and not SOME_PORT.search(frame.data, 0, 256):
         return None
     network = network_of(frame)
     if not network:
@@ -169,6 +187,8 @@ def datagram_of(frame):
     try:
         ip = (dpkt.ip6.IP6 if is_ipv6 else dpkt.ip.IP)(data)
     except (dpkt.dpkt.Error, struct.error, ValueError, IndexError, KeyError):
+        if len(frame.data) < frame.size and data[6 if is_ipv6 else 9:][:1] == bytes([17]):
+            raise Unreadable(HEADLESS) from None
         raise Unreadable("frames whose IP packet can't be read") from None
     if ip.p != 17:
         return None
@@ -180,12 +200,12 @@ def datagram_of(frame):
 def udp_of(frame, tags, ip, is_ipv6):
     udp = ip.data
     if not isinstance(udp, dpkt.udp.UDP):
-        raise Unreadable("frames whose UDP header is cut off")
+        raise Unreadable(HEADLESS)
     port = KINDS.get(udp.dport) or ("answer" if udp.sport == PORTS["sbfd"] else None)
     if not port:
         return None
     payload = bytes(udp.data)[:max(udp.ulen - 8, 0)]
     if len(payload) < min(udp.ulen - 8, 256):
-        raise Unreadable("packets that the capture cut short (its snap length)")
+        raise Unreadable(SHORT)
     place = (frame.place if frame.link != COOKED_2 else int.from_bytes(frame.data[4:8], "big"), *tags)
     return Datagram(place, ip.src, ip.dst, ip.hlim if is_ipv6 else ip.ttl, port, payload, udp.sport)

@@ -10,10 +10,12 @@ class Lane:
         self.states = [[0.0, None, "Up" if session.kind == "head" else "Down"]]  # each from its moment until the next one's
         self.came, self.sent, self.echoes, self.drops, self.refusals = [], [], ([], []), [], []
         self.polls, self.demand = Spans(), Spans()
+        self.changes = []                                 # (moment, state, diagnostic) of each change
 
-    def change(self, moment, state):
+    def change(self, moment, state, diag):
         self.states[-1][1] = moment
         self.states.append([moment, None, state])
+        self.changes.append((moment, state, diag))
 
     def hear(self, moment, payload, reason):
         """A packet that came; `reason` is why it was dropped, or None. F of one that passed ends a poll."""
@@ -41,6 +43,9 @@ class Lane:
         else:
             self.demand.end(moment)
 
+    def first_change(self):
+        return self.changes[0][0] if self.changes else float("inf")
+
     def close(self, moment):
         self.states[-1][1] = moment
         self.polls.end(moment)
@@ -64,9 +69,10 @@ class Spans(list):
 
 
 class Lanes:
-    """All sessions in the order of their discriminators, and the drops of no session."""
+    """All sessions, those that changed first in front, and the drops of no session."""
 
     def __init__(self, script, happenings):
+        self.auth = script.auth
         self.lanes = {discr: Lane(session) for discr, session in sorted(script.sessions.items())}
         self.strays = []
         self.end, self.events, self.sent, self.dropped = 0.0, 0, 0, 0
@@ -75,6 +81,12 @@ class Lanes:
         self.end += (self.end or 1.0) * 0.02  # room for what the last event left
         for lane in self.lanes.values():
             lane.close(self.end)
+        self.lanes = dict(sorted(self.lanes.items(), key=lambda pair: pair[1].first_change()))
+
+    def choose(self, discrs):
+        """Leaves the lanes of these sessions alone; the drops of no session are of none of them."""
+        if len(discrs) < len(self.lanes):
+            self.lanes, self.strays = {discr: lane for discr, lane in self.lanes.items() if discr in discrs}, []
 
     def take(self, script, event, lines):
         """An event, and what the report has of it: what the sessions did, and then what came of a packet."""
@@ -84,7 +96,7 @@ class Lanes:
             self.sent += line.word == "tx"
             self.dropped += line.word == "drop"
             if line.word == "state":
-                self.lanes[int(line.words[0])].change(moment, line.words[2])
+                self.lanes[int(line.words[0])].change(moment, line.words[2], int(line.words[3]))
             elif line.word == "tx" and int(line.words[0]) in self.lanes:  # a reflector has no lane
                 self.lanes[int(line.words[0])].send(moment, bytes.fromhex(line.words[1]))
             elif line.word == "refuse" and event.discr in self.lanes:

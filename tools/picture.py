@@ -1,11 +1,13 @@
 """Draws the lanes of a replay, by matplotlib."""
-from texts import library, shown
+from names import AUTH_TYPES, clock, diagnostic, ends_of, kind_of, where_of
+from texts import library
 
 library("matplotlib", "python3-matplotlib").use("Agg")
 import matplotlib.pyplot as plt
-from matplotlib.collections import PolyCollection
+from matplotlib.collections import LineCollection, PolyCollection
 from matplotlib.lines import Line2D
 from matplotlib.patches import Patch
+from matplotlib.ticker import FuncFormatter
 
 # Colours that people who don't tell red from green can tell.
 COLOURS = {"Up": "#009e73", "Init": "#f0c419", "Down": "#d55e00", "AdminDown": "#8c8c8c"}
@@ -20,13 +22,15 @@ BAR, BAR_HEIGHT = 0.43, 0.25       # where the bar of states begins in a lane of
 MOST_BARS = 100000                 # with more bars, those that are too narrow to be seen are drawn as one
 MOST_COLUMNS = 2000                # so many strokes in a lane are a surface
 LEAST_COLUMNS = 20
-LEVELS = (0.24, 0.15, 0.06)        # where the reasons of drops stand, one over the other where they would overlap
+LEVELS = (0.24, 0.15, 0.06)        # where reasons stand, one over the other where they would overlap
+CHANGE = 1.3                       # points: the width of the mark of a change, at every scale
 
 
 class Scale:
-    """The unit of the time axis, and what part of the picture a time takes."""
+    """The unit of the time axis, and what part of the picture a time takes. `start` is when second 0 was, or None."""
 
-    def __init__(self, since, until):
+    def __init__(self, since, until, start=None):
+        self.start = start
         span = max(until - since, 1e-6)
         self.name, self.unit = next(((name, unit) for name, unit in (("hours", 3600), ("minutes", 60), ("seconds", 1))
                                      if span >= 3 * unit), ("milliseconds", 0.001))
@@ -40,14 +44,14 @@ class Scale:
         return (moment - self.since) * columns // self.span
 
 
-def thinned(scale, moments):
+def thinned(scale, moments, columns=MOST_COLUMNS):
     """The moments inside the picture, and where they are many, the first in each column alone."""
     inside = [at for at in map(scale.at, moments) if scale.since <= at <= scale.until]
-    if len(inside) <= MOST_COLUMNS:
+    if len(inside) <= columns:
         return inside
     first = {}
     for at in inside:
-        first.setdefault(scale.column(at, MOST_COLUMNS), at)
+        first.setdefault(scale.column(at, columns), at)
     return list(first.values())
 
 
@@ -76,13 +80,13 @@ def columns_of(lanes):
     return min(max(MOST_BARS // len(every), LEAST_COLUMNS), MOST_COLUMNS)
 
 
-def draw(lanes, title, since, until, lanes_alone=False):
-    """The figure of these lanes between two moments."""
+def draw(lanes, title, since, until, lanes_alone=False, start=None):
+    """The figure of these lanes between two moments; where `start` is known, with the time of the day."""
     detailed = len(lanes.lanes) <= MOST_DETAILED and not lanes_alone
     count = len(lanes.lanes) + bool(lanes.strays)
     height = MARGIN + count * (1.25 if detailed else min(0.24, max(0.045, 14 / count), TALLEST / count))
     figure, axes = plt.subplots(figsize=(12, height))
-    scale = Scale(since, until)
+    scale = Scale(since, until, start)
     draw_states(axes, scale, lanes, detailed)
     for row, lane in enumerate(lanes.lanes.values() if detailed else ()):
         draw_details(axes, scale, row, lane)
@@ -106,6 +110,18 @@ def draw_states(axes, scale, lanes, detailed):
                 axes.text((start + end) / 2, low + height / 2, state, ha="center", va="center", color=INK[state], fontsize=9)
     for state, corners in boxes.items():
         axes.add_collection(PolyCollection(corners, facecolor=COLOURS[state], linewidth=0), autolim=False)
+    draw_changes(axes, scale, lanes, detailed, columns or MOST_COLUMNS)
+
+
+def draw_changes(axes, scale, lanes, detailed, columns):
+    """A mark for each change, in the colour of the new state, so that a state that was left at once shows too. Down lies over Up."""
+    for order, state in enumerate(("Up", "Init", "Down", "AdminDown")):
+        marks = []
+        for row, lane in enumerate(lanes.lanes.values()):
+            low, high = (row + BAR - 0.015, row + BAR + BAR_HEIGHT + 0.015) if detailed else (row + 0.04, row + 0.96)
+            moments = [moment for moment, new, _ in lane.changes if new == state]
+            marks += [((at, low), (at, high)) for at in thinned(scale, moments, columns)]
+        axes.add_collection(LineCollection(marks, colors=COLOURS[state], linewidths=CHANGE, zorder=2 + order / 10), autolim=False)
 
 
 def draw_details(axes, scale, row, lane):
@@ -119,7 +135,7 @@ def draw_details(axes, scale, row, lane):
         bars = joined(scale, ((start, end, None) for start, end in spans), MOST_COLUMNS)
         axes.broken_barh([(start, max(end - start, scale.span / 600)) for start, end, _ in bars],
                          (low, 0.045), color=colour, linewidth=0)
-    draw_drops(axes, scale, row, lane.drops, True)
+    draw_drops(axes, scale, row, lane.drops, True, lane.changes)
     draw_refusals(axes, scale, below, lane.refusals)
 
 
@@ -155,21 +171,44 @@ def width_of(label):
     return 0.008 + 0.0068 * len(label)
 
 
-def draw_drops(axes, scale, row, drops, detailed):
-    """A cross for each drop. Those of one reason that follow each other closely share a label; a label that has no room in
-    any level is left out."""
+def draw_drops(axes, scale, row, drops, detailed, changes=()):
+    """A cross for each drop, and over it why; over each change to Down or AdminDown its diagnostic. Reasons that follow each other closely
+    share a label. Diagnostics come first in the uppermost level; one that has no room is written by its number. Else a label is left
+    out."""
     if not detailed:
         return marks(axes, scale, [moment for moment, _ in drops], row + 0.08, row + 0.92, DROP)
-    inside = [(scale.at(moment), reason) for moment, reason in drops if scale.since <= scale.at(moment) <= scale.until]
     crosses = thinned(scale, [moment for moment, _ in drops])
     axes.plot(crosses, [row + BAR - 0.075] * len(crosses), "x", color=DROP, markersize=6, markeredgewidth=1.6)
-    free = [scale.since] * len(LEVELS)
-    for moment, reason, count in grouped(inside, scale.span / 40):
-        label = reason + (f" ×{count}" if count > 1 else "")
-        level = next((at for at in range(len(LEVELS)) if free[at] <= moment), None)
-        if level is not None:
-            write(axes, scale, moment, row + LEVELS[level], label, DROP)
-            free[level] = moment + scale.span * width_of(label)
+    taken = {level: [] for level in LEVELS}
+    groups = grouped(inside(scale, drops), scale.span / 40)
+    labels = [(moment, reason + (f" ×{count}" if count > 1 else "")) for moment, reason, count in groups]
+    left = [one for one in labels if not place(axes, scale, row, taken, LEVELS[:2], one[0], one[1:], DROP)]
+    for state in ("Down", "AdminDown"):
+        reasons = [(moment, diag) for moment, new, diag in changes if new == state]
+        for moment, diag, count in grouped(inside(scale, reasons), scale.span / 40):
+            times = f" ×{count}" if count > 1 else ""
+            place(axes, scale, row, taken, LEVELS[::-1], moment, (diagnostic(diag) + times, f"{diag}{times}"), COLOURS[state])
+    for moment, label in left:
+        place(axes, scale, row, taken, LEVELS[2:], moment, (label,), DROP)
+
+
+def inside(scale, reasons):
+    """Those of the picture, with their moments in its unit."""
+    return [(scale.at(moment), reason) for moment, reason in reasons if scale.since <= scale.at(moment) <= scale.until]
+
+
+def place(axes, scale, row, taken, levels, moment, labels, colour):
+    """Writes the first of these labels that has room in one of the levels, and whether one had; `taken` are the parts of each that are
+    written on."""
+    for label in labels:
+        width = scale.span * width_of(label)
+        start = min(moment, scale.until - width)
+        for level in levels:
+            if all(start + width <= low or high <= start for low, high in taken[level]):
+                taken[level].append((start, start + width))
+                write(axes, scale, moment, row + level, label, colour)
+                return True
+    return False
 
 
 def grouped(drops, near):
@@ -185,13 +224,15 @@ def grouped(drops, near):
 
 
 def finish(figure, axes, scale, lanes, title, detailed, height):
-    rows = [label_of(lane.session, detailed) for lane in lanes.lanes.values()] + ["no session"] * bool(lanes.strays)
+    rows = [label_of(lane.session, lanes.auth, detailed) for lane in lanes.lanes.values()] + ["no session"] * bool(lanes.strays)
     step = 1 if detailed else max(1, -(-len(rows) * 13 // int((height - MARGIN) * 72)))
     middle = BAR + BAR_HEIGHT / 2 if detailed else 0.5
     axes.set_yticks([row + middle for row in range(0, len(rows), step)], rows[::step], fontsize=9 if detailed else 8)
     axes.set_ylim(len(rows), 0)
     axes.set_xlim(scale.since, scale.until)
-    axes.set_xlabel(scale.name)
+    axes.set_xlabel(scale.name if scale.start is None else "the time of the day, UTC")
+    if scale.start is not None:
+        axes.xaxis.set_major_formatter(FuncFormatter(lambda at, _: time_of_day(scale, at)))
     axes.tick_params(axis="y", length=0 if step == 1 else 3)
     axes.xaxis.grid(True, color="#dddddd", linewidth=0.6)
     axes.set_axisbelow(True)
@@ -208,14 +249,17 @@ def finish(figure, axes, scale, lanes, title, detailed, height):
                   handletextpad=0.5)
 
 
-def label_of(session, detailed):
+def time_of_day(scale, at):
+    """The words at a place of the axis: as many digits as the scale needs, and at its beginning the date."""
+    date, _, time = clock(scale.start, round(at * scale.unit * 1000000)).partition(" ")
+    return time[:12] if scale.span * scale.unit < 20 else time[:8]
+
+
+def label_of(session, auth, detailed):
     if not detailed:
-        return f"{session.discr}"
-    name = {"single": "session", "multi": "session", "sbfd": "initiator"}.get(session.kind, session.kind)
-    ends = [shown(session.local), shown(session.remote)]
-    ends = " – ".join(ends) if name == "session" else " → ".join(reversed(ends) if name == "tail" else ends)
-    where = "several hops" if session.kind == "multi" else f"interface {session.iface}"
-    return f"{name} {session.discr}\n{ends}\n{where}"
+        return f"{session.discr}  {ends_of(session)}"
+    kind = f", {AUTH_TYPES.get(auth[session.discr], auth[session.discr])}" if session.discr in auth else ""
+    return f"{kind_of(session)} {session.discr}\n{ends_of(session)}\n{where_of(session)}{kind}"
 
 
 def legend_of(lanes, detailed):
@@ -227,7 +271,8 @@ def legend_of(lanes, detailed):
         keys += [Line2D([], [], color=colour, marker="|", linestyle="", markersize=9, markeredgewidth=1.6, label=label)
                  for colour, label in ((CAME, "packet that came"), (SENT, "packet that was sent"), (ECHO, "echo packet"))
                  if colour != ECHO or any(any(lane.echoes) for lane in every)]
-        keys += [Line2D([], [], color=POLL, linewidth=4, label="poll")] if any(lane.polls for lane in every) else []
+        if any(lane.polls for lane in every):
+            keys.append(Line2D([], [], color=POLL, linewidth=4, label="poll: own P that waits for the peer's F"))
         keys += [Line2D([], [], color=DEMAND, linewidth=4, label="demand mode")] if any(lane.demand for lane in every) else []
         if any(lane.refusals for lane in every):
             keys.append(Line2D([], [], color=REFUSAL, marker="D", linestyle="", markersize=5, label="command refused"))

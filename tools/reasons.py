@@ -2,9 +2,7 @@
 
 tools/explain, tools/judge and tools/probe say these words. Nothing here is proved.
 """
-DIAGNOSTICS = {0: "No Diagnostic", 1: "Control Detection Time Expired", 2: "Echo Function Failed", 3: "Neighbor Signaled Session Down",
-               4: "Forwarding Plane Reset", 5: "Path Down", 6: "Concatenated Path Down", 7: "Administratively Down",
-               8: "Reverse Concatenated Path Down"}
+from names import DIAGNOSTICS
 
 # The discard tests of a report: what is true of a packet that fails one, and where the RFCs say that it is discarded.
 DROPS = {
@@ -37,7 +35,7 @@ DROPS = {
 
 def diagnostic(number):
     """A diagnostic by number and name."""
-    return f"{number} ({DIAGNOSTICS.get(number, 'reserved')})"
+    return f"{number} ({DIAGNOSTICS[number] if number < len(DIAGNOSTICS) else 'reserved'})"
 
 
 def drops_in_words(counts):

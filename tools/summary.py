@@ -6,7 +6,7 @@ Nothing here is proved.
 import collections
 import statistics
 
-from keys import TYPES
+from names import AUTH_TYPES as TYPES
 from reasons import counted, drops_in_words, seconds, span
 
 LEAST_GAPS = 3  # of a median

@@ -149,6 +149,7 @@ class Script:
 
     def __init__(self, text, name):
         self.sessions, self.reflectors, self.events, self.last_tick = {}, set(), [], 0
+        self.auth = {}  # the Auth Type of a session, by its discriminator
         for number, line in enumerate(text.split("\n"), 1):
             try:
                 if len(line) > LONGEST_LINE or not line.isprintable():
@@ -170,7 +171,9 @@ class Script:
             self.reflectors.add(number_of(fields[1], 2**32 - 1))
         elif word in EVENTS:
             self.events.append(self.event_of(fields))
-        elif word in ("auth", "key"):
+        elif word == "auth":
+            self.auth[number_of(fields[1], 2**32 - 1)] = number_of(fields[2], 255)
+        elif word == "key":
             number_of(fields[1], 2**32 - 1)
         elif word not in ("bfd", "run", "end", ""):
             raise ValueError

@@ -1,7 +1,9 @@
 """Writes small captures by hand, byte by byte, so that tools/capture is tried on what no library of its own wrote."""
+import socket
 import struct
 import sys
 from pathlib import Path
+from typing import NamedTuple
 
 sys.path.insert(0, str(Path(__file__).resolve().parent.parent))
 import packet
@@ -55,13 +57,14 @@ def framed(link, data, tags=(), interface=1):
     return b"\x02\0\0\0\0\x01\x02\0\0\0\0\x02" + kinds + tail + data
 
 
-def pcap(frames, link=ETHERNET, order="<", per_second=10**6):
-    """A pcap file of (moment, frame)."""
+def pcap(frames, link=ETHERNET, order="<", per_second=10**6, snap=65535):
+    """A pcap file of (moment, frame), of which the first `snap` bytes are kept."""
     magic = 0xA1B2C3D4 if per_second == 10**6 else 0xA1B23C4D
     out = [struct.pack(order + "IHHiIII", magic, 2, 4, 0, 0, 65535, link)]
     for moment, frame in frames:
         seconds, part = divmod(START + moment, 10**6)
-        out.append(struct.pack(order + "IIII", seconds, part * per_second // 10**6, len(frame), len(frame)) + frame)
+        kept = frame[:snap]
+        out.append(struct.pack(order + "IIII", seconds, part * per_second // 10**6, len(kept), len(frame)) + kept)
     return b"".join(out)
 
 
@@ -79,3 +82,39 @@ def pcapng(frames, links=(ETHERNET,), order="<", resolution=None):
         head = struct.pack(order + "IIIII", (interface or [0])[0], ticks >> 32, ticks & 0xFFFFFFFF, len(frame), len(frame))
         out.append(block(6, head + frame + bytes(-len(frame) % 4)))
     return b"".join(out) + block(5, bytes(12))
+
+
+class Found(NamedTuple):
+    """A packet of a capture that tools/packets wrote."""
+    moment: int
+    src: str
+    dst: str
+    ttl: int
+    port: int   # the port that it went to
+    payload: bytes
+    ports: tuple
+    inbound: bool
+    comment: str
+
+
+def packets(data):
+    """The packets of a pcapng file of raw IP packets."""
+    at, found = 0, []
+    while at < len(data):
+        kind, size = struct.unpack_from("<II", data, at)
+        body, at = data[at + 8:at + size - 4], at + size
+        if kind != 6:
+            continue
+        _, high, low, length, _ = struct.unpack_from("<IIIII", body)
+        ip, rest, told = body[20:20 + length], body[20 + (length + 3) // 4 * 4:], {}
+        while len(rest) >= 4 and (code := struct.unpack_from("<H", rest)[0]):
+            size = struct.unpack_from("<H", rest, 2)[0]
+            told[code], rest = rest[4:4 + size], rest[4 + (size + 3) // 4 * 4:]
+        six = ip[0] >> 4 == 6
+        ends = [socket.inet_ntop(socket.AF_INET6 if six else socket.AF_INET, end)
+                for end in ((ip[8:24], ip[24:40]) if six else (ip[12:16], ip[16:20]))]
+        udp = ip[40 if six else 20:]
+        ports = struct.unpack_from(">HH", udp)
+        found.append(Found(high << 32 | low, *ends, ip[7 if six else 8], ports[1], udp[8:], ports, told[2][0] == 1,
+                           told.get(1, b"").decode("ascii")))
+    return found

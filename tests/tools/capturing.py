@@ -1,4 +1,5 @@
 """Tests of tools/capture, on captures that captures.py writes by hand."""
+import gzip
 import random
 import re
 import resource
@@ -31,7 +32,12 @@ def capture_reads_every_form_of_file(place):
              "pcapng": pcapng(frames), "big-endian pcapng": pcapng(frames, order=">"), "pcapng, ns": pcapng(frames, resolution=9)}
     for name, data in forms.items():
         same(captured(place, data)[0], wanted_file(), name)
-    same(place.tool("capture", "--local", "10.0.0.1", "--tick", "100", "-", text=forms["pcap"])[0], wanted_file(), "standard input")
+    forms |= {f"{name}, compressed": gzip.compress(data) for name, data in forms.items()}
+    for name in ("pcap", "pcapng, compressed"):
+        same(place.tool("capture", "--local", "10.0.0.1", "--tick", "100", "-", text=forms[name])[0], wanted_file(), "standard input")
+    same(captured(place, forms["pcap, compressed"])[0], wanted_file(), "compressed")
+    text, said = captured(place, gzip.compress(forms["pcap"])[:-12])
+    has(said, "the file is cut off or damaged behind frame 5")
 
 
 @test("dpkt")
@@ -100,7 +106,10 @@ def capture_says_which_keys_are_missing(place):
     text, said = captured(place, keyed(50000))
     has(said, "it uses Auth Type 4 (Keyed SHA1), and --keys has no key of it")
     same(("auth" in text, "cmd" in text), (False, False), "a table without keys")
-    for line, why in (("* 4 5", "ADDRESS TYPE KEYID SECRET"), ("* 6 5 00", "1 to 5"), ("* 4 5 0", "non-hexadecimal"),
+    for line, why in (("* 4 5", "ADDRESS TYPE KEYID SECRET"), ("* 6 5 00", "1 to 5"), ("* 4 5 0", "neither hexadecimal digits"),
+                      ("* 4 5 secret",
+                       'the secret secret is neither hexadecimal digits, two for each byte, nor text between quotation marks'),
+                      ("* sha1 5 00", "are numbers, and `sha1` and `5` stand there"),
                       ('* 2 5 "12345678901234567"', "1 to 16 bytes"), ("10.0.0 4 5 00", "10.0.0"), ("* 4 x 00", "x")):
         said = captured(place, keyed(50000), "--keys", place.file("keys", line + "\n"), status=1)[1]
         has(said, "line 1", why)
@@ -219,11 +228,59 @@ def capture_tells_echo_packets_that_came_back(place):
          [f"rx {moment} echo 1 10.0.0.1 10.0.0.1 254 42464465000000010000000{number}00000000"
           for moment, number in ((303000, 0), (403000, 1))],
          "what came back")
-    for rest, why in (([echo(302000, 7, 255), echo(402000, 8, 255)], "don't begin with number 0"),
-                      ([echo(302000, 0, 255)], "one echo packet tells no interval")):
+    for rest, why in (([echo(302000, 7, 255), echo(303000, 7, 254), echo(402000, 8, 255), echo(403000, 8, 254)],
+                       "don't begin with number 0"),
+                      ([echo(302000, 0, 255), echo(303000, 0, 254)], "one echo packet tells no interval")):
         text, said = captured(place, pcap([*started, *rest]))
         has(text, TABLE + "\n")
-        has(said, why)
+        has(said, why, f"left out: {len(rest) // 2} echo packets that came: no session has the Echo function on here and sent them")
+        same(" drop " in place.replay(text), False, "drops")
+
+
+@test("dpkt")
+def capture_leaves_out_echo_packets_of_others(place):
+    """As another daemon sends them: from its own address to the peer's, which sends them back; 82 of them."""
+    frames = [(moment, framed(ETHERNET, ip)) for moment, ip in handshake()]
+    for at in range(82):
+        frames += [(400000 + at * 50000, framed(ETHERNET, ip_packet(OURS, PEER, 3785, bytes(24)))),
+                   (400500 + at * 50000, framed(ETHERNET, ip_packet(PEER, OURS, 3785, bytes(24), ttl=254)))]
+    text, said = captured(place, pcap(frames))
+    same((" echo " in text, " drop " in place.replay(text)), (False, False), "echo packets and drops")
+    has(said, "left out: 82 echo packets that came", "left out: 82 echo packets that the local side sent to a peer")
+    frames = [(moment, framed(ETHERNET, ip_packet(OURS, OURS, 3785, bytes(24), ttl=ttl)))
+              for at in range(82) for moment, ttl in ((400000 + at * 50000, 255), (400500 + at * 50000, 254))]
+    text, said = captured(place, pcap([(moment, framed(ETHERNET, ip)) for moment, ip in handshake()] + frames))
+    same((" echo " in text, " drop " in place.replay(text)), (False, False), "echo packets to the own address")
+    has(said, "left out: 82 echo packets that came", "left out: 82 echo packets that the local side sent, in another form than bfdd's")
+
+
+@test("dpkt")
+def capture_keeps_its_start_beside_the_packet_file(place):
+    frames, path = [(moment, framed(ETHERNET, ip)) for moment, ip in handshake()], place.folder / "own.script"
+    text, said = captured(place, pcap(frames), "-o", path)
+    same((text, path.read_text(), "the capture began" in said), ("", wanted_file(), False), "the packet file")
+    same((place.folder / "own.script.start").read_text(), "start 2023-11-14T22:13:20.000000Z\n", "its start")  # captures.START
+    has(captured(place, pcap(frames))[1], "the capture began at 2023-11-14 22:13:20.000000 UTC; with -o FILE")
+    report = place.file("own.report", place.replay(path.read_text()))
+    for name, start in (("own.script", captures.START), ("other.script", 0)):
+        place.file("other.script", path.read_text())
+        place.tool("packets", place.folder / name, "--report", report, "-o", place.folder / "a.pcapng")
+        moments = [packet.moment for packet in captures.packets((place.folder / "a.pcapng").read_bytes()) if packet.inbound]
+        same(moments, [start + moment for moment, is_ours, _ in captures.HANDSHAKE if not is_ours], f"the moments of {name}")
+    has(captured(place, pcap(frames), "-o", place.folder / "none/own.script", status=1)[1], "No such file")
+
+
+@test("dpkt")
+def capture_takes_prefixes(place):
+    peers = [bytes([10, 9, 0, at]) for at in range(1, 61)]
+    frames = [(moment + at, framed(ETHERNET, ip)) for at, ours in enumerate(peers) for moment, ip in handshake(ours=ours)]
+    path = place.file("a.pcap", pcap(sorted(frames)))
+    text, _ = place.tool("capture", "--local", "10.9.0.0/26", path)
+    same((text.count("\np2p "), text.count("\nrx ")), (60, 180), "sessions and packets")
+    same(place.tool("capture", "--local", "10.9.0.7/32", path)[0].count("\np2p "), 1, "one address")
+    six = place.file("b.pcap", pcap([(moment, framed(ETHERNET, ip)) for moment, ip in handshake(OURS_6, PEER_6)]))
+    same(place.tool("capture", "--local", "10.0.0.0/8", "--local", "fd00::1/128", six)[0].count("\np2p "), 1, "IPv6")
+    has(place.tool("capture", "--local", "10.9.0.0/33", path, status=1)[1], "--local: '10.9.0.0/33'")
 
 
 @test("dpkt")
@@ -244,8 +301,12 @@ def capture_says_what_it_left_out(place):
 def capture_explains_bad_input(place):
     whole = pcap([(moment, framed(ETHERNET, ip)) for moment, ip in handshake()])
     bad = {b"": "the file is empty", whole[:10]: "cut off in its header", b"bfd 1\nrun\nend\n": "is no capture that is read here",
-           b"\x1f\x8b\x08\0": "(gzip)", whole[:24]: "there is no BFD packet",
+           b"\x1f\x8b\x08\0": "cut off or damaged behind frame 0", whole[:24]: "there is no BFD packet",
            pcap([(0, framed(ETHERNET, ip_packet(PEER, OURS, 53, b"x")))]): "there is no BFD packet",
+           pcap([(moment, framed(ETHERNET, ip)) for moment, ip in handshake()], snap=50):
+           "each of its 6 packets that may be of BFD is cut short by the capture's snap length: capture whole frames, as `tcpdump -s 0`",
+           pcap([(moment, framed(ETHERNET, ip)) for moment, ip in handshake(OURS_6, PEER_6)], snap=50): "each of its 6 packets that may be",
+           gzip.compress(b"bfd 1"): "is no capture that is read here",
            pcap([(0, bytes(60))], 105): "1 frames of link type 105, which isn't read here",
            pcapng([])[:30]: "cut off", b"\x0a\x0d\x0d\x0a": "cut off in its header",
            pcapng([])[:28] + struct.pack("<II", 1, 0) + bytes(16): "left out what is behind: the file is cut off or damaged behind frame 0",

@@ -10,6 +10,7 @@ sys.path.insert(0, str(TOP / "tests"))
 from outside import Wrong, has, same
 
 EXAMPLES = sorted((TOP / "examples").glob("*.script"))
+TOOLS = sorted(path.name for path in (TOP / "tools").iterdir() if path.is_file() and not path.suffix)
 TESTS = []
 
 
@@ -34,7 +35,7 @@ class Place:
 
     def tool(self, name, *words, status=0, text=b""):
         """What a tool wrote to standard output and to standard error."""
-        more = ["--program", shlex.join(self.program)] if name != "capture" else []
+        more = ["--program", shlex.join(self.program)] if name not in ("capture", "script") else []
         ran = subprocess.run([TOP / "tools" / name, *map(str, words), *more], input=text, capture_output=True, timeout=1200)
         complaint = ran.stderr.decode("utf-8")
         if ran.returncode != status or "Traceback" in complaint:
