@@ -5,6 +5,7 @@
 #include "log.h"
 
 #include <errno.h>
+#include <inttypes.h>
 #include <net/if.h>
 #include <netinet/in.h>
 #include <string.h>
@@ -12,7 +13,9 @@
 #include <time.h>
 #include <unistd.h>
 
-enum { BATCH = 64, ROUNDS = 64, CONTROL_ROOM = 128, SOURCE_PORT = 49152, TTL = 255, TOS = 0xc0, BUFFER = 4 << 20 };
+enum { BATCH = 64, ROUNDS = 64, CONTROL_ROOM = 128, TTL = 255, TOS = 0xc0, BUFFER = 4 << 20 };
+/* RFC 5881 section 4: source ports. FRR's bfdd holds one for each session that it made before a data plane came. */
+enum { FIRST_SOURCE_PORT = 49152, LAST_SOURCE_PORT = 65535 };
 
 static const struct { int family; uint16_t udp; uint32_t port; } kinds[SOCKETS] = {
     {AF_INET, 3784, BFDD_PORT_SINGLE}, {AF_INET, 4784, BFDD_PORT_MULTI},
@@ -96,24 +99,25 @@ static int open_one(int family, uint16_t port) {
     return -1;
 }
 
-/* Opens one; a family that the system doesn't have is no failure. */
-static bool open_or_say(int family, uint16_t port, int *fd) {
-    *fd = open_one(family, port);
+/* Opens one on the first free port of these; a family that the system doesn't have is no failure. */
+static bool open_or_say(int family, uint32_t port, uint32_t last, int *fd) {
+    do *fd = open_one(family, (uint16_t)port);
+    while (*fd < 0 && errno == EADDRINUSE && ++port <= last);
     if (*fd >= 0 || errno == EAFNOSUPPORT) return true;
-    say(LOG_ERROR, "UDP port %d: %s", port, strerror(errno));
+    say(LOG_ERROR, "UDP port %" PRIu32 ": %s", port, strerror(errno));
     return false;
 }
 
 bool sockets_open(int receivers[SOCKETS]) {
     batch_begin(&incoming);
     for (int i = 0; i < SOCKETS; i++) {
-        if (!open_or_say(kinds[i].family, kinds[i].udp, &receiving[i])) return false;
+        if (!open_or_say(kinds[i].family, kinds[i].udp, kinds[i].udp, &receiving[i])) return false;
         receivers[i] = receiving[i];
         drained[i] = clock_now();
     }
     for (int i = 0; i < 2; i++) {
         batch_begin(&senders[i].batch);
-        if (!open_or_say(i == 0 ? AF_INET : AF_INET6, SOURCE_PORT, &senders[i].fd)) return false;
+        if (!open_or_say(i == 0 ? AF_INET : AF_INET6, FIRST_SOURCE_PORT, LAST_SOURCE_PORT, &senders[i].fd)) return false;
         if (senders[i].fd >= 0) set(senders[i].fd, SOL_SOCKET, SO_RCVBUF, 0); /* nothing is read from it */
     }
     return true;
