@@ -43,8 +43,8 @@ static size_t find_closed(void) {
     return place;
 }
 
-static void drop(size_t place, const char *cause, uint64_t now) {
-    say(LOG_WARNING, "connection %zu to FRR ended: %s", place + 1, cause);
+static void drop(size_t place, enum log_level level, const char *cause, uint64_t now) {
+    say(level, "connection %zu to FRR ended: %s", place + 1, cause);
     link_close(&links[place]);
     sessions_lost(sessions, (uint32_t)place + 1, now);
     if (listener < 0 && count_open() == 0) connect_at = now + PAUSE;
@@ -92,7 +92,7 @@ static void accept_link(uint64_t now) {
 
 /* An echo reply came: all is there that FRR had for this connection. One that brought nothing isn't needed beside another. */
 static void answered(size_t place, uint64_t now) {
-    if (!has_sessions[place] && listener < 0 && count_open() > 1) drop(place, "no session was left for it", now);
+    if (!has_sessions[place] && listener < 0 && count_open() > 1) drop(place, LOG_INFO, "no session was left for it", now);
 }
 
 static void carry_out(size_t place, const struct dp_message *message, uint64_t now) {
@@ -129,7 +129,7 @@ static void carry_out_all(size_t place, uint64_t now) {
     struct dp_message message;
     enum link_next next = LINK_NONE;
     while (link->fd >= 0 && (next = link_next(link, &message)) == LINK_MESSAGE) carry_out(place, &message, now);
-    if (link->fd >= 0 && next == LINK_BROKEN) drop(place, "its messages can't be read", now);
+    if (link->fd >= 0 && next == LINK_BROKEN) drop(place, LOG_WARNING, "its messages can't be read", now);
     if (received >= NEARLY_FULL && listener < 0 && connect_at == NEVER) connect_at = now;
 }
 
@@ -166,7 +166,7 @@ void control_event(uint32_t number, uint64_t now) {
     }
     bool goes_on = link_read(link);
     carry_out_all(place, now);
-    if (!goes_on && link->fd >= 0) drop(place, "closed by FRR", now);
+    if (!goes_on && link->fd >= 0) drop(place, LOG_WARNING, "closed by FRR", now);
 }
 
 void control_tick(uint64_t now) {
@@ -174,7 +174,7 @@ void control_tick(uint64_t now) {
     for (size_t i = 0; i < LINKS; i++) {
         if (links[i].fd < 0 || links[i].connecting) continue;
         if (!link_flush(&links[i])) {
-            drop(i, strerror(errno), now);
+            drop(i, LOG_WARNING, strerror(errno), now);
             continue;
         }
         if (links[i].in_to > links[i].in_from) carry_out_all(i, now);

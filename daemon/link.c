@@ -9,6 +9,7 @@
 #include <netinet/in.h>
 #include <stdlib.h>
 #include <string.h>
+#include <sys/stat.h>
 #include <sys/un.h>
 #include <unistd.h>
 
@@ -65,10 +66,16 @@ bool endpoint_parse(const char *text, struct endpoint *endpoint) {
     return false;
 }
 
+/* Removes a socket that an earlier run has left there, and nothing else. */
+static void remove_socket(const char *path) {
+    struct stat found;
+    if (lstat(path, &found) == 0 && S_ISSOCK(found.st_mode)) unlink(path);
+}
+
 int endpoint_listen(const struct endpoint *endpoint) {
     int on = 1, fd = socket(endpoint->address.ss_family, SOCK_STREAM | SOCK_NONBLOCK | SOCK_CLOEXEC, 0);
     const struct sockaddr *at = (const struct sockaddr *)&endpoint->address;
-    if (at->sa_family == AF_UNIX) unlink(((const struct sockaddr_un *)at)->sun_path);
+    if (at->sa_family == AF_UNIX) remove_socket(((const struct sockaddr_un *)at)->sun_path);
     if (fd >= 0 && setsockopt(fd, SOL_SOCKET, SO_REUSEADDR, &on, sizeof on) == 0 && bind(fd, at, endpoint->length) == 0
         && listen(fd, 8) == 0)
         return fd;
