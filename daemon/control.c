@@ -7,6 +7,7 @@
 #include <errno.h>
 #include <string.h>
 #include <sys/epoll.h>
+#include <unistd.h>
 
 enum { FRR_QUEUE = 8192, NEARLY_FULL = FRR_QUEUE - DP_SESSION_LENGTH };
 static const uint64_t NEVER = UINT64_MAX, PAUSE = 1000000;
@@ -14,6 +15,8 @@ static const uint64_t NEVER = UINT64_MAX, PAUSE = 1000000;
 /* A link's place in `links`, and one more, is the owner of its sessions and its number for epoll. */
 static struct link links[LINKS];
 static bool has_sessions[LINKS];
+static uint32_t interest[LINKS]; /* the events that epoll awaits of each */
+static size_t top;               /* no link is open at this place or above */
 static struct endpoint peer;
 static struct sessions *sessions;
 static int epoll_fd, listener = -1;
@@ -22,17 +25,24 @@ static uint64_t connect_at = NEVER;
 static size_t received; /* bytes of sessions since the last connection was opened */
 static bool is_refused; /* the last connection failed, which was said */
 
-static void set_interest(size_t place, int operation) {
-    struct link *link = &links[place];
-    struct epoll_event event = {.data.u32 = epoll_base + 1 + (uint32_t)place};
+/* The events that a link waits for: none is read while there is no room for an answer. */
+static uint32_t events_of(const struct link *link) {
     bool has_room = sizeof link->out - link->out_count >= LINK_REPLY;
-    event.events = link->connecting ? EPOLLOUT : (has_room ? EPOLLIN : 0u) | (link->out_count > 0 ? EPOLLOUT : 0u);
-    epoll_ctl(epoll_fd, operation, link->fd, &event);
+    if (link->connecting) return EPOLLOUT;
+    return (has_room ? EPOLLIN : 0u) | (link->out_count > 0 ? EPOLLOUT : 0u);
+}
+
+static void set_interest(size_t place, int operation) {
+    struct epoll_event event = {.events = events_of(&links[place]), .data.u32 = epoll_base + 1 + (uint32_t)place};
+    if (operation == EPOLL_CTL_MOD && interest[place] == event.events) return;
+    interest[place] = event.events;
+    if (place >= top) top = place + 1;
+    epoll_ctl(epoll_fd, operation, links[place].fd, &event);
 }
 
 static size_t count_open(void) {
     size_t count = 0;
-    for (size_t i = 0; i < LINKS; i++) count += links[i].fd >= 0;
+    for (size_t i = 0; i < top; i++) count += links[i].fd >= 0;
     return count;
 }
 
@@ -81,9 +91,8 @@ static void accept_link(uint64_t now) {
     size_t place = find_closed();
     if (fd < 0) return say(LOG_WARNING, "accept: %s", strerror(errno));
     if (place == LINKS) {
-        struct link refused;
-        refused.fd = fd;
-        return link_close(&refused);
+        close(fd);
+        return;
     }
     link_begin(&links[place], fd);
     begin(place, now);
@@ -171,7 +180,8 @@ void control_event(uint32_t number, uint64_t now) {
 
 void control_tick(uint64_t now) {
     if (connect_at <= now) open_link(now);
-    for (size_t i = 0; i < LINKS; i++) {
+    while (top > 0 && links[top - 1].fd < 0) top--;
+    for (size_t i = 0; i < top; i++) {
         if (links[i].fd < 0 || links[i].connecting) continue;
         if (!link_flush(&links[i])) {
             drop(i, LOG_WARNING, strerror(errno), now);

@@ -393,15 +393,20 @@ void sessions_remove(struct sessions *all, uint32_t discr, uint64_t now) {
     else say(LOG_DEBUG, "no session has the discriminator %" PRIu32, discr);
 }
 
-/* Closes each session of this owner that ends by now. A removal moves others in the heap, so passes go on until none is left. */
-static void close_ended(struct sessions *all, uint32_t owner, uint64_t now) {
-    for (size_t before = all->count + 1; before != all->count;) {
-        before = all->count;
-        for (size_t i = 0; i < all->count; i++) {
-            struct session *s = all->heap[i];
-            if (s->owner == owner && s->ends <= now) close_session(all, s, now);
+typedef void session_act(struct sessions *all, struct session *s, uint64_t now);
+
+/* Does this to each session, which it may close. The heap's order may change meanwhile, a hash table's doesn't. */
+static void for_each(struct sessions *all, session_act *act, uint64_t now) {
+    for (size_t i = 0; i < BUCKETS; i++) {
+        for (struct session *s = all->by_discr[i], *next; s; s = next) {
+            next = s->next_discr;
+            act(all, s, now);
         }
     }
+}
+
+static void close_ended(struct sessions *all, struct session *s, uint64_t now) {
+    if (s->owner == NO_OWNER && s->ends <= now) close_session(all, s, now);
 }
 
 void sessions_lost(struct sessions *all, uint32_t owner, uint64_t now) {
@@ -411,7 +416,7 @@ void sessions_lost(struct sessions *all, uint32_t owner, uint64_t now) {
         s->owner = NO_OWNER;
         s->ends = now + all->keep;
     }
-    close_ended(all, NO_OWNER, now);
+    for_each(all, close_ended, now);
 }
 
 /* Time ----------------------------------------------------------------------------------------------------------------- */
@@ -430,8 +435,8 @@ static void second(struct sessions *all, struct session *s, uint64_t now) {
 }
 
 static void chores(struct sessions *all, uint64_t now) {
-    close_ended(all, NO_OWNER, now);
-    for (size_t i = 0; i < all->count; i++) second(all, all->heap[i], now);
+    for_each(all, close_ended, now);
+    for_each(all, second, now);
     all->next_chores = now + SECOND;
 }
 
@@ -462,21 +467,18 @@ struct dp_counters sessions_counters(const struct sessions *all, uint32_t discr)
     return s ? s->counters : (struct dp_counters){0};
 }
 
-void sessions_list(struct sessions *all, uint64_t now) {
-    for (size_t i = 0; i < all->count; i++) {
-        struct session *s = all->heap[i];
-        bfdd_answered shown = {0};
-        if (!s->is_open || bfdd_show(&s->engine, since_base(s, now), s->wanted.discr) != BFDD_DONE) {
-            say(LOG_REPORT, "%s: not begun", name_of(s));
-            continue;
-        }
-        bfdd_answer(&s->engine, &shown);
-        say(LOG_REPORT, "%s: %s, peer %s, sends every %" PRIu32 " us, Detection Time %" PRIu64 " us, packets %" PRIu64 " in %" PRIu64 " out",
-            name_of(s), states[shown.state & 3], states[shown.remote_state & 3], shown.used_tx, shown.detect, s->counters.packets_in,
-            s->counters.packets_out);
-        take_outputs(all, s, now);
-    }
+static void list_one(struct sessions *all, struct session *s, uint64_t now) {
+    bfdd_answered shown = {0};
+    if (!s->is_open || bfdd_show(&s->engine, since_base(s, now), s->wanted.discr) != BFDD_DONE)
+        return say(LOG_REPORT, "%s: not begun", name_of(s));
+    bfdd_answer(&s->engine, &shown);
+    finish(all, s, now);
+    say(LOG_REPORT, "%s: %s, peer %s, sends every %" PRIu32 " us, Detection Time %" PRIu64 " us, packets %" PRIu64 " in %" PRIu64 " out",
+        name_of(s), states[shown.state & 3], states[shown.remote_state & 3], shown.used_tx, shown.detect, s->counters.packets_in,
+        s->counters.packets_out);
 }
+
+void sessions_list(struct sessions *all, uint64_t now) { for_each(all, list_one, now); }
 
 struct sessions *sessions_new(session_teller *tell, void *context, uint64_t keep) {
     struct sessions *all = calloc(1, sizeof *all);
@@ -485,7 +487,7 @@ struct sessions *sessions_new(session_teller *tell, void *context, uint64_t keep
 }
 
 void sessions_free(struct sessions *all, uint64_t now) {
-    while (all->count > 0) close_session(all, all->heap[all->count - 1], now);
+    for_each(all, close_session, now);
     free(all->heap);
     free(all);
 }
