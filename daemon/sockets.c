@@ -62,11 +62,18 @@ static uint64_t clock_of(clockid_t clock) {
 
 uint64_t clock_now(void) { return clock_of(CLOCK_MONOTONIC); }
 
+/* Makes a message ready to receive: the kernel has written what it used of the room. */
+static void give_room(struct msghdr *message) {
+    message->msg_namelen = sizeof(union name);
+    message->msg_controllen = CONTROL_ROOM;
+}
+
 static void batch_begin(struct batch *batch) {
     for (int i = 0; i < BATCH; i++) {
         batch->parts[i] = (struct iovec){batch->payloads[i], PAYLOAD_ROOM};
         batch->messages[i].msg_hdr = (struct msghdr){.msg_name = &batch->names[i], .msg_iov = &batch->parts[i], .msg_iovlen = 1,
                                                      .msg_control = &batch->controls[i]};
+        give_room(&batch->messages[i].msg_hdr);
     }
 }
 
@@ -174,16 +181,13 @@ static void arrived(int place, unsigned i, uint64_t now, uint64_t wall, struct a
 void sockets_receive(int place, arrival_taker *take, void *context) {
     int got = BATCH;
     for (int round = 0; got == BATCH && round < ROUNDS; round++) {
-        for (int i = 0; i < BATCH; i++) {
-            incoming.messages[i].msg_hdr.msg_namelen = sizeof(union name);
-            incoming.messages[i].msg_hdr.msg_controllen = CONTROL_ROOM;
-        }
         got = recvmmsg(receiving[place], incoming.messages, BATCH, 0, NULL);
         uint64_t now = clock_now(), wall = clock_of(CLOCK_REALTIME);
         for (int i = 0; i < got; i++) {
             struct arrival arrival;
             arrived(place, (unsigned)i, now, wall, &arrival);
             take(context, &arrival);
+            give_room(&incoming.messages[i].msg_hdr);
         }
         if (got < BATCH) drained[place] = now;
     }
