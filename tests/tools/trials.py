@@ -48,10 +48,11 @@ class Place:
     def tree(self):
         """A copy of what bin/install needs, in which the program counts as proved."""
         top = self.folder / "tree"
-        for part in ("bin", "tools", "man", "docs", "include"):
+        for part in ("bin", "tools", "man", "docs", "include", "daemon"):
             shutil.copytree(TOP / part, top / part, ignore=shutil.ignore_patterns("__pycache__"))
         (top / "stand-in").write_text(f'#!/bin/sh\nexec {shlex.join(self.program)} "$@"\n')
         (top / "bin/proved").write_text(f"#!/bin/sh\necho {shlex.quote(str(top / 'stand-in'))}\n")
         (top / "bin/library").write_text('#!/bin/sh\necho a stand-in >"$1/libbfdd.a"\n')
+        (top / "bin/dplane").write_text('#!/bin/sh\necho a stand-in >"$1/bfdd-dplane"\n')
         (top / "stand-in").chmod(0o755)
         return top
