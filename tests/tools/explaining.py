@@ -154,6 +154,7 @@ def explain_and_judge_agree_with_two_birds(place):
     """A BIRD is killed and started again: the other's log has the same changes, and both ends of the capture are right."""
     with Net(place) as net, net.captured("a") as path:
         net.bird("a")
+        time.sleep(1)  # (a BIRD that doesn't listen yet misses the other's first packet, which the capture has)
         other = net.bird("b")
         log = place.folder / "bird-a.log"
         wait_for(lambda: log.exists() and " to Up" in log.read_text(), "the BIRDs come Up")
