@@ -8,7 +8,7 @@ ghost use Rattle.bfd_plan.specs.Planned.{IsMet, route_is};
 
 use bfd_num::Steps;
 use bfd_plan::Route;
-use bfd_rules::{Out, Outs};
+use bfd_rules::Outs;
 use bfd_session::Answer;
 use bfd_shard::{ShardEvent, ShardState};
 use bfd_wheel::Timers;
@@ -68,8 +68,8 @@ pub(crate) fn happen<W: Timers>(
     outs.clear();
     match route {
         Route::Rests(answer) => Ok(answer),
-        Route::Answers { discr, datagram } => {
-            outs.push(Out::Sent { discr, datagram });
+        Route::Answers(out) => {
+            outs.push(out);
             Ok(Answer::Handled)
         }
         Route::Happens(event) => {

@@ -1,8 +1,8 @@
 -- An engine behind a handle, and what a call makes of it. A call's code is 0 where it did its work, 1 where the handle is closed,
 -- 2 for want of memory, 3 where a value is outside its range, 4 where nothing is left, 5 where a text is no table and 6 where it
 -- has event lines.
-use Rattle.std.specs.Prelude.{ℕ, List, [], ◌∷◌, Option, None, Some, Result, Ok, Err, fold}
-use Rattle.bfd_num.specs.Due.{sooner}
+use Rattle.std.specs.Prelude.{ℕ, List, [], ◌∷◌, Option, None, Some, Result, Ok, Err, map}
+use Rattle.bfd_lanes.specs.Places.{least}
 use Rattle.bfd_rules.specs.declared.outputs.Out.{Out}
 use Rattle.bfd_sbfd.specs.declared.reflecting.Reflector.{Reflector}
 use Rattle.bfd_session.specs.declared.event.SessionConfig.{SessionConfig}
@@ -61,7 +61,7 @@ opened_for (Some config) held = (Some (new_instance (config ∷ []) []), 0)
 
 -- the least tick that a session needs next
 abbrev pub soonest : List Running → Option ℕ
-soonest sessions = fold (λ least s. sooner least (due s)) None sessions
+soonest sessions = least (map due sessions)
 
 -- the first of the outputs that are left
 abbrev pub first_of : List Out → Option Out

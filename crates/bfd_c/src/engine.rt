@@ -4,12 +4,12 @@ ghost use Rattle.std.specs.Option.{option_copied};
 ghost use Rattle.bfd_replay.specs.Stage.{IsTable};
 ghost use Rattle.bfd_c.specs.Engines.{instance_after, asked, first_of, soonest, new_instance};
 
+use bfd_levels::ByCount;
 use bfd_line::Line;
-use bfd_num::sooner;
-use bfd_replay::Progress;
+use bfd_replay::Instance as World;
 use bfd_rules::Out;
 use bfd_sbfd::Reflector;
-use bfd_session::{Answer, Session, SessionConfig};
+use bfd_session::{Answer, SessionConfig};
 use std::alloc::{AllocError, Global};
 use std::marker::Model;
 
@@ -30,7 +30,7 @@ pub(crate) const EVENTS: u32 = 6;
 /// Sessions and reflectors, the outputs of the last event, of which so many were read, and its answer.
 #[derive(Drop)]
 pub struct Engine {
-    world: Progress,
+    world: World<ByCount>,
     read: usize,
     answer: Answer,
 }
@@ -42,15 +42,6 @@ impl Model for Engine {
     ghost Value = { Instance };
 
     ghost view = { λ e. record { world = e.world.world; left = drop e.read e.world.items; answer = e.answer } };
-}
-
-/// The sooner of this due tick and those of the sessions.
-fn soonest_of(sessions: &[Session]) -> Option<u64>
-    ensures { result ≡ soonest sessions.now }
-{
-    sessions
-        .iter()
-        .fold(None, |least, session| sooner(least, session.due()))
 }
 
 /// How many outputs were read, once one more was, if one was left.
@@ -71,7 +62,7 @@ impl Engine {
         requires { IsTable configs.items pool.items }
         ensures { IfOk result (λ engine. engine ≡ new_instance configs.items pool.items) }
     {
-        let world = Progress::open(alloc, configs, pool)?;
+        let world = World::open(alloc, configs, pool)?;
         let read = world.items().len();
         Ok(Engine {
             world,
@@ -105,7 +96,7 @@ impl Engine {
     pub(crate) fn due(&self) -> Option<u64>
         ensures { result ≡ soonest self.now.world.sessions }
     {
-        soonest_of(self.world.sessions())
+        self.world.due()
     }
 
     /// The first output that is left to be read.

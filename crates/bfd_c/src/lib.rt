@@ -5,8 +5,8 @@
 //! and `bfdd_show` are one event each. `bfdd_next` then hands out the event's outputs one by one, `bfdd_answer` what it was
 //! answered, and `bfdd_due` the tick that is needed next. `include/bfdd.h` is the C side.
 //!
-//! It stands on `bfd_replay`, whose `Progress` is a world of sessions that goes event by event and keeps no journal, on
-//! `bfd_script` for the lines of a table, and on what those stand on. It promises that each call is that world's event, or the
+//! It stands on `bfd_replay`, whose `Instance` is a world of sessions that goes event by event and keeps no journal, on
+//! `bfd_levels` for its timers, on `bfd_script` for the lines of a table, and on what those stand on. It promises that each call is that world's event, or the
 //! code that says why it is none, exactly by its cause; that nothing changes where a call is refused; and that what is handed
 //! out is what the event gave, field by field. No call asks anything of a handle: one of zeros is closed, and refused.
 //!

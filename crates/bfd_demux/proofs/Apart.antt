@@ -6,7 +6,7 @@ use Rattle.bfd_demux.proofs.Ascending.{how_many-cons}
 use Rattle.bfd_demux.proofs.Once.{how_many-append, how_many-map, how_many-filter, how_many_weaker}
 
 -- a test that no element passes finds no place
-nowhere : {X : Type 0} (test : X → Bool) (n : ℕ) (xs : List X) → how_many test xs ≤ 0 → position_from test n xs ≡ None
+pub nowhere : {X : Type 0} (test : X → Bool) (n : ℕ) (xs : List X) → how_many test xs ≤ 0 → position_from test n xs ≡ None
 nowhere test n [] few = refl
 nowhere test n (x ∷ xs) few = go (nowhere test (n + 1) xs) (test x) refl
   where
@@ -20,7 +20,7 @@ nowhere test n (x ∷ xs) few = go (nowhere test (n + 1) xs) (test x) refl
         rw is (rest (omega arith))
 
 -- rows of which each is like one at most, and that one is itself: none is like an earlier one
-apart_after : (same : Row → Row → Bool) → ((row : Row) → (same row row ≡ true) ⊎ ((other : Row) → same row other ≡ false)) → (earlier rows : List Row) →
+pub apart_after : (same : Row → Row → Bool) → ((row : Row) → (same row row ≡ true) ⊎ ((other : Row) → same row other ≡ false)) → (earlier rows : List Row) →
     ((row : Row) → how_many (same row) (earlier ++ rows) ≤ 1) → repeat_after same earlier rows ≡ None
 apart_after same alike earlier [] once = refl
 apart_after same alike earlier (row ∷ rows) once =
@@ -44,7 +44,7 @@ discrs_apart rows once = apart_after same_discr (λ row. inl (eq-eqb row.discr r
     omega (arith, once row.discr))
 
 -- a kind with addresses is like itself, and any other like none
-alike_or_never : (a : RowKind) (b : Bool) → has_addresses a ≡ b → (same_selector a a ≡ true) ⊎ ((other : Row) → same_selector a other.kind ≡ false)
+pub alike_or_never : (a : RowKind) (b : Bool) → has_addresses a ≡ b → (same_selector a a ≡ true) ⊎ ((other : Row) → same_selector a other.kind ≡ false)
 alike_or_never a true h = inl (cc (selector_level a a h, tied_itself total-law a))
 alike_or_never a false h = inr (λ other. unaddressed a other.kind h)
 

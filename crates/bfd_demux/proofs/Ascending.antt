@@ -1,5 +1,5 @@
 -- Tables in ascending order, and how many of their entries pass a test.
-use Rattle.bfd_demux.proofs.Common.{◌≡◌, ◌<◌, ◌≤◌, ℕ, ◌+◌, ◌-◌, ◌*◌, ◌^◌, Bool, true, false, cond, List, [], ◌∷◌, length, get_or, refl, sym, ◌∙◌, ap, arith, suc, zero, inl, inr, ◌⊎◌, leb_tells, sorted_far, sum_by-IsPermutation, filter, list_any, is_eq, is_lt, ordering_reverse, IsTotalOrder, tied_itself, alike_right, Ordering, Less, Equal, Greater, how_many, HasKeysOnce, IsAscending, IsPlaceOf, pow-le-pow_right, mul-le-mul_left, eq-or-lt_of_le}
+use Rattle.bfd_demux.proofs.Common.{◌≡◌, ◌<◌, ◌≤◌, ℕ, ◌+◌, ◌-◌, ◌*◌, ◌^◌, Bool, true, false, cond, List, [], ◌∷◌, length, get_or, refl, sym, ◌∙◌, ap, arith, suc, zero, inl, inr, ◌⊎◌, leb_tells, sorted_far, sum_by-IsPermutation, filter, list_any, is_eq, is_lt, ordering_reverse, IsTotalOrder, tied_itself, alike_right, Ordering, Less, Equal, Greater, how_many, HasKeysOnce, HasSame, IsAscending, IsPlaceOf, nat_lt, nat_tests, ◌||◌, pow-le-pow_right, mul-le-mul_left, eq-or-lt_of_le}
 use Rattle.std.proofs.lemmas.Nat.{pow-add}
 use Rattle.std.proofs.lemmas.List.Sums.{length-filter}
 use Rattle.std.proofs.lemmas.List.MinMax.{ranks_by}
@@ -17,8 +17,28 @@ pub how_many-cons : {X : Type 0} (test : X → Bool) (x : X) (xs : List X) → h
 how_many-cons test x xs =
     elim (test x) as (λ b. length (cond b (x ∷ filter test xs) (filter test xs)) ≡ cond b 1 0 + how_many test xs) [ true ↦ omega arith | false ↦ omega arith ]
 
+counted_any : (b : Bool) {l : Bool} (n : ℕ) → l ≡ nat_lt 0 n → (b || l) ≡ nat_lt 0 (cond b 1 0 + n)
+counted_any true n e = grind (arith, nat_tests)
+counted_any false n e = e ∙ ap (nat_lt 0) (omega arith)
+
+-- some element passes where one at least is counted
+pub list_any_counted : {X : Type 0} (test : X → Bool) (xs : List X) → list_any test xs ≡ nat_lt 0 (how_many test xs)
+list_any_counted test [] = refl
+list_any_counted test (x ∷ xs) = counted_any (test x) (how_many test xs) (list_any_counted test xs) ∙ ap (nat_lt 0) (sym (how_many-cons test x xs))
+
+how_many_all : {X : Type 0} (xs : List X) → how_many (λ _. true) xs ≡ length xs
+how_many_all [] = refl
+how_many_all (x ∷ xs) = ap suc (how_many_all xs)
+
+-- the same elements: as many, and a test is passed by some alike
+pub length-HasSame : {X : Type 0} (xs ys : List X) → HasSame xs ys → length ys ≡ length xs
+length-HasSame xs ys same = sym (how_many_all ys) ∙ same (λ _. true) ∙ how_many_all xs
+
+pub list_any-HasSame : {X : Type 0} (test : X → Bool) (xs ys : List X) → HasSame xs ys → list_any test ys ≡ list_any test xs
+list_any-HasSame test xs ys same = list_any_counted test ys ∙ ap (nat_lt 0) (same test) ∙ sym (list_any_counted test xs)
+
 -- an element that passes is counted
-one_passes : {X : Type 0} (test : X → Bool) (xs : List X) (i : ℕ) (d : X) → i < length xs → test (get_or xs i d) ≡ true → 1 ≤ how_many test xs
+pub one_passes : {X : Type 0} (test : X → Bool) (xs : List X) (i : ℕ) (d : X) → i < length xs → test (get_or xs i d) ≡ true → 1 ≤ how_many test xs
 one_passes test [] i d lt pass = absurd (omega arith)
 one_passes test (x ∷ xs) zero d lt pass = rw (how_many-cons, pass) (omega arith)
 one_passes test (x ∷ xs) (suc i) d lt pass =
@@ -37,7 +57,7 @@ two_pass test (x ∷ xs) (suc i) (suc j) d lt within pass also =
     rw how_many-cons (omega arith)
 
 -- the first so many pass and no other: they are counted
-front_passes : {X : Type 0} (test : X → Bool) (xs : List X) (i : ℕ) → i ≤ length xs → ((k : ℕ) (d : X) → k < i → test (get_or xs k d) ≡ true) → ((k : ℕ) (d : X) → i ≤ k → k < length xs → test (get_or xs k d) ≡ false) → how_many test xs ≡ i
+pub front_passes : {X : Type 0} (test : X → Bool) (xs : List X) (i : ℕ) → i ≤ length xs → ((k : ℕ) (d : X) → k < i → test (get_or xs k d) ≡ true) → ((k : ℕ) (d : X) → i ≤ k → k < length xs → test (get_or xs k d) ≡ false) → how_many test xs ≡ i
 front_passes test [] i within below above = omega arith
 front_passes test (x ∷ xs) zero within below above =
     let rest = front_passes test xs zero (omega arith) (λ k d lt. absurd (omega arith)) (λ k d le lt. above (suc k) d (omega arith) (omega arith)) in
@@ -73,7 +93,7 @@ module _ {K : Type 0} {cmp : K → K → Ordering} (order : IsTotalOrder cmp) wh
   pub turned : {a b : K} → cmp a b ≡ Less → cmp b a ≡ Greater
   turned {a} {b} less = cc (order.antisymm b a)
 
-  turned_back : {a b : K} → cmp a b ≡ Greater → cmp b a ≡ Less
+  pub turned_back : {a b : K} → cmp a b ≡ Greater → cmp b a ≡ Less
   turned_back {a} {b} more = cc (order.antisymm b a)
 
   -- of two keys that are not in falling order and differ, the first is lower

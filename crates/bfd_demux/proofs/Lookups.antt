@@ -1,5 +1,5 @@
 -- What a lookup in a sorted table says of the rows.
-use Rattle.bfd_demux.proofs.Common.{◌≡◌, ◌<◌, ◌≤◌, ℕ, ◌+◌, Bool, true, false, cond, not, ◌==◌, ◌&&◌, ◌||◌, nat_lt, List, [], ◌∷◌, length, map, get_or, refl, sym, ◌∙◌, ap, arith, inl, inr, Option, Some, None, suc, zero, nat_tests, list_any-IsPermutation, length_permutation, length-map, filter, list_any, option_map, nat_cmp, is_eq, is_lt, IsTotalOrder, alike_right, Ordering, cases_eq, and_parts, eqb-true, Port, Row, RowKind, Single, Multi, Seek, Reflect, same_selector, has_addresses, IsIndex, names_of, addresses_of, row_name, name_in, name_on, names_before, is_heard, heard_on, how_many, IsAscending, IsPlaceOf, is_of_kind, row_has_discr, knows, is_session, session_index, reflector_index, only, the_one, index_on, Session, Reflector, eq-or-lt_of_le, filter_agree, Name}
+use Rattle.bfd_demux.proofs.Common.{◌≡◌, ◌<◌, ◌≤◌, ℕ, ◌+◌, Bool, true, false, cond, not, ◌==◌, ◌&&◌, ◌||◌, nat_lt, List, [], ◌∷◌, length, map, get_or, refl, sym, ◌∙◌, ap, arith, inl, inr, Option, Some, None, suc, zero, nat_tests, length-map, filter, list_any, option_map, nat_cmp, is_eq, is_lt, IsTotalOrder, alike_right, Ordering, cases_eq, and_parts, eqb-true, Port, Row, RowKind, Single, Multi, Seek, Reflect, same_selector, has_addresses, IsIndex, names_of, addresses_of, row_name, name_in, name_on, names_before, is_heard, heard_on, how_many, IsAscending, IsPlaceOf, is_of_kind, row_has_discr, knows, is_session, session_index, reflector_index, only, the_one, index_on, Session, Reflector, eq-or-lt_of_le, filter_agree, Name}
 use Rattle.std.proofs.lemmas.List.Folds.{list_any_at}
 use Rattle.std.proofs.Math.Bool.{and-false, and-true, or-false}
 use Rattle.bfd_packet.specs.declared.arrival.Port.TheVariants.{Single as SinglePort, Multi as MultiPort, Echo as EchoPort, Sbfd as SbfdPort, Answer as AnswerPort}
@@ -8,7 +8,7 @@ use Rattle.bfd_demux.specs.contracts.name.NameOrd.TheImpl.Laws as name_laws
 use Rattle.bfd_demux.specs.contracts.row.RowKindOrd.TheImpl as kind_order
 use Rattle.bfd_demux.specs.contracts.row.RowKindOrd.TheImpl.Laws as kind_laws
 use Rattle.bfd_demux.proofs.AlikeRows.{and_assoc, nat_level, selector_level_back, unaddressed_back}
-use Rattle.bfd_demux.proofs.Ascending.{how_many-cons, how_many-IsPermutation, none_passes, le_or_lt, turned}
+use Rattle.bfd_demux.proofs.Ascending.{how_many-cons, length-HasSame, list_any-HasSame, none_passes, le_or_lt, turned}
 use Rattle.bfd_demux.proofs.Once.{how_many-map, how_many_weaker, discr_once, kind_once, sound_rows}
 
 -- ---- numbers and tests
@@ -19,7 +19,7 @@ not_equal_above le other = elim (eq-or-lt_of_le le) [ inl same ↦ absurd (other
 -- ---- lists
 
 -- whether an image passes
-list_any-map : {X Y : Type 0} (test : Y → Bool) (f : X → Y) (xs : List X) → list_any test (map f xs) ≡ list_any (λ x. test (f x)) xs
+pub list_any-map : {X Y : Type 0} (test : Y → Bool) (f : X → Y) (xs : List X) → list_any test (map f xs) ≡ list_any (λ x. test (f x)) xs
 list_any-map test f [] = refl
 list_any-map test f (x ∷ xs) = cc (list_any-map test f xs)
 
@@ -33,11 +33,11 @@ list_any-filter test also (x ∷ xs) =
     ]
 
 -- two tests that agree
-list_any_agree : {X : Type 0} {test other : X → Bool} → ((x : X) → test x ≡ other x) → (xs : List X) → list_any test xs ≡ list_any other xs
+pub list_any_agree : {X : Type 0} {test other : X → Bool} → ((x : X) → test x ≡ other x) → (xs : List X) → list_any test xs ≡ list_any other xs
 list_any_agree same [] = refl
 list_any_agree same (x ∷ xs) = rw (same x, list_any_agree same xs) refl
 
-how_many_agree : {X : Type 0} {test other : X → Bool} → ((x : X) → test x ≡ other x) → (xs : List X) → how_many test xs ≡ how_many other xs
+pub how_many_agree : {X : Type 0} {test other : X → Bool} → ((x : X) → test x ≡ other x) → (xs : List X) → how_many test xs ≡ how_many other xs
 how_many_agree {test} {other} same xs = ap length (filter_agree test other same xs)
 
 stronger_more : (t s : Bool) {l k : Bool} → (s ≡ true → t ≡ true) → (t || l) ≡ false → (l ≡ false → k ≡ false) → (s || k) ≡ false
@@ -46,7 +46,7 @@ stronger_more false true follows none rest = cc (follows refl)
 stronger_more false false follows none rest = rest none
 
 -- a stronger test is passed by none where the weaker is
-list_any_stronger : {X : Type 0} {test : X → Bool} (stronger : X → Bool) → ((x : X) → stronger x ≡ true → test x ≡ true) → (xs : List X) → list_any test xs ≡ false → list_any stronger xs ≡ false
+pub list_any_stronger : {X : Type 0} {test : X → Bool} (stronger : X → Bool) → ((x : X) → stronger x ≡ true → test x ≡ true) → (xs : List X) → list_any test xs ≡ false → list_any stronger xs ≡ false
 list_any_stronger stronger follows [] none = refl
 list_any_stronger {test} stronger follows (x ∷ xs) none = stronger_more _ _ (follows x) none (list_any_stronger _ follows xs)
 
@@ -74,7 +74,7 @@ zero_more true zero_all rest = absurd (omega arith)
 zero_more false zero_all rest = rest (omega arith)
 
 -- the number of those that pass is 0: none passes
-none_of_zero : {X : Type 0} (test : X → Bool) (xs : List X) → how_many test xs ≡ 0 → list_any test xs ≡ false
+pub none_of_zero : {X : Type 0} (test : X → Bool) (xs : List X) → how_many test xs ≡ 0 → list_any test xs ≡ false
 none_of_zero test [] none = refl
 none_of_zero test (x ∷ xs) none = zero_more (test x) (cc (how_many-cons test x xs)) (none_of_zero test xs)
 
@@ -115,7 +115,7 @@ one_of test also (row ∷ rows) few some = one_more_of test also row rows few so
 -- ---- tables
 
 -- at two defaults
-at_default : {X : Type 0} (xs : List X) (i : ℕ) (d e : X) → i < length xs → get_or xs i d ≡ get_or xs i e
+pub at_default : {X : Type 0} (xs : List X) (i : ℕ) (d e : X) → i < length xs → get_or xs i d ≡ get_or xs i e
 at_default [] i d e lt = absurd (omega arith)
 at_default (x ∷ xs) zero d e lt = refl
 at_default (x ∷ xs) (suc i) d e lt = at_default xs i d e (omega arith)
@@ -148,7 +148,7 @@ module _ {K V : Type 0} {cmp : K → K → Ordering} (order : IsTotalOrder cmp) 
             | inr other ↦ rw (unique_at _ key place up at k e lt other) refl
           ])
 
-length-filter-le : {X : Type 0} (test : X → Bool) (xs : List X) → length (filter test xs) ≤ length xs
+pub length-filter-le : {X : Type 0} (test : X → Bool) (xs : List X) → length (filter test xs) ≤ length xs
 length-filter-le test [] = omega arith
 length-filter-le test (x ∷ xs) =
     let rest = length-filter-le test xs in
@@ -212,11 +212,11 @@ session_level kind other discr key e = nat_level discr key
 
 module _ {rows : List Row} {names : List (Name × Option Port)} {addresses : List (RowKind × ℕ)} {sessions : ℕ} (index : IsIndex rows names addresses sessions) where
   -- the names of the table have an entry that passes where a row has
-  any_name : (test : Name × Option Port → Bool) → list_any test names ≡ list_any (λ row. test (row_name row, heard_on row.kind)) rows
-  any_name test = sym (list_any-IsPermutation test (names_of rows) names index.by_name.named) ∙ list_any-map test (λ row. (row_name row, heard_on row.kind)) rows
+  pub any_name : (test : Name × Option Port → Bool) → list_any test names ≡ list_any (λ row. test (row_name row, heard_on row.kind)) rows
+  any_name test = list_any-HasSame test (names_of rows) names index.by_name.named ∙ list_any-map test (λ row. (row_name row, heard_on row.kind)) rows
 
-  many_names : (test : Name × Option Port → Bool) → how_many test names ≡ how_many (λ row. test (row_name row, heard_on row.kind)) rows
-  many_names test = how_many-IsPermutation test index.by_name.named ∙ how_many-map test (λ row. (row_name row, heard_on row.kind)) rows
+  pub many_names : (test : Name × Option Port → Bool) → how_many test names ≡ how_many (λ row. test (row_name row, heard_on row.kind)) rows
+  many_names test = index.by_name.named test ∙ how_many-map test (λ row. (row_name row, heard_on row.kind)) rows
 
   -- one row at most is of the port's kind and has the discriminator
   one_named : (port : Port) (discr : ℕ) → how_many (row_has_discr port discr) rows ≤ 1
@@ -255,14 +255,14 @@ module _ {rows : List Row} {names : List (Name × Option Port)} {addresses : Lis
   few_names =
       let few = (sound_rows rows index.sound).few in
       let mapped : length (names_of rows) ≡ length rows = length-map rows (λ row. (row_name row, heard_on row.kind)) in
-      omega (arith, length_permutation (names_of rows) names index.by_name.named)
+      omega (arith, length-HasSame (names_of rows) names index.by_name.named)
 
   pub few_addresses : length addresses ≤ 65536
   few_addresses =
       let few = (sound_rows rows index.sound).few in
       let mapped : length (addresses_of rows) ≡ length (filter (λ row. has_addresses row.kind) rows) = length-map (filter (λ row. has_addresses row.kind) rows) (λ row. (row.kind, row.discr)) in
       let fewer = length-filter-le (λ row. has_addresses row.kind) rows in
-      omega (arith, length_permutation (addresses_of rows) addresses index.by_addresses.addressed)
+      omega (arith, length-HasSame (addresses_of rows) addresses index.by_addresses.addressed)
 
   -- no row is of the port's kind and has the discriminator
   pub none_named : (port : Port) (discr : ℕ) → false ≡ knows rows port discr → the_one (row_has_discr port discr) rows ≡ None
@@ -277,16 +277,16 @@ module _ {rows : List Row} {names : List (Name × Option Port)} {addresses : Lis
   -- ---- the addresses of rows
 
   -- among the rows with addresses, those of the kind are those that a packet of the kind can't tell apart
-  address_test : (kind : RowKind) → has_addresses kind ≡ true → (row : Row) → (has_addresses row.kind && is_eq (kind_order.ghosts.cmp row.kind kind)) ≡ same_selector kind row.kind
+  pub address_test : (kind : RowKind) → has_addresses kind ≡ true → (row : Row) → (has_addresses row.kind && is_eq (kind_order.ghosts.cmp row.kind kind)) ≡ same_selector kind row.kind
   address_test kind with_addresses row = go (has_addresses row.kind) refl
     where
       go : (b : Bool) → has_addresses row.kind ≡ b → (b && is_eq (kind_order.ghosts.cmp row.kind kind)) ≡ same_selector kind row.kind
       go true is = selector_level_back row.kind kind with_addresses
       go false is = sym (unaddressed_back kind row.kind is)
 
-  any_address : (test : RowKind × ℕ → Bool) → list_any test addresses ≡ list_any (λ row. has_addresses row.kind && test (row.kind, row.discr)) rows
+  pub any_address : (test : RowKind × ℕ → Bool) → list_any test addresses ≡ list_any (λ row. has_addresses row.kind && test (row.kind, row.discr)) rows
   any_address test =
-      cc (list_any-IsPermutation test (addresses_of rows) addresses index.by_addresses.addressed, list_any-map test (λ row. (row.kind, row.discr)) (filter (λ row. has_addresses row.kind) rows), list_any-filter (λ row. test (row.kind, row.discr)) (λ row. has_addresses row.kind) rows)
+      cc (list_any-HasSame test (addresses_of rows) addresses index.by_addresses.addressed, list_any-map test (λ row. (row.kind, row.discr)) (filter (λ row. has_addresses row.kind) rows), list_any-filter (λ row. test (row.kind, row.discr)) (λ row. has_addresses row.kind) rows)
 
   -- the addresses aren't found
   pub address_unknown : (kind : RowKind) → has_addresses kind ≡ true → list_any (λ (entry : RowKind × ℕ). is_eq (kind_order.ghosts.cmp entry.0 kind)) addresses ≡ false →

@@ -1,5 +1,5 @@
 -- In rows without a fault each discriminator and each kind with addresses comes once.
-use Rattle.bfd_demux.proofs.Common.{◌≡◌, ◌≤◌, ℕ, ◌+◌, Bool, true, false, cond, ◌==◌, ◌&&◌, nat_lt, List, [], ◌∷◌, ◌++◌, length, map, refl, ◌∙◌, arith, Option, Some, None, append_assoc, position, append-nil, nat_tests, filter, position_from, option_map, option_or, is_eq, and_parts, eqb-true, Port, Row, RowKind, Reflect, repeat_after, first_repeat, same_discr, same_addresses, same_selector, has_addresses, build_fault, early_fault, pair_fault, names_of, addresses_of, row_name, name_in, heard_on, how_many, HasKeysOnce, Session, Reflector, Name}
+use Rattle.bfd_demux.proofs.Common.{◌≡◌, ◌≤◌, ℕ, ◌+◌, Bool, true, false, cond, ◌==◌, ◌&&◌, nat_lt, List, [], ◌∷◌, ◌++◌, length, map, refl, ◌∙◌, arith, Option, Some, None, append_assoc, position, append-nil, nat_tests, filter, position_from, option_map, option_or, is_eq, and_parts, eqb-true, Port, Row, RowKind, Reflect, repeat_after, first_repeat, same_discr, same_addresses, same_selector, has_addresses, build_fault, early_fault, pair_fault, names_of, addresses_of, row_name, name_discr, name_in, heard_on, how_many, HasKeysOnce, Session, Reflector, Name}
 use Rattle.bfd_demux.specs.declared.fault.BuildFault.{BuildFault}
 use Rattle.bfd_demux.specs.declared.fault.BuildFault.TheVariants.{SameDiscr, SameAddresses, ZeroDiscr, TooMany}
 use Rattle.bfd_demux.specs.contracts.name.NameOrd.TheImpl as name_order
@@ -59,12 +59,12 @@ none_more found test follows n row rows e rest = go (found row) (test row) refl 
     go false false is was = rw was (rest (rw is at e))
 
 -- where a stronger test finds none, none passes
-none_before : (found test : Row → Bool) → ((row : Row) → test row ≡ true → found row ≡ true) → (n : ℕ) (rows : List Row) → position_from found n rows ≡ None → how_many test rows ≡ 0
+pub none_before : (found test : Row → Bool) → ((row : Row) → test row ≡ true → found row ≡ true) → (n : ℕ) (rows : List Row) → position_from found n rows ≡ None → how_many test rows ≡ 0
 none_before found test follows n [] e = refl
 none_before found test follows n (row ∷ rows) e = none_more _ test follows n row rows e (none_before _ test follows (n + 1) rows)
 
 -- rows of which none is like an earlier one: a test that passes only rows that are alike passes one at most
-once_after : (same : Row → Row → Bool) (test : Row → Bool) → ((row other : Row) → test row ≡ true → test other ≡ true → same row other ≡ true) →
+pub once_after : (same : Row → Row → Bool) (test : Row → Bool) → ((row other : Row) → test row ≡ true → test other ≡ true → same row other ≡ true) →
     (earlier rows : List Row) → repeat_after same earlier rows ≡ None → how_many test earlier ≤ 1 → how_many test (earlier ++ rows) ≤ 1
 once_after same test alike earlier [] none few = rw append-nil few
 once_after same test alike earlier (row ∷ rows) none few =
@@ -85,6 +85,7 @@ unmapped f (Some x) e = cc
 -- what rows without a fault have
 pub record IsSound (rows : List Row) : Type 0 where
   pub few : length rows ≤ 65536
+  pub zero : position (λ row. row.discr == 0) rows ≡ None
   pub discrs : first_repeat same_discr rows ≡ None
   pub addresses : first_repeat same_addresses rows ≡ None
 
@@ -102,6 +103,7 @@ sound_rows rows e = go (nat_lt 65536 (length rows)) refl
         let third = neither (λ places. SameDiscr places.0 places.1) (first_repeat same_discr rows) (pair_fault SameAddresses (first_repeat same_addresses rows)) second.1 in
         record {
           few = grind (arith, nat_tests);
+          zero = second.0;
           discrs = third.0;
           addresses = unmapped (λ places. SameAddresses places.0 places.1) (first_repeat same_addresses rows) third.1;
         }
@@ -121,13 +123,8 @@ kind_once_back : (rows : List Row) → build_fault rows ≡ None → (kind : Row
 kind_once_back rows e kind = once_after _ (λ row. same_selector row.kind kind)
     (λ row other here there. rw (same_selector_is other.kind kind there) here) [] rows (sound_rows rows e).addresses (omega arith)
 
-discr_in : Name → ℕ
-discr_in (Session discr) = discr
-discr_in (Reflector discr) = discr
-
 -- a row of that name has its discriminator
-name_matches : (kind : RowKind) (discr : ℕ) (key : Name) → is_eq (name_order.ghosts.cmp (name_in kind discr) key) ≡ true → (discr == discr_in key) ≡ true
-unfolding discr_in
+pub name_matches : (kind : RowKind) (discr : ℕ) (key : Name) → is_eq (name_order.ghosts.cmp (name_in kind discr) key) ≡ true → (discr == name_discr key) ≡ true
 name_matches Reflect discr (Reflector other) e = cc (nat_level discr other)
 name_matches Reflect discr (Session other) e = cc
 name_matches kind discr (Session other) e = cc (nat_level discr other)
@@ -137,8 +134,8 @@ name_matches kind discr (Reflector other) e = cc
 pub names_once : (rows : List Row) → build_fault rows ≡ None → HasKeysOnce name_order.ghosts.cmp (names_of rows)
 names_once rows sound key =
     let same = how_many-map (λ (entry : Name × Option Port). is_eq (name_order.ghosts.cmp entry.0 key)) (λ (row : Row). (row_name row, heard_on row.kind)) rows in
-    let less = how_many_weaker (λ (row : Row). is_eq (name_order.ghosts.cmp (row_name row) key)) (λ row. row.discr == discr_in key) (λ row e. name_matches row.kind row.discr key e) rows in
-    omega (arith, discr_once rows sound (discr_in key))
+    let less = how_many_weaker (λ (row : Row). is_eq (name_order.ghosts.cmp (row_name row) key)) (λ row. row.discr == name_discr key) (λ row e. name_matches row.kind row.discr key e) rows in
+    omega (arith, discr_once rows sound (name_discr key))
 
 -- the addresses of rows without a fault come once
 pub addresses_once : (rows : List Row) → build_fault rows ≡ None → HasKeysOnce kind_order.ghosts.cmp (addresses_of rows)

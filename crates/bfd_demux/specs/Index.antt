@@ -1,7 +1,6 @@
 -- The sorted tables of rows.
 use Rattle.std.specs.Prelude.{◌≡◌, ℕ, Bool, true, false, Option, Some, None, List, map}
 use Rattle.std.specs.List.{filter}
-use Rattle.std.specs.List.Sorted.{IsPermutation}
 use Rattle.bfd_packet.specs.declared.arrival.Port.{Port}
 use Rattle.bfd_packet.specs.declared.arrival.Port.TheVariants.{Single as SinglePort, Multi as MultiPort, Echo as EchoPort, Sbfd as SbfdPort, Answer as AnswerPort}
 use Rattle.bfd_demux.specs.declared.row.Row.{Row}
@@ -13,7 +12,7 @@ use Rattle.bfd_demux.specs.contracts.name.NameOrd.TheImpl as name_order
 use Rattle.bfd_demux.specs.contracts.row.RowKindOrd.TheImpl as kind_order
 use Rattle.bfd_demux.specs.Rows.{build_fault, has_addresses}
 use Rattle.bfd_demux.specs.Selection.{is_session}
-use Rattle.bfd_demux.specs.Table.{how_many, IsAscending}
+use Rattle.bfd_demux.specs.Table.{HasSame, how_many, IsAscending}
 
 -- a discriminator as the name of a row of this kind
 abbrev pub name_in : RowKind → ℕ → Name
@@ -23,6 +22,16 @@ name_in _ discr = Session discr
 -- the row's discriminator, and whether a session or a reflector has it
 abbrev pub row_name : Row → Name
 row_name row = name_in row.kind row.discr
+
+-- the discriminator of a name
+abbrev pub name_discr : Name → ℕ
+name_discr (Session discr) = discr
+name_discr (Reflector discr) = discr
+
+-- the name is a session's
+abbrev pub names_a_session : Name → Bool
+names_a_session (Session discr) = true
+names_a_session (Reflector discr) = false
 
 -- the port on which a control packet may name a row of this kind by its discriminator
 abbrev pub heard_on : RowKind → Option Port
@@ -65,12 +74,12 @@ addresses_of rows = map (λ row. (row.kind, row.discr)) (filter (λ row. has_add
 
 -- the names of the rows in ascending order, with their ports
 pub record AreNames (rows : List Row) (names : List (Name × Option Port)) : Type 0 where
-  pub named : IsPermutation (names_of rows) names
+  pub named : HasSame (names_of rows) names
   pub names_ascend : IsAscending name_order.ghosts.cmp names
 
 -- the addresses of the rows in ascending order, with their discriminators
 pub record AreAddresses (rows : List Row) (addresses : List (RowKind × ℕ)) : Type 0 where
-  pub addressed : IsPermutation (addresses_of rows) addresses
+  pub addressed : HasSame (addresses_of rows) addresses
   pub addresses_ascend : IsAscending kind_order.ghosts.cmp addresses
 
 -- rows without a fault, their names and their addresses in ascending order, and the number of sessions

@@ -1,13 +1,15 @@
 -- The rows of a table, and the faults of rows that make none.
-use Rattle.std.specs.Prelude.{ℕ, Bool, true, false, ◌==◌, ◌&&◌, nat_lt, Option, Some, None, List, [], ◌∷◌, ◌++◌, length, position, if◌then◌else◌}
-use Rattle.std.specs.List.{position_from}
+use Rattle.std.specs.Prelude.{ℕ, Bool, true, false, ◌==◌, ◌&&◌, nat_lt, Option, Some, None, List, [], ◌∷◌, ◌++◌, length, nat_le, position, if◌then◌else◌}
+use Rattle.std.specs.List.{list_any, position_from}
 use Rattle.std.specs.Option.{option_map, option_or}
 use Rattle.bfd_packet.specs.Addresses.{same_addr}
 use Rattle.bfd_demux.specs.declared.row.Row.{Row}
 use Rattle.bfd_demux.specs.declared.row.RowKind.{RowKind}
 use Rattle.bfd_demux.specs.declared.row.RowKind.TheVariants.{Single, Multi, Tail}
 use Rattle.bfd_demux.specs.declared.fault.BuildFault.{BuildFault}
-use Rattle.bfd_demux.specs.declared.fault.BuildFault.TheVariants.{SameDiscr, SameAddresses, ZeroDiscr, TooMany}
+use Rattle.bfd_demux.specs.declared.fault.BuildFault.TheVariants.{SameDiscr, SameAddresses, ZeroDiscr, TooMany, Memory}
+use Rattle.bfd_demux.specs.declared.fault.AddFault.{AddFault}
+use Rattle.bfd_demux.specs.declared.fault.AddFault.TheVariants as adding
 
 -- one kind, and the same addresses: a packet without Your Discriminator can't tell the two apart (RFC 5880
 -- section 6.3, RFC 8562 section 5.7)
@@ -58,3 +60,20 @@ build_fault rows =
     option_or (early_fault rows)
     (option_or (pair_fault SameDiscr (first_repeat same_discr rows))
     (pair_fault SameAddresses (first_repeat same_addresses rows)))
+
+-- what keeps one row more from a table of these, in the same order
+abbrev pub add_fault : Row → List Row → Option AddFault
+add_fault row rows =
+    if nat_le 65536 (length rows) then Some adding.TooMany
+    else if row.discr == 0 then Some adding.ZeroDiscr
+    else if list_any (same_discr row) rows then Some adding.SameDiscr
+    else if list_any (same_addresses row) rows then Some adding.SameAddresses
+    else None
+
+-- a fault of rows without the places
+abbrev pub fault_kind : BuildFault → AddFault
+fault_kind (SameDiscr earlier place) = adding.SameDiscr
+fault_kind (SameAddresses earlier place) = adding.SameAddresses
+fault_kind (ZeroDiscr place) = adding.ZeroDiscr
+fault_kind (TooMany count) = adding.TooMany
+fault_kind Memory = adding.Memory

@@ -3,11 +3,15 @@ use Rattle.std.specs.Prelude.{◌≡◌, ◌<◌, ◌≤◌, ℕ, Bool, List, le
 use Rattle.std.specs.List.{filter}
 use Rattle.std.specs.Ordering.{is_eq, is_lt}
 use Rattle.std.specs.declared.cmp.Ordering.{Ordering}
-use Rattle.std.specs.declared.cmp.Ordering.TheVariants.{Less, Equal}
+use Rattle.std.specs.declared.cmp.Ordering.TheVariants.{Less, Equal, Greater}
 
 -- how many entries pass the test
 abbrev pub how_many : {X : Type 0} → (X → Bool) → List X → ℕ
 how_many test xs = length (filter test xs)
+
+-- ys has the elements of xs, in any order: each test passes as many
+abbrev pub HasSame : {X : Type 0} → List X → List X → Type 0
+HasSame {X} xs ys = (test : X → Bool) → how_many test ys ≡ how_many test xs
 
 -- no key comes twice
 abbrev pub HasKeysOnce : {K V : Type 0} → (K → K → Ordering) → List (K × V) → Type 0
@@ -22,3 +26,9 @@ pub record IsPlaceOf {K V : Type 0} (cmp : K → K → Ordering) (entries : List
   pub within : place < length entries
   pub level : (d : K × V) → cmp (slice_index_or entries place d).0 key ≡ Equal
   pub lower : how_many (λ entry. is_lt (cmp entry.0 key)) entries ≡ place
+
+-- an entry with the key has its place here: all before are lower, and all from here on higher
+pub record IsSlotFor {K V : Type 0} (cmp : K → K → Ordering) (entries : List (K × V)) (key : K) (place : ℕ) : Type 0 where
+  pub within : place ≤ length entries
+  pub below : (k : ℕ) (d : K × V) → k < place → cmp (slice_index_or entries k d).0 key ≡ Less
+  pub above : (k : ℕ) (d : K × V) → place ≤ k → k < length entries → cmp (slice_index_or entries k d).0 key ≡ Greater

@@ -1,32 +1,33 @@
 //! The table: rows behind two sorted indices.
 
-ghost use Rattle.std.specs.Prelude.{[], false, length, OnOk, ◌≡◌, ◌≢◌, ◌+◌, ◌==◌, ◌≤◌, ◌&&◌, ◌||◌, if◌then◌else◌, position, true, not, None, Some, is_some, IfSome, IfOk, OnErr, MatchResult, ◌⊎◌};
-ghost use Rattle.std.specs.List.{list_any};
+ghost use Rattle.std.specs.Prelude.{[], false, length, OnOk, ◌≡◌, ◌≢◌, ◌+◌, ◌<◌, ◌==◌, ◌≤◌, ◌&&◌, ◌||◌, if◌then◌else◌, is_ok, position, slice_index_or, true, not, None, Some, is_some, IfSome, IfOk, OnErr, MatchResult, ◌⊎◌};
+ghost use Rattle.std.specs.List.{insert, list_any, remove};
 ghost use Rattle.std.specs.Option.{option_map};
 ghost use Rattle.std.specs.Result.{result_err};
 ghost use Rattle.bfd_packet.specs.Layout.{fields_of, word_at};
 ghost use Rattle.bfd_packet.specs.HeaderTests.{takes_multipoint_of};
 ghost use Rattle.bfd_packet.specs.States.{is_init_or_up};
-ghost use Rattle.bfd_demux.specs.Rows.{build_fault, early_fault, has_addresses, same_selector};
-ghost use Rattle.bfd_demux.specs.Selection.{first_header_failing, first_table_failing, row_has_discr, row_has_selector, is_by_addresses, is_echo_form, is_session, knows, reflector_index, selector_on, session_index, target_of, the_one};
-ghost use Rattle.bfd_demux.specs.Parts.{echo_target, first_echo_failing, first_past_header, first_session_failing, index_on, names_session, target_named};
-ghost use Rattle.bfd_demux.specs.Index.{AreNames, AreAddresses};
+ghost use Rattle.bfd_demux.specs.Rows.{add_fault, build_fault, early_fault, fault_kind, has_addresses, same_selector};
+ghost use Rattle.bfd_demux.specs.declared.row.Row.{Row};
+ghost use Rattle.bfd_demux.specs.Selection.{fields_on, first_header_failing, first_table_failing, row_has_discr, row_has_selector, is_by_addresses, is_echo_form, knows, reflector_index, selector_on, session_index, target_of, the_one};
+ghost use Rattle.bfd_demux.specs.Parts.{echo_target, first_echo_failing, first_past_header, first_session_failing, index_on, names_session, paired, target_named};
+ghost use Rattle.bfd_demux.specs.Index.{AreNames, AreAddresses, names_a_session};
 ghost use Rattle.bfd_demux.specs.Table.{how_many};
 
-use crate::fault::BuildFault;
-use crate::guess::{guess_by_discr, guess_by_peer};
-use crate::lists::{Addresses, Names};
-use crate::name::{Name, is_heard, name_on, names_before};
+use crate::fault::{AddFault, BuildFault};
+use crate::guess::{Ends, guess_by_discr, guess_by_peer};
+use crate::lists::{Addresses, Names, insert_addresses};
+use crate::name::{Name, heard_on, is_heard, name_on, names_before, row_name};
 use crate::repeats::{repeated_addresses, repeated_discr};
 use crate::row::{Row, RowKind};
-use crate::table::place_near;
+use crate::table::{has_key, insert_by_key, place_near};
 use crate::target::Target;
+use bfd_ghost::GhostList;
 use bfd_num::Steps;
 use bfd_packet::{Arrival, Control, Port, Test, read};
 use byteorder::{BigEndian, ByteOrder};
 use std::alloc::{AllocError, Global};
 use std::marker::Model;
-use std::snapshot::Snapshot;
 use std::sync::ledger::Ledger;
 
 // What an echo packet begins with: "BFDe".
@@ -40,13 +41,16 @@ const MOST_ROWS: usize = 65_536;
 #[derive(Drop)]
 pub struct Demux {
     // The rows, for clauses alone.
-    rows: Snapshot<Vec<Row>>,
+    rows: GhostList<Row>,
     // By name: sessions, then reflectors, each in ascending order of discriminator.
     names: Vec<(Name, Option<Port>)>,
     // By kind and addresses: the discriminators of the rows that have addresses.
     addresses: Vec<(RowKind, u32)>,
     // How many rows are sessions.
     sessions: usize,
+    // What the first name and the last have, and the first and the last of the rows with addresses.
+    name_ends: Ends,
+    peer_ends: Ends,
 }
 
 impl Model for Demux {
@@ -56,9 +60,9 @@ impl Model for Demux {
 
     ghost Value = { List Row };
 
-    ghost view = { λ demux. demux.rows.value.items };
+    ghost view = { λ demux. demux.rows.items };
 
-    ghost invariant = { λ demux. IsIndex demux.rows.value.items demux.names.items demux.addresses.items
+    ghost invariant = { λ demux. IsIndex demux.rows.items demux.names.items demux.addresses.items
         demux.sessions };
 }
 
@@ -91,10 +95,12 @@ impl Demux {
         ensures { result ≡ [] }
     {
         Demux {
-            rows: Snapshot::of(&Vec::new(alloc)),
+            rows: GhostList::of(&Vec::new(alloc)),
             names: Vec::new(alloc),
             addresses: Vec::new(alloc),
             sessions: 0,
+            name_ends: Ends::of_names(&[]),
+            peer_ends: Ends::of_addresses(&[]),
         }
     }
 
@@ -126,11 +132,101 @@ impl Demux {
         ensures { result ≡ rows.items }
     {
         Demux {
-            rows: Snapshot::of(&rows),
+            rows: GhostList::of(&rows),
+            name_ends: Ends::of_names(&names.list),
+            peer_ends: Ends::of_addresses(&addresses.list),
+            sessions: count_sessions(&names.list),
             names: names.list,
             addresses: addresses.list,
-            sessions: count_sessions(&rows),
         }
+    }
+}
+
+impl Demux {
+    // Whether a row has this discriminator.
+    fn has_discr(&self, discr: u32) -> bool
+        ensures { result ≡ list_any (λ row. discr == row.discr) self.now }
+    {
+        let names = self.names.as_slice();
+        has_key(names, &Name::Session(discr)) || has_key(names, &Name::Reflector(discr))
+    }
+
+    // Whether a row is of this kind with the same addresses.
+    fn has_addresses(&self, kind: &RowKind) -> bool
+        ensures { result ≡ list_any (λ row. same_selector kind.now row.kind) self.now }
+    {
+        kind.has_addresses() && has_key(self.addresses.as_slice(), kind)
+    }
+
+    /// What keeps the row from being added, but for memory, in the order of `build`: 65,536 rows (TooMany), its discriminator 0
+    /// (ZeroDiscr), a row with the same (SameDiscr; RFC 5880 section 6.8.1), a row of its kind and addresses (SameAddresses).
+    pub fn fault_with(&self, row: &Row) -> Option<AddFault>
+        ensures { result ≡ add_fault row.now self.now }
+    {
+        if self.names.len() >= MOST_ROWS {
+            return Some(AddFault::TooMany);
+        }
+        if row.discr == 0 {
+            return Some(AddFault::ZeroDiscr);
+        }
+        if self.has_discr(row.discr) {
+            return Some(AddFault::SameDiscr);
+        }
+        if self.has_addresses(&row.kind) {
+            return Some(AddFault::SameAddresses);
+        }
+        None
+    }
+
+    /// Adds a row at this place among the rows, and leaves all others. What `fault_with` says is refused as that; else it fails only
+    /// when out of memory. A refusal changes nothing. The time is linear in the rows.
+    pub fn add(&mut self, place: usize, row: &Row) -> Result<(), AddFault>
+        requires { place ≤ length self.old }
+        ensures table { self.new ≡ (if is_ok result then insert self.old place row.now else self.old) }
+        ensures fault { MatchResult result (λ _. add_fault row.now self.old ≡ None)
+            (λ fault. ((fault ≡ AddFault.Memory) × (add_fault row.now self.old ≡ None))
+            ⊎ (add_fault row.now self.old ≡ Some fault)) }
+        ensures as_built { option_map fault_kind (build_fault (insert self.old place row.now)) ≡ add_fault row.now self.old }
+    {
+        let _ = &self.rows;
+        if let Some(fault) = self.fault_with(row) {
+            return Err(fault);
+        }
+        match self.insert(place, row) {
+            Ok(()) => Ok(()),
+            Err(_) => Err(AddFault::Memory),
+        }
+    }
+
+    // Adds a row that has no fault.
+    fn insert(&mut self, place: usize, row: &Row) -> Result<(), AllocError>
+        requires place { place ≤ length self.old }
+        requires sound { add_fault row.now self.old ≡ None }
+        ensures { self.new ≡ (if is_ok result then insert self.old place row.now else self.old) }
+    {
+        self.addresses.reserve(1)?;
+        insert_by_key(&mut self.names, (row_name(row), heard_on(row)))?;
+        insert_addresses(&mut self.addresses, row);
+        self.rows = self.rows.inserted(&place, row);
+        self.sessions = count_sessions(&self.names);
+        self.name_ends = Ends::of_names(&self.names);
+        self.peer_ends = Ends::of_addresses(&self.addresses);
+        Ok(())
+    }
+
+    /// Removes the row at this place, which has this discriminator, and leaves all others. It takes no memory. The time is linear in
+    /// the rows.
+    pub fn remove(&mut self, place: usize, discr: u32)
+        requires within { place < length self.old }
+        requires its { (d : Row) → (slice_index_or self.old place d).discr ≡ discr }
+        ensures { self.new ≡ remove self.old place }
+    {
+        self.names.retain(|entry| entry.0.discr() != discr);
+        self.addresses.retain(|entry| entry.1 != discr);
+        self.rows = self.rows.removed(&place);
+        self.sessions = count_sessions(&self.names);
+        self.name_ends = Ends::of_names(&self.names);
+        self.peer_ends = Ends::of_addresses(&self.addresses);
     }
 }
 
@@ -145,7 +241,7 @@ impl Demux {
         let names = self.names.as_slice();
         let place = place_near(
             names,
-            guess_by_discr(names, discr),
+            guess_by_discr(names, &self.name_ends, discr),
             &name_on(port, discr),
             steps,
         )?;
@@ -164,16 +260,34 @@ impl Demux {
         ensures cost { steps.new ≤ steps.old + 34 }
     {
         let addresses = self.addresses.as_slice();
-        let place = place_near(addresses, guess_by_peer(addresses, &kind), &kind, steps)?;
+        let place = place_near(
+            addresses,
+            guess_by_peer(addresses, &self.peer_ends, &kind),
+            &kind,
+            steps,
+        )?;
         let discr = self.addresses[place].1;
         let names = self.names.as_slice();
         let index = place_near(
             names,
-            guess_by_discr(names, discr),
+            guess_by_discr(names, &self.name_ends, discr),
             &Name::Session(discr),
             steps,
         )?;
         Some(index as u32)
+    }
+}
+
+// A target with the fields of the packet that is for it.
+fn with_fields(
+    target: Result<Target, Test>,
+    fields: Option<Control>,
+) -> Result<(Target, Option<Control>), Test>
+    ensures { result ≡ paired target fields }
+{
+    match target {
+        Ok(target) => Ok((target, fields)),
+        Err(test) => Err(test),
     }
 }
 
@@ -184,7 +298,6 @@ impl Demux {
     /// MultipointYour and NoTail (RFC 8562); and else YourUnknown, YourZeroState and NoSession. It takes no
     /// memory. A step is the look at one entry of a sorted table: a lookup takes at most 17, and only a
     /// selection by addresses needs two lookups.
-    #[tactic(none)]
     pub fn screen<L: Ledger>(&self, arrival: &Arrival, steps: &mut Steps<L>) -> Result<Target, Test>
         ensures tests { result_err result ≡ first_table_failing self.now arrival.now }
         ensures target { IfOk result (λ target. Some target ≡ target_of self.now arrival.now) }
@@ -192,11 +305,32 @@ impl Demux {
         ensures cost { steps.new ≤ steps.old + 34 }
         ensures one_lookup { is_by_addresses arrival.now.port arrival.now ≡ false → steps.new ≤ steps.old + 17 }
     {
+        match self.screen_fields(arrival, steps) {
+            Ok((target, _)) => Ok(target),
+            Err(test) => Err(test),
+        }
+    }
+
+    /// The same, and with the target the packet's fields, as the tests have read them; an echo packet has none.
+    #[tactic(none)]
+    pub fn screen_fields<L: Ledger>(
+        &self,
+        arrival: &Arrival,
+        steps: &mut Steps<L>,
+    ) -> Result<(Target, Option<Control>), Test>
+        ensures tests { result_err result ≡ first_table_failing self.now arrival.now }
+        ensures target { IfOk result (λ r. Some r.0 ≡ target_of self.now arrival.now) }
+        ensures fields { IfOk result (λ r. r.1 ≡ fields_on arrival.now.port arrival.now) }
+        ensures header { OnOk result (first_header_failing arrival.now ≡ None) }
+        ensures cost { steps.new ≤ steps.old + 34 }
+        ensures one_lookup { is_by_addresses arrival.now.port arrival.now ≡ false → steps.new ≤ steps.old + 17 }
+    {
         match arrival.port {
-            Port::Echo => self.select_echo(arrival.payload.as_slice(), steps),
+            Port::Echo => with_fields(self.select_echo(arrival.payload.as_slice(), steps), None),
             port => {
                 let packet = read(port, arrival.payload.as_slice())?;
-                self.select_packet(arrival, &packet, steps)
+                let target = self.select_packet(arrival, &packet, steps);
+                with_fields(target, Some(packet))
             }
         }
     }
@@ -390,18 +524,11 @@ fn selector_of(arrival: &Arrival) -> Option<RowKind>
     }
 }
 
-// How many rows are sessions.
-fn count_sessions(rows: &[Row]) -> usize
-    ensures { result ≡ how_many (λ row. is_session row.kind) rows.now }
+// How many names are those of sessions.
+fn count_sessions(names: &[(Name, Option<Port>)]) -> usize
+    ensures { result ≡ how_many (λ entry. names_a_session entry.0) names.now }
 {
-    rows.iter().filter(|row| is_session(row)).count()
-}
-
-// Whether the row is a session, and no reflector.
-fn is_session(row: &Row) -> bool
-    ensures { result ≡ is_session row.now.kind }
-{
-    !matches!(row.kind, RowKind::Reflect)
+    names.iter().filter(|entry| entry.0.is_session()).count()
 }
 
 // The first row whose discriminator is 0.

@@ -1,4 +1,4 @@
-//! Why rows make no table.
+//! Why rows make no table, and why one isn't added.
 
 ghost use Rattle.std.specs.Prelude.{Some};
 ghost use Rattle.bfd_demux.specs.Told.{fault_text};
@@ -41,4 +41,19 @@ impl fmt::Display for BuildFault {
             BuildFault::Memory => write!(f, "no memory is left"),
         }
     }
+}
+
+/// Why a row isn't added to a table.
+#[derive(Clone, Copy, Debug, PartialEq, Eq)]
+pub enum AddFault {
+    /// The table has 65,536 rows.
+    TooMany,
+    /// The row has the discriminator 0.
+    ZeroDiscr,
+    /// A row of the table has its discriminator.
+    SameDiscr,
+    /// A row of the table is of its kind with the same addresses.
+    SameAddresses,
+    /// No memory is left.
+    Memory,
 }

@@ -1,5 +1,6 @@
 //! Where a row may stand in an index: the first place that a search looks at. It is right where sessions are numbered, or
-//! addressed, one after another, and else only a guess.
+//! addressed, one after another, and else only a guess. What the first entry and the last have is kept beside the index when it
+//! is built, so that a guess looks at no entry.
 
 ghost use Rattle.std.specs.Prelude.{◌≤◌, length};
 
@@ -7,26 +8,54 @@ use crate::name::Name;
 use crate::row::RowKind;
 use bfd_packet::{Addr, Port};
 
-/// Where `at` would stand among so many numbers that grow evenly from `low` to `high`.
-fn evenly(low: u32, high: u32, at: u32, count: usize) -> usize
-    requires { count ≤ 65536 }
-{
-    if high <= low || at < low {
-        return 0;
-    }
-    let width = u64::from(high - low);
-    let places = u64::from(at - low) * (count as u64);
-    (places / (width + 1)) as usize
+/// What the first entry of an index and the last one have.
+#[derive(Clone, Copy, Debug, PartialEq, Eq)]
+pub struct Ends {
+    low: u32,
+    high: u32,
 }
 
-/// By the discriminators of the first name and the last.
-pub fn guess_by_discr(names: &[(Name, Option<Port>)], discr: u32) -> usize
+impl Ends {
+    /// The discriminators of the first name and the last.
+    pub fn of_names(names: &[(Name, Option<Port>)]) -> Ends {
+        match (names.first(), names.last()) {
+            (Some((first, _)), Some((last, _))) => Ends {
+                low: first.discr(),
+                high: last.discr(),
+            },
+            _ => Ends { low: 0, high: 0 },
+        }
+    }
+
+    /// What grows in the first row with addresses and in the last.
+    pub fn of_addresses(addresses: &[(RowKind, u32)]) -> Ends {
+        match (addresses.first(), addresses.last()) {
+            (Some((first, _)), Some((last, _))) => Ends {
+                low: neighbour(first),
+                high: neighbour(last),
+            },
+            _ => Ends { low: 0, high: 0 },
+        }
+    }
+
+    /// Where `at` would stand among so many numbers that grow evenly between the ends.
+    fn evenly(&self, at: u32, count: usize) -> usize
+        requires { count ≤ 65536 }
+    {
+        if self.high <= self.low || at < self.low {
+            return 0;
+        }
+        let width = u64::from(self.high - self.low);
+        let places = u64::from(at - self.low) * (count as u64);
+        (places / (width + 1)) as usize
+    }
+}
+
+/// By the discriminator, among names with these ends.
+pub fn guess_by_discr(names: &[(Name, Option<Port>)], ends: &Ends, discr: u32) -> usize
     requires { length names.now ≤ 65536 }
 {
-    let (Some((first, _)), Some((last, _))) = (names.first(), names.last()) else {
-        return 0;
-    };
-    evenly(first.discr(), last.discr(), discr, names.len())
+    ends.evenly(discr, names.len())
 }
 
 /// The last 32 bits of an address.
@@ -46,17 +75,9 @@ fn neighbour(kind: &RowKind) -> u32 {
     }
 }
 
-/// By the peers of the first row with addresses and of the last.
-pub fn guess_by_peer(addresses: &[(RowKind, u32)], kind: &RowKind) -> usize
+/// By the peer, among rows with these ends.
+pub fn guess_by_peer(addresses: &[(RowKind, u32)], ends: &Ends, kind: &RowKind) -> usize
     requires { length addresses.now ≤ 65536 }
 {
-    let (Some((first, _)), Some((last, _))) = (addresses.first(), addresses.last()) else {
-        return 0;
-    };
-    evenly(
-        neighbour(first),
-        neighbour(last),
-        neighbour(kind),
-        addresses.len(),
-    )
+    ends.evenly(neighbour(kind), addresses.len())
 }

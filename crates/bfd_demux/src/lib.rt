@@ -23,7 +23,7 @@ mod table;
 mod target;
 
 pub use demux::Demux;
-pub use fault::BuildFault;
+pub use fault::{AddFault, BuildFault};
 pub use lists::{Addresses, Names};
 pub use row::{Row, RowKind};
 pub use target::Target;

@@ -1,13 +1,17 @@
 //! The two lists of a table, each in order. They ask nothing of one another, so they may be made at once.
 
-ghost use Rattle.std.specs.Prelude.{◌≡◌, IfOk, None};
-ghost use Rattle.bfd_demux.specs.Rows.{build_fault};
-ghost use Rattle.bfd_demux.specs.Index.{AreNames, AreAddresses, names_of};
+ghost use Rattle.std.specs.Prelude.{◌≡◌, ◌<◌, ◌++◌, ◌∷◌, [], IfOk, None, false, true, vec_capacity, vec_len};
+ghost use Rattle.std.specs.List.{list_any};
+ghost use Rattle.std.specs.Ordering.{is_eq};
+ghost use Rattle.bfd_demux.specs.Rows.{build_fault, has_addresses};
+ghost use Rattle.bfd_demux.specs.Index.{AreNames, AreAddresses, addresses_of, names_of};
+ghost use Rattle.bfd_demux.specs.contracts.row.RowKindOrd.TheImpl as kind_order;
+ghost use Rattle.bfd_demux.specs.Table.{HasSame, IsAscending};
 
 use crate::name::{Name, heard_on, row_name};
 use crate::repeats::addresses_of;
 use crate::row::{Row, RowKind};
-use crate::table::sort_by_key;
+use crate::table::{insert_by_key, sort_by_key};
 use bfd_packet::Port;
 use std::alloc::{AllocError, Global};
 use std::marker::Model;
@@ -74,4 +78,20 @@ fn names_of(alloc: Global, rows: &[Row]) -> Result<Vec<(Name, Option<Port>)>, Al
     rows.iter()
         .map(|row| (row_name(row), heard_on(row)))
         .collect(alloc)
+}
+
+/// Adds the row's addresses, where it has some that no other has, to a list with room for one more.
+pub fn insert_addresses(addresses: &mut Vec<(RowKind, u32)>, row: &Row)
+    requires ascending { IsAscending kind_order.ghosts.cmp addresses.old.items }
+    requires new { has_addresses row.now.kind ≡ true
+        → list_any (λ entry. is_eq (kind_order.ghosts.cmp entry.0 row.now.kind)) addresses.old.items ≡ false }
+    requires room { vec_len addresses.old < vec_capacity addresses.old }
+    ensures ascending { IsAscending kind_order.ghosts.cmp addresses.new.items }
+    ensures same { HasSame (addresses_of (row.now ∷ []) ++ addresses.old.items) addresses.new.items }
+{
+    if row.kind.has_addresses() {
+        let Ok(()) = insert_by_key(addresses, (row.kind, row.discr)) else {
+            unreachable!();
+        };
+    }
 }

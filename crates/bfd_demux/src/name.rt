@@ -14,8 +14,20 @@ pub enum Name {
 }
 
 impl Name {
+    ghost use Rattle.std.specs.Prelude.{◌≡◌};
+    ghost use Rattle.bfd_demux.specs.Index.{name_discr, names_a_session};
+
+    /// Whether a session has it.
+    pub fn is_session(&self) -> bool
+        ensures { result ≡ names_a_session self.now }
+    {
+        matches!(self, Name::Session(_))
+    }
+
     /// The discriminator.
-    pub fn discr(&self) -> u32 {
+    pub fn discr(&self) -> u32
+        ensures { result ≡ name_discr self.now }
+    {
         match self {
             Name::Session(discr) => *discr,
             Name::Reflector(discr) => *discr,

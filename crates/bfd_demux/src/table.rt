@@ -1,13 +1,14 @@
 //! Sorted tables: entries by key in ascending order, and the search that counts each entry that it looks at.
 
-ghost use Rattle.std.specs.Prelude.{ℕ, ◌≡◌, ◌+◌, ◌<◌, ◌≤◌, length, false, true, slice_index_or, IfSome, IfNone};
+ghost use Rattle.std.specs.Prelude.{ℕ, ◌≡◌, ◌+◌, ◌<◌, ◌≤◌, ◌∷◌, length, false, true, slice_index_or, IfSome, IfNone, IsOk, MatchResult, OnErr, OnOk, vec_capacity, vec_len};
 ghost use Rattle.std.specs.List.{list_any};
 ghost use Rattle.std.specs.List.Sorted.{IsPermutation};
 ghost use Rattle.std.specs.Ordering.{is_eq};
 ghost use Rattle.std.specs.declared.cmp.Ordering.TheVariants.{Less, Greater};
-ghost use Rattle.bfd_demux.specs.Table.{HasKeysOnce, IsAscending, IsPlaceOf};
+ghost use Rattle.bfd_demux.specs.Table.{HasKeysOnce, HasSame, IsAscending, IsPlaceOf, IsSlotFor};
 
 use bfd_num::Steps;
+use std::alloc::AllocError;
 use std::cmp::Ordering;
 use std::sync::ledger::Ledger;
 
@@ -96,5 +97,42 @@ pub fn place_near<K: Ord, V, L: Ledger>(
         Ordering::Less => search(entries, middle + 1, entries.len(), key, steps),
         Ordering::Equal => Some(middle),
         Ordering::Greater => search(entries, 0, middle, key, steps),
+    }
+}
+
+/// The place of the entry with this key, or the one that it would have.
+fn slot_of<K: Ord + Copy, V>(entries: &[(K, V)], key: &K) -> Result<usize, usize>
+    requires { IsAscending K.cmp entries.now }
+    ensures { MatchResult result (IsPlaceOf K.cmp entries.now key.now) (IsSlotFor K.cmp entries.now key.now) }
+{
+    entries.binary_search_by_key(key, |entry| entry.0)
+}
+
+/// Whether an entry has this key.
+pub fn has_key<K: Ord + Copy, V>(entries: &[(K, V)], key: &K) -> bool
+    requires { IsAscending K.cmp entries.now }
+    ensures { result ≡ list_any (λ entry. is_eq (K.cmp entry.0 key.now)) entries.now }
+{
+    slot_of(entries, key).is_ok()
+}
+
+/// Adds an entry whose key no other has. Fails only when out of memory, and never where there is room.
+pub fn insert_by_key<K: Ord + Copy, V: Copy>(
+    entries: &mut Vec<(K, V)>,
+    entry: (K, V),
+) -> Result<(), AllocError>
+    requires ascending { IsAscending K.cmp entries.old.items }
+    requires new { list_any (λ other. is_eq (K.cmp other.0 entry.0)) entries.old.items ≡ false }
+    ensures ascending { OnOk result (IsAscending K.cmp entries.new.items) }
+    ensures same { OnOk result (HasSame (entry ∷ entries.old.items) entries.new.items) }
+    ensures refused { OnErr result (entries.new.items ≡ entries.old.items) }
+    ensures room { vec_len entries.old < vec_capacity entries.old → IsOk result }
+{
+    let Err(place) = slot_of(entries, &entry.0) else {
+        unreachable!();
+    };
+    match entries.insert(place, entry) {
+        Ok(()) => Ok(()),
+        Err(_) => Err(AllocError),
     }
 }

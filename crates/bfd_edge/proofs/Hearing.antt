@@ -61,7 +61,7 @@ heard_all items at received.Memory there =
     rw here (sym (append-nil (packets_in (take at items))), (first, refl))
 
 -- a link tells one answer more
-pub told_more : {packets more : List (ℕ × Arrival)} {sent : List Datagram} {counts : LinkCounts} (answer : Received)
-    → more ≡ packets ++ packets_of answer → {now : LinkTold} → now ≡ record { traffic = Some (record { received = packets; sent = sent }); counts = counts }
-    → record { traffic = Some (record { received = more; sent = sent }); counts = counts_after_receive answer counts } ≡ after_receive answer now
+pub told_more : {packets more : List (ℕ × Arrival)} {sent : List Datagram} {counts : LinkCounts} {number : ℕ} (answer : Received)
+    → more ≡ packets ++ packets_of answer → {now : LinkTold} → now ≡ record { number = number; traffic = Some (record { received = packets; sent = sent }); counts = counts }
+    → record { number = number; traffic = Some (record { received = more; sent = sent }); counts = counts_after_receive answer counts } ≡ after_receive answer now
 told_more {sent} answer is was = rw (was, is, append-nil sent) refl

@@ -14,8 +14,9 @@ pub record Traffic : Type 0 where
   pub received : List (ℕ × Arrival)
   pub sent : List Datagram
 
--- what a link tells: its counts always, its traffic where it keeps that
+-- what a link tells: the number by which it was opened and its counts always, its traffic where it keeps that
 pub record LinkTold : Type 0 where
+  pub number : ℕ
   pub traffic : Option Traffic
   pub counts : LinkCounts
 
@@ -53,7 +54,7 @@ counts_after_send (Err fault.Memory) counts = counts
 
 -- what a link tells after an answer to a receive
 abbrev pub after_receive : Received → LinkTold → LinkTold
-after_receive received told = record {
+after_receive received told = record told {
   traffic = more_traffic (packets_of received) [] told.traffic;
   counts = counts_after_receive received told.counts;
 }
@@ -65,7 +66,7 @@ sent_by datagram (Err fault) = []
 
 -- what a link tells after an answer to a send
 abbrev pub after_send : Datagram → Result (Unit {0}) Fault → LinkTold → LinkTold
-after_send datagram sent told = record {
+after_send datagram sent told = record told {
   traffic = more_traffic [] (sent_by datagram sent) told.traffic;
   counts = counts_after_send sent told.counts;
 }

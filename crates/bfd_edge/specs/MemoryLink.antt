@@ -15,6 +15,8 @@ use Rattle.bfd_edge.specs.Memory.{is_to_fail}
 
 -- a link over memory
 pub record HeldLink : Type 0 where
+  -- the number by which it was opened, 0 before
+  pub number : ℕ
   -- the packets that it gave, each with its moment
   pub received : List (ℕ × Arrival)
   -- the answers that are left
@@ -30,6 +32,7 @@ pub record HeldLink : Type 0 where
 -- what it tells
 abbrev pub told_of : HeldLink → LinkTold
 told_of link = record {
+  number = link.number;
   traffic = Some (record { received = link.received; sent = link.sent });
   counts = link.counts;
 }

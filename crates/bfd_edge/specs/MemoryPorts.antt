@@ -36,7 +36,7 @@ AllNew (link ∷ links) = IsNewLink (memory_link.told_of link) × AllNew links
 
 -- a link that is Ended at once
 abbrev pub ended_link : HeldLink
-ended_link = record { received = []; left = []; sent = []; sends = 0; fails = []; counts = no_counts }
+ended_link = record { number = 0; received = []; left = []; sent = []; sends = 0; fails = []; counts = no_counts }
 
 -- the link of a number, by the list: one that is Ended at once where the list lacks it
 abbrev pub link_at : List HeldLink → ℕ → HeldLink
@@ -54,7 +54,7 @@ with_ended (suc n) (link ∷ links) = link ∷ with_ended n links
 abbrev pub AnswersOpen : ℕ → HeldPorts → Result HeldLink Fault → HeldPorts → Type 0
 AnswersOpen number old (Ok link) new =
     (is_to_fail old.calls old.fails ≡ false)
-    × (link ≡ link_at old.links number)
+    × (link ≡ record (link_at old.links number) { number = number })
     × (new.links ≡ with_ended number old.links)
     × (place_in new.places ≡ with_place number Opened (place_in old.places))
     × (new.calls ≡ raised old.calls) × (new.fails ≡ old.fails)

@@ -82,7 +82,8 @@ impl LinkCounts {
 
 /// Something that packets come from and go to, as a UDP socket does.
 ///
-/// It always tells its counts. A link over memory tells besides what it received and sent, each in order.
+/// It always tells the number by which it was opened, which every call keeps, and its counts. A link over memory tells besides
+/// what it received and sent, each in order.
 pub trait Link {
     ghost use Rattle.std.specs.Prelude.{◌≡◌};
     ghost use Rattle.bfd_edge.specs.Links.{LinkTold, after_receive, after_send};

@@ -27,6 +27,7 @@ pub enum Heard {
 /// Contracts see it as the record `HeldLink`.
 #[derive(Drop)]
 pub struct MemLink {
+    number: u32,
     alloc: Global,
     heard: Vec<Heard>,
     at: usize,
@@ -43,6 +44,7 @@ impl Model for MemLink {
     ghost Value = { HeldLink };
 
     ghost view = { λ l. record {
+      number = l.number;
       received = packets_in (take l.at l.heard.items);
       left = drop l.at l.heard.items;
       sent = l.sent.items;
@@ -58,6 +60,7 @@ impl MemLink {
     /// A link that gives these answers, and fails at the sends named, counted from 0.
     pub fn make(alloc: Global, heard: Vec<Heard>, fails: Vec<u64>) -> Self
         ensures { result ≡ record {
+          number = 0;
           received = [];
           left = heard.items;
           sent = [];
@@ -67,6 +70,7 @@ impl MemLink {
         } }
     {
         MemLink {
+            number: 0,
             alloc,
             heard,
             at: 0,
@@ -75,6 +79,15 @@ impl MemLink {
             fails,
             counts: LinkCounts::new(),
         }
+    }
+
+    /// The link, opened by this number.
+    pub(crate) fn opened_as(self, number: u32) -> Self
+        ensures { result ≡ record self { number = number } }
+    {
+        let mut link = self;
+        link.number = number;
+        link
     }
 
     /// The packets that were sent, in order.

@@ -89,6 +89,7 @@ impl Ports for MemPorts {
     fn open(&mut self, number: u32) -> Result<MemLink, Fault>
         requires { (told_of self.old).opened number ≡ false }
         ensures link { IfOk result (λ link. IsNewLink (memory_link.told_of link)) }
+        ensures number { IfOk result (λ link. link.number ≡ number) }
         ensures after { told_of self.new ≡ after_open number result (told_of self.old) }
         ensures answer { AnswersOpen number self.old result self.new }
     {
@@ -101,7 +102,8 @@ impl Ports for MemPorts {
         match self.places.open(number) {
             Ok(()) => {
                 self.calls = call.saturating_add(1);
-                Ok(take_link(self.alloc, &mut self.links, number as usize))
+                let link = take_link(self.alloc, &mut self.links, number as usize);
+                Ok(link.opened_as(number))
             }
             Err(_) => Err(Fault::Memory),
         }
@@ -109,7 +111,8 @@ impl Ports for MemPorts {
 
     /// Keeps the link under its number, and leaves all else. It takes no memory.
     fn shut(&mut self, number: u32, link: MemLink)
-        requires { (told_of self.old).opened number ≡ true }
+        requires opened { (told_of self.old).opened number ≡ true }
+        requires number { link.number ≡ number }
         ensures after { told_of self.new ≡ after_shut number (memory_link.told_of link) (told_of self.old) }
         ensures kept { place_in self.new.places ≡ with_place number (Place.Shut link) (place_in self.old.places) }
         ensures rest { self.new ≡ record self.old { places = self.new.places } }

@@ -18,16 +18,18 @@ pub trait Ports {
     // What it tells.
     ghost told: { Self → PortsTold };
 
-    /// Opens the link of a number that wasn't opened before. The link is one that was never called.
+    /// Opens the link of a number that wasn't opened before. The link is one that was never called, and tells the number.
     ///
     /// `Failed` raises the count of faults, and `Memory` leaves it; after both the number isn't opened.
     fn open(&mut self, number: u32) -> Result<Self::Link, Fault>
         requires { (told self.old).opened number ≡ false }
         ensures link { IfOk result (λ link. IsNewLink (Self.Link.told link)) }
+        ensures number { IfOk result (λ link. (Self.Link.told link).number ≡ number) }
         ensures after { told self.new ≡ after_open number result (told self.old) };
 
-    /// Takes back the link of a number that was opened, and keeps what it tells.
+    /// Takes back the link that was opened by this number, and keeps what it tells.
     fn shut(&mut self, number: u32, link: Self::Link)
-        requires { (told self.old).opened number ≡ true }
+        requires opened { (told self.old).opened number ≡ true }
+        requires number { (Self.Link.told link).number ≡ number }
         ensures { told self.new ≡ after_shut number (Self.Link.told link) (told self.old) };
 }

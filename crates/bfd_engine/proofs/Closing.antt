@@ -20,6 +20,10 @@ pub record LeftFrom (at : ℕ) (before after : List Held) : Type 0 where
 pub left_more : (at at2 : ℕ) (before after : List Held) (h : Held) → at2 ≡ at + 1 → LeftFrom at before after → LeftFrom at2 before (set after at h)
 left_more at at2 before after h is l = record { left = λ k le. set_else after at k h (λ same. omega (arith, same, le, is)) ∙ l.left k (omega (arith, le, is)) }
 
+-- before the first
+pub left_whole : (at : ℕ) (passes : List Held) → LeftFrom at passes passes
+left_whole at passes = record { left = λ k le. refl }
+
 -- the pass at the next place is the one that was handed in, and of the next lock
 pub record IsNext (engine : Shards) (before after : List Held) (lock : TableId) (at : ℕ) : Type 0 where
   pub pass : K
@@ -74,6 +78,13 @@ closed_here engine k at p shard here base e = record {
 -- the shards that were taken out
 pub record AreEnded (engine : Shards) (k : Knows) (shards : List Shard) : Type 0 where
   pub each : (number : ℕ) (shard : Shard) → slice_get shards number ≡ Some shard → IsClosed engine k number shard
+
+nobody : (k : ℕ) {shard : Shard} → slice_get [] k ≡ Some shard → ⊥
+nobody zero e = cc
+nobody (suc k) e = cc
+
+pub none_ended : (engine : Shards) (k : Knows) {shards : List Shard} → shards ≡ [] → AreEnded engine k shards
+none_ended engine k none = rw none (record { each = λ number shard e. absurd (nobody number e) })
 
 pub ended_more : (engine : Shards) (k : Knows) (at : ℕ) (p : K) (shards more : List Shard) (shard : Shard) → slice_get k.1 at ≡ Some (Some p) → p.1.base ≡ Some (base_at engine at)
     → IsEnd p shard → at ≡ length shards → more ≡ shards ++ shard ∷ [] → AreEnded engine k shards → AreEnded engine k more

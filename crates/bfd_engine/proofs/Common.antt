@@ -1,5 +1,5 @@
 -- Names that proofs of this crate cite, passed on from one place. Declares nothing.
-pub use Rattle.std.proofs.Common.{Bool, Err, IfErr, IfOk, List, MatchResult, None, Ok, OnErr, Option, Result, Some, [], ap, append-nil, append_assoc, ap₂, arith, drop, false, get_or, if◌then◌else◌, inl, inr, length, length-append, length-set, map, refl, rules, set, set-set, slice_get, slice_set, subst, suc, sym, true, vec_capacity, vec_len, zero, ℕ, ◌%◌, ◌*◌, ◌++◌, ◌+◌, ◌-◌, ◌/◌, ◌<◌, ◌==◌, ◌∙◌, ◌∷◌, ◌≡◌, ◌≢◌, ◌≤◌}
+pub use Rattle.std.proofs.Common.{Bool, Err, IfErr, IfOk, List, MatchResult, None, Ok, OnErr, Option, Result, Some, [], ap, append-nil, append_assoc, ap₂, arith, drop, false, get_or, if◌then◌else◌, inl, inr, length, length-append, length-set, map, refl, rules, set, set-set, slice_get, slice_set, subst, suc, sym, true, vec_capacity, vec_len, zero, ℕ, ◌%◌, ◌*◌, ◌++◌, ◌+◌, ◌^◌, ◌-◌, ◌/◌, ◌<◌, ◌==◌, ◌∙◌, ◌∷◌, ◌≡◌, ◌≢◌, ◌≤◌}
 pub use Rattle.std.proofs.lemmas.Bool.{eq-eqb, le-ltb, lt-ltb, ne_eqb}
 pub use Rattle.std.proofs.lemmas.Bool.Decides.{nat_tests}
 pub use Rattle.std.proofs.lemmas.List.{get_or_append_left, get_or_push, length-map, nil_from_length}
@@ -11,13 +11,13 @@ pub use Rattle.bfd_demux.specs.Selection.{first_header_failing, first_table_fail
 pub use Rattle.bfd_demux.specs.declared.row.Row.{Row}
 pub use Rattle.bfd_demux.specs.declared.target.Target.{Target}
 pub use Rattle.bfd_demux.specs.declared.target.Target.TheVariants.{Echo, Session}
-pub use Rattle.bfd_engine.specs.Calls.{IsCall, IsCause, IsDone, IsFailed, Turned, coming_act, fault_of, kept_of, made_of, met_word, met_word_of, mine, reflect_act, seen_at, seen_of, taken_at, taken_of}
+pub use Rattle.bfd_engine.specs.Calls.{HasUsed, IsCall, IsCause, IsDone, IsFailed, TookTurn, Turned, coming_act, fault_of, kept_of, made_of, met_word, met_word_of, mine, reflect_act, seen_at, seen_of, taken_at, taken_of}
 pub use Rattle.bfd_engine.specs.Engines.{AllOf, AllThere, AreNew, AreNewAt, Held, IsCallers, IsEngine, IsOf, Knows, Shards, base_at, configs_at}
-pub use Rattle.bfd_engine.specs.Inside.{Arrives, IsNamedBy, IsReflected}
 pub use Rattle.bfd_engine.specs.Judging.{IsAnswered, arrival_judged, packet_answer, return_answer}
-pub use Rattle.bfd_engine.specs.Opening.{AreNewStates, AreOpened, AreShares, Climbs, IsMade, IsNewPass, IsNewState, IsOpenedShard, IsSorted, MayOpen, opened_base}
+pub use Rattle.bfd_engine.specs.Opening.{AreNewStates, AreOpened, AreShares, IsMade, IsNewPass, IsNewState, IsOpenedShard, MayOpen, opened_base}
+pub use Rattle.bfd_session.specs.Tables.{Climbs, IsSorted}
 pub use Rattle.bfd_engine.specs.Passes.{AreCut, AreGlued, CutsAt, EachJoined, GluesAt, IsClosed, IsCut, IsGlued, Joined, Parted}
-pub use Rattle.bfd_engine.specs.Turned.{HasLooked, HasTurned, IsSame, IsTimely, IsTurnCause, OfShard, by, configs_in, entry_of, given_after, limit_in, room_in}
+pub use Rattle.bfd_engine.specs.Turned.{HadTurn, HasLooked, HasTurned, IsSame, IsTimely, IsTurnCause, OfShard, WasUsed, by, configs_in, entry_of, given_after, limit_in, room_in}
 pub use Rattle.bfd_engine.specs.declared.locked.Base.{Base}
 pub use Rattle.bfd_engine.specs.declared.turn.TurnFault.{TurnFault}
 pub use Rattle.bfd_packet.specs.declared.arrival.Arrival.{Arrival}
@@ -36,7 +36,8 @@ pub use Rattle.bfd_session.specs.declared.event.SessionConfig.{SessionConfig}
 unfoldable pub use Rattle.bfd_shard.specs.Dealing.{share}
 pub use Rattle.bfd_shard.specs.History.{events_of, last_tick, run, runs}
 unfoldable pub use Rattle.bfd_shard.specs.History.{outcome_of, runs_from}
-pub use Rattle.bfd_shard.specs.Shard.{CanHappen, IsExact, IsHistory, IsOver, IsShard, IsTaken, Shard, room_for}
+pub use Rattle.bfd_shard.specs.Shard.{CanHappen, IsExact, IsHistory, IsOver, IsShard, Shard, room_for}
+pub use Rattle.bfd_session.specs.Reaching.{IsTaken}
 pub use Rattle.bfd_shard.specs.declared.entry.Entry.{Entry}
 pub use Rattle.bfd_shard.specs.declared.entry.ShardEvent.{ShardEvent}
 pub use Rattle.bfd_shard.specs.declared.entry.ShardEvent.TheVariants.{Own, Tick}

@@ -7,6 +7,8 @@ use denote.Struct.Tuple.{tuple_type}
 use mir.Syntax.{Dict}
 use Rattle.bfd_engine.proofs.Common.{[], ◌∷◌}
 use Rattle.std.proofs.Crossing.{crosses, Vec-sync}
+use Rattle.bfd_ghost.proofs.list.GhostList.TheSendSync as listed
+use Rattle.bfd_demux.specs.contracts.row.Row
 use Rattle.bfd_demux.specs.contracts.demux.Demux
 use Rattle.bfd_demux.specs.contracts.demux.Demux.TheInside as inside
 use Rattle.std.specs.contracts.option.Option
@@ -14,8 +16,15 @@ use Rattle.bfd_packet.specs.contracts.arrival.Port
 use Rattle.bfd_demux.specs.contracts.name.Name
 use Rattle.bfd_demux.specs.contracts.row.RowKind
 use denote.Builtin.{u32}
+use Rattle.bfd_demux.proofs.guess.Ends.TheSendSync as ends
 use Rattle.bfd_demux.proofs.name.Name.TheSendSync as name
 use Rattle.bfd_demux.proofs.row.RowKind.TheSendSync as kind
+use Rattle.bfd_sbfd.proofs.reflecting.Reflector.TheSendSync as reflector
+use Rattle.bfd_session.specs.contracts.event.SessionConfig
+use Rattle.bfd_session.specs.contracts.table.Roster
+use Rattle.bfd_session.specs.contracts.table.Roster.TheInside as roster
+use Rattle.bfd_session.specs.contracts.table.Table
+use Rattle.bfd_session.specs.contracts.table.Table.TheInside as table
 use Rattle.bfd_shard.specs.contracts.entry.Entry
 use Rattle.bfd_turn.specs.contracts.lock.TurnLock
 use Rattle.bfd_turn.proofs.lock.TurnLock.TheSendSync as turn
@@ -30,15 +39,21 @@ use Rattle.bfd_engine.proofs.locked.Locked.TheSendSync as kept
 -- a table owns lists of plain values, and of its rows nothing
 demux_sync : IsSync Demux.the_row
 demux_sync = view_sync _ _ _ _ _ (declared_sync inside.the_type (
-  search (sendable, crosses) depth 20,
+  listed.the_sync Row.the_row,
   (
     Vec-sync _ (declared_sync (tuple_type (Name.the_row ∷ Option.the_row Port.the_row ∷ [])) (name.the_sync, (search (sendable, crosses) depth 20, tt))),
     (
       Vec-sync _ (declared_sync (tuple_type (RowKind.the_row ∷ u32 ∷ [])) (kind.the_sync, (search (sendable, crosses) depth 20, tt))),
-      (search (sendable, crosses) depth 20, tt),
+      (search (sendable, crosses) depth 20, (ends.the_sync, (ends.the_sync, tt))),
     ),
   ),
 ))
+
+roster_sync : IsSync Roster.the_row
+roster_sync = view_sync _ _ _ _ _ (declared_sync roster.the_type (search (sendable, crosses) depth 20, (listed.the_sync SessionConfig.the_row, tt)))
+
+pub table_sync : IsSync Table.the_row
+table_sync = view_sync _ _ _ _ _ (declared_sync table.the_type (demux_sync, (roster_sync, (Vec-sync _ reflector.the_sync, tt))))
 
 module _ (W : RattleType) (g : Ghosts W.Denot) (d e : Dict) where
   abbrev lock : RattleType
@@ -50,13 +65,7 @@ module _ (W : RattleType) (g : Ghosts W.Denot) (d e : Dict) where
   inside_sync : IsSend W → IsSync (S.row (the_type W g))
   inside_sync w = declared_sync (the_type W g) (
     Vec-sync lock (lock_sync w),
-    (
-      demux_sync,
-      (
-        search (sendable, crosses) depth 20,
-        (search (sendable, crosses) depth 20, (search (sendable, crosses) depth 20, (search (sendable, crosses) depth 20, (search (sendable, crosses) depth 20, tt)))),
-      ),
-    ),
+    (table_sync, (search (sendable, crosses) depth 20, (search (sendable, crosses) depth 20, tt))),
   )
 
   pub engine_sync : IsSend W → IsSync (the_row W g)

@@ -9,7 +9,7 @@ use Rattle.bfd_engine.proofs.Turning.{at_place, elsewhere, same_at}
 
 pub has_taken : {engine : Shards} (shard : ℕ) {k l : Knows} {p : K} {id : TableId} {w : OfShard} {notes : List Entry} → IsOf engine k.1
     → slice_get k.1 shard ≡ Some (Some p) → IsCallers k.0 k.2 p.1 → l ≡ (k.0, set k.1 shard None, k.2) → id ≡ p.0
-    → w ≡ record p.1 { seen = notes; word = w.word } → p.1.word < w.word → Adds by p.1.number p.1.seen notes → HasTaken engine shard k l (shard, id, w)
+    → w ≡ record p.1 { seen = notes; word = w.word; looks = w.looks } → p.1.word < w.word → Adds by p.1.number p.1.seen notes → HasTaken engine shard k l (shard, id, w)
 has_taken shard {k} {p} of here callers is lock same later adds = record {
   between = adds.0;
   shard_is = refl;
@@ -31,7 +31,7 @@ has_taken shard {k} {p} of here callers is lock same later adds = record {
   kept = cc;
 }
 
-has_met : (k : Knows) {l : Knows} (shard : ℕ) {word : ℕ} {p : K} (q : K) → slice_get k.1 shard ≡ Some (Some p) → l ≡ (k.0, set k.1 shard (Some q), k.2) → q.1 ≡ having_met word p.1
+has_met : (k : Knows) {l : Knows} (shard : ℕ) {word : ℕ} {looks : List ℕ} {p : K} (q : K) → slice_get k.1 shard ≡ Some (Some p) → l ≡ (k.0, set k.1 shard (Some q), k.2) → q.1 ≡ having_met word looks p.1
     → HasMet word shard k l
 has_met k shard q here is met = record {
   number = cc;
@@ -45,21 +45,21 @@ has_met k shard q here is met = record {
 }
 
 pub was_busy : (k : Knows) {l : Knows} (shard : ℕ) {read found : ℕ} {p : K} (q : K) → slice_get k.1 shard ≡ Some (Some p) → l ≡ (k.0, set k.1 shard (Some q), k.2)
-    → q.1 ≡ having_met found p.1 → WasBusy p.1 read found → IsKept (Busy read found) shard k l
+    → q.1 ≡ having_met found q.1.looks p.1 → WasBusy p.1 read found → IsKept (Busy read found) shard k l
 was_busy k shard {p} q here is met busy = (has_met k shard q here is met, (p, here, busy))
 
 pub was_spent : (k : Knows) {l : Knows} (shard : ℕ) {word : ℕ} {p : K} (q : K) → slice_get k.1 shard ≡ Some (Some p) → l ≡ (k.0, set k.1 shard (Some q), k.2)
-    → q.1 ≡ having_met word p.1 → WasSpent p.1 word → IsKept (Spent word) shard k l
+    → q.1 ≡ having_met word q.1.looks p.1 → WasSpent p.1 word → IsKept (Spent word) shard k l
 was_spent k shard {p} q here is met spent = (has_met k shard q here is met, (p, here, spent))
 
 -- what a refusal tells, of the fault that it is
 pub busy_is : (id : TableId) (v : OfShard) {f : TryFault Entry Base} {pass : K} {read found : ℕ} → f ≡ TryBusy pass read found → IsRefused id v f
     → IsBack id v found pass × WasBusy v read found
-busy_is id v is h = subst (IsRefused id v) is h
+busy_is id v {f} {pass} {read} {found} is h = let w : IsRefused id v (TryBusy pass read found) = subst (IsRefused id v) is h in (w.0, w.1)
 
 pub spent_is : (id : TableId) (v : OfShard) {f : TryFault Entry Base} {pass : K} {word : ℕ} → f ≡ TrySpent pass word → IsRefused id v f
     → IsBack id v word pass × WasSpent v word
-spent_is id v is h = subst (IsRefused id v) is h
+spent_is id v {f} {pass} {word} is h = let w : IsRefused id v (TrySpent pass word) = subst (IsRefused id v) is h in (w.0, w.1)
 
 -- a pass of its lock and base is put back where a turn was held
 pub of_back : (engine : Shards) (ps : List Held) (at : ℕ) (q : K) → slice_get ps at ≡ Some None → slice_get engine.locks at ≡ Some q.0

@@ -1,7 +1,6 @@
 -- Shards that are opened one after another.
-use Rattle.bfd_engine.proofs.Common.{◌≡◌, ℕ, zero, suc, ◌<◌, ◌≤◌, List, [], ◌∷◌, ◌++◌, length, map, length-map, Some, None, slice_get, get_or, refl, ap, sym, ◌∙◌, arith, slice_get_within, same_Some, SessionConfig, discr_of, table_of, TableId, opened_pass, Row, Shards, Held, AllOf, IsOf, AllThere, IsEngine, configs_at, seen_of, met_word_of, taken_of, made_of, kept_of, IsSorted, IsNewPass, opened_base, IsOpenedShard, IsMade, AreOpened, AreShares, share, Reflector, All-nil, build_fault}
+use Rattle.bfd_engine.proofs.Common.{◌≡◌, ℕ, zero, suc, ◌<◌, ◌≤◌, List, [], ◌∷◌, ◌++◌, length, map, length-map, Some, slice_get, get_or, refl, ap, sym, ◌∙◌, arith, slice_get_within, same_Some, SessionConfig, TableId, opened_pass, Shards, Held, AllOf, IsOf, AllThere, IsEngine, configs_at, seen_of, met_word_of, taken_of, made_of, kept_of, IsNewPass, opened_base, IsOpenedShard, IsMade, AreOpened, AreShares, share, Reflector, All-nil}
 use Rattle.bfd_engine.proofs.Places.{K, same_held}
-use Rattle.bfd_engine.proofs.Tables.{few_rows, ascending, pool_ascending}
 
 abbrev pub Parts : Type 0
 Parts = List (List SessionConfig)
@@ -55,13 +54,6 @@ module _ (limit : ℕ) where
     each = opened_at parts made m;
   })
 
-long_rows : (configs : List SessionConfig) (pool : List Reflector) → length configs ≤ length (table_of configs pool)
-long_rows [] pool = omega arith
-long_rows (c ∷ configs) pool = omega (arith, long_rows configs pool)
-
-pub few_sessions : (configs : List SessionConfig) (pool : List Reflector) → build_fault (table_of configs pool) ≡ None → length configs ≤ 65536
-few_sessions configs pool sound = omega (arith, long_rows configs pool, few_rows (table_of configs pool) sound)
-
 module _ (limit n : ℕ) (configs : List SessionConfig) (parts : Parts) (locks : List TableId) (passes : List Held) (sizes : List ℕ) (s : AreShares n configs parts) (o : AreOpened limit parts locks passes sizes) where
   one : (k : ℕ) → k < n → IsOpenedShard limit (share n k configs) (slice_get locks k) (slice_get passes k) (slice_get sizes k)
   one k h = o.each k (share n k configs) (s.each k h)
@@ -114,20 +106,15 @@ module _ (limit n : ℕ) (configs : List SessionConfig) (parts : Parts) (locks :
           kept = λ k h. ap kept_of (pass k h);
         }
 
-pub engine_is : {limit n : ℕ} {configs : List SessionConfig} (known : List SessionConfig) {parts : Parts} {locks : List TableId} {passes : List Held} {sizes discrs : List ℕ} (pool : List Reflector) {rows : List Row}
-    → AreShares n configs parts → AreOpened limit parts locks passes sizes → known ≡ configs → 0 < n → n ≤ 64
-    → rows ≡ table_of configs pool → build_fault (table_of configs pool) ≡ None → IsSorted configs pool → discrs ≡ map discr_of configs
-    → IsEngine (record { locks = locks; configs = known; pool = pool; limit = limit }) rows discrs sizes
-engine_is {limit} {n} {configs} known {parts} {locks} {passes} {sizes} pool s o same some few table sound sorted discrs_are =
+pub engine_is : {limit n : ℕ} {configs : List SessionConfig} (known : List SessionConfig) {parts : Parts} {locks : List TableId} {passes : List Held} {sizes : List ℕ} (pool : List Reflector)
+    → AreShares n configs parts → AreOpened limit parts locks passes sizes → known ≡ configs → 0 < n → n ≤ 64 → length configs ≤ 65536
+    → IsEngine (record { locks = locks; configs = known; pool = pool; limit = limit }) sizes
+engine_is {limit} {n} {configs} known {parts} {locks} {passes} {sizes} pool s o same some few small =
     let long = count limit n configs parts locks passes sizes s o in
     rw same (record {
       some = omega (arith, some, long);
       few = omega (arith, few, long);
-      small = few_sessions configs pool sound;
-      table = table;
-      ascends = ascending configs pool sound sorted.0;
-      pool_ascends = pool_ascending configs pool sound sorted.1;
-      discrs_are = discrs_are;
+      small = small;
       sizes_are = sizes_are limit n configs parts locks passes sizes s o pool;
     })
 

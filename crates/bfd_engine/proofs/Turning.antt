@@ -1,5 +1,5 @@
 -- What one turn of a shard leaves of a caller's passes.
-use Rattle.bfd_engine.proofs.Common.{◌≡◌, ◌≢◌, ℕ, List, [], ◌∷◌, ◌++◌, length, set, Option, Some, Result, Ok, Err, IfOk, IfErr, OnErr, slice_get, refl, ap, ◌∙◌, subst, append-nil, arith, slice_get_within, dite, ℕ_discrete, Out, Answer, Entry, ShardEvent, calls, TurnFault, by, entry_of, configs_in, limit_in, given_after, IsSame, HasTurned, HasLooked, IsTurnCause, Shards, Held, Knows, base_at, configs_at, seen_of, seen_at, met_word_of, taken_of, made_of, kept_of, Turned, IsCause, fault_of, IsCall, IsFailed, Memory, Full, Spent, EngineFault}
+use Rattle.bfd_engine.proofs.Common.{◌≡◌, ◌≢◌, ℕ, List, [], ◌∷◌, ◌++◌, length, set, sym, Option, Some, Result, Ok, Err, IfOk, IfErr, OnErr, slice_get, refl, ap, ◌∙◌, subst, append-nil, arith, slice_get_within, dite, ℕ_discrete, Out, Answer, Entry, ShardEvent, calls, TurnFault, by, entry_of, configs_in, limit_in, given_after, IsSame, HasTurned, HasLooked, IsTurnCause, Shards, Held, Knows, base_at, configs_at, seen_of, seen_at, met_word_of, taken_of, made_of, kept_of, Turned, IsCause, fault_of, TookTurn, HasUsed, HadTurn, WasUsed, IsCall, IsFailed, Memory, Full, Spent, EngineFault}
 use Rattle.bfd_rules.specs.EventFrame.{Outputs}
 use Rattle.bfd_engine.proofs.Places.{K, set_here, set_else}
 
@@ -30,6 +30,20 @@ turned k s q between new here is num same seen others =
       kept = same_at kept_of k s here is same.joined;
     }
 
+pub took : (k : Knows) {l : Knows} (s : ℕ) {p : K} (q : K) → slice_get k.1 s ≡ Some (Some p) → l ≡ (k.0, set k.1 s (Some q), k.2) → HadTurn p.1 q.1 → TookTurn k l s
+took k s q here is had =
+    let at_l = at_place k s q here is in record {
+      counted = omega (arith, ap taken_of at_l, ap taken_of here, had.counted);
+      later = omega (arith, ap met_word_of at_l, ap met_word_of here, had.later);
+      left = omega (arith, ap met_word_of at_l, had.left);
+    }
+
+has_used : (k : Knows) {l : Knows} (s : ℕ) {p : K} (q : K) (fault : TurnFault) → slice_get k.1 s ≡ Some (Some p) → l ≡ (k.0, set k.1 s (Some q), k.2) → WasUsed fault p.1 q.1 → HasUsed (fault_of s fault) k l s
+has_used k s q Memory here is used = took k s q here is used
+has_used k s q (Full n) here is used = took k s q here is used
+has_used k s q (Spent word) here is used =
+    let at_l = at_place k s q here is in (ap taken_of at_l ∙ (used.0 ∙ sym (ap taken_of here)), ap seen_of at_l ∙ (used.1 ∙ sym (ap seen_of here)))
+
 given_is : (engine : Shards) (k : Knows) (s : ℕ) {p : K} (between : List Entry) (event : ShardEvent) → slice_get k.1 s ≡ Some (Some p) → p.1.base ≡ Some (base_at engine s)
     → given_after (configs_in p.1.base) (p.1.seen ++ between) event ≡ given_after (configs_at engine s) (seen_at k s ++ between) event
 given_is engine k s between event here base = cc
@@ -38,32 +52,33 @@ limit_is : (engine : Shards) (s : ℕ) (p q : K) → p.1.base ≡ Some (base_at 
 limit_is engine s p q base same = cc
 
 failed : (engine : Shards) (k : Knows) {l : Knows} (s : ℕ) {p : K} (q : K) {outs outs2 : List Out} (fault : EngineFault) → slice_get k.1 s ≡ Some (Some p) → l ≡ (k.0, set k.1 s (Some q), k.2) → p.1.number ≡ k.0 → IsSame p.1 q.1
-    → HasLooked p.1 q.1 → outs2 ≡ outs → IsCause fault engine s l → IsFailed engine s k l outs outs2 fault
-failed engine k s {p} q fault here is num same looked told cause = record {
+    → HasLooked p.1 q.1 → outs2 ≡ outs → IsCause fault engine s l → HasUsed fault k l s → IsFailed engine s k l outs outs2 fault
+failed engine k s {p} q fault here is num same looked told cause used = record {
   between = looked.between;
   turned = turned k s q looked.between [] here is num same (cc (append-nil (p.1.seen ++ looked.between))) looked.others;
   told = told;
   cause = cause;
+  used = used;
 }
 
 fault_by : (engine : Shards) (k : Knows) {l : Knows} (s : ℕ) {p : K} (q : K) {outs outs2 : List Out} (fault : TurnFault) → slice_get k.1 s ≡ Some (Some p) → p.1.base ≡ Some (base_at engine s)
-    → l ≡ (k.0, set k.1 s (Some q), k.2) → p.1.number ≡ k.0 → IsSame p.1 q.1 → HasLooked p.1 q.1 → IsTurnCause fault q.1 → outs2 ≡ outs
+    → l ≡ (k.0, set k.1 s (Some q), k.2) → p.1.number ≡ k.0 → IsSame p.1 q.1 → HasLooked p.1 q.1 × IsTurnCause fault q.1 × WasUsed fault p.1 q.1 → outs2 ≡ outs
     → IsFailed engine s k l outs outs2 (fault_of s fault)
-fault_by engine k s {p} q Memory here base is num same looked cause told = failed engine k s q (fault_of s Memory) here is num same looked told
-    (let a = ap (λ h. length (seen_of h)) (at_place k s q here is) in omega (arith, a, limit_is engine s p q base same, cause))
-fault_by engine k s {p} q (Full n) here base is num same looked cause told = failed engine k s q (fault_of s (Full n)) here is num same looked told
-    (refl, cause.1 ∙ limit_is engine s p q base same, cc (at_place k s q here is))
-fault_by engine k s q (Spent word) here base is num same looked cause told =
-    failed engine k s q (fault_of s (Spent word)) here is num same looked told (refl, cause.0, cc (at_place k s q here is))
+fault_by engine k s {p} q Memory here base is num same why told = failed engine k s q (fault_of s Memory) here is num same why.0 told
+    (let a = ap (λ h. length (seen_of h)) (at_place k s q here is) in omega (arith, a, limit_is engine s p q base same, why.1)) (has_used k s q Memory here is why.2)
+fault_by engine k s {p} q (Full n) here base is num same why told = failed engine k s q (fault_of s (Full n)) here is num same why.0 told
+    (refl, why.1.1 ∙ limit_is engine s p q base same, ap (λ h. length (seen_of h)) (at_place k s q here is) ∙ why.1.0) (has_used k s q (Full n) here is why.2)
+fault_by engine k s q (Spent word) here base is num same why told =
+    failed engine k s q (fault_of s (Spent word)) here is num same why.0 told (refl, why.1.0, ap met_word_of (at_place k s q here is) ∙ why.1.1) (has_used k s q (Spent word) here is why.2)
 
 -- a turn that added no entry
 pub fault_done : (engine : Shards) (k : Knows) {l : Knows} (s : ℕ) {p : K} (q : K) (outs outs2 : Outputs) {r : Result Answer TurnFault} {fault : TurnFault} {told : EngineFault} → slice_get k.1 s ≡ Some (Some p)
     → p.1.base ≡ Some (base_at engine s) → l ≡ (k.0, set k.1 s (Some q), k.2) → p.1.number ≡ k.0 → IsSame p.1 q.1
-    → r ≡ Err fault → IfErr r (λ f. HasLooked p.1 q.1 × IsTurnCause f q.1) → OnErr r (outs2 ≡ outs) → told ≡ fault_of s fault → IsFailed engine s k l outs.items outs2.items told
+    → r ≡ Err fault → IfErr r (λ f. HasLooked p.1 q.1 × IsTurnCause f q.1 × WasUsed f p.1 q.1) → OnErr r (outs2 ≡ outs) → told ≡ fault_of s fault → IsFailed engine s k l outs.items outs2.items told
 fault_done engine k s {p} q outs outs2 {fault} here base is num same e looked untold is_told =
-    let l1 = subst (λ x. IfErr x (λ f. HasLooked p.1 q.1 × IsTurnCause f q.1)) e looked in
+    let why = subst (λ x. IfErr x (λ f. HasLooked p.1 q.1 × IsTurnCause f q.1 × WasUsed f p.1 q.1)) e looked in
     let u = subst (λ x. OnErr x (outs2 ≡ outs)) e untold in
-    rw is_told (fault_by engine k s q fault here base is num same l1.0 l1.1 (cc))
+    rw is_told (fault_by engine k s q fault here base is num same why (cc))
 
 -- a turn with its entry
 pub call_done : (engine : Shards) (k : Knows) {l : Knows} (s : ℕ) (event : ShardEvent) {p : K} (q : K) (outs outs2 : List Out) {r : Result Answer TurnFault} {answer : Answer} → slice_get k.1 s ≡ Some (Some p)
@@ -73,6 +88,8 @@ call_done engine k s event {p} q outs outs2 {answer} here base is num same e all
     let ok = subst (λ x. IfOk x (λ a. HasTurned p.1 event q.1 outs outs2 a)) e all in record {
       between = ok.between;
       turned = turned k s q ok.between (entry_of k.0 event ∷ []) here is num same (rw (← num) ok.seen) ok.others;
+      took = took k s q here is ok.had;
+      below = omega (arith, ap (λ h. length (seen_of h ++ ok.between)) here, ap limit_in base, ok.below);
       told = cc (given_is engine k s ok.between event here base);
       answered = cc (given_is engine k s ok.between event here base);
     }

@@ -1,10 +1,12 @@
 -- The answer to an arrival tells the first test that it fails.
-use Rattle.bfd_engine.proofs.Common.{◌≡◌, ◌<◌, ◌+◌, ◌++◌, ◌∷◌, [], ℕ, zero, suc, List, length, Option, None, Some, Result, Ok, Err, IfOk, refl, slice_get, option_or, Arrival, Datagram, Test, Out, Target, Session, Echo, first_table_failing, reflect, Answer, Event, SessionConfig, coming_to, Running, table_of, reply, Entry, ShardEvent, Own, events_of, last_tick, outcome_of, run, runs, runs_from, IsTaken, Shards, Knows, configs_at, IsCall, IsDone, coming_act, reflect_act, seen_at, Arrives, IsAnswered, packet_answer, return_answer, arrival_judged, EngineFault}
-use Rattle.std.specs.Result.{result_err}
+use Rattle.bfd_engine.proofs.Common.{◌≡◌, ◌<◌, ◌+◌, ◌++◌, ◌∷◌, [], ℕ, zero, suc, List, length, Option, None, Some, Result, Ok, Err, IfOk, refl, slice_get, option_or, Arrival, Test, Row, Out, Target, Session, Echo, first_table_failing, target_of, Answer, Event, SessionConfig, coming_to, coming_by, comes_to, Running, table_of, reply, Entry, ShardEvent, Own, events_of, last_tick, outcome_of, run, runs, runs_from, IsTaken, Shards, Knows, configs_at, IsCall, IsDone, coming_act, seen_at, IsAnswered, packet_answer, return_answer, arrival_judged, EngineFault}
+use Rattle.std.proofs.Common.{ap₂, sym, ◌∙◌, subst}
+use Rattle.bfd_session.specs.Arrivals.{Destination, Discarded, Reflected, Own as OwnEvent}
+use Rattle.bfd_engine.specs.Calls.{own_act}
 use Rattle.bfd_demux.specs.declared.target.Target.TheVariants.{Reflector as ReflectorAt}
 use Rattle.bfd_session.specs.declared.event.Event.TheVariants.{Packet, Returned}
 use Rattle.bfd_session.specs.Alone.{effective}
-use Rattle.bfd_session.specs.Discards.{answer_by, first_own_failing, judging}
+use Rattle.bfd_session.specs.Discards.{first_own_failing, judging}
 use Rattle.bfd_session.proofs.Discarding.{discards_first, reply_first}
 use Rattle.bfd_engine.proofs.Reaching.{dealt_event}
 
@@ -48,19 +50,44 @@ judged_call {engine} {shard} {place} {moment} {event} {k} is taken call =
       answered = cc (own_answer (last_tick (events_of before)) place moment event (runs (events_of before) (configs_at engine shard)) s.0 s.1, is (effective moment (last_tick (events_of before)) s.0) s.0);
     }
 
-judged_reflected : (r : Result Datagram Test) (engine : Shards) (k l : Knows) (arrival : Arrival) (outs outs2 : List Out) (answer : Answer)
-    → IsDone (reflect_act r arrival) engine k l outs outs2 (Ok answer) → answer ≡ answer_by (result_err r)
-judged_reflected (Ok datagram) engine k l arrival outs outs2 answer h = cc
-judged_reflected (Err test) engine k l arrival outs outs2 answer h = cc
+-- what an arrival that comes to this is, where it is an own event of a session
+abbrev pub Taken : List SessionConfig → Destination → Type 0
+Taken configs (Discarded test) = Unit {0}
+Taken configs (Reflected place) = Unit {0}
+Taken configs (OwnEvent place event) = IsTaken configs place event
 
-pub judged_target : (target : Target) (engine : Shards) (moment : ℕ) (arrival : Arrival) (k l : Knows) (outs outs2 : List Out) (result : Result Answer EngineFault)
-    → 0 < length engine.locks → None ≡ first_table_failing (table_of engine.configs engine.pool) arrival → Arrives engine.configs engine.pool arrival target
-    → IsDone (coming_act engine moment arrival (coming_to (Some target) arrival)) engine k l outs outs2 result
+judged_target : (target : Target) (engine : Shards) (moment : ℕ) (arrival : Arrival) (k l : Knows) (outs outs2 : List Out) (result : Result Answer EngineFault)
+    → 0 < length engine.locks → None ≡ first_table_failing (table_of engine.configs engine.pool) arrival → {place : ℕ} {event : Event} → coming_to (Some target) arrival ≡ OwnEvent place event
+    → Taken engine.configs (coming_to (Some target) arrival) → IsDone (coming_act engine moment arrival (coming_to (Some target) arrival)) engine k l outs outs2 result
     → IfOk result (λ answer. arrival_judged engine moment arrival (coming_to (Some target) arrival) l answer)
-judged_target (Session place) engine moment arrival k l outs outs2 (Ok answer) some none arrives h = judged_call
-    (λ eff s. packet_is engine arrival eff s none) (dealt_event engine _ _ _ refl some arrives) h
-judged_target (ReflectorAt place) engine moment arrival k l outs outs2 (Ok answer) some none arrives h =
-    judged_reflected (reflect engine.pool arrival) engine k l arrival outs outs2 answer h
-judged_target (Echo place sequence) engine moment arrival k l outs outs2 (Ok answer) some none arrives h = judged_call
-    (λ eff s. return_is sequence eff s) (dealt_event engine _ _ _ refl some arrives) h
-judged_target target engine moment arrival k l outs outs2 (Err fault) some none arrives h = tt
+judged_target (Session place) engine moment arrival k l outs outs2 (Ok answer) some none own taken h = judged_call
+    (λ eff s. packet_is engine arrival eff s none) (dealt_event engine _ _ _ refl some taken) h
+judged_target (ReflectorAt place) engine moment arrival k l outs outs2 (Ok answer) some none own taken h = absurd (cc)
+judged_target (Echo place sequence) engine moment arrival k l outs outs2 (Ok answer) some none own taken h = judged_call
+    (λ eff s. return_is sequence eff s) (dealt_event engine _ _ _ refl some taken) h
+judged_target target engine moment arrival k l outs outs2 (Err fault) some none own taken h = tt
+
+-- the target of an arrival that comes to an own event
+record IsFor (rows : List Row) (arrival : Arrival) : Type 0 where
+  target : Target
+  passes : None ≡ first_table_failing rows arrival
+  is : coming_to (Some target) arrival ≡ comes_to rows arrival
+
+is_for : (rows : List Row) (arrival : Arrival) (f : Option Test) (o : Option Target) {place : ℕ} {event : Event} → first_table_failing rows arrival ≡ f → target_of rows arrival ≡ o
+    → coming_by f o arrival ≡ OwnEvent place event → IsFor rows arrival
+is_for rows arrival (Some test) o e t own = absurd (cc)
+is_for rows arrival None None e t own = absurd (cc)
+is_for rows arrival None (Some target) e t own = record { target = target; passes = sym e; is = sym (ap₂ (λ f o. coming_by f o arrival) e t) }
+
+-- an own event of a session, for which an arrival is
+pub judged_own_event : (engine : Shards) (moment : ℕ) (arrival : Arrival) (k l : Knows) (outs outs2 : List Out) (result : Result Answer EngineFault) {place : ℕ} {event : Event}
+    → 0 < length engine.locks → comes_to (table_of engine.configs engine.pool) arrival ≡ OwnEvent place event → IsTaken engine.configs place event
+    → IsDone (own_act engine moment place event) engine k l outs outs2 result
+    → IfOk result (λ answer. arrival_judged engine moment arrival (comes_to (table_of engine.configs engine.pool) arrival) l answer)
+judged_own_event engine moment arrival k l outs outs2 result {place} {event} some own taken done =
+    let rows : List Row = table_of engine.configs engine.pool in
+    let f = is_for rows arrival (first_table_failing rows arrival) (target_of rows arrival) refl refl own in
+    let same : OwnEvent place event ≡ coming_to (Some f.target) arrival = sym (f.is ∙ own) in
+    rw (← f.is) (judged_target f.target engine moment arrival k l outs outs2 result some f.passes (sym same)
+    (subst (λ (d : Destination). Taken engine.configs d) same taken)
+    (subst (λ (d : Destination). IsDone (coming_act engine moment arrival d) engine k l outs outs2 result) same done))

@@ -12,7 +12,7 @@ use Rattle.bfd_sbfd.specs.Reflect.{reflect}
 use Rattle.bfd_session.specs.declared.event.Answer.{Answer}
 use Rattle.bfd_session.specs.declared.event.Answer.TheVariants.{Handled, Dropped, Refused}
 use Rattle.bfd_session.specs.declared.event.Event.{Event}
-use Rattle.bfd_session.specs.Arrivals.{Coming, Discarded, Reflected, Own as OwnEvent, comes_to}
+use Rattle.bfd_session.specs.Arrivals.{Destination, Discarded, Reflected, Own as OwnEvent, comes_to}
 use Rattle.bfd_session.specs.Rows.{table_of, place_of}
 use Rattle.bfd_shard.specs.declared.entry.Entry.{Entry}
 use Rattle.bfd_shard.specs.declared.entry.ShardEvent.{ShardEvent}
@@ -89,12 +89,24 @@ pub record Turned (k l : Knows) (shard : ℕ) (between new : List Entry) : Type 
   pub made : (r : ℕ) → made_at l r ≡ made_at k r
   pub kept : (r : ℕ) → kept_at l r ≡ kept_at k r
 
+-- a turn of the shard was taken, at a word that was below the last, and given back
+pub record TookTurn (k l : Knows) (shard : ℕ) : Type 0 where
+  pub counted : taken_at l shard ≡ taken_at k shard + 1
+  pub later : met_word k shard < met_word l shard
+  pub left : met_word l shard ≤ last_word
+
 -- why a turn added no entry: no memory, with a journal below its limit; the shard's journal that was seen is at its limit; or the
 -- lock's last word was met
 abbrev pub IsCause : EngineFault → Shards → ℕ → Knows → Type 0
 IsCause Memory engine shard l = length (seen_at l shard) < engine.limit
 IsCause (Full at n) engine shard l = (at ≡ shard) × (n ≡ engine.limit) × (length (seen_at l shard) ≡ n)
 IsCause (Spent at word) engine shard l = (at ≡ shard) × (word ≡ last_word) × (met_word l shard ≡ word)
+
+-- what a refused call used: a turn; or none, and then it has seen nothing new
+abbrev pub HasUsed : EngineFault → Knows → Knows → ℕ → Type 0
+HasUsed Memory k l shard = TookTurn k l shard
+HasUsed (Full at n) k l shard = TookTurn k l shard
+HasUsed (Spent at word) k l shard = (taken_at l shard ≡ taken_at k shard) × (seen_at l shard ≡ seen_at k shard)
 
 -- the fault of a shard's turn
 abbrev pub fault_of : ℕ → TurnFault → EngineFault
@@ -118,7 +130,7 @@ reflect_act (Ok datagram) arrival = Rests (Sent (fields_of arrival.payload).your
 reflect_act (Err test) arrival = Rests [] (Dropped test)
 
 -- what an arrival comes to
-abbrev pub coming_act : Shards → ℕ → Arrival → Coming → Act
+abbrev pub coming_act : Shards → ℕ → Arrival → Destination → Act
 coming_act engine moment arrival (Discarded test) = Rests [] (Dropped test)
 coming_act engine moment arrival (Reflected place) = reflect_act (reflect engine.pool arrival) arrival
 coming_act engine moment arrival (OwnEvent k event) = own_act engine moment k event
@@ -135,11 +147,13 @@ ask_act engine moment event None = Rests [] (Refused UnknownSession)
 abbrev pub asking_by_discr : Shards → ℕ → ℕ → Event → Act
 asking_by_discr engine moment discr event = ask_act engine moment event (place_of discr engine.configs)
 
--- one turn, with its entry: it comes last in what the pass has seen, after others' entries, and the outputs and the answer are
--- those of that entry after the entries before it
+-- one turn, with its entry: it comes last in what the pass has seen, after others' entries, with which the journal was below its limit,
+-- and the outputs and the answer are those of that entry after the entries before it
 pub record IsCall (engine : Shards) (shard : ℕ) (event : ShardEvent) (k l : Knows) (outs outs2 : List Out) (answer : Answer) : Type 0 where
   pub between : List Entry
   pub turned : Turned k l shard between (entry_of k.0 event ∷ [])
+  pub took : TookTurn k l shard
+  pub below : length (seen_at k shard ++ between) < engine.limit
   pub told : outs2 ≡ outs ++ (given_after (configs_at engine shard) (seen_at k shard ++ between) event).items
   pub answered : answer ≡ (given_after (configs_at engine shard) (seen_at k shard ++ between) event).answer
 
@@ -149,6 +163,7 @@ pub record IsFailed (engine : Shards) (shard : ℕ) (k l : Knows) (outs outs2 : 
   pub turned : Turned k l shard between []
   pub told : outs2 ≡ outs
   pub cause : IsCause fault engine shard l
+  pub used : HasUsed fault k l shard
 
 -- what a call did
 abbrev pub IsDone : Act → Shards → Knows → Knows → List Out → List Out → Result Answer EngineFault → Type 0

@@ -1,12 +1,8 @@
 -- What clauses see of an engine, and of a caller's pass over its shards.
-use Rattle.std.specs.Prelude.{ℕ, ◌≡◌, ◌≤◌, ◌<◌, ◌+◌, List, length, map, slice_get, Option, Some}
+use Rattle.std.specs.Prelude.{ℕ, ◌≡◌, ◌≤◌, ◌<◌, ◌+◌, List, length, slice_get, Option, Some}
 use Rattle.bfd_turn.specs.Passes.{TableId, IsNew}
-use Rattle.bfd_demux.specs.declared.row.Row.{Row}
 use Rattle.bfd_sbfd.specs.declared.reflecting.Reflector.{Reflector}
-use Rattle.bfd_sbfd.specs.Reflect.{Ascends as PoolAscends}
 use Rattle.bfd_session.specs.declared.event.SessionConfig.{SessionConfig}
-use Rattle.bfd_session.specs.Kinds.{discr_of}
-use Rattle.bfd_session.specs.Rows.{Ascends, table_of}
 use Rattle.bfd_shard.specs.Dealing.{share}
 use Rattle.bfd_engine.specs.declared.locked.Base.{Base}
 use Rattle.bfd_engine.specs.Turned.{OfShard}
@@ -27,16 +23,11 @@ configs_at engine shard = share (length engine.locks) shard engine.configs
 abbrev pub base_at : Shards → ℕ → Base
 base_at engine shard = record { configs = configs_at engine shard; limit = engine.limit }
 
--- an engine of 1 to 64 shards and at most 65,536 sessions, whose table of rows is that of its sessions and then its reflectors; it keeps each session's
--- discriminator, and how many sessions each shard has
-pub record IsEngine (engine : Shards) (rows : List Row) (discrs : List ℕ) (sizes : List ℕ) : Type 0 where
+-- an engine of 1 to 64 shards and at most 65,536 sessions, which keeps how many sessions each shard has
+pub record IsEngine (engine : Shards) (sizes : List ℕ) : Type 0 where
   pub some : 0 < length engine.locks
   pub few : length engine.locks ≤ 64
   pub small : length engine.configs ≤ 65536
-  pub table : rows ≡ table_of engine.configs engine.pool
-  pub ascends : Ascends engine.configs
-  pub pool_ascends : PoolAscends engine.pool
-  pub discrs_are : discrs ≡ map discr_of engine.configs
   pub sizes_are : (shard : ℕ) → shard < length engine.locks → slice_get sizes shard ≡ Some (length (configs_at engine shard))
 
 -- what a pass knows of a shard, and the lock that it is of; none while it holds the shard's turn

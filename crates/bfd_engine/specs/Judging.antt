@@ -8,7 +8,7 @@ use Rattle.bfd_session.specs.declared.event.Answer.TheVariants.{Dropped}
 use Rattle.bfd_session.specs.declared.event.Event.{Event}
 use Rattle.bfd_session.specs.declared.event.Event.TheVariants.{Packet, Returned}
 use Rattle.bfd_session.specs.Alone.{effective}
-use Rattle.bfd_session.specs.Arrivals.{Coming, Discarded, Reflected, Own as OwnEvent}
+use Rattle.bfd_session.specs.Arrivals.{Destination, Discarded, Reflected, Own as OwnEvent}
 use Rattle.bfd_session.specs.Discards.{answer_by, first_discarding, judging}
 use Rattle.bfd_session.specs.Kinds.{Running}
 use Rattle.bfd_session.specs.Rows.{table_of}
@@ -50,7 +50,7 @@ judged_own engine moment k event l answer = Unit {0}
 
 -- an arrival that fails a test up to selection was discarded by the first of them, and a reflector's packet by the first of the
 -- reflectors' tests that it fails
-abbrev pub arrival_judged : Shards → ℕ → Arrival → Coming → Knows → Answer → Type 0
+abbrev pub arrival_judged : Shards → ℕ → Arrival → Destination → Knows → Answer → Type 0
 arrival_judged engine moment arrival (Discarded test) l answer = answer ≡ Dropped test
 arrival_judged engine moment arrival (Reflected place) l answer = answer ≡ answer_by (result_err (reflect engine.pool arrival))
 arrival_judged engine moment arrival (OwnEvent k event) l answer = judged_own engine moment k event l answer

@@ -1,9 +1,6 @@
 -- What an engine is opened with, and what its first caller knows.
-use Rattle.std.specs.Prelude.{ℕ, ◌≡◌, ◌≤◌, ◌<◌, List, [], ◌∷◌, length, map, slice_get, slice_index_or, Option, Some}
-use Rattle.std.specs.List.{AllByRecursion}
+use Rattle.std.specs.Prelude.{ℕ, ◌≡◌, ◌≤◌, ◌<◌, List, [], length, map, slice_get, slice_index_or, Option, Some}
 use Rattle.bfd_session.specs.declared.event.SessionConfig.{SessionConfig}
-use Rattle.bfd_session.specs.Kinds.{discr_of}
-use Rattle.bfd_sbfd.specs.declared.reflecting.Reflector.{Reflector}
 use Rattle.bfd_demux.specs.declared.row.Row.{Row}
 use Rattle.bfd_demux.specs.Rows.{build_fault}
 use Rattle.bfd_session.specs.Rows.{AreFit}
@@ -17,15 +14,6 @@ use Rattle.bfd_engine.specs.declared.fault.OpenFault.TheVariants.{Build, Memory}
 use Rattle.bfd_engine.specs.Turned.{OfShard}
 use Rattle.bfd_engine.specs.Engines.{Shards, Held, Knows, IsOf, AllThere}
 use Rattle.bfd_engine.specs.Calls.{seen_at, met_word, taken_at, made_at, kept_at}
-
--- numbers in ascending order, equal ones allowed
-abbrev pub Climbs : List ℕ → Type 0
-Climbs [] = Unit {0}
-Climbs (d ∷ ds) = AllByRecursion (λ e. d ≤ e) ds × Climbs ds
-
--- sessions and reflectors, each in ascending order of discriminator; the table's build tells of equal ones
-abbrev pub IsSorted : List SessionConfig → List Reflector → Type 0
-IsSorted configs pool = Climbs (map discr_of configs) × Climbs (map (λ reflector. reflector.discr) pool)
 
 -- the pass of a newly opened engine: caller 0, of all shards, which has seen nothing, made no pass and given back no turn
 pub record IsNewPass (engine : Shards) (pass : Knows) : Type 0 where

@@ -58,12 +58,20 @@ pub record IsSame (p q : OfShard) : Type 0 where
   pub word : p.word ≤ q.word
   pub taken : q.taken ≤ p.taken + 1
 
--- q has seen what p had, then entries of other callers alone, and last this very event, of its own; the outputs that were
--- appended and the answer are those of that last entry after the entries before it
+-- a turn was taken, at a word that was below the last, and given back
+pub record HadTurn (p q : OfShard) : Type 0 where
+  pub counted : q.taken ≡ p.taken + 1
+  pub later : p.word < q.word
+  pub left : q.word ≤ last_word
+
+-- q has seen what p had, then entries of other callers alone, and last this very event, of its own, for which the journal was below
+-- its limit; the outputs that were appended and the answer are those of that last entry after the entries before it
 pub record HasTurned (p : OfShard) (event : ShardEvent) (q : OfShard) (outs outs2 : List Out) (answer : Answer) : Type 0 where
   pub between : List Entry
   pub others : calls by p.number between ≡ []
   pub seen : q.seen ≡ (p.seen ++ between) ++ entry_of p.number event ∷ []
+  pub below : length (p.seen ++ between) < limit_in p.base
+  pub had : HadTurn p q
   pub told : outs2 ≡ outs ++ (given_after (configs_in p.base) (p.seen ++ between) event).items
   pub answered : answer ≡ (given_after (configs_in p.base) (p.seen ++ between) event).answer
 
@@ -92,3 +100,9 @@ abbrev pub IsTurnCause : TurnFault → OfShard → Type 0
 IsTurnCause Memory q = length q.seen < limit_in q.base
 IsTurnCause (Full n) q = (length q.seen ≡ n) × (n ≡ limit_in q.base)
 IsTurnCause (Spent word) q = (word ≡ last_word) × (q.word ≡ word)
+
+-- what a refusal used: a turn; or none, and then nothing new was seen
+abbrev pub WasUsed : TurnFault → OfShard → OfShard → Type 0
+WasUsed Memory p q = HadTurn p q
+WasUsed (Full n) p q = HadTurn p q
+WasUsed (Spent word) p q = (q.taken ≡ p.taken) × (q.seen ≡ p.seen)

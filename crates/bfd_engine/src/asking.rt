@@ -1,8 +1,7 @@
 //! Calls of an engine by discriminator: commands and questions.
-ghost use Rattle.std.specs.Prelude.{◌≡◌, ◌≤◌, ◌<◌, ◌+◌, length, IfSome};
+ghost use Rattle.std.specs.Prelude.{◌≡◌, ◌≤◌, ◌<◌, ◌+◌, length};
 ghost use Rattle.bfd_session.specs.declared.event.SessionConfig.{SessionConfig};
 ghost use Rattle.bfd_session.specs.declared.event.Event.TheVariants.{Command as CommandEvent, Show as ShowEvent};
-ghost use Rattle.bfd_session.specs.Rows.{place_of};
 ghost use Rattle.bfd_session.specs.Step.{CanTake};
 ghost use Rattle.bfd_engine.specs.Engines.{IsOf, AllThere};
 ghost use Rattle.bfd_engine.specs.Calls.{IsDone, asking_by_discr};
@@ -18,18 +17,7 @@ use std::sync::Wait;
 use std::sync::ledger::Ledger;
 
 impl<W: Timers> Engine<W> {
-    /// The place in the table of the session with this discriminator, by a binary search.
-    fn place_of(&self, discr: u32) -> Option<u32>
-        ensures value { result ≡ place_of discr self.now.configs }
-    {
-        match self.discrs.binary_search(&discr) {
-            Ok(place) => Some(place as u32),
-            Err(_) => None,
-        }
-    }
-
     /// An event that every session takes, for the one with this discriminator.
-    #[tactic(auto, using(crate::proofs::Seeking::stands))]
     fn ask<R: Wait, L: Ledger>(
         &self,
         rt: &R,
@@ -52,7 +40,7 @@ impl<W: Timers> Engine<W> {
         ensures spare { outs.old.spare ≤ outs.new.spare + 5 }
         ensures cost { steps.new ≤ steps.old + 2 }
     {
-        match self.place_of(discr) {
+        match self.table.place_of(discr) {
             Some(k) => self.own(rt, pass, moment, k, event, outs, steps),
             None => Ok(Answer::Refused(Refusal::UnknownSession)),
         }

@@ -10,16 +10,13 @@ use crate::fault::EngineFault;
 use crate::locked::Locked;
 use crate::pass::EnginePass;
 use crate::turn::{TurnFault, turn_with};
-use bfd_demux::Demux;
 use bfd_num::Steps;
 use bfd_rules::Outs;
-use bfd_sbfd::Reflector;
-use bfd_session::{Answer, SessionConfig};
+use bfd_session::{Answer, Table};
 use bfd_shard::ShardEvent;
 use bfd_turn::TurnLock;
 use bfd_wheel::Timers;
 use std::marker::Model;
-use std::snapshot::Snapshot;
 use std::sync::Wait;
 use std::sync::ledger::Ledger;
 
@@ -28,15 +25,10 @@ use std::sync::ledger::Ledger;
 #[derive(Drop)]
 pub struct Engine<W: Timers> {
     pub(crate) locks: Vec<TurnLock<Locked<W>>>,
-    pub(crate) demux: Demux,
-    pub(crate) pool: Vec<Reflector>,
-    // Of each session, by place of the table.
-    pub(crate) discrs: Vec<u32>,
+    pub(crate) table: Table,
     // How many sessions each shard has.
     pub(crate) sizes: Vec<usize>,
     pub(crate) limit: usize,
-    // The sessions' configurations, for clauses alone.
-    pub(crate) configs: Snapshot<Vec<SessionConfig>>,
 }
 
 impl<W: Timers> Model for Engine<W> {
@@ -46,17 +38,17 @@ impl<W: Timers> Model for Engine<W> {
 
     ghost view = { λ e. record {
       locks = e.locks.items;
-      configs = e.configs.value.items;
-      pool = e.pool.items;
+      configs = e.table.configs;
+      pool = e.table.pool;
       limit = e.limit;
     } };
 
     ghost invariant = { λ e. IsEngine (record {
       locks = e.locks.items;
-      configs = e.configs.value.items;
-      pool = e.pool.items;
+      configs = e.table.configs;
+      pool = e.table.pool;
       limit = e.limit;
-    }) e.demux e.discrs.items e.sizes.items };
+    }) e.sizes.items };
 }
 
 /// The fault of a shard's turn.

@@ -5,7 +5,7 @@
 //! can be had, or in turn, and `of_shards` takes them, when it is known how many entries their journals take. A caller asks
 //! for turns with an `EnginePass`. A call that needs a shard takes its turn, makes room for the entry, applies the event,
 //! and gives the turn back, after a fault too: `receive` for an arrival, `command` and `show` by discriminator, `advance`
-//! for a tick. `screen`, `reflect` and what a reflector answers take no turn. `split` makes a pass for a further caller,
+//! for a tick. What is for no session takes no turn. `split` makes a pass for a further caller,
 //! which has the next number; `join` takes it into that of caller 0; `close` gives the shards. `journal_from` reads a
 //! shard's history; `try_hold` and `let_go` hold a turn from call to call. `both` and `each` call what they are given, at
 //! once or in turn, and `all_there` takes the values where nothing was refused.

@@ -2,11 +2,12 @@
 ghost use Rattle.std.specs.Prelude.{◌≡◌, ◌≤◌, ◌<◌, None, Some, IfOk, MatchResult, length, map};
 ghost use Rattle.std.specs.List.{AllByRecursion};
 ghost use Rattle.bfd_demux.specs.Rows.{build_fault};
-ghost use Rattle.bfd_session.specs.Kinds.{configs_of, discr_of};
+ghost use Rattle.bfd_session.specs.Kinds.{configs_of};
 ghost use Rattle.bfd_session.specs.Rows as rows;
 ghost use Rattle.bfd_session.specs.Rows.{AreFit};
 ghost use Rattle.bfd_shard.specs.Shard.{Shard};
-ghost use Rattle.bfd_engine.specs.Opening.{IsSorted, IsNewPass, IsOpenFault, AreNewStates, MayLock, IsMade, AreOpened, HaveOpened};
+ghost use Rattle.bfd_engine.specs.Opening.{IsNewPass, IsOpenFault, AreNewStates, MayLock, IsMade, AreOpened, HaveOpened};
+ghost use Rattle.bfd_session.specs.Tables.{IsSorted, members};
 
 use crate::beside::{all_there, each};
 use crate::engine::Engine;
@@ -14,34 +15,28 @@ use crate::fault::OpenFault;
 use crate::locked::{Base, Locked};
 use crate::making::make_in_turn;
 use crate::pass::EnginePass;
-use bfd_demux::{BuildFault, Demux};
+use bfd_demux::BuildFault;
 use bfd_sbfd::Reflector;
-use bfd_session::{SessionConfig, table_of};
+use bfd_session::{SessionConfig, Table};
 use bfd_shard::{Entry, ShardState};
 use bfd_turn::{Pass, TurnLock};
 use bfd_wheel::Timers;
 use std::alloc::{AllocError, Global};
-use std::snapshot::Snapshot;
 use std::thread::Threads;
 
-/// The discriminators of the sessions.
-fn discrs_of(alloc: Global, configs: &[SessionConfig]) -> Result<Vec<u32>, AllocError>
-    ensures { IfOk result (λ list. list.items ≡ map discr_of configs.now) }
-{
-    configs.iter().map(|config| config.discr()).collect(alloc)
-}
-
 /// The table of the sessions and reflectors, or what is wrong with it.
-fn plan(alloc: Global, configs: &[SessionConfig], pool: &[Reflector]) -> Result<Demux, OpenFault>
-    ensures { MatchResult result (λ demux. (demux ≡ rows.table_of configs.now pool.now)
-        × (build_fault (rows.table_of configs.now pool.now) ≡ None))
-        (IsOpenFault (rows.table_of configs.now pool.now)) }
+fn plan(
+    alloc: Global,
+    configs: &Vec<SessionConfig>,
+    pool: Vec<Reflector>,
+) -> Result<Table, OpenFault>
+    requires { IsSorted configs.now.items pool.items }
+    ensures { MatchResult result (λ table. (table ≡ members configs.now.items pool.items)
+        × (build_fault (rows.table_of configs.now.items pool.items) ≡ None))
+        (IsOpenFault (rows.table_of configs.now.items pool.items)) }
 {
-    let Ok(list) = table_of(alloc, configs, pool) else {
-        return Err(OpenFault::Memory);
-    };
-    match Demux::build(alloc, list.as_slice()) {
-        Ok(demux) => Ok(demux),
+    match Table::build(alloc, configs, pool) {
+        Ok(table) => Ok(table),
         Err(BuildFault::Memory) => Err(OpenFault::Memory),
         Err(fault) => Err(OpenFault::Build(fault)),
     }
@@ -109,35 +104,22 @@ fn lock_in_turn<W: Timers>(
 }
 
 /// The engine of these shards, and the pass of caller 0.
-fn engine_of<W: Timers>(
-    opened: Opened<W>,
-    demux: Demux,
-    configs: Snapshot<Vec<SessionConfig>>,
-    pool: Vec<Reflector>,
-    discrs: Vec<u32>,
-    limit: usize,
-) -> (Engine<W>, EnginePass)
-    requires opened { HaveOpened limit configs.value.items opened.0.items opened.1.items opened.2.items }
+fn engine_of<W: Timers>(opened: Opened<W>, table: Table, limit: usize) -> (Engine<W>, EnginePass)
+    requires opened { HaveOpened limit table.configs opened.0.items opened.1.items opened.2.items }
     requires few { (0 < length opened.0.items) × (length opened.0.items ≤ 64) }
-    requires table { demux ≡ rows.table_of configs.value.items pool.items }
-    requires sound { build_fault (rows.table_of configs.value.items pool.items) ≡ None }
-    requires sorted { IsSorted configs.value.items pool.items }
-    requires discrs { discrs.items ≡ map discr_of configs.value.items }
     ensures shards { length result.0.locks ≡ length opened.0.items }
-    ensures configs { result.0.configs ≡ configs.value.items }
-    ensures pool { result.0.pool ≡ pool.items }
+    ensures configs { result.0.configs ≡ table.configs }
+    ensures pool { result.0.pool ≡ table.pool }
     ensures limit { result.0.limit ≡ limit }
     ensures pass { IsNewPass result.0 result.1 }
 {
+    let _ = table.pool();
     let (locks, passes, sizes) = opened;
     let engine = Engine {
         locks,
-        demux,
-        pool,
-        discrs,
+        table,
         sizes,
         limit,
-        configs,
     };
     let pass = EnginePass {
         passes,
@@ -150,29 +132,25 @@ fn engine_of<W: Timers>(
 /// An engine whose shards are made one after another.
 fn alone<W: Timers>(
     alloc: Global,
-    demux: Demux,
+    table: Table,
     configs: Vec<SessionConfig>,
-    pool: Vec<Reflector>,
     shards: u32,
     limit: usize,
 ) -> Result<(Engine<W>, EnginePass), AllocError>
     requires shards { (0 < shards) × (shards ≤ 64) }
-    requires table { demux ≡ rows.table_of configs.items pool.items }
-    requires sound { build_fault (rows.table_of configs.items pool.items) ≡ None }
-    requires sorted { IsSorted configs.items pool.items }
+    requires its { table.configs ≡ configs.items }
     requires fit { AreFit configs.items }
     ensures shards { IfOk result (λ r. length r.0.locks ≡ shards) }
     ensures configs { IfOk result (λ r. r.0.configs ≡ configs.items) }
-    ensures pool { IfOk result (λ r. r.0.pool ≡ pool.items) }
+    ensures pool { IfOk result (λ r. r.0.pool ≡ table.pool) }
     ensures limit { IfOk result (λ r. r.0.limit ≡ limit) }
     ensures pass { IfOk result (λ r. IsNewPass r.0 r.1) }
 {
-    let discrs = discrs_of(alloc, configs.as_slice())?;
-    let known = Snapshot::of(&configs);
+    let _ = table.pool();
     let states = make_in_turn(alloc, configs.as_slice(), shards)?;
     drop(configs);
     let opened = lock_in_turn(alloc, states, limit)?;
-    Ok(engine_of(opened, demux, known, pool, discrs, limit))
+    Ok(engine_of(opened, table, limit))
 }
 
 impl<W: Timers> Engine<W> {
@@ -200,8 +178,8 @@ impl<W: Timers> Engine<W> {
         ensures fault { MatchResult result (λ _. build_fault (rows.table_of configs.items pool.items) ≡ None)
             (IsOpenFault (rows.table_of configs.items pool.items)) }
     {
-        let demux = plan(alloc, configs.as_slice(), pool.as_slice())?;
-        match alone(alloc, demux, configs, pool, shards, limit) {
+        let table = plan(alloc, &configs, pool)?;
+        match alone(alloc, table, configs, shards, limit) {
             Ok(opened) => Ok(opened),
             Err(_) => Err(OpenFault::Memory),
         }
@@ -209,31 +187,22 @@ impl<W: Timers> Engine<W> {
 }
 
 impl<W: Timers + Send> Engine<W> {
-    /// An engine of the shards that `make_shards` made of the sessions, and the pass of caller 0, with a table that is there
-    /// already: that of the sessions and the reflectors, which has no fault. `discrs` are the sessions' discriminators in their
-    /// order, and each shard's journal takes `limit` entries. With `at_once` each lock is made in a thread of its own
-    /// where one can be had, so that workers of different shards don't write side by side; else they are made in turn. The one
-    /// refusal is want of memory.
+    /// An engine of the shards that `make_shards` made of a table's sessions, and the pass of caller 0. Each shard's journal takes
+    /// `limit` entries. With `at_once` each lock is made in a thread of its own if one is available, so that workers of different
+    /// shards don't write side by side; else they are made one after another. Fails only when out of memory.
     pub fn of_shards<R: Threads + Sync>(
         rt: &R,
         alloc: Global,
-        demux: Demux,
+        table: Table,
         states: Vec<ShardState<W>>,
-        configs: Snapshot<Vec<SessionConfig>>,
-        discrs: Vec<u32>,
-        pool: Vec<Reflector>,
         limit: usize,
         at_once: bool,
     ) -> Result<(Engine<W>, EnginePass), AllocError>
         requires shards { (0 < length states.items) × (length states.items ≤ 64) }
-        requires new { AreNewStates (length states.items) configs.value.items states.items }
-        requires discrs { discrs.items ≡ map discr_of configs.value.items }
-        requires table { demux ≡ rows.table_of configs.value.items pool.items }
-        requires sound { build_fault (rows.table_of configs.value.items pool.items) ≡ None }
-        requires sorted { IsSorted configs.value.items pool.items }
+        requires new { AreNewStates (length states.items) table.configs states.items }
         ensures shards { IfOk result (λ r. length r.0.locks ≡ length states.items) }
-        ensures configs { IfOk result (λ r. r.0.configs ≡ configs.value.items) }
-        ensures pool { IfOk result (λ r. r.0.pool ≡ pool.items) }
+        ensures configs { IfOk result (λ r. r.0.configs ≡ table.configs) }
+        ensures pool { IfOk result (λ r. r.0.pool ≡ table.pool) }
         ensures limit { IfOk result (λ r. r.0.limit ≡ limit) }
         ensures pass { IfOk result (λ r. IsNewPass r.0 r.1) }
     {
@@ -249,6 +218,6 @@ impl<W: Timers + Send> Engine<W> {
         )?;
         let shards = all_there(alloc, made)?;
         let opened = apart(alloc, shards)?;
-        Ok(engine_of(opened, demux, configs, pool, discrs, limit))
+        Ok(engine_of(opened, table, limit))
     }
 }

@@ -1,53 +1,27 @@
 //! Calls of an engine by what comes from outside: arrivals and ticks.
-ghost use Rattle.std.specs.Prelude.{◌≡◌, ◌≤◌, ◌<◌, ◌+◌, ◌*◌, ◌/◌, ◌%◌, ◌++◌, ◌∷◌, [], None, Some, IfOk, OnOk, length};
-ghost use Rattle.std.specs.Result.{result_err};
-ghost use Rattle.bfd_demux.specs.Selection.{first_header_failing, first_table_failing, target_of};
-ghost use Rattle.bfd_packet.specs.Layout.{fields_of};
-ghost use Rattle.bfd_sbfd.specs.Reflect as reflecting;
-ghost use Rattle.bfd_session.specs.Arrivals.{coming_to, comes_to};
+ghost use Rattle.std.specs.Prelude.{◌≡◌, ◌≤◌, ◌<◌, ◌+◌, ◌*◌, ◌/◌, ◌%◌, IfOk, length};
+ghost use Rattle.bfd_session.specs.Arrivals.{comes_to};
+ghost use Rattle.bfd_session.specs.Reaching.{IsTaken};
 ghost use Rattle.bfd_session.specs.Rows.{table_of};
-ghost use Rattle.bfd_shard.specs.Shard.{IsTaken};
 ghost use Rattle.bfd_shard.specs.declared.entry.ShardEvent.TheVariants.{Tick as TickEvent};
 ghost use Rattle.bfd_engine.specs.Engines.{IsOf, AllThere, configs_at};
-ghost use Rattle.bfd_engine.specs.Calls.{IsDone, Turns, own_act, arrival_act, coming_act, reflect_act, seen_at};
+ghost use Rattle.bfd_engine.specs.Calls.{IsDone, Turns, own_act, arrival_act, seen_at};
 ghost use Rattle.bfd_engine.specs.Judging.{arrival_judged};
 ghost use Rattle.bfd_engine.specs.Turned.{HasExpired};
-ghost use Rattle.bfd_engine.specs.Inside.{Arrives, IsNamedBy, IsReflected};
 
 use crate::engine::Engine;
 use crate::fault::EngineFault;
 use crate::pass::EnginePass;
-use bfd_demux::Target;
 use bfd_num::{Moment, Steps, Tick};
-use bfd_packet::{Arrival, Datagram, Test};
-use bfd_rules::{Out, Outs};
-use bfd_sbfd::reflect;
-use bfd_session::{Answer, Event};
+use bfd_packet::Arrival;
+use bfd_rules::Outs;
+use bfd_session::{Answer, Coming, Event};
 use bfd_shard::ShardEvent;
 use bfd_wheel::Timers;
 use std::sync::Wait;
 use std::sync::ledger::Ledger;
 
 impl<W: Timers> Engine<W> {
-    /// What the arrival is for, or the first of its port's tests up to selection that it fails. It doesn't wait.
-    pub fn screen<L: Ledger>(&self, arrival: &Arrival, steps: &mut Steps<L>) -> Result<Target, Test>
-        ensures tests { result_err result ≡ first_table_failing (table_of self.now.configs self.now.pool) arrival.now }
-        ensures target { IfOk result (λ target. Some target
-            ≡ target_of (table_of self.now.configs self.now.pool) arrival.now) }
-        ensures header { OnOk result (first_header_failing arrival.now ≡ None) }
-        ensures cost { steps.new ≤ steps.old + 34 }
-    {
-        self.demux.screen(arrival, steps)
-    }
-
-    /// The answer of the reflector that the arrival names, or the first test of the reflectors' port, 7784, that it fails
-    /// (RFC 7880 section 7.2). It doesn't wait.
-    pub fn reflect(&self, arrival: &Arrival) -> Result<Datagram, Test>
-        ensures { result ≡ reflecting.reflect self.now.pool arrival.now }
-    {
-        reflect(&self.pool, arrival)
-    }
-
     /// An own event of the session at this place of the table.
     #[tactic(auto, using(crate::proofs::Reaching::dealt_event))]
     pub(crate) fn own<R: Wait, L: Ledger>(
@@ -81,70 +55,13 @@ impl<W: Timers> Engine<W> {
         self.turn_on(rt, pass, k % shards, event, outs, steps)
     }
 
-    /// The answer to a packet for the reflector at this place of the pool, which Your Discriminator names.
-    fn reflected(&self, place: u32, arrival: &Arrival, outs: &mut Outs) -> Answer
-        requires named { IsNamedBy self.now.pool place (fields_of arrival.now.payload).your }
-        requires room { 0 < outs.old.spare }
-        ensures told { IsReflected (reflecting.reflect self.now.pool arrival.now)
-            arrival.now outs.old.items outs.new.items result }
-        ensures room { outs.new.room ≡ outs.old.room }
-        ensures spare { outs.old.spare ≤ outs.new.spare + 1 }
-    {
-        match self.reflect(arrival) {
-            Ok(datagram) => {
-                let discr = self.pool[place as usize].discr;
-                outs.push(Out::Sent { discr, datagram });
-                Answer::Handled
-            }
-            Err(test) => Answer::Dropped(test),
-        }
-    }
-
-    /// The arrival, which is for this target.
-    fn deliver<R: Wait, L: Ledger>(
-        &self,
-        rt: &R,
-        pass: &mut EnginePass,
-        moment: Moment,
-        target: Target,
-        arrival: Arrival,
-        outs: &mut Outs,
-        steps: &mut Steps<L>,
-    ) -> Result<Answer, EngineFault>
-        requires of { IsOf self.now pass.old.1 }
-        requires there { AllThere pass.old.1 }
-        requires arrives { Arrives self.now.configs self.now.pool arrival target }
-        requires some { 0 < length self.now.locks }
-        requires passes { None ≡ first_table_failing (table_of self.now.configs self.now.pool) arrival }
-        requires room { 5 ≤ outs.old.spare }
-        ensures of { IsOf self.now pass.new.1 }
-        ensures there { AllThere pass.new.1 }
-        ensures call { IsDone (coming_act self.now moment arrival (coming_to (Some target) arrival))
-            self.now pass.old pass.new outs.old.items outs.new.items result }
-        ensures judged { IfOk result (λ answer. arrival_judged self.now moment arrival (coming_to (Some target) arrival)
-            pass.new answer) }
-        ensures room { outs.new.room ≡ outs.old.room }
-        ensures spare { outs.old.spare ≤ outs.new.spare + 5 }
-        ensures cost { steps.new ≤ steps.old + 2 }
-    {
-        match target {
-            Target::Session(k) => {
-                self.own(rt, pass, moment, k, Event::Packet(arrival), outs, steps)
-            }
-            Target::Echo(k, sequence) => {
-                self.own(rt, pass, moment, k, Event::Returned(sequence), outs, steps)
-            }
-            Target::Reflector(place) => Ok(self.reflected(place, &arrival, outs)),
-        }
-    }
-
     /// Hands an arrival to what it is for. It may wait.
     ///
     /// An arrival that fails a test up to selection is answered `Dropped` with the first that it fails. A packet for a reflector
     /// is answered by it: its answer is put out as `Sent` in the reflector's name, or it is `Dropped`. Neither takes a turn.
     /// Any other arrival is one turn, whose entry is the session's own event at this moment. A packet of a session is `Dropped` by
     /// the first test that it fails, over the session's variables after settling, and `Handled` where it fails none (RFC 5880
-    /// section 6.8.6). `outs` has room for five. At most 40 steps are taken. A turn is refused as `turn_on` says.
+    /// section 6.8.6). `outs` has room for five. At most 36 steps are taken. A turn is refused as `turn_on` says.
     pub fn receive<R: Wait, L: Ledger>(
         &self,
         rt: &R,
@@ -165,11 +82,15 @@ impl<W: Timers> Engine<W> {
             (comes_to (table_of self.now.configs self.now.pool) arrival) pass.new answer) }
         ensures room { outs.new.room ≡ outs.old.room }
         ensures spare { outs.old.spare ≤ outs.new.spare + 5 }
-        ensures cost { steps.new ≤ steps.old + 40 }
+        ensures cost { steps.new ≤ steps.old + 36 }
     {
-        match self.demux.screen(&arrival, steps) {
-            Ok(target) => self.deliver(rt, pass, moment, target, arrival, outs, steps),
-            Err(test) => Ok(Answer::Dropped(test)),
+        match self.table.comes_to(arrival, steps) {
+            Coming::Discarded(test) => Ok(Answer::Dropped(test)),
+            Coming::Answered(out) => {
+                outs.push(out);
+                Ok(Answer::Handled)
+            }
+            Coming::Own(k, event) => self.own(rt, pass, moment, k, event, outs, steps),
         }
     }
 

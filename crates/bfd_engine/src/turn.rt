@@ -1,7 +1,7 @@
 //! One turn of one shard.
 ghost use Rattle.std.specs.Prelude.{◌≡◌, ◌≤◌, ◌+◌, IfOk, IfErr, OnErr};
 ghost use Rattle.bfd_shard.specs.Shard.{CanHappen, IsOwn};
-ghost use Rattle.bfd_engine.specs.Turned.{IsSame, HasTurned, HasLooked, IsTurnCause, IsTimely, configs_in, room_in};
+ghost use Rattle.bfd_engine.specs.Turned.{IsSame, HasTurned, HasLooked, IsTurnCause, IsTimely, WasUsed, configs_in, room_in};
 
 use crate::locked::{Base, Locked};
 use bfd_num::Steps;
@@ -41,7 +41,8 @@ pub(crate) fn turn_with<W: Timers, R: Wait, L: Ledger>(
     ensures same { IsSame pass.1 result.0.1 }
     ensures turned { IfOk result.1 (λ answer. HasTurned pass.1 event result.0.1 outs.old.items outs.new.items answer) }
     ensures timely { IfOk result.1 (λ _. IsTimely (configs_in pass.1.base) pass.1.number event result.0.1.seen) }
-    ensures fault { IfErr result.1 (λ fault. HasLooked pass.1 result.0.1 × IsTurnCause fault result.0.1) }
+    ensures fault { IfErr result.1 (λ fault. HasLooked pass.1 result.0.1 × IsTurnCause fault result.0.1
+        × WasUsed fault pass.1 result.0.1) }
     ensures untold { OnErr result.1 (outs.new ≡ outs.old) }
     ensures outs_room { outs.new.room ≡ outs.old.room }
     ensures spare { outs.old.spare ≤ outs.new.spare + room_in (configs_in pass.1.base) event }

@@ -1,5 +1,5 @@
 //! Text to a sink.
-ghost use Rattle.std.specs.Prelude.{◌≡◌, ◌≤◌, OnErr, OnOk, IsErrOf};
+ghost use Rattle.std.specs.Prelude.{◌≡◌, ◌<◌, ◌≤◌, length, OnErr, OnOk, IsErrOf};
 ghost use Rattle.std.specs.Io.KnownBytes.{Appends};
 ghost use Rattle.std.specs.List.{flat_map};
 ghost use Rattle.bfd_edge.specs.Faults.{HasCause, Rose};
@@ -44,10 +44,11 @@ pub fn write_each<K: Sink>(sink: &mut K, texts: &[Vec<u8>]) -> Result<(), Fault>
     Ok(())
 }
 
-/// Writes the text where it is long, and begins it anew. It is refused as `write_all` is; the sink took a front of the text then, and the
+/// Writes the text where it is long, and begins it anew: less than 64 KiB of it is left. It is refused as `write_all` is; the sink took a front of the text then, and the
 /// text is as it was.
 pub fn give_on<K: Sink>(text: &mut Vec<u8>, sink: &mut K) -> Result<(), Fault>
     ensures text { OnOk result (TookUpTo (K.taken sink.old) (K.taken sink.new) text.old.items text.new.items) }
+    ensures short { OnOk result (length text.new.items < 65536) }
     ensures front { TookFront (K.taken sink.old) (K.taken sink.new) text.old.items }
     ensures same { OnErr result (text.new.items ≡ text.old.items) }
     ensures cause { HasCause (K.faults sink.old) (K.faults sink.new) result }

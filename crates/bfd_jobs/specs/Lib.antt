@@ -1,4 +1,5 @@
 pub mod Answers
+pub mod Hands
 pub mod Held
 pub mod Outside
 pub mod Serving

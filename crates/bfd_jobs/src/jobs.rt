@@ -77,7 +77,8 @@ fn replay_script<R: Threads + Wait + Sync, G: Gate + Sync>(
     if hands.shards == 1 && hands.workers == 1 {
         return Ok(Answer::report(script, hands.timers));
     }
-    Ok(Answer::in_parts(replay_in_parts(rt, alloc, script, hands, gate)?))
+    let (report, _closed) = replay_in_parts(rt, alloc, script, hands, gate)?;
+    Ok(Answer::in_parts(report))
 }
 
 /// `replay` of these bytes.
@@ -168,7 +169,7 @@ fn load_answer<R: Threads + Wait + Sync, G: Gate + Sync>(
         ≡ done_with (load_line sessions (totals (load.script sessions ticks seed)))) }
 {
     let script = generate(alloc, sessions, ticks, seed)?;
-    let replayed = replay_by(rt, alloc, script, hands, gate)?;
+    let (replayed, _closed) = replay_by(rt, alloc, script, hands, gate)?;
     let line = load_text(alloc, sessions, &replayed)?;
     Ok(Answer::done_with(line.into_bytes()))
 }

@@ -86,7 +86,7 @@ by_tests ahead false false false false false ha hb hc hd he =
       other4 = λ h. (eqb-false _ _ he);
     }
 
-has_height : {due now : ℕ} → now < due → HasHeight due now (height due now)
+pub has_height : {due now : ℕ} → now < due → HasHeight due now (height due now)
 has_height ahead = by_tests ahead _ _ _ _ _ refl refl refl refl refl
 
 -- what has come has height 0
@@ -117,7 +117,7 @@ slot_by n x {level} true few test = (omega arith, (let low : level < 4 = grind (
 slot_by n x false few test = (omega arith, omega arith)
 
 -- a slot is a head
-slot_head : (n tick level : ℕ) → level ≤ 5 → (n ≤ slot n tick level) × (slot n tick level < n + 1026)
+pub slot_head : (n tick level : ℕ) → level ≤ 5 → (n ≤ slot n tick level) × (slot n tick level < n + 1026)
 unfolding slot
 slot_head n tick level few = slot_by n (tick / 2 ^ (8 * level)) _ few refl
 
@@ -139,7 +139,7 @@ level_by n x {level} false few test =
     level_at n (n + (1020 + level)) (λ e. absurd (omega arith)) (omega arith)
 
 -- the level of a slot
-level_slot : (n tick : ℕ) {level : ℕ} → level ≤ 4 → level_of n (slot n tick level) ≡ level
+pub level_slot : (n tick : ℕ) {level : ℕ} → level ≤ 4 → level_of n (slot n tick level) ≡ level
 unfolding slot
 level_slot n tick {level} few = level_by n (tick / 2 ^ (8 * level)) _ few refl
 
@@ -155,7 +155,7 @@ pub place_come : (n now due : ℕ) → due ≤ now → place n now due ≡ slot 
 unfolding place
 place_come n now due h = ap (λ b. if b then slot n due 5 else slot n due (height due now)) (let test : nat_le due now ≡ true = grind (arith, nat_tests) in test)
 
-place_ahead : (n : ℕ) {now due : ℕ} → now < due → place n now due ≡ slot n due (height due now)
+pub place_ahead : (n : ℕ) {now due : ℕ} → now < due → place n now due ≡ slot n due (height due now)
 unfolding place
 place_ahead n {now} {due} h = ap (λ b. if b then slot n due 5 else slot n due (height due now)) (let test : nat_le due now ≡ false = grind (arith, nat_tests) in test)
 

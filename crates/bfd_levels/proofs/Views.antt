@@ -1,5 +1,5 @@
 -- The wheel after one change, as its callers see it.
-use Rattle.bfd_levels.proofs.Common.{◌≡◌, ◌≢◌, ℕ, ◌+◌, ◌<◌, ◌≤◌, List, length, map, replicate, ap, arith, slice_index, slice_set, Option, get_or-set_same, get_or-set_other, length-map, never, due_of, Node, Unlinks, Links, next_in, prev_in, IsLinked, potential, place, at_tick, loads, IsLevels}
+use Rattle.bfd_levels.proofs.Common.{◌≡◌, ◌≢◌, ℕ, ◌+◌, ◌<◌, ◌≤◌, List, length, map, replicate, arith, slice_index, slice_set, Option, get_or-set_same, get_or-set_other, never, due_of, Node, Unlinks, Links, next_in, prev_in, IsLinked, potential, place, at_tick, loads, IsLevels}
 use Rattle.std.proofs.lemmas.Simd.{length-replicate, get_or-replicate}
 use Rattle.bfd_levels.proofs.Digits.{place_head}
 use Rattle.bfd_levels.proofs.Placing.{freed, filled, linked, start}
@@ -22,10 +22,6 @@ levels_filled {n} {now} {i} {due} {dues} {nodes} nodes2 w near off there size u 
       (λ j ne. cc (get_or-set_other dues i j due 0 ne)) (place n now due) due off there (place_head n now due).0 (place_head n now due).1
       (cc (get_or-set_same dues i due 0 (omega arith))) u;
 }
-
-pub linked_view : {now i : ℕ} {dues dues1 : List ℕ} {nodes nodes1 : List Node} {seen : List (Option ℕ)} → IsLevels (length dues) now dues nodes → dues1 ≡ dues → nodes1 ≡ nodes → map due_of dues ≡ seen → i < length seen → slice_index dues1 i ≢ never → IsLinked i dues1 nodes1
-linked_view {dues} w same_dues same_nodes view inside there =
-    rw same_dues (rw same_nodes (levels_linked w (omega (arith, ap length view, length-map dues due_of)) (rw (← same_dues) there)))
 
 pub start_levels : {n : ℕ} {dues : List ℕ} (nodes : List Node) → n ≤ 65536 → dues ≡ replicate n never → length nodes ≡ n + 1026 → ((j : ℕ) → j < n + 1026 → next_in nodes j ≡ j) → ((j : ℕ) → j < n + 1026 → prev_in nodes j ≡ j) → IsLevels (length dues) 0 dues nodes
 start_levels {n} {dues} nodes few e size next prev =

@@ -3,3 +3,4 @@ pub mod Rings
 pub mod Lists
 pub mod Moves
 pub mod Calls
+pub mod ByCount

@@ -1,6 +1,6 @@
 -- The lists of the levels: where a due tick stands, which lists a tick reaches, and what stands where on the way.
-use Rattle.std.specs.Prelude.{ℕ, zero, suc, ◌+◌, ◌-◌, ◌*◌, ◌/◌, ◌%◌, ◌^◌, ◌<◌, List, if◌then◌else◌, nat_le, nat_lt, nat_eq}
-use Rattle.bfd_lanes.specs.Places.{never}
+use Rattle.std.specs.Prelude.{◌≡◌, ℕ, zero, suc, ◌+◌, ◌-◌, ◌*◌, ◌/◌, ◌%◌, ◌^◌, ◌<◌, List, length, if◌then◌else◌, nat_le, nat_lt, nat_eq}
+use Rattle.bfd_lanes.specs.Places.{never, lowest}
 use Rattle.bfd_wheel.specs.declared.links.Node.{Node}
 use Rattle.bfd_wheel.specs.Taken.{bit}
 use Rattle.bfd_wheel.specs.Wheel.{due_in}
@@ -57,3 +57,8 @@ loads n at dues = total (load n at dues) n
 pub record IsLevels (n now : ℕ) (dues : List ℕ) (nodes : List Node) : Type 0 where
   pub early : now < 2 ^ 60
   pub placed : IsPlaced n 1026 (at_tick n now dues) dues nodes
+
+-- the same with the lowest due tick, as a number
+pub record KnowsLeast (now soonest : ℕ) (dues : List ℕ) (nodes : List Node) : Type 0 where
+  pub levels : IsLevels (length dues) now dues nodes
+  pub least : soonest ≡ lowest dues

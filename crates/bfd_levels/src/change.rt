@@ -1,18 +1,19 @@
 //! Changes of one due tick and of the list that its node stands on.
 ghost use Rattle.std.specs.Prelude.{◌≡◌, ◌≢◌, ℕ, ◌+◌, ◌<◌, ◌≤◌, length, slice_index, slice_set};
-ghost use Rattle.bfd_lanes.specs.Places.{never};
+ghost use Rattle.bfd_lanes.specs.Places.{never, lowest};
 ghost use Rattle.bfd_wheel.specs.Wheel.{next_in, prev_in, IsLinked};
 ghost use Rattle.bfd_levels.specs.Lists.{IsLevels};
 ghost use Rattle.bfd_levels.specs.Moves.{Relinks};
 
 use crate::place::head_of;
+use crate::soonest::after_write;
 use bfd_lanes::NEVER;
 use bfd_num::Steps;
 use bfd_wheel::{Node, detach, link, unlink};
 use std::sync::ledger::Ledger;
 
 /// Takes the id off its list, if it is on one: at most 1 step, and 1 where it is.
-pub(crate) fn free<L: Ledger>(nodes: &mut [Node], dues: &mut [u64], id: u32, steps: &mut Steps<L>)
+fn free<L: Ledger>(nodes: &mut [Node], dues: &mut [u64], id: u32, steps: &mut Steps<L>)
     requires id { id < length dues.old }
     requires linked { slice_index dues.old id ≢ never → IsLinked id dues.old nodes.old }
     ensures levels { (n now : ℕ) → IsLevels n now dues.old nodes.old → IsLevels n now dues.new nodes.new }
@@ -49,24 +50,55 @@ fn put<L: Ledger>(
     steps.tick();
 }
 
-/// Moves the id to the list of its new due tick: at most 2 steps.
+/// Moves the id to the list of its new due tick, where that is another, and answers the lowest then, where it was `soonest`: at most
+/// 2 steps.
 pub(crate) fn change<L: Ledger>(
     nodes: &mut [Node],
     dues: &mut [u64],
     now: u64,
+    soonest: u64,
     id: u32,
     due: u64,
     steps: &mut Steps<L>,
-)
+) -> u64
     requires id { id < length dues.old }
     requires levels { IsLevels (length dues.old) now dues.old nodes.old }
+    requires soonest { soonest ≡ lowest dues.old }
     requires due { due < never }
     ensures levels { IsLevels (length dues.old) now dues.new nodes.new }
     ensures dues { dues.new ≡ slice_set dues.old id due }
+    ensures soonest { result ≡ lowest dues.new }
     ensures cost { steps.new ≤ steps.old + 2 }
 {
+    let before = dues[id as usize];
+    if before == due {
+        return soonest;
+    }
     free(nodes, dues, id, steps);
     put(nodes, dues, now, id, due, steps);
+    after_write(nodes, dues, now, soonest, before, due)
+}
+
+/// Takes the due tick of the id away, if it has one, and answers the lowest then, where it was `soonest`: at most 1 step.
+pub(crate) fn drop_due<L: Ledger>(
+    nodes: &mut [Node],
+    dues: &mut [u64],
+    now: u64,
+    soonest: u64,
+    id: u32,
+    steps: &mut Steps<L>,
+) -> u64
+    requires id { id < length dues.old }
+    requires levels { IsLevels (length dues.old) now dues.old nodes.old }
+    requires soonest { soonest ≡ lowest dues.old }
+    ensures levels { IsLevels (length dues.old) now dues.new nodes.new }
+    ensures dues { dues.new ≡ slice_set dues.old id never }
+    ensures soonest { result ≡ lowest dues.new }
+    ensures cost { steps.new ≤ steps.old + 1 }
+{
+    let before = dues[id as usize];
+    free(nodes, dues, id, steps);
+    after_write(nodes, dues, now, soonest, before, NEVER)
 }
 
 /// Moves the id, which stays due, behind another head: 2 steps.

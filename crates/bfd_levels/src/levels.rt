@@ -5,35 +5,38 @@ ghost use Rattle.bfd_lanes.specs.Places.{come, without};
 ghost use Rattle.bfd_levels.specs.Height.{potential_of};
 
 use crate::advance::take;
-use crate::change::{change, free};
+use crate::change::{change, drop_due};
 use crate::place::HEADS;
-use bfd_lanes::{Ids, least_due};
+use crate::soonest::{after_advance, least_of};
+use bfd_lanes::{Ids, NEVER};
 use bfd_num::Steps;
-use bfd_wheel::{Node, Timers, due_at, loops, no_dues};
+use bfd_wheel::{Node, Timers, due_at, loops, loops_again, no_dues, no_dues_again};
 use std::alloc::{AllocError, Global};
 use std::marker::{Brand, Model};
 use std::sync::ledger::{Blank, Ledger};
 
 /// A wheel of four levels of 256 slots, an overflow list and an overdue list: each is a ring of nodes through a head,
-/// and each id with a due tick stands on one of them. `clock` is the greatest tick that the wheel was advanced to.
+/// and each id with a due tick stands on one of them. `clock` is the greatest tick that the wheel was advanced to, and
+/// `soonest` the lowest due tick, `NEVER` where there is none.
 #[derive(Drop)]
 pub struct Levels {
     clock: u64,
+    soonest: u64,
     dues: Vec<u64>,
     nodes: Vec<Node>,
 }
 
 impl Model for Levels {
-    ghost use Rattle.std.specs.Prelude.{map, length};
+    ghost use Rattle.std.specs.Prelude.{map};
     ghost use Rattle.bfd_lanes.specs.Places.{due_of};
     ghost use Rattle.bfd_levels.specs.Height.{Clocked};
-    ghost use Rattle.bfd_levels.specs.Lists.{IsLevels};
+    ghost use Rattle.bfd_levels.specs.Lists.{KnowsLeast};
 
     ghost Value = { Clocked };
 
     ghost view = { λ l. record { clock = l.clock; dues = map due_of l.dues.items } };
 
-    ghost invariant = { λ l. IsLevels (length l.dues.items) l.clock l.dues.items l.nodes.items };
+    ghost invariant = { λ l. KnowsLeast l.clock l.soonest l.dues.items l.nodes.items };
 }
 
 impl Timers for Levels {
@@ -47,9 +50,20 @@ impl Timers for Levels {
         let nodes = loops(alloc, count + HEADS)?;
         Ok(Levels {
             clock: 0,
+            soonest: NEVER,
             dues,
             nodes,
         })
+    }
+
+    fn restart(&mut self, count: u32)
+        requires { count ≤ length self.old.dues }
+        ensures { self.new ≡ record { clock = 0; dues = replicate count None } }
+    {
+        no_dues_again(&mut self.dues, count);
+        loops_again(&mut self.nodes, count + HEADS);
+        self.clock = 0;
+        self.soonest = NEVER;
     }
 
     fn set<L: Ledger>(&mut self, id: u32, due: u64, steps: &mut Steps<L>)
@@ -60,7 +74,15 @@ impl Timers for Levels {
         ensures rises { potential_of self.new ≤ potential_of self.old + 9 }
         ensures cost { steps.new ≤ steps.old + 2 }
     {
-        change(&mut self.nodes, &mut self.dues, self.clock, id, due, steps);
+        self.soonest = change(
+            &mut self.nodes,
+            &mut self.dues,
+            self.clock,
+            self.soonest,
+            id,
+            due,
+            steps,
+        );
     }
 
     fn clear<L: Ledger>(&mut self, id: u32, steps: &mut Steps<L>)
@@ -70,7 +92,14 @@ impl Timers for Levels {
         ensures falls { potential_of self.new ≤ potential_of self.old }
         ensures cost { steps.new ≤ steps.old + 1 }
     {
-        free(&mut self.nodes, &mut self.dues, id, steps);
+        self.soonest = drop_due(
+            &mut self.nodes,
+            &mut self.dues,
+            self.clock,
+            self.soonest,
+            id,
+            steps,
+        );
     }
 
     fn due(&self, id: u32) -> Option<u64> {
@@ -78,7 +107,7 @@ impl Timers for Levels {
     }
 
     fn least(&self) -> Option<u64> {
-        least_due(&self.dues)
+        least_of(&self.dues, self.soonest)
     }
 
     fn advance(&mut self, t: u64, out: &mut Ids)
@@ -135,6 +164,7 @@ impl Levels {
             ≤ steps.old + 1 + potential_of self.old }
     {
         self.clock = take(&mut self.nodes, &mut self.dues, self.clock, t, out, steps);
+        self.soonest = after_advance(&self.nodes, &self.dues, self.clock, self.soonest, t);
     }
 }
 

@@ -1,5 +1,5 @@
 -- What two readings of the machine's clock have between them.
-use Rattle.std.specs.Prelude.{ℕ, ◌-◌, ◌/◌}
+use Rattle.std.specs.Prelude.{◌≡◌, ℕ, ◌-◌, ◌/◌, Option, Some}
 use Rattle.std.specs.declared.time.Instant.{Instant}
 use Rattle.std.specs.Time.{instant_nanos}
 
@@ -14,3 +14,17 @@ micros_between made read = nanos_between made read / 1000
 -- .. the whole milliseconds
 abbrev pub millis_between : Instant → Instant → ℕ
 millis_between made read = nanos_between made read / 1000000
+
+-- the microseconds from the reading at which something was made to another one
+pub record IsSince (made : Option Instant) (moment : ℕ) : Type 0 where
+  pub start : Instant
+  pub read : Instant
+  pub start_is : made ≡ Some start
+  pub moment_is : moment ≡ micros_between start read
+
+-- .. the milliseconds
+pub record IsTickSince (made : Option Instant) (tick : ℕ) : Type 0 where
+  pub start : Instant
+  pub read : Instant
+  pub start_is : made ≡ Some start
+  pub tick_is : tick ≡ millis_between start read

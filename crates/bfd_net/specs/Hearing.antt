@@ -1,5 +1,8 @@
 -- Which port and address the link of a number hears.
-use Rattle.std.specs.Prelude.{ℕ, ◌+◌, ◌-◌, ◌/◌, ◌%◌, ◌^◌, ◌==◌, Bool, false, Option, None, Some, if◌then◌else◌}
+use Rattle.std.specs.Prelude.{◌≡◌, ℕ, ◌+◌, ◌-◌, ◌/◌, ◌%◌, ◌^◌, ◌==◌, Bool, false, Option, None, Some, if◌then◌else◌}
+use Rattle.std.specs.declared.net.socket_addr.SocketAddrV4.{SocketAddrV4}
+use Rattle.std.specs.Net.Addr.{IsIpv4OfBits}
+use Rattle.std.specs.Net.Socket.{v4_ip, v4_port}
 use Rattle.bfd_packet.specs.declared.arrival.Addr.{Addr}
 use Rattle.bfd_packet.specs.declared.arrival.Addr.TheVariants.{V4, V6}
 use Rattle.bfd_packet.specs.declared.arrival.Port.{Port}
@@ -29,6 +32,11 @@ loopback_of number = 0x7f000001 + (number - 1) / 5
 -- the port and the address that a link hears: link 0 only sends
 abbrev pub hears_of : ℕ → Option (Port × ℕ)
 hears_of number = if number == 0 then None else Some (port_at ((number - 1) % 5), loopback_of number)
+
+-- where the socket of a link is that hears this: of one that only sends on 127.0.0.1, at any port that is free
+abbrev pub IsSocketPlace : Option (Port × ℕ) → SocketAddrV4 → Type 0
+IsSocketPlace None place = IsIpv4OfBits (v4_ip place) 0x7f000001 × (v4_port place ≡ 0)
+IsSocketPlace (Some (port, address)) place = IsIpv4OfBits (v4_ip place) address × (v4_port place ≡ port_number port)
 
 -- 127.0.0.0 to 127.255.255.255
 abbrev pub is_local_addr : Addr → Bool

@@ -1,8 +1,8 @@
 // The machine's clock.
-ghost use Rattle.std.specs.Prelude.{◌≡◌, ◌-◌, ◌%◌, ◌<◌, ◌≤◌, MatchOption};
+ghost use Rattle.std.specs.Prelude.{◌≡◌, ◌-◌, ◌%◌, ◌<◌, ◌≤◌, IfSome, MatchOption};
 ghost use Rattle.std.specs.Duration.{as_nanos};
 ghost use Rattle.bfd_num.specs.Numbers.{greatest_tick, moment_bound};
-ghost use Rattle.bfd_net.specs.Clocks.{micros_between, millis_between, nanos_between};
+ghost use Rattle.bfd_net.specs.Clocks.{micros_between, millis_between, nanos_between, IsSince, IsTickSince};
 
 use bfd_num::{Moment, Tick};
 use std::thread;
@@ -39,7 +39,7 @@ fn rest_of_millisecond(made: Instant, read: Instant) -> Duration
 #[derive(Clone, Copy)]
 pub(crate) struct SinceMade<R> {
     rt: R,
-    made: Option<Instant>,
+    pub(crate) made: Option<Instant>,
 }
 
 impl<R: Clock> SinceMade<R> {
@@ -54,12 +54,16 @@ impl<R: Clock> SinceMade<R> {
     }
 
     /// The microseconds since then. None where the clock can't be read.
-    pub(crate) fn moment(&self) -> Option<Moment> {
+    pub(crate) fn moment(&self) -> Option<Moment>
+        ensures { IfSome result (IsSince self.now.made) }
+    {
         moment_between(self.made?, self.read()?)
     }
 
     /// Waits for the next millisecond, and answers the milliseconds since then. None where the clock can't be read.
-    pub(crate) fn next_tick(&self) -> Option<Tick> {
+    pub(crate) fn next_tick(&self) -> Option<Tick>
+        ensures { IfSome result (IsTickSince self.now.made) }
+    {
         let made = self.made?;
         thread::sleep(&self.rt, rest_of_millisecond(made, self.read()?));
         tick_between(made, self.read()?)

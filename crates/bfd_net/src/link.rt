@@ -1,8 +1,8 @@
 // A link over a UDP socket.
-ghost use Rattle.std.specs.Prelude.{◌≡◌, ◌≢◌, ◌↔◌, ◌<◌, ◌≤◌, ◌-◌, ◌^◌, false, true, length, Some, is_some, IfOk, IfSome, Err};
+ghost use Rattle.std.specs.Prelude.{◌≡◌, ◌≢◌, ◌↔◌, ◌<◌, ◌≤◌, ◌-◌, ◌^◌, false, true, length, take, Some, is_some, IfOk, IfSome, Err};
 ghost use Rattle.bfd_edge.specs.Links.{after_receive, after_send, no_counts};
 ghost use Rattle.bfd_net.specs.Hearing.{is_local_addr};
-ghost use Rattle.bfd_net.specs.Sockets.{arrival_from, link_told, is_done, quiets_after, CameTo, IsTo};
+ghost use Rattle.bfd_net.specs.Sockets.{answer_on_error, arrival_from, link_told, is_done, quiets_after, sent_of, CameTo, IsGot, IsHeard, IsTo};
 
 use crate::clock::SinceMade;
 use crate::hearing::is_local;
@@ -30,6 +30,7 @@ const TRIES: u32 = 16;
 /// at once.
 #[derive(Drop)]
 pub struct UdpLink<R: Clock> {
+    number: u32,
     socket: UdpSocket,
     clock: SinceMade<R>,
     alloc: Global,
@@ -44,22 +45,31 @@ impl<R: Clock> Model for UdpLink<R> {
 
     ghost Value = { UdpHeld };
 
-    ghost view = { λ l. record { hears = l.hears; quiets = l.quiets; counts = l.counts } };
+    ghost view = { λ l. record {
+      number = l.number;
+      made = l.clock.made;
+      hears = l.hears;
+      quiets = l.quiets;
+      counts = l.counts;
+    } };
 
     ghost invariant = { λ l. l.quiets ≤ 500 };
 }
 
 impl<R: Clock> UdpLink<R> {
-    /// A link over this socket, which hears this port and address.
+    /// The link of this number over this socket, which hears this port and address.
     pub(crate) fn over(
+        number: u32,
         socket: UdpSocket,
         clock: SinceMade<R>,
         alloc: Global,
         hears: Option<(Port, u32)>,
     ) -> Self
-        ensures { result ≡ record { hears = hears; quiets = 0; counts = no_counts } }
+        ensures { result
+            ≡ record { number = number; made = clock.made; hears = hears; quiets = 0; counts = no_counts } }
     {
         UdpLink {
+            number,
             socket,
             clock,
             alloc,
@@ -105,6 +115,62 @@ fn came(from: &SocketAddrV4, port: Port, address: u32, payload: Payload) -> Arri
     }
 }
 
+/// The answer to a receive that failed: Quiet where no packet came in time.
+fn answer_to(kind: ErrorKind) -> Received
+    ensures { result ≡ answer_on_error kind }
+{
+    match kind {
+        ErrorKind::WouldBlock | ErrorKind::TimedOut => Received::Quiet,
+        _ => Received::Failed,
+    }
+}
+
+/// A packet of so many bytes that came from there to this port and address. They are at the front of the buffer.
+fn kept<R: Clock>(
+    count: usize,
+    from: &SocketAddrV4,
+    buf: &[u8],
+    clock: &SinceMade<R>,
+    alloc: Global,
+    port: Port,
+    address: u32,
+) -> Received
+    requires within { count ≤ length buf.now }
+    requires few { length buf.now ≤ 256 }
+    ensures { IsGot clock.now.made (arrival_from from.now port address (take count buf.now)) result }
+{
+    let Some(moment) = clock.moment() else {
+        return Received::Failed;
+    };
+    match Payload::keep(alloc, &buf[..count]) {
+        Ok(payload) => Received::Got {
+            moment,
+            arrival: came(from, port, address, payload),
+        },
+        Err(_) => Received::Memory,
+    }
+}
+
+/// The answer to a receive into this buffer. Of a packet it keeps as many bytes of the buffer as came.
+fn heard<R: Clock>(
+    received: io::Result<(usize, SocketAddr)>,
+    buf: &[u8],
+    clock: &SinceMade<R>,
+    alloc: Global,
+    port: Port,
+    address: u32,
+) -> Received
+    requires within { IfOk received (λ came. came.0 ≤ length buf.now) }
+    requires few { length buf.now ≤ 256 }
+    ensures { IsHeard clock.now.made port address received buf.now result }
+{
+    match received {
+        Ok((count, SocketAddr::V4(from))) => kept(count, &from, buf, clock, alloc, port, address),
+        Ok((_, SocketAddr::V6(_))) => Received::Failed,
+        Err(error) => answer_to(error.kind()),
+    }
+}
+
 /// Waits for a packet to this port and address.
 fn hear<R: Clock>(
     socket: &UdpSocket,
@@ -113,30 +179,12 @@ fn hear<R: Clock>(
     port: Port,
     address: u32,
 ) -> Received
-    ensures came { CameTo (Some (port, address)) result }
+    ensures came { CameTo clock.now.made (Some (port, address)) result }
     ensures goes_on { result ≢ Received.Ended }
 {
     let mut buf = [0u8; KEPT];
-    let (count, from) = match listen(socket, &mut buf) {
-        Ok((count, SocketAddr::V4(from))) => (count, from),
-        Ok((_, SocketAddr::V6(_))) => return Received::Failed,
-        Err(error) => {
-            return match error.kind() {
-                ErrorKind::WouldBlock | ErrorKind::TimedOut => Received::Quiet,
-                _ => Received::Failed,
-            };
-        }
-    };
-    let Some(moment) = clock.moment() else {
-        return Received::Failed;
-    };
-    match Payload::keep(alloc, &buf[..count]) {
-        Ok(payload) => Received::Got {
-            moment,
-            arrival: came(&from, port, address, payload),
-        },
-        Err(_) => Received::Memory,
-    }
+    let received = listen(socket, &mut buf);
+    heard(received, &buf, clock, alloc, port, address)
 }
 
 /// Where a packet goes: None exactly where that isn't one of this machine's own addresses.
@@ -154,6 +202,17 @@ fn destination(datagram: &Datagram) -> Option<SocketAddrV4>
     Some(SocketAddrV4::new(ip, datagram.dport))
 }
 
+/// What came of a send of so many bytes.
+fn sent_as(sent: io::Result<usize>, long: usize) -> Result<(), Fault>
+    ensures value { result ≡ sent_of sent long }
+    ensures no_memory_taken { result ≢ Err Fault.Memory }
+{
+    match sent {
+        Ok(count) if count == long => Ok(()),
+        _ => Err(Fault::Failed),
+    }
+}
+
 /// Sends a packet to one of this machine's own addresses.
 fn put(socket: &UdpSocket, datagram: &Datagram) -> Result<(), Fault>
     ensures local { is_local_addr datagram.now.dst ≡ false → result ≡ Err Fault.Failed }
@@ -163,10 +222,7 @@ fn put(socket: &UdpSocket, datagram: &Datagram) -> Result<(), Fault>
         return Err(Fault::Failed);
     };
     let bytes = datagram.bytes.as_slice();
-    match socket.send_to(bytes, to) {
-        Ok(count) if count == bytes.len() => Ok(()),
-        _ => Err(Fault::Failed),
-    }
+    sent_as(socket.send_to(bytes, to), bytes.len())
 }
 
 /// How many answers were Quiet in a row after this one.
@@ -190,9 +246,9 @@ impl<R: Clock> Link for UdpLink<R> {
     fn receive(&mut self) -> Received
         ensures after { link_told self.new ≡ after_receive result (link_told self.old) }
         ensures ended { (result ≡ Received.Ended) ↔ (is_done self.old.hears self.old.quiets ≡ true) }
-        ensures came { CameTo self.old.hears result }
+        ensures came { CameTo self.old.made self.old.hears result }
         ensures quiets { self.new.quiets ≡ quiets_after result self.old.quiets }
-        ensures hears { self.new.hears ≡ self.old.hears }
+        ensures kept { (self.new.hears ≡ self.old.hears) × (self.new.made ≡ self.old.made) }
     {
         let received = match self.hears {
             Some((port, address)) if self.quiets < MOST_QUIETS => {
@@ -211,7 +267,7 @@ impl<R: Clock> Link for UdpLink<R> {
         ensures after { link_told self.new ≡ after_send datagram.now result (link_told self.old) }
         ensures local { is_local_addr datagram.now.dst ≡ false → result ≡ Err Fault.Failed }
         ensures no_memory_taken { result ≢ Err Fault.Memory }
-        ensures hears { (self.new.hears ≡ self.old.hears) × (self.new.quiets ≡ self.old.quiets) }
+        ensures kept { (self.new.hears ≡ self.old.hears) × (self.new.quiets ≡ self.old.quiets) × (self.new.made ≡ self.old.made) }
     {
         let sent = put(&self.socket, datagram);
         self.counts.note_sent(&sent);

@@ -2,7 +2,7 @@
 ghost use Rattle.std.specs.Prelude.{◌≡◌, ◌<◌, [], false, true, IfOk, IfSome, IsErrOf, IsNone};
 ghost use Rattle.bfd_edge.specs.Links.{IsNewLink, no_counts};
 ghost use Rattle.bfd_edge.specs.Ports.{after_open, after_shut};
-ghost use Rattle.bfd_net.specs.Hearing.{hears_of};
+ghost use Rattle.bfd_net.specs.Hearing.{hears_of, IsSocketPlace};
 ghost use Rattle.bfd_net.specs.Sockets.{link_told, ports_told_of};
 
 use crate::clock::SinceMade;
@@ -25,14 +25,14 @@ const LOCALHOST: u32 = 0x7f00_0001;
 /// The last link: that of port Answer on 127.0.0.255.
 const LAST_LINK: u32 = 1275;
 
-/// Ports that open links over UDP on 127.0.0.0/8. They keep what the links that were shut counted. Contracts see them as the
+/// Ports that open links over UDP on 127.0.0.0/8. They keep the numbers and the counts of the links that were shut. Contracts see them as the
 /// record `UdpPortsHeld`.
 #[derive(Drop)]
 pub struct UdpPorts<R: Net + Clock + Copy> {
     rt: R,
     clock: SinceMade<R>,
     alloc: Global,
-    places: Places<LinkCounts>,
+    places: Places<(u32, LinkCounts)>,
     faults: u64,
 }
 
@@ -41,13 +41,13 @@ impl<R: Net + Clock + Copy> Model for UdpPorts<R> {
 
     ghost Value = { UdpPortsHeld };
 
-    ghost view = { λ p. record { places = p.places; faults = p.faults } };
+    ghost view = { λ p. record { made = p.clock.made; places = p.places; faults = p.faults } };
 }
 
 impl<R: Net + Clock + Copy> UdpPorts<R> {
     /// Ports of which no number was opened. The moments of packets count from here.
     pub fn make(rt: R, alloc: Global) -> Self
-        ensures { result ≡ record { places = []; faults = 0 } }
+        ensures { result ≡ record { made = result.made; places = []; faults = 0 } }
     {
         UdpPorts {
             rt,
@@ -60,9 +60,8 @@ impl<R: Net + Clock + Copy> UdpPorts<R> {
 }
 
 /// A socket on this address and port, which waits for packets for 20 milliseconds and sends with TTL 255 (RFC 5881 section 5).
-fn bound(net: &impl Net, address: u32, port: u16) -> io::Result<UdpSocket> {
-    let address = SocketAddrV4::new(Ipv4Addr::from_bits(address), port);
-    let socket = UdpSocket::bind(net, SocketAddr::V4(address))?;
+fn bound(net: &impl Net, place: SocketAddrV4) -> io::Result<UdpSocket> {
+    let socket = UdpSocket::bind(net, SocketAddr::V4(place))?;
     socket.set_read_timeout(Some(Duration::from_millis(WAIT)))?;
     socket.set_ttl(255)?;
     Ok(socket)
@@ -79,27 +78,34 @@ fn hearing(number: u32) -> Option<(Port, u32)>
     }
 }
 
-/// The socket of a link that hears this.
-fn socket_of(net: &impl Net, hears: Option<(Port, u32)>) -> io::Result<UdpSocket> {
+/// The address and port of a link's socket, by what the link hears: of one that only sends 127.0.0.1, and any port that is free.
+fn place_of(hears: Option<(Port, u32)>) -> SocketAddrV4
+    ensures { IsSocketPlace hears result }
+{
     match hears {
-        Some((port, address)) => bound(net, address, udp_port(port)),
-        None => bound(net, LOCALHOST, 0),
+        Some((port, address)) => SocketAddrV4::new(Ipv4Addr::from_bits(address), udp_port(port)),
+        None => SocketAddrV4::new(Ipv4Addr::from_bits(LOCALHOST), 0),
     }
 }
 
 impl<R: Net + Clock + Copy> UdpPorts<R> {
     /// The link of this number over a socket of its own.
     fn link(&self, number: u32) -> Option<UdpLink<R>>
-        ensures made { IfSome result (λ link. link
-            ≡ record { hears = hears_of number; quiets = 0; counts = no_counts }) }
+        ensures made { IfSome result (λ link. link ≡ record {
+          number = number;
+          made = self.now.made;
+          hears = hears_of number;
+          quiets = 0;
+          counts = no_counts;
+        }) }
         ensures above { 1275 < number → IsNone result }
     {
         if number > LAST_LINK {
             return None;
         }
         let hears = hearing(number);
-        let socket = socket_of(&self.rt, hears).ok()?;
-        Some(UdpLink::over(socket, self.clock, self.alloc, hears))
+        let socket = bound(&self.rt, place_of(hears)).ok()?;
+        Some(UdpLink::over(number, socket, self.clock, self.alloc, hears))
     }
 }
 
@@ -114,7 +120,9 @@ impl<R: Net + Clock + Copy> Ports for UdpPorts<R> {
         requires { (ports_told_of self.old).opened number ≡ false }
         ensures link { IfOk result (λ link. IsNewLink (link_told link)) }
         ensures after { ports_told_of self.new ≡ after_open number result (ports_told_of self.old) }
+        ensures number { IfOk result (λ link. link.number ≡ number) }
         ensures hears { IfOk result (λ link. (link.hears ≡ hears_of number) × (link.quiets ≡ 0)) }
+        ensures made { IfOk result (λ link. link.made ≡ self.old.made) × (self.new.made ≡ self.old.made) }
         ensures above { 1275 < number → IsErrOf result Fault.Failed }
     {
         let Some(link) = self.link(number) else {
@@ -127,8 +135,13 @@ impl<R: Net + Clock + Copy> Ports for UdpPorts<R> {
         }
     }
 
-    /// Closes the link's socket, and keeps what it counted.
-    fn shut(&mut self, number: u32, link: UdpLink<R>) {
-        self.places.shut(number, link.counts());
+    /// Closes the link's socket, and keeps its number and what it counted.
+    fn shut(&mut self, number: u32, link: UdpLink<R>)
+        requires opened { (ports_told_of self.old).opened number ≡ true }
+        requires number { link.number ≡ number }
+        ensures after { ports_told_of self.new ≡ after_shut number (link_told link) (ports_told_of self.old) }
+        ensures made { self.new.made ≡ self.old.made }
+    {
+        self.places.shut(number, (number, link.counts()));
     }
 }

@@ -27,7 +27,7 @@ use crate::receiving::{accepts, fields, judged};
 use crate::settling::settle;
 use bfd_packet::{Keys, SeqState, State};
 use bfd_rules::{
-    Cmd, Config, Mark, Outs, Poll, Refusal, SLOW_TX, Vars, Verdict, begins, drawn, enters,
+    Cmd, Config, Mark, Outs, Poll, Refusal, SLOW_TX, Vars, Verdict, begins, draw, enters,
 };
 use std::marker::Model;
 
@@ -109,9 +109,10 @@ fn made(c: &Config) -> Vars
     ensures value { result ≡ machine.made c.now }
     ensures sound { IsSound c.now result }
 {
-    let v = initial(c);
+    let mut v = initial(c);
     let mark = begins(&v);
-    drawn(c.active, &mark, v)
+    draw(c.active, &mark, &mut v);
+    v
 }
 
 /// The variables become those with which an own event at this effective moment begins.

@@ -10,6 +10,7 @@ ghost use Rattle.bfd_rules.specs.declared.variables.Vars.{Vars as VarsOf};
 ghost use Rattle.bfd_rules.specs.declared.outputs.Out.{Out};
 ghost use Rattle.bfd_rules.specs.EventFrame.{course};
 ghost use Rattle.bfd_rules.specs.Sound.{IsPlain, IsRenewed, HasPeerMult, IsSteady};
+ghost use Rattle.bfd_p2p.specs.Frame.{moves as moves_of, renews as renews_of};
 ghost use Rattle.bfd_p2p.specs.Receive as receive;
 ghost use Rattle.bfd_p2p.specs.Receive.{IsSized};
 ghost use Rattle.bfd_p2p.specs.Port.{port_of};
@@ -152,6 +153,26 @@ fn poll_ended(poll: Poll) -> Poll
     }
 }
 
+/// A running Poll Sequence ends, and the intervals in use follow. (Apart from `ends_poll`, so that a packet without F has no copy of the
+/// variables.)
+#[cold]
+#[inline(never)]
+fn ends_running(config: &Config, eff: u64, vars: &mut Vars)
+    requires steady { IsSteady config.now vars.old }
+    requires eff { eff < moment_bound }
+    ensures steady { IsSteady config.now vars.new }
+    ensures state { vars.new.state ≡ vars.old.state }
+    ensures heard { IsSome vars.old.heard → IsSome vars.new.heard }
+    ensures course { (m : MarkOf) (os : List Out) → course vars.new m os
+        ≡ renews_of eff (record vars.old { poll = receive.poll_ended vars.old.poll }) (course vars.old m os) }
+{
+    let after = Vars {
+        poll: poll_ended(vars.poll),
+        ..*vars
+    };
+    renews(config, eff, after, vars);
+}
+
 /// F ends a running Poll Sequence (section 6.5).
 #[tactic(auto, unfolding(crate::specs::Receive::ends_poll))]
 fn ends_poll(config: &Config, eff: u64, packet: &Control, vars: &mut Vars)
@@ -164,11 +185,7 @@ fn ends_poll(config: &Config, eff: u64, packet: &Control, vars: &mut Vars)
         → course vars.new m os ≡ receive.ends_poll eff packet.now (course vars.old m os) }
 {
     if packet.fin {
-        let after = Vars {
-            poll: poll_ended(vars.poll),
-            ..*vars
-        };
-        renews(config, eff, after, vars);
+        ends_running(config, eff, vars);
     }
 }
 
@@ -219,6 +236,25 @@ fn stands(state: State, received: State) -> bool
     }
 }
 
+/// The state machine moves the state, or leaves it. (Apart from `moves_state`, so that a packet which leaves it has no copy of the
+/// variables.)
+#[cold]
+#[inline(never)]
+fn moves_by(config: &Config, eff: u64, received: State, vars: &mut Vars, outs: &mut Outs)
+    requires steady { IsSteady config.now vars.old }
+    requires eff { eff < moment_bound }
+    requires heard { IsSome vars.old.heard }
+    requires room { 0 < outs.old.spare }
+    ensures steady { IsSteady config.now vars.new }
+    ensures course { (m : MarkOf) → course vars.new m outs.new.items
+        ≡ moves_of config.now.discr eff (receive.machine vars.old.state received vars.old) (course vars.old m outs.old.items) }
+    ensures spare { outs.old.spare ≤ outs.new.spare + 1 }
+    ensures room { outs.new.room ≡ outs.old.room }
+{
+    let after = machine(received, vars);
+    moves(config, eff, after, vars, outs);
+}
+
 /// The state machine takes the received state. Where it leaves the state there is nothing to renew, and nothing to tell.
 #[tactic(auto, using(crate::proofs::Idle::moves_none), unfolding(crate::specs::Receive::moves_state))]
 fn moves_state(config: &Config, eff: u64, packet: &Control, vars: &mut Vars, outs: &mut Outs)
@@ -232,11 +268,9 @@ fn moves_state(config: &Config, eff: u64, packet: &Control, vars: &mut Vars, out
     ensures spare { outs.old.spare ≤ outs.new.spare + 1 }
     ensures room { outs.new.room ≡ outs.old.room }
 {
-    if stands(vars.state, packet.state) {
-        return;
+    if !stands(vars.state, packet.state) {
+        moves_by(config, eff, packet.state, vars, outs);
     }
-    let after = machine(packet.state, vars);
-    moves(config, eff, after, vars, outs);
 }
 
 /// P is answered at once by a packet with F, whatever else may be sent (section 6.5).

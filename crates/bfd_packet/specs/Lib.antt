@@ -4,3 +4,4 @@ pub mod Addresses
 pub mod Layout
 pub mod HeaderTests
 pub mod TestNames
+pub mod Buffers

@@ -1,6 +1,6 @@
 //! Bounded buffers of bytes, which contracts see as lists.
 
-ghost use Rattle.std.specs.Prelude.{◌≡◌, ◌≤◌, IfOk, length, take};
+ghost use Rattle.std.specs.Prelude.{◌≡◌, ◌≤◌, IfOk, IsOk, length, take};
 
 use arrayvec::ArrayVec;
 use std::alloc::{AllocError, Global};
@@ -8,6 +8,9 @@ use std::marker::Model;
 
 // How many bytes of a payload are kept.
 const KEPT: usize = 256;
+
+// How many bytes stand in place: as many as a control packet has.
+const IN_PLACE: usize = 52;
 
 /// The bytes of a control packet as it is sent: at most 52, since the greatest section has 28.
 #[derive(Default, Drop)]
@@ -77,37 +80,62 @@ impl AuthBytes {
     }
 }
 
-/// The first 256 bytes of a UDP payload: no test looks at more.
+/// Bytes in place, or on the heap.
+#[derive(Drop)]
+enum Kept {
+    Short(Wire),
+    Long(Vec<u8>),
+}
+
+/// The first 256 bytes of a UDP payload: no test looks at more. As many as a control packet has stand in place.
 #[derive(Drop)]
 pub struct Payload {
-    bytes: Vec<u8>,
+    bytes: Kept,
 }
 
 impl Model for Payload {
     ghost use Rattle.std.specs.Prelude.{List, ℕ, length, ◌≤◌};
+    ghost use Rattle.bfd_packet.specs.Buffers.{payload_bytes};
 
     ghost Value = { List ℕ };
 
-    ghost view = { λ payload. payload.bytes.items };
+    ghost view = { λ payload. payload_bytes payload.bytes };
 
-    ghost invariant = { λ payload. length payload.bytes.items ≤ 256 };
+    ghost invariant = { λ payload. length (payload_bytes payload.bytes) ≤ 256 };
 }
 
 impl Payload {
-    /// Keeps the first 256 bytes of a UDP payload. It fails only for want of memory.
+    /// Keeps the first 256 bytes of a UDP payload. It fails only when out of memory, and never for up to 52 bytes.
     pub fn keep(alloc: Global, bytes: &[u8]) -> Result<Self, AllocError>
-        ensures { IfOk result (λ kept. kept ≡ take 256 bytes.now) }
+        ensures kept { IfOk result (λ kept. kept ≡ take 256 bytes.now) }
+        ensures short { length bytes.now ≤ 52 → IsOk result }
     {
-        let bytes = Vec::from_slice(alloc, front(bytes, KEPT))?;
-        Ok(Payload { bytes })
+        Payload::of(alloc, front(bytes, KEPT))
     }
 
-    /// An equal payload. It fails only for want of memory.
+    /// An equal payload. It fails only when out of memory, and never for up to 52 bytes.
     pub fn copy(&self, alloc: Global) -> Result<Self, AllocError>
-        ensures { IfOk result (λ copied. copied ≡ self.now) }
+        ensures copied { IfOk result (λ copied. copied ≡ self.now) }
+        ensures short { length self.now ≤ 52 → IsOk result }
     {
-        let bytes = Vec::from_slice(alloc, self.as_slice())?;
-        Ok(Payload { bytes })
+        Payload::of(alloc, self.as_slice())
+    }
+
+    // These bytes.
+    fn of(alloc: Global, bytes: &[u8]) -> Result<Self, AllocError>
+        requires { length bytes.now ≤ 256 }
+        ensures kept { IfOk result (λ kept. kept ≡ bytes.now) }
+        ensures short { length bytes.now ≤ 52 → IsOk result }
+    {
+        if bytes.len() <= IN_PLACE {
+            return Ok(Payload {
+                bytes: Kept::Short(Wire::of(bytes)),
+            });
+        }
+        let bytes = Vec::from_slice(alloc, bytes)?;
+        Ok(Payload {
+            bytes: Kept::Long(bytes),
+        })
     }
 
     /// The bytes, at most 256.
@@ -115,7 +143,10 @@ impl Payload {
         ensures value { result.now ≡ self.now }
         ensures few { length self.now ≤ 256 }
     {
-        self.bytes.as_slice()
+        match &self.bytes {
+            Kept::Short(wire) => wire.as_slice(),
+            Kept::Long(bytes) => bytes.as_slice(),
+        }
     }
 }
 
@@ -123,6 +154,7 @@ impl Payload {
 fn front(bytes: &[u8], most: usize) -> &[u8]
     ensures value { result.now ≡ take most bytes.now }
     ensures few { length result.now ≤ most }
+    ensures no_more { length result.now ≤ length bytes.now }
 {
     if bytes.len() <= most {
         bytes

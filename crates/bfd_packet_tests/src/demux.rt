@@ -1,6 +1,6 @@
 ghost use Rattle.std.specs.Prelude.{◌≡◌, ◌<◌};
 
-use bfd_demux::{BuildFault, Demux, Row, RowKind, Target};
+use bfd_demux::{AddFault, BuildFault, Demux, Row, RowKind, Target};
 use bfd_num::Steps;
 use bfd_packet::{Addr, Arrival, Bits128, Payload, Port, Test};
 use std::alloc::{AllocError, Global};
@@ -292,6 +292,43 @@ fn selects_each_kind(rt: HostRuntime) -> Result<(), Fail> {
         (Port::Multi, TREE, 0xc3, 77, 0, Err(Test::Multipoint)),
     ];
     assert!(rt; are_so(rt.alloc(), &table, &cases)?);
+    Ok(())
+}
+
+// A table to which these rows are added one after another, each before those that stand.
+fn grown(alloc: Global, rows: &[Row]) -> Option<Demux> {
+    let mut table = Demux::build(alloc, &[]).ok()?;
+    for row in rows {
+        table.add(0, row).ok()?;
+    }
+    Some(table)
+}
+
+#[test]
+fn grows_row_by_row(rt: HostRuntime) -> Result<(), Fail> {
+    let alloc = rt.alloc();
+    let Some(mut table) = grown(alloc, &all_kinds()) else {
+        return Err(Fail::from("no table"));
+    };
+    for (row, want) in [
+        (seek(0), AddFault::ZeroDiscr),
+        (seek(4), AddFault::SameDiscr),
+        (single(30, 1, LOCAL, REMOTE), AddFault::SameDiscr),
+        (single(7, 1, LOCAL, REMOTE), AddFault::SameAddresses),
+        (multi(7, LOCAL_6, REMOTE_6), AddFault::SameAddresses),
+        (tail(7, 77, 1), AddFault::SameAddresses),
+    ] {
+        assert!(rt; table.add(0, &row) == Err(want));
+    }
+    let cases = [
+        (Port::Single, WAY, 0x40, 7, 0, Ok(Target::Session(0))),
+        (Port::Single, WAY, 0x40, 7, 7, Err(Test::YourUnknown)),
+        (Port::Single, WAY_6, 0x40, 7, 0, Ok(Target::Session(4))),
+        (Port::Answer, WAY, 0xc0, 7, 3, Ok(Target::Session(2))),
+        (Port::Sbfd, WAY, 0x40, 7, 4, Ok(Target::Reflector(0))),
+        (Port::Single, TREE, 0xc3, 77, 0, Ok(Target::Session(6))),
+    ];
+    assert!(rt; are_so(alloc, &table, &cases)?);
     Ok(())
 }
 

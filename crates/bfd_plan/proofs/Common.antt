@@ -13,5 +13,5 @@ pub use Rattle.bfd_gather.specs.declared.queue.Numbered.{Numbered}
 pub use Rattle.bfd_gather.specs.Pieces.{Piece}
 pub use Rattle.bfd_gather.proofs.Histories.{apart_append, left_by, left_runs, queue_append}
 pub use Rattle.bfd_session.specs.declared.event.Event.{Event}
-pub use Rattle.bfd_session.specs.Step.{CanTake, started}
+pub use Rattle.bfd_session.specs.Step.{started}
 pub use Rattle.bfd_session.specs.Kinds.{Running, configs_of}

@@ -1,5 +1,5 @@
 mod Common
-pub mod Standing
+pub mod Comings
 pub mod Planning
 pub mod Parting
 pub mod Worlds

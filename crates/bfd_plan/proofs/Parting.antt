@@ -2,6 +2,7 @@
 use Rattle.bfd_plan.proofs.Common.{◌≡◌, ◌<◌, ◌≤◌, ◌+◌, ◌++◌, ℕ, zero, suc, List, [], ◌∷◌, length, map, get_or, take, drop, refl, sym, ap, subst, append_assoc, arith, length-append, slice_index_or, AllByRecursion, map-append, length-map, take-append-drop, Reflector, SessionConfig, Line, queue, told_apart, AreQueues, AreRuns, Follow, IsMet, IsPlanOf, IsRunPlanned, behind, happenings, happening, run_lines, Numbered, Piece, queue_append, apart_append}
 use Rattle.std.specs.Global.{Vec}
 use Rattle.std.proofs.lemmas.List.Elements.{All-from_recursion}
+use Rattle.bfd_session.specs.Tables.{Members, members}
 use Rattle.bfd_script.proofs.Elements.{each_more}
 use Rattle.bfd_plan.specs.declared.runs.Run.{Run}
 use Rattle.bfd_plan.proofs.Planning.{IsOnPlan, plan_start, plan_end}
@@ -125,14 +126,14 @@ pub put_wide : {configs : List SessionConfig} {pool : List Reflector} {all : Lis
     → IsPut configs pool all shards queues apart plans → length queues ≡ length (map (λ q. q.items) plan.0.items)
 put_wide {configs} {pool} {shards} {plan} {rest} split p = cc (wide_by configs pool shards p.runs plan rest (rw (← split) p.planned))
 
-pub put_start : {configs : List SessionConfig} {pool : List Reflector} {all : List Line} {shards : ℕ} (queues : List (List Numbered)) {apart : List Piece} {runs : List Run} {plans left : List (Vec (Vec Numbered) × List Piece)} → AreRuns all runs → left ≡ plans → length plans ≡ length runs
-    → ((i : ℕ) (r : Run) (p : Vec (Vec Numbered) × List Piece) → i < length runs → IsPlanOf configs pool shards (slice_index_or runs i r) (slice_index_or plans i p))
+pub put_start : {table : Members} {configs : List SessionConfig} {pool : List Reflector} {all : List Line} {shards : ℕ} (queues : List (List Numbered)) {apart : List Piece} {runs : List Run} {plans left : List (Vec (Vec Numbered) × List Piece)} → table ≡ members configs pool → AreRuns all runs → left ≡ plans → length plans ≡ length runs
+    → ((i : ℕ) (r : Run) (p : Vec (Vec Numbered) × List Piece) → i < length runs → IsPlanOf table.configs table.pool shards (slice_index_or runs i r) (slice_index_or plans i p))
     → length queues ≡ shards → ((k : ℕ) → slice_index_or queues k [] ≡ []) → apart ≡ [] → IsPut configs pool all shards queues apart left
-put_start {configs} {pool} {shards} queues {runs} {plans} are same long each wide none empty = record {
+put_start {table} {configs} {pool} {shards} queues {runs} {plans} is are same long each wide none empty = record {
   runs = runs;
   number = 1;
   follow = are.follow;
-  planned = rw same (plans_are _ pool _ runs plans long each);
+  planned = rw same (subst (λ (t : Members). ArePlans t.configs t.pool shards runs plans) is (plans_are table.configs table.pool shards runs plans long each));
   on = plan_start configs pool queues are.whole refl wide none empty;
 }
 

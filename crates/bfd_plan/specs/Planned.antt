@@ -64,7 +64,7 @@ IsMet configs (Among event) = CanHappen configs event
 -- what a line was found to be
 abbrev pub route_is : Route → Happening
 route_is (routes.Rests answer) = Apart (resting answer)
-route_is (routes.Answers discr datagram) = Apart (sent_outcome discr datagram)
+route_is (routes.Answers out) = Apart (record { items = out ∷ []; answer = Handled })
 route_is (routes.Happens event) = Among event
 
 -- the queues of so many shards, of all these events

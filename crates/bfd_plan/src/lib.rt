@@ -18,15 +18,13 @@
 //! and that what is told apart is of all other lines, however many workers there are.
 #![tactic(auto)]
 
-mod places;
 mod plan;
 mod queues;
 mod routing;
 mod runs;
 mod shrinking;
 
-pub use places::Places;
-pub use plan::{Plan, longest, planned, table};
+pub use plan::{Plan, longest, planned};
 pub use queues::Queue;
 pub use routing::{Route, route_of};
 pub use shrinking::next_of;

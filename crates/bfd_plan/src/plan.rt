@@ -3,14 +3,13 @@ ghost use Rattle.std.specs.Prelude.{ℕ, ◌≡◌, ◌<◌, ◌≤◌, ◌+◌,
 ghost use Rattle.std.specs.List.{All, AllByRecursion};
 ghost use Rattle.bfd_demux.specs.Index.{AreAddresses, AreNames};
 ghost use Rattle.bfd_demux.specs.Rows.{build_fault};
-ghost use Rattle.bfd_sbfd.specs.Reflect.{Ascends as PoolAscends};
-ghost use Rattle.bfd_session.specs.Rows.{Ascends, table_of as table_in};
+ghost use Rattle.bfd_session.specs.Rows.{table_of as table_in};
+ghost use Rattle.bfd_session.specs.Tables.{members};
 ghost use Rattle.bfd_gather.specs.Happenings.{told_apart};
 ghost use Rattle.bfd_replay.specs.Stage.{IsTable};
 ghost use Rattle.bfd_plan.specs.Planned.{IsMet, AreQueues, AreRuns, IsPlanned, IsPlanOf, happenings, route_is};
 ghost use Rattle.bfd_plan.specs.declared.runs.Run.{Run as RunIn};
 
-use crate::places::Places;
 use crate::queues::{Queue, new_queues, push_pieces};
 use crate::routing::{Route, route_of};
 use crate::runs::{Run, cut};
@@ -19,25 +18,10 @@ use bfd_demux::{Addresses, Demux, Names, Row};
 use bfd_engine::{all_there, both, each};
 use bfd_gather::{Numbered, Part, queue_event};
 use bfd_line::Line;
-use bfd_rules::Out;
 use bfd_sbfd::Reflector;
-use bfd_session::{Answer, SessionConfig, table_of};
+use bfd_session::{Answer, Roster, Table};
 use std::alloc::{AllocError, Global};
 use std::thread::Threads;
-
-/// The table of the sessions and the pool, which have no fault. The one refusal is want of memory.
-#[tactic(auto, using(bfd_replay::proofs::Stages::no_fault))]
-pub fn table(
-    alloc: Global,
-    configs: &Vec<SessionConfig>,
-    pool: &Vec<Reflector>,
-) -> Result<Demux, AllocError>
-    requires { IsTable configs.now.items pool.now.items }
-    ensures { IfOk result (λ demux. demux ≡ table_in configs.now.items pool.now.items) }
-{
-    let rows = table_of(alloc, configs, pool)?;
-    Demux::of_sound(alloc, rows)
-}
 
 /// As many empty queues, each with this room.
 fn empty_queues(alloc: Global, count: usize, room: usize) -> Result<Vec<Vec<Numbered>>, AllocError>
@@ -87,10 +71,7 @@ fn take_in(
 {
     match route {
         Route::Rests(answer) => apart.tell_event(number, &[], &answer),
-        Route::Answers { discr, datagram } => {
-            let out = [Out::Sent { discr, datagram }];
-            apart.tell_event(number, &out, &Answer::Handled)
-        }
+        Route::Answers(out) => apart.tell_event(number, &[out], &Answer::Handled),
         Route::Happens(event) => queue_event(queues, number, event),
     }
 }
@@ -99,19 +80,13 @@ fn take_in(
 /// more, which is a guess: shares differ, and a tick comes to every shard. The one refusal is want of memory.
 fn plan_run(
     alloc: Global,
-    demux: &Demux,
-    places: &Places,
-    pool: &[Reflector],
+    table: &Table,
     run: Run,
     shards: u32,
 ) -> Result<(Vec<Vec<Numbered>>, Part), AllocError>
-    requires table { demux.now ≡ table_in places.now pool.now }
-    requires ascends { Ascends places.now }
-    requires few { length places.now ≤ 65536 }
-    requires climbs { PoolAscends pool.now }
     requires shards { (0 < shards) × (shards ≤ 64) }
     requires within { run.first + length run.lines.items ≤ 200001 }
-    ensures { IfOk result (λ r. IsPlanOf places.now pool.now shards run r) }
+    ensures { IfOk result (λ r. IsPlanOf table.now.configs table.now.pool shards run r) }
 {
     let Run { first, lines } = run;
     let room = lines.len() / shards as usize + lines.len() / 64 + 1;
@@ -121,12 +96,7 @@ fn plan_run(
     let mut left = lines;
     left.reverse();
     'lines: while let Some(line) = next_of(&mut left) {
-        take_in(
-            &mut queues,
-            &mut apart,
-            number,
-            route_of(demux, places, pool, line),
-        )?;
+        take_in(&mut queues, &mut apart, number, route_of(table, line))?;
         number += 1;
     }
     Ok((queues, apart))
@@ -136,21 +106,15 @@ fn plan_run(
 fn plan_each<R: Threads + Sync>(
     rt: &R,
     alloc: Global,
-    demux: &Demux,
-    places: &Places,
-    pool: &[Reflector],
+    table: &Table,
     runs: Vec<Run>,
     shards: u32,
 ) -> Result<Vec<(Vec<Vec<Numbered>>, Part)>, AllocError>
-    requires table { demux.now ≡ table_in places.now pool.now }
-    requires ascends { Ascends places.now }
-    requires few { length places.now ≤ 65536 }
-    requires climbs { PoolAscends pool.now }
     requires shards { (0 < shards) × (shards ≤ 64) }
     requires within { All (λ (r : RunIn). r.first + length r.lines.items ≤ 200001) runs.items }
     ensures long { IfOk result (λ plans. length plans.items ≡ length runs.items) }
     ensures each { IfOk result (λ plans. (i : ℕ) (r : RunIn) (p : _) → i < length runs.items
-        → IsPlanOf places.now pool.now shards (slice_index_or runs.items i r) (slice_index_or plans.items i p)) }
+        → IsPlanOf table.now.configs table.now.pool shards (slice_index_or runs.items i r) (slice_index_or plans.items i p)) }
 {
     let done = each(
         rt,
@@ -158,14 +122,10 @@ fn plan_each<R: Threads + Sync>(
         true,
         runs,
         &|run: Run|
-            requires table { demux.now ≡ table_in places.now pool.now }
-            requires ascends { Ascends places.now }
-            requires few { length places.now ≤ 65536 }
-            requires climbs { PoolAscends pool.now }
             requires shards { (0 < shards) × (shards ≤ 64) }
             requires within { run.first + length run.lines.items ≤ 200001 }
-            ensures { IfOk result (λ r. IsPlanOf places.entry.now pool.entry.now shards run r) }
-        { plan_run(alloc, demux, places, pool, run, shards) },
+            ensures { IfOk result (λ r. IsPlanOf table.entry.now.configs table.entry.now.pool shards run r) }
+        { plan_run(alloc, table, run, shards) },
     )?;
     let plans = all_there(alloc, done)?;
     Ok(plans)
@@ -233,7 +193,7 @@ fn table_and_runs<R: Threads + Sync>(
 #[derive(Drop)]
 pub struct Plan {
     /// The table by which packets are selected.
-    pub demux: Demux,
+    pub table: Table,
     /// The queue of each shard, in pieces.
     pub queues: Vec<Queue>,
     /// What is told of the events of no session.
@@ -243,29 +203,30 @@ pub struct Plan {
 /// What a replay on an engine begins with, by the rows of the sessions and the pool: their table, the queue of each shard, and what is
 /// told of the events of no session. With several workers the table is built, its two lists at once, while the lines are cut into runs,
 /// one for each worker or fewer, and the runs are planned at once; with one all is done in turn. Then the runs' queues and what they tell
-/// are put one behind another. The one refusal is want of memory.
+/// are put one behind another. Fails only when out of memory.
 pub fn planned<R: Threads + Sync>(
     rt: &R,
     alloc: Global,
     rows: Vec<Row>,
-    places: &Places,
-    pool: &Vec<Reflector>,
+    roster: Roster,
+    pool: Vec<Reflector>,
     events: Vec<Line>,
     shards: u32,
     workers: u32,
 ) -> Result<Plan, AllocError>
-    requires table { IsTable places.now pool.now.items }
-    requires rows { rows.items ≡ table_in places.now pool.now.items }
+    requires table { IsTable roster pool.items }
+    requires rows { rows.items ≡ table_in roster pool.items }
     requires shards { (0 < shards) × (shards ≤ 64) }
     requires workers { (0 < workers) × (workers ≤ 64) }
     requires events { length events.items ≤ 200000 }
-    ensures demux { IfOk result (λ plan. plan.demux ≡ table_in places.now pool.now.items) }
-    ensures queues { IfOk result (λ plan. AreQueues shards (happenings places.now pool.now.items events.items) plan.queues.items) }
-    ensures apart { IfOk result (λ plan. plan.apart ≡ told_apart 1 (happenings places.now pool.now.items events.items)) }
-    ensures met { IfOk result (λ plan. AllByRecursion (IsMet places.now) (happenings places.now pool.now.items events.items)) }
+    ensures table { IfOk result (λ plan. plan.table ≡ members roster pool.items) }
+    ensures queues { IfOk result (λ plan. AreQueues shards (happenings roster pool.items events.items) plan.queues.items) }
+    ensures apart { IfOk result (λ plan. plan.apart ≡ told_apart 1 (happenings roster pool.items events.items)) }
+    ensures met { IfOk result (λ plan. AllByRecursion (IsMet roster) (happenings roster pool.items events.items)) }
 {
     let (demux, runs) = table_and_runs(rt, alloc, rows, events, workers)?;
-    let mut left = plan_each(rt, alloc, &demux, places, pool, runs, shards)?;
+    let table = Table::of(demux, roster, pool);
+    let mut left = plan_each(rt, alloc, &table, runs, shards)?;
     left.reverse();
     let mut queues = new_queues(alloc, shards as usize)?;
     let mut apart = Part::new(alloc);
@@ -274,7 +235,7 @@ pub fn planned<R: Threads + Sync>(
         apart.append(&told)?;
     }
     Ok(Plan {
-        demux,
+        table,
         queues,
         apart,
     })

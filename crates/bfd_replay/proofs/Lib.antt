@@ -1,7 +1,6 @@
 mod Common
-pub mod Ticks
-pub mod Loops
-pub mod Turns
+pub mod Worlds
+pub mod Comings
 pub mod SameConfigs
 pub mod Stages
 pub mod Telling

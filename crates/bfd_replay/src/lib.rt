@@ -1,15 +1,15 @@
-//! A script, replayed event by event.
+//! A world of sessions, event by event, and what a replay of a script gives.
 //!
-//! Each packet of a script is screened and selected, and is then an own event of the session that it names; a tick is an
-//! event of every session, by ascending discriminator. The sessions stand in a plain list, and a tick calls those that are
-//! due: for the others the session's own law says that nothing changes. [`Progress`] is such a replay on its way.
+//! [`Instance`] is a table and its sessions with their timers: one event in, outputs and an answer, and no journal. A packet is
+//! screened and selected, and is then an own event of the session that it names; a tick is an event of every session, by ascending
+//! discriminator. It is what the C library holds.
 //!
-//! It stands on `bfd_session`, `bfd_demux` and `bfd_script`. It promises that what each event gives is what `specs/World.antt`
+//! It stands on `bfd_session`, `bfd_shard` and `bfd_script`. It promises that what each event gives is what `specs/World.antt`
 //! says, which knows of no table, no index and no due tick. That definition is also the promise of every other replay, and
 //! `replayed` is the text of its report.
 #![tactic(auto)]
 
-mod replaying;
+mod instance;
 mod world;
 
-pub use replaying::Progress;
+pub use instance::{Instance, table};

@@ -40,5 +40,5 @@ mod waiting;
 pub use config::SeekConfig;
 pub use initiator::Initiator;
 pub use law::initiator_laws;
-pub use reflecting::{Reflector, reflect};
+pub use reflecting::{Reflector, reflect, reflect_by};
 pub use waiting::{deadline, wait};

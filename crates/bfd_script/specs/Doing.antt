@@ -8,7 +8,7 @@ use Rattle.bfd_session.specs.declared.event.Event.{Event}
 use Rattle.bfd_session.specs.declared.event.Event.TheVariants.{Command, Show as Showing}
 use Rattle.bfd_session.specs.declared.event.Answer.{Answer}
 use Rattle.bfd_session.specs.declared.event.Answer.TheVariants.{Dropped, Refused}
-use Rattle.bfd_session.specs.Arrivals.{Coming, Discarded, Reflected, Own, comes_to}
+use Rattle.bfd_session.specs.Arrivals.{Destination, Discarded, Reflected, Own, comes_to}
 use Rattle.bfd_session.specs.Rows.{table_of, place_of}
 use Rattle.bfd_line.specs.declared.entries.Line.{Line}
 use Rattle.bfd_line.specs.declared.entries.Line.TheVariants.{Rx, Tick, Cmd, Show}
@@ -22,7 +22,7 @@ pub data Doing : Type 0 where
   Passes : ℕ → Doing
 
 -- what an arrival at this moment does
-abbrev pub arriving : ℕ → Arrival → Coming → Doing
+abbrev pub arriving : ℕ → Arrival → Destination → Doing
 arriving moment arrival (Discarded test) = Rests (Dropped test)
 arriving moment arrival (Reflected place) = Reflects place arrival
 arriving moment arrival (Own place event) = Happens place moment event

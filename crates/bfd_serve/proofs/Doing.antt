@@ -9,8 +9,9 @@ use Rattle.bfd_serve.proofs.Gains.{begins_self, begins_trans, calls_append, mine
 
 module _ (engine : Shards) where
   -- something was heard, and not handled yet
-  pub did_hear : (k : Knows) (t u : LinkTold) (hs : List (ℕ × Arrival)) (lost : ℕ) → u.traffic ≡ more_traffic hs [] t.traffic → u.counts.send_faults ≡ t.counts.send_faults → Did engine k k t u hs [] [] [] lost lost
-  did_hear k t u hs lost traffic faults = record {
+  pub did_hear : (k : Knows) (t u : LinkTold) (hs : List (ℕ × Arrival)) (lost : ℕ) → u.traffic ≡ more_traffic hs [] t.traffic → u.counts.send_faults ≡ t.counts.send_faults → u.number ≡ t.number → Did engine k k t u hs [] [] [] lost lost
+  did_hear k t u hs lost traffic faults same = record {
+    same_link = same;
     number = refl;
     used = refl;
     gains = λ s. sym (append-nil (mine k s));
@@ -30,7 +31,7 @@ module _ (engine : Shards) where
   }
 
   pub did_none : (k : Knows) (t : LinkTold) (lost : ℕ) → Did engine k k t t [] [] [] [] lost lost
-  did_none k t lost = did_hear k t t [] lost (sym (traffic_same t.traffic)) refl
+  did_none k t lost = did_hear k t t [] lost (sym (traffic_same t.traffic)) refl refl
 
   -- how many calls a caller has on a shard afterwards
   count_of : {k l : Knows} {t u : LinkTold} {hs : List (ℕ × Arrival)} {xs cut : List Act} {untried : List Datagram} {a b : ℕ} → Did engine k l t u hs xs cut untried a b
@@ -64,6 +65,7 @@ module _ (engine : Shards) where
         missing = d.missing + f.missing;
         sends_are = cc (sends_append engine k.0 (seen_at m) had [] xs ys, append_assoc d.tried f.tried untried);
         lacks = lacks_append d.tried d.kept f.tried f.kept d.missing f.missing d.lacks f.lacks;
+        same_link = cc;
         traffic = cc (traffic_join hs d.kept hs2 f.kept t.traffic);
         send_faults = cc (risen_join t.counts.send_faults d.missing f.missing);
         lost_is = cc (risen_join a d.missing f.missing);
@@ -85,6 +87,7 @@ module _ (engine : Shards) where
     missing = d.missing;
     sends_are = d.sends_are;
     lacks = d.lacks;
+    same_link = d.same_link;
     traffic = d.traffic;
     send_faults = d.send_faults;
     lost_is = d.lost_is;
@@ -111,6 +114,7 @@ module _ (engine : Shards) where
         missing = s.missing;
         sends_are = cc (append-nil (datagrams (given_by engine l.0 (seen_at m) (λ i. length (mine l i)) [] (Turns shard event))));
         lacks = s.lacks;
+        same_link = ap (λ x. x.number) s.told;
         traffic = cc;
         send_faults = ap (λ x. x.counts.send_faults) s.told;
         lost_is = s.lost_is;
@@ -132,6 +136,7 @@ module _ (engine : Shards) where
     missing = s.missing;
     sends_are = cc (append-nil (datagrams told));
     lacks = s.lacks;
+    same_link = ap (λ x. x.number) s.told;
     traffic = cc;
     send_faults = ap (λ x. x.counts.send_faults) s.told;
     lost_is = s.lost_is;
@@ -157,13 +162,14 @@ module _ (engine : Shards) where
     missing = 0;
     sends_are = refl;
     lacks = (refl, refl);
+    same_link = refl;
     traffic = sym (traffic_same u.traffic);
     send_faults = risen_same u.counts.send_faults;
     lost_is = risen_same a;
   }
 
   stops_of : (m : Knows) (shard : ℕ) (event : ShardEvent) (f : EngineFault) → IsCause f engine shard m → Stops engine (seen_at m) (met_word m) (Turns shard event ∷ []) [] (end_of f)
-  stops_of m shard event fault.Memory i = tt
+  stops_of m shard event fault.Memory i = omega arith
   stops_of m shard event (fault.Full at n) i = (refl, (rw i.0 (omega arith)), (event, [], cc), i.1)
   stops_of m shard event (fault.Spent at word) i = (refl, i.1, (rw i.0 (omega arith)), (event, [], cc))
 
@@ -193,7 +199,7 @@ module _ (engine : Shards) where
     all = refl;
     did = did_step l m x outs answer d s.1;
     aside = aside_sent s.1;
-    stops = rw s.2 tt;
+    stops = rw s.2 (omega (arith, s.3));
   }
 
   pub whole_none : (k : Knows) (t : LinkTold) (a : ℕ) → IsWhole engine [] k k t t a a
@@ -216,7 +222,7 @@ module _ (engine : Shards) where
   stops_less : (h : ℕ → List Entry) (w : ℕ → ℕ) (cut more : List Act) (untried : List Datagram) (end : End) → Stops engine h w cut untried end → Stops engine h w (cut ++ more) untried end
   stops_less h w cut more untried (Full shard n) s = (s.0, s.1, (s.2.0, s.2.1 ++ more, cc), s.3)
   stops_less h w cut more untried (Spent shard word) s = (s.0, s.1, s.2, (s.3.0, s.3.1 ++ more, cc))
-  stops_less h w cut more untried Memory s = tt
+  stops_less h w cut more untried Memory s = omega (arith, s, length-append cut more)
   stops_less h w cut more untried end s = s
 
   -- the acts that follow are left out too
@@ -235,7 +241,7 @@ module _ (engine : Shards) where
   pub stops_grow : (h h2 : ℕ → List Entry) {w w2 : ℕ → ℕ} (cut : List Act) (untried : List Datagram) (end : End) → ((s : ℕ) → length (h s) ≤ length (h2 s)) → ((s : ℕ) → w s ≤ w2 s) → Stops engine h w cut untried end → Stops engine h2 w2 cut untried end
   stops_grow h h2 cut untried (Full shard n) longer more s = (s.0, (omega arith), s.2, s.3)
   stops_grow h h2 cut untried (Spent shard word) longer more s = (s.0, s.1, (omega arith), s.3)
-  stops_grow h h2 cut untried Memory longer more s = tt
+  stops_grow h h2 cut untried Memory longer more s = s
   stops_grow h h2 cut untried end longer more s = s
 
   pub done_then : {xs : List Act} (ys : List Act) {k l : Knows} (m : Knows) {t u : LinkTold} (v : LinkTold) {a b : ℕ} (c : ℕ) (r : Result (Unit {0}) End) → IsWhole engine xs k l t u a b → AreDone engine ys l m u v b c r → AreDone engine (xs ++ ys) k m t v a c r

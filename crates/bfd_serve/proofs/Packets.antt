@@ -1,5 +1,5 @@
 -- What a link tells after several sends.
-use Rattle.bfd_serve.proofs.Common.{◌≡◌, ◌+◌, ◌<◌, ◌≤◌, ◌++◌, take, take_all, drop, length, slice_index_or, Option, Some, None, Ok, Err, refl, ap, ap₂, sym, ◌∙◌, subst, inl, inr, append_assoc, append-nil, arith, take_more, take-append-drop, filter_map-append, Arrival, Datagram, risen, Traffic, LinkTold, more_traffic, after_send, datagram_in, datagrams, Lacks, HasSent, ℕ, List, [], ◌∷◌, Out}
+use Rattle.bfd_serve.proofs.Common.{◌≡◌, zero, suc, length-append, ◌+◌, ◌<◌, ◌≤◌, ◌++◌, take, take_all, drop, length, slice_index_or, Option, Some, None, Ok, Err, refl, ap, ap₂, sym, ◌∙◌, subst, inl, inr, append_assoc, append-nil, arith, take_more, take-append-drop, filter_map-append, Arrival, Datagram, risen, Traffic, LinkTold, more_traffic, after_send, datagram_in, datagrams, Lacks, HasSent, ℕ, List, [], ◌∷◌, Out}
 use Rattle.bfd_edge.specs.declared.fault.Fault.TheVariants as fault
 
 pub traffic_same : (x : Option Traffic) → more_traffic [] [] x ≡ x
@@ -30,7 +30,7 @@ sent_none t lost = record {
   missing = 0;
   parts = refl;
   lacks = (refl, refl);
-  told = ap₂ (λ a b. record { traffic = a; counts = record t.counts { send_faults = b } }) (sym (traffic_same t.traffic)) (risen_same t.counts.send_faults);
+  told = ap₂ (λ a b. record t { traffic = a; counts = record t.counts { send_faults = b } }) (sym (traffic_same t.traffic)) (risen_same t.counts.send_faults);
   lost_is = risen_same lost;
 }
 
@@ -43,7 +43,7 @@ sent_ok d t u lost is = record {
   parts = refl;
   lacks = inl ([], refl, (refl, refl));
   lost_is = risen_same lost;
-  told = is ∙ ap (λ b. record { traffic = more_traffic [] (d ∷ []) t.traffic; counts = record t.counts { send_faults = b } }) (risen_same t.counts.send_faults);
+  told = is ∙ ap (λ b. record t { traffic = more_traffic [] (d ∷ []) t.traffic; counts = record t.counts { send_faults = b } }) (risen_same t.counts.send_faults);
 }
 
 -- one packet failed
@@ -52,7 +52,7 @@ sent_failed d t u lost after is up = record { tried = d ∷ []; kept = []; missi
 
 -- want of memory leaves what a link tells
 pub unsent : (d : Datagram) (t u : LinkTold) → u ≡ after_send d (Err fault.Memory) t → u ≡ t
-unsent d t u is = is ∙ ap (λ a. record { traffic = a; counts = t.counts }) (traffic_same t.traffic)
+unsent d t u is = is ∙ ap (λ a. record t { traffic = a }) (traffic_same t.traffic)
 
 -- packets that were sent after others
 sent_then : {xs ys : List Datagram} {t u v : LinkTold} {a b c : ℕ} → HasSent xs [] t u a b → HasSent ys [] u v b c → HasSent (xs ++ ys) [] t v a c
@@ -62,8 +62,8 @@ sent_then {t} {a} {b} p q = record {
   missing = p.missing + q.missing;
   parts = ap₂ ◌++◌ (p.parts ∙ append-nil p.tried) (q.parts ∙ append-nil q.tried) ∙ sym (append-nil (p.tried ++ q.tried));
   lacks = lacks_append p.tried p.kept q.tried q.kept p.missing q.missing p.lacks q.lacks;
-  told = q.told ∙ (ap (λ x. record { traffic = more_traffic [] q.kept x.traffic; counts = record x.counts { send_faults = risen x.counts.send_faults q.missing } }) p.told
-      ∙ ap₂ (λ a b. record { traffic = a; counts = record t.counts { send_faults = b } }) (traffic_join [] p.kept [] q.kept t.traffic) (risen_join t.counts.send_faults p.missing q.missing));
+  told = q.told ∙ (ap (λ (x : LinkTold). record x { traffic = more_traffic [] q.kept x.traffic; counts = record x.counts { send_faults = risen x.counts.send_faults q.missing } }) p.told
+      ∙ ap₂ (λ a b. record t { traffic = a; counts = record t.counts { send_faults = b } }) (traffic_join [] p.kept [] q.kept t.traffic) (risen_join t.counts.send_faults p.missing q.missing));
   lost_is = cc (risen_join a p.missing q.missing);
 }
 
@@ -82,3 +82,9 @@ sent_cut outs i s = rw (← sym (filter_map-append datagram_in (take i outs) (dr
 
 pub sent_whole : (outs : List Out) {i : ℕ} {t u : LinkTold} {lost after : ℕ} → length outs ≤ i → HasSent (datagrams (take i outs)) [] t u lost after → HasSent (datagrams outs) [] t u lost after
 sent_whole outs {i} h s = rw (← take_all i outs h) s
+
+-- from an output with a packet on there are packets
+pub some_left : (outs : List Out) (i : ℕ) (d : Out) → i < length outs → 0 < length (datagrams (slice_index_or outs i d ∷ [])) → 0 < length (datagrams (drop i outs))
+some_left [] i d h p = absurd (omega (arith, h))
+some_left (x ∷ outs) zero d h p = omega (arith, p, ap length (filter_map-append datagram_in (x ∷ []) outs), length-append (datagrams (x ∷ [])) (datagrams outs))
+some_left (x ∷ outs) (suc i) d h p = some_left outs i d (omega (arith, h)) p

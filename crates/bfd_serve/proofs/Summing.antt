@@ -39,16 +39,17 @@ module _ (engine : Shards) where
     missing = d.missing;
     sends_are = cc (sends_base engine k.0 (seen_at m) (λ s. length (mine k s)) (λ s. 0) [] [] done (λ s. let a = ap (λ h. length (calls by k.0 h)) (none s) in omega arith), sends_later engine k o t u heard done cut untried 0 lost grows d);
     lacks = d.lacks;
+    same_link = d.same_link;
     traffic = d.traffic;
     send_faults = d.send_faults;
     lost_is = d.lost_is;
   }
 
-  worker_end_grows : (h h2 : ℕ → List Entry) {w w2 : ℕ → ℕ} (t u : LinkTold) (turns : ℕ) (cut : List Act) (untried : List Datagram) (end : End) → ((s : ℕ) → length (h s) ≤ length (h2 s)) → ((s : ℕ) → w s ≤ w2 s)
-      → IsWorkerEnd engine h w t u turns cut untried end → IsWorkerEnd engine h2 w2 t u turns cut untried end
-  worker_end_grows h h2 t u turns cut untried (Full shard n) longer more i = (i.0, i.1, stops_grow engine h h2 cut untried (Full shard n) longer more i.2)
-  worker_end_grows h h2 t u turns cut untried (Spent shard word) longer more i = (i.0, i.1, stops_grow engine h h2 cut untried (Spent shard word) longer more i.2)
-  worker_end_grows h h2 t u turns cut untried end longer more i = i
+  worker_end_grows : (h h2 : ℕ → List Entry) {w w2 : ℕ → ℕ} (t u : LinkTold) (turned turns : ℕ) (cut : List Act) (untried : List Datagram) (end : End) → ((s : ℕ) → length (h s) ≤ length (h2 s)) → ((s : ℕ) → w s ≤ w2 s)
+      → IsWorkerEnd engine h w t u turned turns cut untried end → IsWorkerEnd engine h2 w2 t u turned turns cut untried end
+  worker_end_grows h h2 t u turned turns cut untried (Full shard n) longer more i = (i.0, i.1, stops_grow engine h h2 cut untried (Full shard n) longer more i.2)
+  worker_end_grows h h2 t u turned turns cut untried (Spent shard word) longer more i = (i.0, i.1, stops_grow engine h h2 cut untried (Spent shard word) longer more i.2)
+  worker_end_grows h h2 t u turned turns cut untried end longer more i = i
 
   timer_end_grows : (h h2 : ℕ → List Entry) {w w2 : ℕ → ℕ} (c d : TickerTold) (got : List ℕ) (ticks : ℕ) (cut : List Act) (untried : List Datagram) (end : End) → ((s : ℕ) → length (h s) ≤ length (h2 s)) → ((s : ℕ) → w s ≤ w2 s)
       → IsTimerEnd engine h w c d got ticks cut untried end → IsTimerEnd engine h2 w2 c d got ticks cut untried end
@@ -63,7 +64,7 @@ module _ (engine : Shards) where
     cut = w.cut;
     untried = w.untried;
     did = done_of m w.did num none grows;
-    ends = worker_end_grows (seen_at o) (seen_at m) t u turns (worker_acts engine w.cut) w.untried end (λ s. begins_length (seen_at o s) _ (grows s)) words w.ends;
+    ends = worker_end_grows (seen_at o) (seen_at m) t u w.turned turns (worker_acts engine w.cut) w.untried end (λ s. begins_length (seen_at o s) _ (grows s)) words w.ends;
     turned = w.turned;
     gave = w.gave;
     each = w.each;

@@ -1,5 +1,5 @@
 -- The timer's ticks, one after another.
-use Rattle.bfd_serve.proofs.Common.{◌≡◌, ◌⊎◌, ◌+◌, ◌<◌, ◌≤◌, Bool, true, false, ◌++◌, length, drop, Option, Some, None, refl, ap, ap₂, sym, ◌∙◌, inl, inr, append_assoc, append-nil, length-append, arith, drop-drop, Datagram, Entry, Line, risen, LinkTold, Ticks, TickerTold, after_next, one_given, Shards, Knows, Act, seen_at, met_word, End, ClockFault, Full, Spent, Memory, orders_due, orders_acts, tick_acts, ticks_acts, orders_left, timer_acts, Stops, IsStopped, IsWhole, more_given, IsTimerEnd, is_clock_fault, HasTimed, IsTicking, IsFinished, ℕ, List, [], ◌∷◌}
+use Rattle.bfd_serve.proofs.Common.{◌≡◌, ◌⊎◌, ◌+◌, ◌<◌, ◌≤◌, Bool, true, false, ◌++◌, length, drop, Option, Some, None, refl, ap, ap₂, sym, ◌∙◌, inl, inr, append_assoc, append-nil, length-append, length-map, dite, dec_lt, arith, drop-drop, Datagram, Entry, Line, risen, LinkTold, Ticks, TickerTold, after_next, one_given, Shards, Knows, Act, seen_at, met_word, End, Ended, ClockFault, Full, Spent, Memory, orders_due, order_act, orders_acts, tick_acts, ticks_acts, orders_left, timer_acts, Stops, IsStopped, IsWhole, more_given, IsTimerEnd, is_clock_fault, HasTimed, IsTicking, IsFinished, ℕ, List, [], ◌∷◌}
 use Rattle.bfd_edge.specs.declared.ticker.Next.TheVariants as next
 use Rattle.bfd_serve.proofs.Packets.{risen_same, risen_join}
 use Rattle.bfd_serve.proofs.Doing.{did_none, did_less, aside_same, whole_none, whole_then, stopped_then, stopped_less}
@@ -40,7 +40,7 @@ module _ (engine : Shards) where
   timer_end : (h : ℕ → List Entry) (w : ℕ → ℕ) (c d : TickerTold) (got : List ℕ) (ticks : ℕ) (cut : List Act) (untried : List Datagram) (end : End) → Stops engine h w cut untried end → d.faults ≡ c.faults → IsTimerEnd engine h w c d got ticks cut untried end
   timer_end h w c d got ticks cut untried (Full shard n) s none = (none, s)
   timer_end h w c d got ticks cut untried (Spent shard word) s none = (none, s)
-  timer_end h w c d got ticks cut untried Memory s none = none
+  timer_end h w c d got ticks cut untried Memory s none = (none, inl s)
   timer_end h w c d got ticks cut untried end s none = absurd s
 
   -- the acts were stopped
@@ -113,10 +113,22 @@ module _ (engine : Shards) where
   timed_finish {c} {f} {orders} g given gave faults few why (inr s) =
       timed_stop c f orders g.got (rw (← g.left_is) (stopped_then engine g.whole s)) (cc) (cc) (omega arith) (cc)
 
-  -- nothing was done
-  stopped_all : (xs : List Act) (k : Knows) (t : LinkTold) → IsStopped engine xs k k t t 0 0 Memory
-  stopped_all xs k t = record { done = []; cut = xs; untried = []; all = refl; did = did_less engine xs (did_none engine k t 0); aside = aside_same engine t; stops = tt }
+  -- there was nothing to do
+  pub timed_idle : (k : Knows) (t : LinkTold) (c : TickerTold) (orders : List Line) (ticks : ℕ) → c.over ≡ false → ticks ≡ 0 → orders ≡ [] → HasTimed engine k k t t c c orders ticks Ended 0
+  timed_idle k t c orders ticks going none empty = timed_finish (ticking_start k t c orders going) refl refl refl (omega arith) (inr (sym none)) (inl (refl, rw empty (whole_none engine k t 0)))
 
-  pub timed_without : (k : Knows) (t : LinkTold) (c : TickerTold) (orders : List Line) (ticks : ℕ) → HasTimed engine k k t t c c orders ticks Memory 0
-  timed_without k t c orders ticks = timed_stop c c orders []
-      (stopped_all (timer_acts engine orders [] false) k t) (given_none c.ticks) (risen_same c.gave) (omega arith) refl
+  -- there was something to do, and nothing was done
+  pub timed_without : (k : Knows) (t : LinkTold) (c : TickerTold) (orders : List Line) (ticks : ℕ) → c.over ≡ false → 0 < ticks + length orders → HasTimed engine k k t t c c orders ticks Memory 0
+  timed_without k t c orders ticks going some = record {
+    got = [];
+    done = [];
+    cut = orders_acts engine orders;
+    untried = [];
+    all = refl;
+    did = did_less engine (orders_acts engine orders) (did_none engine k t 0);
+    aside = aside_same engine t;
+    given = given_none c.ticks;
+    gave = risen_same c.gave;
+    few = omega arith;
+    ends = (refl, dite (dec_lt 0 ticks) (λ less. inr (less, going)) (λ none. inl (omega (arith, none, length-map orders (order_act engine)))));
+  }

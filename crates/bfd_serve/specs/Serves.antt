@@ -25,7 +25,7 @@ pub record IsTended (engine : Shards) (k l : Knows) (t u : LinkTold) (c d : Tick
   pub timed : HasTimed engine k l t u c d orders ticks end lost
 
 -- what a caller's acts `done` left on each shard, where in the end the shards have these histories: its own entries there are
--- exactly those of their calls. What they send was sent in order on its link, but for those that failed and for the last ones
+-- exactly those of their calls. What they send was sent in order on its link, which is the same in the end, but for those that failed and for the last ones
 -- that weren't tried
 pub record HasDone (engine : Shards) (caller : ℕ) (own histories : ℕ → List Entry) (t u : LinkTold) (heard : List (ℕ × Arrival)) (done : List Act) (untried : List Datagram) (lost : ℕ) : Type 0 where
   pub gains : (shard : ℕ) → own shard ≡ entries caller shard (calls_of done)
@@ -34,6 +34,7 @@ pub record HasDone (engine : Shards) (caller : ℕ) (own histories : ℕ → Lis
   pub missing : ℕ
   pub sends_are : sends_of_acts engine caller histories (λ shard. 0) [] done ≡ tried ++ untried
   pub lacks : Lacks tried kept missing
+  pub same_link : u.number ≡ t.number
   pub traffic : u.traffic ≡ more_traffic heard kept t.traffic
   pub send_faults : u.counts.send_faults ≡ risen t.counts.send_faults missing
   pub lost_is : lost ≡ risen 0 missing
@@ -45,8 +46,8 @@ pub record WorkerDid (engine : Shards) (caller : ℕ) (own histories : ℕ → L
   pub cut : List (ℕ × Arrival)
   pub untried : List Datagram
   pub did : HasDone engine caller own histories t u (done ++ cut) (worker_acts engine done) untried lost
-  pub ends : IsWorkerEnd engine histories words t u turns (worker_acts engine cut) untried end
   pub turned : ℕ
+  pub ends : IsWorkerEnd engine histories words t u turned turns (worker_acts engine cut) untried end
   pub gave : u.counts.gave ≡ risen t.counts.gave turned
   pub each : length (done ++ cut) ≤ turned
   pub few : turned ≤ turns

@@ -1,5 +1,5 @@
 -- What the timer did.
-use Rattle.std.specs.Prelude.{◌≡◌, ◌⊎◌, ℕ, ◌≤◌, Bool, true, false, List, [], ◌++◌, length, drop, Option, Some, None}
+use Rattle.std.specs.Prelude.{◌≡◌, ◌⊎◌, ℕ, ◌+◌, ◌<◌, ◌≤◌, Bool, true, false, List, [], ◌++◌, length, drop, Option, Some, None}
 use Rattle.bfd_packet.specs.declared.arrival.Datagram.{Datagram}
 use Rattle.bfd_shard.specs.declared.entry.Entry.{Entry}
 use Rattle.bfd_line.specs.declared.entries.Line.{Line}
@@ -18,7 +18,7 @@ abbrev pub more_given : List ℕ → Option Ticks → Option Ticks
 more_given got None = None
 more_given got (Some ticks) = Some (record { given = ticks.given ++ got; left = drop (length got) ticks.left })
 
--- why the timer ended, and what is left out of its acts and its sends
+-- why the timer ended, and what is left out of its acts and its sends: by want of memory some of these, or of its ticks
 abbrev pub IsTimerEnd : Shards → (ℕ → List Entry) → (ℕ → ℕ) → TickerTold → TickerTold → List ℕ → ℕ → List Act → List Datagram → End → Type 0
 IsTimerEnd engine histories words c d got ticks cut untried Ended =
     (cut ≡ []) × (untried ≡ []) × (d.faults ≡ c.faults) × ((d.over ≡ true) ⊎ (length got ≡ ticks))
@@ -28,7 +28,8 @@ IsTimerEnd engine histories words c d got ticks cut untried (Full shard n) =
     (d.faults ≡ c.faults) × Stops engine histories words cut untried (Full shard n)
 IsTimerEnd engine histories words c d got ticks cut untried (Spent shard word) =
     (d.faults ≡ c.faults) × Stops engine histories words cut untried (Spent shard word)
-IsTimerEnd engine histories words c d got ticks cut untried Memory = d.faults ≡ c.faults
+IsTimerEnd engine histories words c d got ticks cut untried Memory =
+    (d.faults ≡ c.faults) × ((0 < length cut + length untried) ⊎ ((length got < ticks) × (d.over ≡ false)))
 IsTimerEnd engine histories words c d got ticks cut untried LinkFault = ⊥
 IsTimerEnd engine histories words c d got ticks cut untried (TurnsMade n) = ⊥
 

@@ -1,5 +1,5 @@
 -- What a worker and a timer did.
-use Rattle.std.specs.Prelude.{◌≡◌, ℕ, ◌+◌, ◌*◌, ◌^◌, ◌<◌, ◌≤◌, true, false, List, [], ◌∷◌, ◌++◌, length, Result, Ok, Err}
+use Rattle.std.specs.Prelude.{◌≡◌, ◌⊎◌, ℕ, ◌+◌, ◌*◌, ◌^◌, ◌<◌, ◌≤◌, true, false, List, [], ◌∷◌, ◌++◌, length, Result, Ok, Err}
 use Rattle.bfd_packet.specs.declared.arrival.Arrival.{Arrival}
 use Rattle.bfd_packet.specs.declared.arrival.Datagram.{Datagram}
 use Rattle.bfd_session.specs.declared.event.Answer.{Answer}
@@ -25,7 +25,7 @@ pub record HasSent (packets untried : List Datagram) (t u : LinkTold) (lost afte
   pub missing : ℕ
   pub parts : packets ≡ tried ++ untried
   pub lacks : Lacks tried kept missing
-  pub told : u ≡ record {
+  pub told : u ≡ record t {
     traffic = more_traffic [] kept t.traffic;
     counts = record t.counts { send_faults = risen t.counts.send_faults missing };
   }
@@ -37,15 +37,15 @@ end_of fault.Memory = Memory
 end_of (fault.Full shard length) = Full shard length
 end_of (fault.Spent shard word) = Spent shard word
 
--- what was sent after a call of the engine: nothing after a fault; all, or with want of memory the first ones
+-- what was sent after a call of the engine: nothing after a fault; all, or with want of memory not the last ones
 abbrev pub IsSentAfter : Result Answer EngineFault → List Out → LinkTold → LinkTold → ℕ → ℕ → Result (Unit {0}) End → Type 0
 IsSentAfter (Err f) outs t u lost after result = (result ≡ Err (end_of f)) × (u ≡ t) × (after ≡ lost)
 IsSentAfter (Ok answer) outs t u lost after (Ok done) = HasSent (datagrams outs) [] t u lost after
 IsSentAfter (Ok answer) outs t u lost after (Err end) =
-    (untried : List Datagram) × HasSent (datagrams outs) untried t u lost after × (end ≡ Memory)
+    (untried : List Datagram) × HasSent (datagrams outs) untried t u lost after × (end ≡ Memory) × (0 < length untried)
 
 -- a caller's pass k became l by the acts `done`, and its link told t and then u. What it gained on each shard are exactly the
--- entries of their calls. What they send was sent in order, but for those that failed and for the last ones that weren't
+-- entries of their calls, and it is the same link. What they send was sent in order, but for those that failed and for the last ones that weren't
 -- tried. Of the acts `cut` no call was made
 pub record Did (engine : Shards) (k l : Knows) (t u : LinkTold) (heard : List (ℕ × Arrival)) (done cut : List Act) (untried : List Datagram) (lost after : ℕ) : Type 0 where
   pub number : l.0 ≡ k.0
@@ -61,6 +61,7 @@ pub record Did (engine : Shards) (k l : Knows) (t u : LinkTold) (heard : List (�
   pub missing : ℕ
   pub sends_are : sends_of_acts engine k.0 (seen_at l) (λ shard. length (mine k shard)) [] done ≡ tried ++ untried
   pub lacks : Lacks tried kept missing
+  pub same_link : u.number ≡ t.number
   pub traffic : u.traffic ≡ more_traffic heard kept t.traffic
   pub send_faults : u.counts.send_faults ≡ risen t.counts.send_faults missing
   pub lost_is : after ≡ risen lost missing
@@ -71,13 +72,13 @@ StartsOn shard cut = (event : ShardEvent) × (rest : List Act) × (cut ≡ Turns
 
 -- why a caller stopped in its acts, of which `cut` are left out, where the shards' histories and words are at least these. By
 -- Full the refused call is the first that is left out, on a shard whose journal is at its limit; by Spent on one whose lock
--- has no turn left. By want of memory any last acts may be left out
+-- has no turn left. By want of memory any last acts may be left out, or the last packets of the last one that was made: some are
 abbrev pub Stops : Shards → (ℕ → List Entry) → (ℕ → ℕ) → List Act → List Datagram → End → Type 0
 Stops engine histories words cut untried (Full shard n) =
     (untried ≡ []) × (n ≤ length (histories shard)) × StartsOn shard cut × (n ≡ engine.limit)
 Stops engine histories words cut untried (Spent shard word) =
     (untried ≡ []) × (word ≡ last_word) × (word ≤ words shard) × StartsOn shard cut
-Stops engine histories words cut untried Memory = Unit {0}
+Stops engine histories words cut untried Memory = 0 < length cut + length untried
 Stops engine histories words cut untried Ended = ⊥
 Stops engine histories words cut untried LinkFault = ⊥
 Stops engine histories words cut untried ClockFault = ⊥
@@ -120,22 +121,23 @@ pub record IsTooWide (engine : Shards) : Type 0 where
   pub there : shard < length engine.locks
   pub wide : 2 ^ 64 ≤ 5 * length (configs_at engine shard)
 
--- why a worker ended, and what is left out of its acts and its sends
-abbrev pub IsWorkerEnd : Shards → (ℕ → List Entry) → (ℕ → ℕ) → LinkTold → LinkTold → ℕ → List Act → List Datagram → End → Type 0
-IsWorkerEnd engine histories words t u turns cut untried Ended =
+-- why a worker ended that took so many turns of its number, and what is left out of its acts and its sends: by want of memory some
+-- of these, or of its turns
+abbrev pub IsWorkerEnd : Shards → (ℕ → List Entry) → (ℕ → ℕ) → LinkTold → LinkTold → ℕ → ℕ → List Act → List Datagram → End → Type 0
+IsWorkerEnd engine histories words t u turned turns cut untried Ended =
     (cut ≡ []) × (untried ≡ []) × (u.counts.over ≡ true) × (u.counts.receive_faults ≡ t.counts.receive_faults)
-IsWorkerEnd engine histories words t u turns cut untried LinkFault =
+IsWorkerEnd engine histories words t u turned turns cut untried LinkFault =
     (cut ≡ []) × (untried ≡ []) × (u.counts.over ≡ false) × (u.counts.receive_faults ≡ risen t.counts.receive_faults 1)
-IsWorkerEnd engine histories words t u turns cut untried (TurnsMade n) =
+IsWorkerEnd engine histories words t u turned turns cut untried (TurnsMade n) =
     (cut ≡ []) × (untried ≡ []) × (u.counts.over ≡ false) × (u.counts.receive_faults ≡ t.counts.receive_faults)
     × (n ≡ turns) × (u.counts.gave ≡ risen t.counts.gave turns)
-IsWorkerEnd engine histories words t u turns cut untried (Full shard n) =
+IsWorkerEnd engine histories words t u turned turns cut untried (Full shard n) =
     (u.counts.over ≡ false) × (u.counts.receive_faults ≡ t.counts.receive_faults) × Stops engine histories words cut untried (Full shard n)
-IsWorkerEnd engine histories words t u turns cut untried (Spent shard word) =
+IsWorkerEnd engine histories words t u turned turns cut untried (Spent shard word) =
     (u.counts.over ≡ false) × (u.counts.receive_faults ≡ t.counts.receive_faults) × Stops engine histories words cut untried (Spent shard word)
-IsWorkerEnd engine histories words t u turns cut untried Memory =
-    (u.counts.over ≡ false) × (u.counts.receive_faults ≡ t.counts.receive_faults)
-IsWorkerEnd engine histories words t u turns cut untried ClockFault = ⊥
+IsWorkerEnd engine histories words t u turned turns cut untried Memory =
+    (u.counts.over ≡ false) × (u.counts.receive_faults ≡ t.counts.receive_faults) × ((0 < length cut + length untried) ⊎ (turned < turns))
+IsWorkerEnd engine histories words t u turned turns cut untried ClockFault = ⊥
 
 -- what a worker did: of the arrivals that its link gave in this run, those of `done` were handled, and those of `cut`, of which
 -- there are none but after Full, Spent or Memory, were not. The link gave `turned` answers, some of them Quiet
@@ -144,8 +146,8 @@ pub record HasWorked (engine : Shards) (k l : Knows) (t u : LinkTold) (turns : �
   pub cut : List (ℕ × Arrival)
   pub untried : List Datagram
   pub did : Did engine k l t u (done ++ cut) (worker_acts engine done) (worker_acts engine cut) untried 0 lost
-  pub ends : IsWorkerEnd engine (seen_at l) (met_word l) t u turns (worker_acts engine cut) untried end
   pub turned : ℕ
+  pub ends : IsWorkerEnd engine (seen_at l) (met_word l) t u turned turns (worker_acts engine cut) untried end
   pub gave : u.counts.gave ≡ risen t.counts.gave turned
   pub each : length (done ++ cut) ≤ turned
   pub few : turned ≤ turns

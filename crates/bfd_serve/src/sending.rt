@@ -1,5 +1,5 @@
 //! What follows a call of the engine: its packets are sent.
-ghost use Rattle.std.specs.Prelude.{◌≡◌, [], ◌∷◌, List, OnOk, OnErr};
+ghost use Rattle.std.specs.Prelude.{◌≡◌, ◌<◌, [], ◌∷◌, length, List, OnOk, OnErr};
 ghost use Rattle.bfd_packet.specs.declared.arrival.Datagram.{Datagram as Packet};
 ghost use Rattle.bfd_serve.specs.Calls.{datagrams};
 ghost use Rattle.bfd_serve.specs.Works.{HasSent, IsSentAfter, end_of};
@@ -17,6 +17,7 @@ fn send_one<L: Link>(link: &mut L, out: &Out, lost: &mut u64) -> Result<(), Allo
     ensures sent { OnOk result (HasSent (datagrams (out.now ∷ [])) [] (L.told link.old) (L.told link.new)
         lost.old lost.new) }
     ensures refused { OnErr result ((L.told link.new ≡ L.told link.old) × (lost.new ≡ lost.old)) }
+    ensures some { OnErr result (0 < length (datagrams (out.now ∷ []))) }
 {
     match out {
         Out::Changed { .. } => Ok(()),
@@ -35,7 +36,8 @@ fn send_one<L: Link>(link: &mut L, out: &Out, lost: &mut u64) -> Result<(), Allo
 fn send_all<L: Link>(link: &mut L, outs: &[Out], lost: &mut u64) -> Result<(), AllocError>
     ensures sent { OnOk result (HasSent (datagrams outs.now) [] (L.told link.old) (L.told link.new) lost.old lost.new) }
     ensures refused { OnErr result ((untried : List Packet)
-        × HasSent (datagrams outs.now) untried (L.told link.old) (L.told link.new) lost.old lost.new) }
+        × HasSent (datagrams outs.now) untried (L.told link.old) (L.told link.new) lost.old lost.new
+        × (0 < length untried)) }
 {
     for out in outs {
         if let Err(want) = send_one(link, out, lost) {

@@ -1,5 +1,5 @@
 //! The timer: one thread's loop over its ticker.
-ghost use Rattle.std.specs.Prelude.{◌≡◌, ◌<◌, ◌≤◌, ◌*◌, false, length, IfNone, IfSome};
+ghost use Rattle.std.specs.Prelude.{◌≡◌, ◌<◌, ◌≤◌, ◌+◌, ◌*◌, [], false, true, length, IfNone, IfSome};
 ghost use Rattle.bfd_engine.specs.Engines.{IsOf, AllThere, configs_at};
 ghost use Rattle.bfd_serve.specs.Orders as todo;
 ghost use Rattle.bfd_serve.specs.Orders.{orders_due, advances, orders_acts, tick_acts};
@@ -162,13 +162,22 @@ fn room_of<W: Timers>(engine: &Engine<W>) -> Option<usize>
     most.checked_mul(5)
 }
 
+/// Whether there is neither a tick to take nor an order to give.
+fn is_idle(orders: &[Line], ticks: u64) -> bool
+    ensures none { result ≡ true → (ticks ≡ 0) × (orders.now ≡ []) }
+    ensures some { result ≡ false → 0 < ticks + length orders.now }
+{
+    ticks == 0 && orders.is_empty()
+}
+
 /// Advances the engine to the ticks of a ticker, and gives it orders, each before the first tick by which its moment has come. It
 /// sends what they put out on its link. It may wait. It answers why it ended, and how many sends failed.
 ///
 /// Before a tick come the leading orders that are due by it, up to the first that isn't; then every shard is advanced to it,
 /// ascending. At most `ticks` ticks are taken. After the last one, and where the ticker answers Ended, come the orders that are
 /// left, and then the end is Ended. ClockFault comes at once exactly where the ticker fails, Full and Spent where the engine's
-/// call has that fault. A send that fails is counted and no more. Memory is for want of memory alone.
+/// call has that fault. A send that fails is counted and no more. Memory is for want of memory alone, and never told where all was
+/// done.
 pub fn timer<W: Timers, L: Link, T: Ticker, R: Wait>(
     rt: &R,
     alloc: Global,
@@ -188,6 +197,9 @@ pub fn timer<W: Timers, L: Link, T: Ticker, R: Wait>(
         (T.told ticker.new) orders.now ticks result.0 result.1 }
 {
     let mut lost = 0;
+    if is_idle(orders, ticks) {
+        return (End::Ended, lost);
+    }
     let Some(room) = room_of(engine) else {
         return (End::Memory, lost);
     };

@@ -18,7 +18,8 @@ use std::sync::Wait;
 /// A turn is one `receive` of the link, and at most `turns` are made. An arrival is handled between `gate.before` and
 /// `gate.after`. Ended comes exactly where the link answers it, LinkFault where it fails to receive, Full and Spent where the
 /// engine's call has that fault, and Turns where all turns were made. A send that fails is counted and no more: the engine
-/// goes on as if the packet had been lost on its way. Memory is for want of memory alone.
+/// goes on as if the packet had been lost on its way. Memory is for want of memory alone, and never told where all turns were made
+/// and all was handled and sent.
 pub fn worker<W: Timers, L: Link, G: Gate, R: Wait>(
     rt: &R,
     alloc: Global,
@@ -38,6 +39,9 @@ pub fn worker<W: Timers, L: Link, G: Gate, R: Wait>(
 {
     let caller = pass.caller();
     let mut lost = 0;
+    if turns == 0 {
+        return (End::Turns(turns), lost);
+    }
     let Ok(mut outs) = Outs::make(alloc, 5) else {
         return (End::Memory, lost);
     };

@@ -78,7 +78,7 @@ module _ (engine : Shards) (states : List Shard) (orders : List Line) (workers :
 
   module _ (at : ℕ) (less : at < workers) where
     worker_is : (x : End) → get_or ends (suc at) end.Ended ≡ x
-        → IsWorkerEnd engine (history_at states) no_words (before (at + 1)) (after (at + 1)) limits.turns (worker_acts engine (run.each at less).did.cut) (run.each at less).did.untried x
+        → IsWorkerEnd engine (history_at states) no_words (before (at + 1)) (after (at + 1)) (run.each at less).did.turned limits.turns (worker_acts engine (run.each at less).did.cut) (run.each at less).did.untried x
     worker_is x is = rw (← sym (ap (λ z. get_or z (suc at) end.Ended) run.ends_are) ∙ is) (run.each at less).did.ends
 
     no_faults : (before (at + 1)).counts.receive_faults ≡ 0

@@ -28,10 +28,10 @@ timer_unspent : (engine : Shards) (histories : ℕ → List Entry) {words : ℕ 
 timer_unspent engine histories c d got ticks cut untried (Spent shard word) small i = absurd (let s = i.1 in omega (arith, small shard, s.1, s.2))
 timer_unspent engine histories c d got ticks cut untried end small i = (tt, i)
 
-worker_unspent : (engine : Shards) (histories : ℕ → List Entry) {words : ℕ → ℕ} (t u : LinkTold) (turns : ℕ) (cut : List Act) (untried : List Datagram) (end : End)
-    → AreSmall words → IsWorkerEnd engine histories words t u turns cut untried end → IsUnspent end × IsWorkerEnd engine histories no_words t u turns cut untried end
-worker_unspent engine histories t u turns cut untried (Spent shard word) small i = absurd (let s = i.2 in omega (arith, small shard, s.1, s.2))
-worker_unspent engine histories t u turns cut untried end small i = (tt, i)
+worker_unspent : (engine : Shards) (histories : ℕ → List Entry) {words : ℕ → ℕ} (t u : LinkTold) (turned turns : ℕ) (cut : List Act) (untried : List Datagram) (end : End)
+    → AreSmall words → IsWorkerEnd engine histories words t u turned turns cut untried end → IsUnspent end × IsWorkerEnd engine histories no_words t u turned turns cut untried end
+worker_unspent engine histories t u turned turns cut untried (Spent shard word) small i = absurd (let s = i.2 in omega (arith, small shard, s.1, s.2))
+worker_unspent engine histories t u turned turns cut untried end small i = (tt, i)
 
 kept_here : (js : List (ℕ × List Entry)) (history : List Entry) (at number : ℕ) (own : List Entry) → slice_get js at ≡ Some (number, own) → AllKept by js history → calls by number history ≡ own
 kept_here js history at number own here kept =
@@ -93,7 +93,7 @@ module _ {L : Type 0} (told : L → LinkTold) (engine : Shards) (l : Knows) (own
       let e : End = slice_index_or served.worker_ends at end in let m : ℕ = slice_index_or served.worker_losts at miss in
       let w = served.workers at link end miss inner in
       let d : WorkerDid engine (at + 1) w.own (history_at states) (met_word l) t u limits.turns e m = rw (← histories_are) w.worked in
-      let x = worker_unspent engine (history_at states) t u limits.turns (worker_acts engine d.cut) d.untried e words_small d.ends in (
+      let x = worker_unspent engine (history_at states) t u d.turned limits.turns (worker_acts engine d.cut) d.untried e words_small d.ends in (
         x.0,
         record {
           own = w.own;

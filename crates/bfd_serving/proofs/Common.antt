@@ -16,13 +16,14 @@ pub use Rattle.bfd_serve.specs.Ticks.{IsTimerEnd, is_clock_fault}
 pub use Rattle.bfd_serve.specs.declared.ending.End.{End}
 pub use Rattle.bfd_serve.specs.declared.serving.Limits.{Limits}
 pub use Rattle.bfd_serving.specs.Finishes.{HadMemory, IsUnspent, finish_by, finish_from, refused_as}
-pub use Rattle.bfd_serving.specs.Linking.{AreShut, AreUncalled, IsFaultOf, IsOpenTo, IsUncalled, IsUnopened}
+pub use Rattle.bfd_serving.specs.Linking.{AreShut, AreTheirs, AreUncalled, IsFaultOf, IsOpenTo, IsUncalled, IsUnopened}
 pub use Rattle.bfd_serving.specs.Runs.{AreClosedShards, AreDealt, HaveRun, IsOpened, TimerRan, WorkerRan, all_on, calls_on, history_at, journal_in, no_words, script_with, told_on_link}
 pub use Rattle.bfd_session.specs.Kinds.{Running, configs_of}
 pub use Rattle.bfd_session.specs.Rows.{AreFit, place_of, table_of}
 pub use Rattle.bfd_session.specs.declared.event.SessionConfig.{SessionConfig}
 unfoldable pub use Rattle.bfd_shard.specs.Dealing.{share}
-pub use Rattle.bfd_shard.specs.Shard.{CanHappen, IsHistory, IsOnTime, IsShard, IsTaken, Shard}
+pub use Rattle.bfd_shard.specs.Shard.{CanHappen, IsHistory, IsOnTime, IsShard, Shard}
+pub use Rattle.bfd_session.specs.Reaching.{IsTaken}
 pub use Rattle.bfd_shard.specs.declared.entry.Entry.{Entry}
 pub use Rattle.bfd_turn.specs.Lists.{calls, has, numbers_of}
 pub use mathlib.Core.Logic.{dite}

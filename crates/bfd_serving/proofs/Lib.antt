@@ -7,3 +7,4 @@ pub mod Counts
 pub mod Causes
 pub mod Entered
 pub mod Wholes
+pub mod Theirs

@@ -2,7 +2,7 @@
 use Rattle.bfd_serving.proofs.Common.{None, ◌≡◌, List, SessionConfig, table_of, Line, script_with}
 use Rattle.bfd_sbfd.specs.declared.reflecting.Reflector.{Reflector}
 use Rattle.bfd_demux.specs.Rows.{build_fault}
-use Rattle.bfd_engine.specs.Opening.{IsSorted}
+use Rattle.bfd_session.specs.Tables.{IsSorted}
 use Rattle.bfd_engine.proofs.Ordered as ordered
 use Rattle.bfd_script.specs.Sound.{IsScript}
 use Rattle.bfd_script.proofs.Faults as script

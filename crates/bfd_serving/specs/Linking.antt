@@ -1,5 +1,5 @@
 -- The links of a run, opened and shut.
-use Rattle.std.specs.Prelude.{◌≡◌, ◌≤◌, ◌<◌, ℕ, true, false, Some}
+use Rattle.std.specs.Prelude.{◌≡◌, ◌≤◌, ◌<◌, ℕ, true, false, List, ◌∷◌, length, slice_index_or, Some}
 use Rattle.bfd_edge.specs.Faults.{risen}
 use Rattle.bfd_edge.specs.Links.{LinkTold, IsNewLink}
 use Rattle.bfd_edge.specs.Ports.{PortsTold}
@@ -10,6 +10,10 @@ use Rattle.bfd_serving.specs.declared.finish.Refused.TheVariants.{PortFault, Mem
 -- the link was never called
 abbrev pub IsUncalled : {L : Type 0} → (L → LinkTold) → L → Type 0
 IsUncalled told link = IsNewLink (told link)
+
+-- the link of caller 0 and those of the workers: each is the one that was opened by its caller's number
+pub record AreTheirs {L : Type 0} (told : L → LinkTold) (own : L) (links : List L) : Type 0 where
+  pub at : (number : ℕ) → number ≤ length links → (told (slice_index_or (own ∷ links) number own)).number ≡ number
 
 -- exactly the links 0 to this number were opened, and opening didn't fail
 pub record IsOpenTo (last : ℕ) (before after : PortsTold) : Type 0 where

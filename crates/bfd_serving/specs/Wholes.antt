@@ -16,7 +16,8 @@ use Rattle.bfd_serving.specs.Runs.{HaveRun, IsOpened, AreClosedShards, history_a
 use Rattle.bfd_serving.specs.Causes.{IsFinishCause, Completes}
 use Rattle.bfd_serving.specs.Entered.{AreTimely, AreJudged}
 
--- a run of a script: its engine, its links from their opening to their shutting, and what all did, to the text; each tick in a
+-- a run of a script: its engine, the link of each caller, which was opened by its number, from its opening to its shutting, and what
+-- all did, to the text; each tick in a
 -- shard's history expired exactly the sessions whose Detection Time had come, and each packet in it was judged by all tests
 pub record HasRun (script : Lists) (shards workers journal : ℕ) (limits : Limits) (q : PortsTold) (c d : TickerTold) (states : List Shard) (text : List ℕ) (lost : ℕ) (finish : Finish) : Type 0 where
   pub engine : Shards
@@ -28,6 +29,7 @@ pub record HasRun (script : Lists) (shards workers journal : ℕ) (limits : Limi
   pub before : ℕ → LinkTold
   pub after : ℕ → LinkTold
   pub new : (number : ℕ) → number ≤ workers → IsNewLink (before number)
+  pub numbered : (number : ℕ) → number ≤ workers → (before number).number ≡ number
   pub shut : (number : ℕ) → number ≤ workers → q.shut number ≡ Some (after number)
   pub ends : List End
   pub run : HaveRun engine (history_at states) script.events workers limits before after c d ends lost

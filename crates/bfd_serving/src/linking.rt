@@ -2,16 +2,17 @@
 ghost use Rattle.std.specs.Prelude.{◌≡◌, ◌<◌, ◌≤◌, ◌+◌, ◌∷◌, ℕ, false, true, length, Some, IfOk, MatchResult, slice_index_or};
 ghost use Rattle.std.specs.List.{All};
 ghost use Rattle.bfd_edge.specs.Links.{IsNewLink};
-ghost use Rattle.bfd_serving.specs.Linking.{IsUncalled, IsOpenTo, IsUnopened};
+ghost use Rattle.bfd_serving.specs.Linking.{AreTheirs, IsUncalled, IsOpenTo, IsUnopened};
 
 use crate::finish::{Refused, refused_as};
 use bfd_edge::Ports;
 use std::alloc::Global;
 
-/// Shuts the link of caller 0, and then those of the workers.
+/// Shuts the link of caller 0, and then those of the workers, each by the number by which it was opened.
 pub(crate) fn shut_all<P: Ports>(ports: &mut P, own: P::Link, links: Vec<P::Link>)
     requires few { length links.items ≤ 64 }
     requires opened { (number : ℕ) → number ≤ length links.items → (P.told ports.old).opened number ≡ true }
+    requires theirs { AreTheirs P.Link.told own links.items }
     ensures opened { (number : ℕ) → (P.told ports.new).opened number ≡ (P.told ports.old).opened number }
     ensures faults { (P.told ports.new).faults ≡ (P.told ports.old).faults }
     ensures shut { (number : ℕ) → number ≤ length links.items
@@ -26,6 +27,7 @@ pub(crate) fn shut_all<P: Ports>(ports: &mut P, own: P::Link, links: Vec<P::Link
 }
 
 /// Opens the links 0 to the number of workers. After a fault those that were opened are shut again, and none was called.
+#[tactic(auto, using(crate::proofs::Theirs::theirs_none, crate::proofs::Theirs::theirs_more))]
 pub(crate) fn open_all<P: Ports>(
     alloc: Global,
     ports: &mut P,
@@ -35,6 +37,7 @@ pub(crate) fn open_all<P: Ports>(
     requires few { workers ≤ 64 }
     ensures own { IfOk result (λ r. IsNewLink (P.Link.told r.0)) }
     ensures links { IfOk result (λ r. All (IsUncalled P.Link.told) r.1.items) }
+    ensures theirs { IfOk result (λ r. AreTheirs P.Link.told r.0 r.1.items) }
     ensures opened { MatchResult result (λ r. IsOpenTo workers (P.told ports.old) (P.told ports.new))
         (λ refused. IsUnopened refused (P.told ports.old) (P.told ports.new)) }
     ensures long { IfOk result (λ r. length r.1.items ≡ workers) }

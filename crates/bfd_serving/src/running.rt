@@ -5,6 +5,7 @@ ghost use Rattle.bfd_shard.specs.Shard.{IsShard};
 ghost use Rattle.bfd_engine.specs.Opening.{IsNewPass};
 ghost use Rattle.bfd_serve.specs.Jobs.{IsOpen};
 ghost use Rattle.bfd_serving.specs.Finishes.{IsUnspent};
+ghost use Rattle.bfd_serving.specs.Linking.{AreTheirs};
 ghost use Rattle.bfd_serving.specs.Runs.{AreClosedShards, HaveRun, history_at, told_on_link};
 
 use bfd_edge::{Gate, Link, Ticker};
@@ -55,12 +56,14 @@ pub(crate) fn run_all<
 ) -> (Vec<L>, Result<Closed<W>, AllocError>)
     requires new { IsNewPass engine first }
     requires few { length links.items ≤ 64 }
+    requires theirs { AreTheirs L.told own.old links.items }
     requires clock { (T.told ticker.old).over ≡ false }
     requires open { All (IsOpen L.told) links.items }
     requires turns { limits.turns ≤ 1000000000 }
     requires ticks { limits.ticks ≤ 1000000000 }
     requires orders { length orders.now ≤ 200000 }
     ensures back { length result.0.items ≡ length links.items }
+    ensures theirs { AreTheirs L.told own.new result.0.items }
     ensures run { IfOk result.1 (λ closed. HaveRun engine (history_at closed.states.items)
         orders.now (length links.items) limits (told_on_link L.told own.old links.items)
         (told_on_link L.told own.new result.0.items) (T.told ticker.old) (T.told ticker.new)

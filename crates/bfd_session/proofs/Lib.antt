@@ -8,6 +8,7 @@ pub mod Machines
 pub mod Renewing
 pub mod Starting
 pub mod Tables
+pub mod Changes
 pub mod Places
 pub mod Standing
 pub mod Ports
@@ -17,3 +18,6 @@ pub mod Own
 pub mod Expiring
 pub mod Discarding
 pub mod Searches
+pub mod Seeking
+pub mod Mirrors
+pub mod Unrepeated

@@ -12,23 +12,23 @@ use Rattle.bfd_session.specs.declared.event.Event.TheVariants.{Packet, Returned}
 
 -- an arrival is discarded by a test, and then is no event of any session; or the reflector at this place of the pool answers
 -- it; or it is an own event of the session at this place (RFC 5880 section 6.8.6)
-pub data Coming : Type 0 where
-  Discarded : Test → Coming
-  Reflected : ℕ → Coming
-  Own : ℕ → Event → Coming
+pub data Destination : Type 0 where
+  Discarded : Test → Destination
+  Reflected : ℕ → Destination
+  Own : ℕ → Event → Destination
 
 -- what an arrival for this target comes to
-abbrev pub coming_to : Option Target → Arrival → Coming
+abbrev pub coming_to : Option Target → Arrival → Destination
 coming_to None arrival = Discarded NoSession
 coming_to (Some (Session place)) arrival = Own place (Packet arrival)
 coming_to (Some (Reflector place)) arrival = Reflected place
 coming_to (Some (Echo place sequence)) arrival = Own place (Returned sequence)
 
 -- the first of the tests up to selection that fails discards it
-abbrev pub coming_by : Option Test → Option Target → Arrival → Coming
+abbrev pub coming_by : Option Test → Option Target → Arrival → Destination
 coming_by (Some test) target arrival = Discarded test
 coming_by None target arrival = coming_to target arrival
 
 -- what an arrival comes to in this table
-abbrev pub comes_to : List Row → Arrival → Coming
+abbrev pub comes_to : List Row → Arrival → Destination
 comes_to rows arrival = coming_by (first_table_failing rows arrival) (target_of rows arrival) arrival

@@ -7,5 +7,7 @@ pub mod Alone
 pub mod Rows
 pub mod Arrivals
 pub mod Reaching
+pub mod Tables
+pub mod Changes
 pub mod Discards
 pub mod Inside

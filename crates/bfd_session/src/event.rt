@@ -31,7 +31,7 @@ pub enum Event {
     Show,
 }
 
-/// What a session shows of itself. Intervals are in microseconds.
+/// What a session shows of itself. Intervals are in microseconds. The fields fill it, so that no move of one copies bytes between them.
 #[derive(Clone, Copy, Debug, PartialEq, Eq)]
 pub struct Shown {
     /// The local discriminator.
@@ -39,6 +39,8 @@ pub struct Shown {
     pub state: State,
     pub diag: u8,
     pub remote_state: State,
+    /// The Poll Sequence: 0 none, 1 wanted, 2 running.
+    pub poll: u8,
     pub remote_discr: u32,
     /// The Desired Min TX Interval that is advertised.
     pub adv_tx: u32,
@@ -48,8 +50,6 @@ pub struct Shown {
     pub used_rx: u32,
     /// The Detection Time.
     pub detect: u64,
-    /// The Poll Sequence: 0 none, 1 wanted, 2 running.
-    pub poll: u8,
 }
 
 /// What an event of a session answers.

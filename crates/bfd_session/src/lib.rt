@@ -15,6 +15,7 @@
 #![tactic(auto)]
 
 mod answering;
+mod coming;
 mod echoing;
 mod event;
 mod head;
@@ -24,9 +25,12 @@ mod rows;
 mod seek;
 mod session;
 mod showing;
+mod table;
 mod tail;
 
+pub use coming::Coming;
 pub use event::{Answer, Event, SessionConfig, Shown};
 pub use law::{event_laws, tick_laws};
 pub use rows::{row_of, row_of_reflector, rows_of, table_of};
 pub use session::Session;
+pub use table::{Roster, Table};

@@ -28,12 +28,12 @@ pub fn shows(discr: u32, adv_tx: u32, detect: u64, v: &Vars) -> Shown
         state: v.state,
         diag: v.diag,
         remote_state: v.remote_state,
+        poll: poll_number(v.poll),
         remote_discr: v.remote_discr,
         adv_tx,
         used_tx: v.used_tx,
         used_rx: v.used_rx,
         detect,
-        poll: poll_number(v.poll),
     }
 }
 

@@ -16,7 +16,8 @@ pub use Rattle.bfd_session.specs.declared.event.Event.{Event}
 pub use Rattle.bfd_session.specs.declared.event.SessionConfig.{SessionConfig}
 pub use Rattle.bfd_shard.specs.History.{after, events_of, last_tick, later, own_moved, run, runs}
 unfoldable pub use Rattle.bfd_shard.specs.History.{last_from, moved, run_from, runs_from}
-pub use Rattle.bfd_shard.specs.Shard.{CanHappen, IsExact, IsHistory, IsOnTime, IsOver, IsShard, IsTaken, IsTimed, NoneDue, Shard, shard_of}
+pub use Rattle.bfd_shard.specs.Shard.{CanHappen, IsExact, IsHistory, IsOnTime, IsOver, IsShard, NoneDue, Shard, shard_of}
+pub use Rattle.bfd_session.specs.Reaching.{IsTaken}
 pub use Rattle.bfd_shard.specs.declared.entry.Entry.{Entry}
 pub use Rattle.bfd_shard.specs.declared.entry.ShardEvent.{ShardEvent}
 pub use Rattle.bfd_shard.specs.declared.entry.ShardEvent.TheVariants.{Own, Tick}

@@ -1,5 +1,6 @@
 -- A tick expires exactly the sessions whose Detection Time has expired by it.
 use Rattle.bfd_shard.proofs.Common.{◌≡◌, ◌&&◌, ◌||◌, ◌*◌, ◌+◌, ◌++◌, ℕ, max, Bool, List, [], ◌∷◌, map, Option, Some, None, is_some, is_none, IsSome, refl, zip, AllByRecursion, has_come, places, SessionConfig, ticked, detects, Running, configs_of, IsSound, tick_next, ShardEvent, Own, Tick, events_of, last_tick, moved, runs, Shard, IsExact, IsShard, expired, forgets, forgotten, has_expired}
+use Rattle.bfd_shard.specs.Sessions.{HasForgotten}
 use Rattle.bfd_shard.proofs.Runs.{runs_more}
 
 -- what a tick does to what was heard
@@ -25,6 +26,13 @@ pub tick_expires : (laws : Expires) (cs : List SessionConfig) (es : List ShardEv
     → forgotten (runs es cs) (runs (es ++ Tick t ∷ []) cs) ≡ expired cs es t
 unfolding moved
 tick_expires laws cs es t sound = cc (runs_more es (Tick t) cs, forgets_all laws (max (last_tick es) t) 0 (runs es cs) sound)
+
+-- .. of one event of sessions, whatever went before
+pub exactly_now : (laws : Expires) (last : ℕ) (e : ShardEvent) (before after : List Running) → AllByRecursion IsSound before → after ≡ moved last e before
+    → HasForgotten last e before after
+unfolding moved
+exactly_now laws last (Own place moment event) before after sound m = tt
+exactly_now laws last (Tick t) before after sound m = cc (forgets_all laws (max last t) 0 before sound)
 
 -- the law of expiry, of one event of a shard
 pub exactly : ((cs : List SessionConfig) (es : List ShardEvent) (t : ℕ) → AllByRecursion IsSound (runs es cs)

@@ -1,5 +1,5 @@
 -- One session of a list changes.
-use Rattle.bfd_shard.proofs.Common.{◌≡◌, ℕ, zero, suc, List, [], ◌∷◌, map, set, refl, ap, Some, slice_get, unwrap_or, AllByRecursion, map-set, SessionConfig, Event, due, Running, configs_of, CanTake, ShardEvent, Own, Tick, CanHappen}
+use Rattle.bfd_shard.proofs.Common.{◌≡◌, ◌++◌, ◌+◌, add-one, ℕ, zero, suc, drop, take, List, [], ◌∷◌, map, set, refl, ap, Some, slice_get, unwrap_or, AllByRecursion, map-set, SessionConfig, Event, due, Running, configs_of, CanTake, ShardEvent, Own, Tick, CanHappen}
 use Rattle.bfd_session.specs.Reaching.{Stands}
 use Rattle.bfd_shard.specs.Inside.{MayCome}
 
@@ -12,6 +12,23 @@ pub all_set : (P : Running → Type 0) (ss : List Running) (k : ℕ) (s : Runnin
 all_set P [] k s all one = tt
 all_set P (x ∷ ss) zero s all one = (one, all.1)
 all_set P (x ∷ ss) (suc k) s all one = (all.0, all_set P ss k s all.1 one)
+
+-- what holds of all holds with one among them of which it holds
+pub all_in : (P : Running → Type 0) (ss : List Running) (k : ℕ) (s : Running) → AllByRecursion P ss → P s → AllByRecursion P (take k ss ++ s ∷ drop k ss)
+all_in P [] zero s all one = (one, tt)
+all_in P [] (suc k) s all one = (one, tt)
+all_in P (x ∷ ss) zero s all one = (one, all)
+all_in P (x ∷ ss) (suc k) s all one = (all.0, all_in P ss k s all.1 one)
+
+all_but : (P : Running → Type 0) (ss : List Running) (k : ℕ) → AllByRecursion P ss → AllByRecursion P (take k ss ++ drop (suc k) ss)
+all_but P [] zero all = tt
+all_but P [] (suc k) all = tt
+all_but P (x ∷ ss) zero all = all.1
+all_but P (x ∷ ss) (suc k) all = (all.0, all_but P ss k all.1)
+
+-- and without one of them
+pub all_out : (P : Running → Type 0) (ss : List Running) (k : ℕ) → AllByRecursion P ss → AllByRecursion P (take k ss ++ drop (k + 1) ss)
+all_out P ss k all = rw add-one (all_but P ss k all)
 
 -- the session of a configuration stands at its place
 stands_of : (ss : List Running) (k : ℕ) {c : SessionConfig} (event : Event) → slice_get (configs_of ss) k ≡ Some c → CanTake c event → Stands ss k event

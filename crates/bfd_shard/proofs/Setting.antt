@@ -1,5 +1,5 @@
 -- A shard at the start.
-use Rattle.bfd_shard.proofs.Common.{◌≡◌, ◌<◌, ◌≤◌, ◌+◌, ◌++◌, subst, ℕ, zero, suc, List, [], ◌∷◌, length, map, take, drop, get_or, set, refl, sym, ap, ◌∙◌, add-one, arith, Option, AllByRecursion, length-map, map-append, HeldIds, room_of, SessionConfig, due, Running, configs_of, IsSound, started, Entry, last_from, run_from, runs_from, shard_of, IsShard, IsTimed}
+use Rattle.bfd_shard.proofs.Common.{◌≡◌, ◌<◌, ◌≤◌, ◌+◌, ◌++◌, subst, ℕ, zero, suc, List, [], ◌∷◌, length, map, take, drop, get_or, set, refl, sym, ap, ◌∙◌, add-one, arith, Option, AllByRecursion, length-map, map-append, SessionConfig, due, Running, configs_of, IsSound, started, Entry, last_from, run_from, runs_from, shard_of, IsShard}
 use Rattle.bfd_session.proofs.Starting.{started_configs}
 use Rattle.bfd_shard.proofs.OnTime.{none_yet}
 
@@ -50,15 +50,9 @@ shard_at cs limit room few sound = record {
 }
 
 -- a shard at the start
-pub shard_made : (cs : List SessionConfig) {ss : List Running} (limit room : ℕ) {journal : List Entry} {dues : List (Option ℕ)} (ids : HeldIds) → length cs ≤ 65536
-    → ss ≡ map started cs → AllByRecursion IsSound ss → journal ≡ [] → dues ≡ map due ss → length ss ≤ room_of ids
-    → IsTimed (shard_of ss 0 journal limit room) dues ids
-shard_made cs limit room ids few made sound empty timed fit =
-    record {
-      shown = rw empty (rw made (shard_at cs limit room few (rw (← made) sound)));
-      timed = timed;
-      ids_fit = fit;
-    }
+pub shard_made : (cs : List SessionConfig) {ss : List Running} {last : ℕ} (limit room : ℕ) {journal : List Entry} → length cs ≤ 65536
+    → ss ≡ map started cs → last ≡ 0 → AllByRecursion IsSound ss → journal ≡ [] → IsShard (shard_of ss last journal limit room)
+shard_made cs limit room few made first sound empty = rw first (rw empty (rw made (shard_at cs limit room few (rw (← made) sound))))
 
 -- sessions that stand at the start do so with their own configurations
 pub starts_of : (cs : List SessionConfig) {ss : List Running} → ss ≡ map started cs → ss ≡ map started (configs_of ss)

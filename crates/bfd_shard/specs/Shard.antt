@@ -1,14 +1,13 @@
 -- What a shard keeps between events.
-use Rattle.std.specs.Prelude.{ℕ, ◌≡◌, ◌≤◌, ◌*◌, ◌++◌, false, List, [], ◌∷◌, length, map, slice_get, Option, Some}
+use Rattle.std.specs.Prelude.{ℕ, ◌≡◌, ◌≤◌, ◌*◌, ◌++◌, false, List, [], ◌∷◌, length, map}
 use Rattle.std.specs.List.{AllByRecursion}
 use Rattle.bfd_num.specs.Numbers.{greatest_tick}
 use Rattle.bfd_num.specs.Due.{has_come}
-use Rattle.bfd_lanes.specs.Held.{HeldIds, room_of}
 use Rattle.bfd_session.specs.declared.event.SessionConfig.{SessionConfig}
-use Rattle.bfd_session.specs.declared.event.Event.{Event}
 use Rattle.bfd_session.specs.Due.{due}
 use Rattle.bfd_session.specs.Kinds.{Running, configs_of}
-use Rattle.bfd_session.specs.Step.{IsSound, CanTake}
+use Rattle.bfd_session.specs.Reaching.{IsTaken}
+use Rattle.bfd_session.specs.Step.{IsSound}
 use Rattle.bfd_shard.specs.declared.entry.ShardEvent.{ShardEvent}
 use Rattle.bfd_shard.specs.declared.entry.ShardEvent.TheVariants.{Own, Tick}
 use Rattle.bfd_shard.specs.declared.entry.Entry.{Entry}
@@ -25,12 +24,6 @@ pub record Shard : Type 0 where
 
 abbrev pub shard_of : List Running → ℕ → List Entry → ℕ → ℕ → Shard
 shard_of sessions last journal limit room = record { sessions = sessions; last = last; journal = journal; limit = limit; room = room }
-
--- an own event that the shard may be given: a session stands at its place, and may be handed it
-pub record IsTaken (configs : List SessionConfig) (place : ℕ) (event : Event) : Type 0 where
-  pub config : SessionConfig
-  pub there : slice_get configs place ≡ Some config
-  pub takes : CanTake config event
 
 -- an event that a shard of these sessions may be given; a tick always may
 abbrev pub CanHappen : List SessionConfig → ShardEvent → Type 0
@@ -64,12 +57,6 @@ pub record IsShard (shard : Shard) : Type 0 where
   pub whole : shard.sessions ≡ runs (events_of shard.journal) (configs_of shard.sessions)
   pub sound : AllByRecursion IsSound shard.sessions
   pub timely : IsOnTime (configs_of shard.sessions) (events_of shard.journal)
-
--- a shard with its timers, whose list is the due tick of each session, and with ids that find room for all of them
-pub record IsTimed (shard : Shard) (dues : List (Option ℕ)) (ids : HeldIds) : Type 0 where
-  pub shown : IsShard shard
-  pub timed : dues ≡ map due shard.sessions
-  pub ids_fit : length shard.sessions ≤ room_of ids
 
 -- how many outputs an event may give: five for an own event, and five for each session at a tick
 abbrev pub room_for : List Running → ShardEvent → ℕ

@@ -15,10 +15,12 @@
 mod entry;
 mod law;
 mod own;
+mod sessions;
 mod shard;
 mod start;
 mod ticking;
 
 pub use entry::{Entry, Full, ShardEvent};
 pub use law::{expiry_laws, history_laws, own_laws};
+pub use sessions::Sessions;
 pub use shard::ShardState;

@@ -1,26 +1,18 @@
 //! A shard.
-ghost use Rattle.std.specs.Prelude.{ℕ, ◌≡◌, ◌+◌, ◌<◌, ◌≤◌, ◌++◌, ◌∷◌, [], IfErr, IfOk, OnErr, OnOk, IsTrue, ◌↔◌, length, map, min};
-ghost use Rattle.std.specs.List.{AllByRecursion};
-ghost use Rattle.bfd_num.specs.Numbers.{greatest_tick};
-ghost use Rattle.bfd_lanes.specs.Held.{room_of};
-ghost use Rattle.bfd_session.specs.Due.{due as due_tick};
+ghost use Rattle.std.specs.Prelude.{◌≡◌, ◌+◌, ◌<◌, ◌≤◌, ◌++◌, ◌∷◌, [], IfErr, IfOk, OnErr, OnOk, IsTrue, ◌↔◌, length, map, min};
 ghost use Rattle.bfd_session.specs.Kinds.{configs_of};
 ghost use Rattle.bfd_session.specs.Rows.{AreFit};
-ghost use Rattle.bfd_session.specs.Step.{IsSound, started};
+ghost use Rattle.bfd_session.specs.Step.{started};
 ghost use Rattle.bfd_shard.specs.Dealing.{share};
 ghost use Rattle.bfd_shard.specs.History.{later, moved, outcome_of};
-ghost use Rattle.bfd_shard.specs.Inside.{MayCome};
-ghost use Rattle.bfd_shard.specs.Shard.{IsShard, IsTaken, IsOwn, IsOver, IsExact, CanHappen, room_for};
+ghost use Rattle.bfd_shard.specs.Shard.{IsShard, IsOwn, IsOver, IsExact, CanHappen, room_for};
 
 use crate::entry::{Entry, Full, ShardEvent};
 use crate::law::expiry_laws;
-use crate::own::step_at;
-use crate::start::{sessions_of, share_of, timers_of};
-use crate::ticking::tick_all;
-use bfd_lanes::Ids;
+use crate::sessions::Sessions;
 use bfd_num::{Steps, Tick};
 use bfd_rules::Outs;
-use bfd_session::{Answer, Event, Session, SessionConfig};
+use bfd_session::{Answer, Session, SessionConfig};
 use bfd_wheel::Timers;
 use std::alloc::{AllocError, Global};
 use std::marker::Model;
@@ -30,95 +22,25 @@ use std::sync::ledger::Ledger;
 /// is moved again and again, and leaves holes.
 const MOST_AT_ONCE: usize = 200_000;
 
-/// Sessions by place, with their timers, the last tick, and the journal of their events.
+/// Sessions by place, with their timers and the last tick, and the journal of their events.
 #[derive(Drop)]
 pub struct ShardState<W: Timers> {
-    sessions: Vec<Session>,
-    timers: W,
-    last: u64,
+    group: Sessions<W>,
     journal: Vec<Entry>,
     limit: usize,
-    ids: Ids,
 }
 
 impl<W: Timers> Model for ShardState<W> {
     ghost use Rattle.std.specs.Prelude.{◌-◌, vec_len, vec_capacity};
-    ghost use Rattle.bfd_shard.specs.Shard.{Shard, IsTimed, shard_of};
+    ghost use Rattle.bfd_shard.specs.Shard.{IsShard, Shard, shard_of};
 
     ghost Value = { Shard };
 
-    ghost view = { λ s. shard_of s.sessions.items s.last s.journal.items s.limit
+    ghost view = { λ s. shard_of s.group.sessions s.group.last s.journal.items s.limit
         (vec_capacity s.journal - vec_len s.journal) };
 
-    ghost invariant = { λ s. IsTimed (shard_of s.sessions.items s.last s.journal.items s.limit
-        (vec_capacity s.journal - vec_len s.journal)) (W.dues s.timers) s.ids };
-}
-
-/// An event of the sessions: answers the last tick after it, and the event's answer.
-#[tactic(auto, using(bfd_session::proofs::Standing::takes_at, std::proofs::lemmas::Option::slice_get_within), unfolding(crate::specs::History::moved, crate::specs::History::outcome_of))]
-fn act<W: Timers, L: Ledger>(
-    sessions: &mut Vec<Session>,
-    timers: &mut W,
-    last: u64,
-    event: &ShardEvent,
-    ids: &mut Ids,
-    outs: &mut Outs,
-    steps: &mut Steps<L>,
-) -> (u64, Answer)
-    requires few { length sessions.old.items ≤ 65536 }
-    requires last { last ≤ greatest_tick }
-    requires may_come { MayCome sessions.old.items event.now }
-    requires dues { W.dues timers.old ≡ map due_tick sessions.old.items }
-    requires sound { AllByRecursion IsSound sessions.old.items }
-    requires ids { length sessions.old.items ≤ room_of ids.old }
-    requires room { room_for sessions.old.items event.now ≤ outs.old.spare }
-    ensures last { result.0 ≡ later last event.now }
-    ensures early { result.0 ≤ greatest_tick }
-    ensures sessions { sessions.new.items ≡ moved last event.now sessions.old.items }
-    ensures items { outs.new.items ≡ outs.old.items ++ (outcome_of last event.now sessions.old.items).items }
-    ensures answer { result.1 ≡ (outcome_of last event.now sessions.old.items).answer }
-    ensures dues { W.dues timers.new ≡ map due_tick sessions.new.items }
-    ensures over { IsOver (later last event.now) event.now sessions.new.items }
-    ensures sound { AllByRecursion IsSound sessions.new.items }
-    ensures ids { room_of ids.new ≡ room_of ids.old }
-    ensures spare { outs.old.spare ≤ outs.new.spare + room_for sessions.old.items event.now }
-    ensures room { outs.new.room ≡ outs.old.room }
-    ensures cost { IsOwn event.now → steps.new ≤ steps.old + 2 }
-{
-    match event {
-        ShardEvent::Own {
-            place,
-            moment,
-            event,
-        } => {
-            let answer = step_at(
-                sessions,
-                timers,
-                last,
-                *place,
-                moment.get(),
-                event,
-                outs,
-                steps,
-            );
-            (last, answer)
-        }
-        ShardEvent::Tick(t) => {
-            let last = last.max(t.get());
-            tick_all(sessions, timers, last, ids, outs, steps);
-            (last, Answer::Ticked)
-        }
-    }
-}
-
-/// Whether a session stands at the place that takes the event.
-fn takes_at(sessions: &[Session], place: u32, event: &Event) -> bool
-    ensures { IsTrue result ↔ IsTaken (configs_of sessions.now) place event.now }
-{
-    match sessions.get(place as usize) {
-        Some(session) => session.takes(event),
-        None => false,
-    }
+    ghost invariant = { λ s. IsShard (shard_of s.group.sessions s.group.last s.journal.items s.limit
+        (vec_capacity s.journal - vec_len s.journal)) };
 }
 
 impl<W: Timers> ShardState<W> {
@@ -137,8 +59,8 @@ impl<W: Timers> ShardState<W> {
         ensures limit { IfOk result (λ shard. shard.limit ≡ limit) }
         ensures kept { IfOk result (λ shard. IsShard shard) }
     {
-        let sessions = sessions_of(alloc, configs)?;
-        ShardState::at_start(alloc, sessions, limit)
+        let group = Sessions::make(alloc, configs)?;
+        ShardState::at_start(alloc, group, limit)
     }
 
     /// The same of one shard of 1 to 64, `shard` counted from 0, out of the configurations of all sessions, which stay: session k of the
@@ -159,35 +81,30 @@ impl<W: Timers> ShardState<W> {
         ensures limit { IfOk result (λ state. state.limit ≡ limit) }
         ensures kept { IfOk result (λ state. IsShard state) }
     {
-        let sessions = share_of(alloc, configs, shards, shard)?;
-        ShardState::at_start(alloc, sessions, limit)
+        let group = Sessions::make_share(alloc, configs, shards, shard)?;
+        ShardState::at_start(alloc, group, limit)
     }
 
     // A shard of these sessions, which stand at the start.
     fn at_start(
         alloc: Global,
-        sessions: Vec<Session>,
+        group: Sessions<W>,
         limit: usize,
     ) -> Result<ShardState<W>, AllocError>
-        requires few { length sessions.items ≤ 65536 }
-        requires start { sessions.items ≡ map started (configs_of sessions.items) }
-        requires sound { AllByRecursion IsSound sessions.items }
-        ensures sessions { IfOk result (λ shard. shard.sessions ≡ sessions.items) }
+        requires start { group.sessions ≡ map started (configs_of group.sessions) }
+        requires last { group.last ≡ 0 }
+        ensures sessions { IfOk result (λ shard. shard.sessions ≡ group.sessions) }
         ensures last { IfOk result (λ shard. shard.last ≡ 0) }
         ensures journal { IfOk result (λ shard. shard.journal ≡ []) }
         ensures limit { IfOk result (λ shard. shard.limit ≡ limit) }
         ensures kept { IfOk result (λ shard. IsShard shard) }
     {
-        let timers = timers_of(alloc, &sessions)?;
-        let ids = Ids::make(alloc, sessions.len())?;
+        let _ = group.sessions();
         let journal = Vec::with_capacity(alloc, limit.min(MOST_AT_ONCE))?;
         Ok(ShardState {
-            sessions,
-            timers,
-            last: 0,
+            group,
             journal,
             limit,
-            ids,
         })
     }
 
@@ -196,10 +113,7 @@ impl<W: Timers> ShardState<W> {
     pub fn takes(&self, event: &ShardEvent) -> bool
         ensures { IsTrue result ↔ CanHappen (configs_of self.now.sessions) event.now }
     {
-        match event {
-            ShardEvent::Own { place, event, .. } => takes_at(&self.sessions, *place, event),
-            ShardEvent::Tick(_) => true,
-        }
+        self.group.takes(event)
     }
 
     /// Makes room for one entry more in the journal, where it is below its limit. Nothing else changes. It is refused only for
@@ -279,16 +193,7 @@ impl<W: Timers> ShardState<W> {
             return Err(Full(self.limit));
         }
         expiry_laws();
-        let (last, answer) = act(
-            &mut self.sessions,
-            &mut self.timers,
-            self.last,
-            &event,
-            &mut self.ids,
-            outs,
-            steps,
-        );
-        self.last = last;
+        let answer = self.group.apply(&event, outs, steps);
         self.journal.push_reserved(Entry { caller, event });
         Ok(answer)
     }
@@ -298,15 +203,15 @@ impl<W: Timers> ShardState<W> {
         ensures value { result.now ≡ self.now.sessions }
         ensures kept { IsShard self.now }
     {
-        let _ = &self.last;
-        self.sessions.as_slice()
+        let _ = &self.limit;
+        self.group.sessions()
     }
 
     /// The last tick: the greatest one so far, or 0.
     pub fn last(&self) -> Tick
         ensures { result ≡ self.now.last }
     {
-        Tick::new(self.last).unwrap()
+        self.group.last()
     }
 
     /// The journal: the events so far, each with the number of its caller.

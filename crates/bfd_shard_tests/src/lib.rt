@@ -12,3 +12,5 @@ mod levels;
 mod pair;
 #[cfg(test)]
 mod schedule;
+#[cfg(test)]
+mod wheel;

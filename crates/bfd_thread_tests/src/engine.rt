@@ -4,7 +4,8 @@ ghost use Rattle.bfd_session.specs.Step.{IsFit};
 ghost use Rattle.bfd_session.specs.Kinds.{discr_of};
 ghost use Rattle.bfd_session.specs.Rows.{AreFit};
 ghost use Rattle.bfd_engine.specs.Engines.{IsOf, AllThere};
-ghost use Rattle.bfd_engine.specs.Opening.{IsNewPass, IsSorted};
+ghost use Rattle.bfd_engine.specs.Opening.{IsNewPass};
+ghost use Rattle.bfd_session.specs.Tables.{IsSorted};
 ghost use Rattle.bfd_engine_use.specs.Joining.{HasOpen};
 
 use crate::eight::packet;
@@ -230,7 +231,7 @@ fn asks_on<R: Wait, L: Ledger>(
     engine: &Plain,
     pass: &mut EnginePass,
     moment: Moment,
-    stray: &Arrival,
+    stray: Arrival,
     outs: &mut Outs,
     blank: Blank,
 ) -> bool
@@ -250,7 +251,9 @@ fn asks_on<R: Wait, L: Ledger>(
         asks(rt, engine, pass, (moment, 7, None), outs, &mut steps),
         asks(rt, engine, pass, (moment, 7, reset), outs, &mut steps),
     ];
-    are_full(told) && engine.screen(stray, &mut steps) == Err(Test::YourUnknown)
+    outs.clear();
+    let dropped = engine.receive(rt, pass, moment, stray, outs, &mut steps);
+    are_full(told) && dropped == Ok(Answer::Dropped(Test::YourUnknown))
 }
 
 /// The same of a new engine.
@@ -264,7 +267,7 @@ fn fills<R: Wait>(rt: &R, alloc: Global) -> Option<bool> {
         &engine,
         &mut pass,
         moment,
-        &stray,
+        stray,
         &mut outs,
         Blank::new(1),
     ))

@@ -9,7 +9,7 @@ pub use Rattle.bfd_turn.specs.Lists.{Begins, calls, has, longer, numbers_of, sho
 pub use Rattle.bfd_turn.specs.Passes.{AllJoined, Grows, IsNew, having_met}
 pub use Rattle.bfd_turn.specs.Plays.{AllKept, Lent, Shows, checked, looked, released, took}
 pub use Rattle.bfd_turn.specs.Rule.{AtHome, Fits, Keeps, Out, total_taken}
-pub use Rattle.bfd_turn.specs.Views.{glued, holding, idle_after, joined_view, known, known_of, met, newcomer, offspring, parent}
+pub use Rattle.bfd_turn.specs.Views.{glued, holding, idle_after, at_word, having_looked, joined_view, known, known_of, met, newcomer, offspring, parent}
 pub use Rattle.bfd_turn.specs.declared.view.Known.{Known}
 pub use Rattle.bfd_turn.specs.declared.view.Role.TheVariants.{Holding, Idle, Joined}
 pub use Rattle.bfd_turn.specs.declared.view.View.{View}

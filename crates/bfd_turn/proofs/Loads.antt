@@ -1,5 +1,5 @@
 -- A new lock, and a load of its word.
-use Rattle.bfd_turn.proofs.Common.{◌≡◌, ◌≢◌, ℕ, zero, suc, ◌*◌, ◌^◌, ◌<◌, ◌≤◌, List, [], ◌∷◌, set, get_or, sym, refl, ap, subst, inl, arith, Option, Some, None, some, none, some-injective, some-ne-none, get_elem?, State, step, keeps, Allows, opening, View, Idle, Joined, newcomer, met, Shows, looked, checked, Fits, Keeps}
+use Rattle.bfd_turn.proofs.Common.{◌≡◌, ◌≢◌, ℕ, zero, suc, ◌*◌, ◌^◌, ◌<◌, ◌≤◌, List, [], ◌∷◌, ◌++◌, set, get_or, sym, refl, ap, subst, inl, arith, Option, Some, None, some, none, some-injective, some-ne-none, get_elem?, State, step, keeps, Allows, opening, View, Idle, Joined, newcomer, at_word, having_looked, Shows, looked, checked, Fits, Keeps}
 use Rattle.bfd_turn.proofs.Beginnings.{begins_begins}
 use Rattle.bfd_turn.proofs.Seats.{put, put_here, total_set}
 use Rattle.bfd_turn.proofs.Kept.{idle_holds_not, idle_lives, quiet_to, quiet_from, Place, place_moves, one_seat}
@@ -59,21 +59,21 @@ module _ {V N B : Type 0} (notes : V → List N) (by : N → ℕ) (base : V → 
   }
 
   -- A load, after which the seat has the view w: it knows what v knew, at a word that the lock's word has reached
-  pub reads : (s : State (Option V) (View N B)) (k : Rule s) (i : ℕ) (v : View N B) (word : ℕ) → get_elem? s.views i ≡ some v → v.role ≡ Idle → word ≤ k.now
-      → Rule record { words = set s.words 0 (get_or s.words 0 0); homes = s.homes; views = set s.views i (met word v) }
-  reads s k i v word at idle le = let n : ℕ = get_or s.words 0 0 in let is = word_is s k in let room = k.room in let f = fits_of s k i v at idle in
-      let sum = total_set s.views i v (met word v) at in
+  pub reads : (s : State (Option V) (View N B)) (k : Rule s) (i : ℕ) (v : View N B) (word : ℕ) (looks : List ℕ) → get_elem? s.views i ≡ some v → v.role ≡ Idle → word ≤ k.now
+      → Rule record { words = set s.words 0 (get_or s.words 0 0); homes = s.homes; views = set s.views i (at_word word looks v) }
+  reads s k i v word looks at idle le = let n : ℕ = get_or s.words 0 0 in let is = word_is s k in let room = k.room in let f = fits_of s k i v at idle in
+      let sum = total_set s.views i v (at_word word looks v) at in
       let place = subst (λ m. Place notes base k.history k.lock_base m s) (sym is) k.place in
-      one_seat notes by base s k (set s.words 0 n) s.homes n i v (met word v) at (idle_lives _ idle) (ap (λ ws. set ws 0 n) k.words) (omega arith) (omega arith)
-      (place_moves notes base k.history k.lock_base s (set s.words 0 n) (set s.views i (met word v)) n (omega arith)
-      (quiet_to s.views i v (met word v) at (idle_holds_not _ idle)) (quiet_from s.views i v (met word v) at (idle_holds_not _ idle)) place)
+      one_seat notes by base s k (set s.words 0 n) s.homes n i v (at_word word looks v) at (idle_lives _ idle) (ap (λ ws. set ws 0 n) k.words) (omega arith) (omega arith)
+      (place_moves notes base k.history k.lock_base s (set s.words 0 n) (set s.views i (at_word word looks v)) n (omega arith)
+      (quiet_to s.views i v (at_word word looks v) at (idle_holds_not _ idle)) (quiet_from s.views i v (at_word word looks v) at (idle_holds_not _ idle)) place)
       record { seen = f.seen; told = f.told; calls_seen = f.calls_seen; calls_own = f.calls_own; base = f.base; word = omega arith; place = f.place; first = f.first; others = f.others }
       (λ e. e)
 
   pub looks : (slots id : ℕ) (v : View N B) (c : List (ℕ × Option V)) → v.role ≡ Idle → Allows Rule slots id (v, c) 0 (λ n. n) (looked by (step slots 0 0 0 none) (v, c))
   looks slots id v c idle s k deep at fits = let is = word_is s k in
-      (met (get_or s.words 0 0) v, keeps, tt, reads s k id v (get_or s.words 0 0) at idle (omega arith), (refl, shows k (fits_of s k id v at idle)))
+      (having_looked (get_or s.words 0 0) v, keeps, tt, reads s k id v (get_or s.words 0 0) (v.looks ++ get_or s.words 0 0 ∷ []) at idle (omega arith), (refl, shows k (fits_of s k id v at idle)))
 
   pub checks : (slots id : ℕ) (v : View N B) (c : List (ℕ × Option V)) → v.role ≡ Idle → Allows Rule slots id (v, c) 0 (λ n. n) (checked by (step slots 0 0 0 none) (v, c))
   checks slots id v c idle s k deep at fits = let f = fits_of s k id v at idle in
-      (v, keeps, tt, reads s k id v v.word at idle f.word, (refl, shows k f))
+      (v, keeps, tt, reads s k id v v.word v.looks at idle f.word, (refl, shows k f))

@@ -62,7 +62,7 @@ module _ {V N B : Type 0} (notes : V → List N) (by : N → ℕ) (base : V → 
       exchanged n read (read + 1)
       (λ m. (w : View N B) × (a : Act (Option V)) × Valid s.homes c a × Rule notes by base (stepped s 0 m id c w a) × took notes by base (step slots 0 read (read + 1) none) (v, c) n (w, carried_after c a))
       (wins id v c slots read idle even room s k at n is)
-      (λ miss. (met n v, keeps, tt, reads notes by base s k id v n at idle (omega arith), record { won = λ e. absurd (miss e); lost = λ _. (refl, omega arith, omega arith) }))
+      (λ miss. (met n v, keeps, tt, reads notes by base s k id v n v.looks at idle (omega arith), record { won = λ e. absurd (miss e); lost = λ _. (refl, omega arith, omega arith) }))
 
   -- the notes at the end of a turn begin with those at its start
   grown : (v : View N B) {x : V} → Grows notes by (known v) x → Begins v.seen (notes x)

@@ -8,7 +8,7 @@ use Rattle.bfd_turn.specs.Plays.{Adds, AllKept}
 module _ {N B : Type 0} where
   -- caller 0 of a new lock
   abbrev pub opened_pass : B → ℕ → Known N B
-  opened_pass base turns = record { number = 0; base = Some base; seen = []; word = 2 * turns; taken = turns; made = []; joined = [] }
+  opened_pass base turns = record { number = 0; base = Some base; seen = []; word = 2 * turns; looks = []; taken = turns; made = []; joined = [] }
 
   -- caller 0, once it has made the pass n
   abbrev pub having_made : ℕ → Known N B → Known N B
@@ -16,15 +16,15 @@ module _ {N B : Type 0} where
 
   -- the pass n that caller 0 made: it has seen as much, and has given back nothing
   abbrev pub made_by : ℕ → Known N B → Known N B
-  made_by n v = record { number = n; base = v.base; seen = v.seen; word = v.word; taken = 0; made = []; joined = [] }
+  made_by n v = record { number = n; base = v.base; seen = v.seen; word = v.word; looks = []; taken = 0; made = []; joined = [] }
 
-  -- caller 0 at the word n, once it has taken in another pass: it has seen the longer list, and keeps the other's number and calls
+  -- caller 0 at the word n of its load, once it has taken in another pass: it has seen the longer list, and keeps the other's number and calls
   abbrev pub having_joined : (N → ℕ) → ℕ → Known N B → Known N B → Known N B
-  having_joined by n v w = record v { seen = longer v.seen w.seen; word = n; taken = v.taken + w.taken; joined = v.joined ++ (w.number, calls by w.number w.seen) ∷ [] }
+  having_joined by n v w = record v { seen = longer v.seen w.seen; word = n; looks = v.looks ++ n ∷ []; taken = v.taken + w.taken; joined = v.joined ++ (w.number, calls by w.number w.seen) ∷ [] }
 
-  -- it has met the word n
-  abbrev pub having_met : ℕ → Known N B → Known N B
-  having_met n v = record v { word = n }
+  -- it has met the word n, and these are the words of its loads
+  abbrev pub having_met : ℕ → List ℕ → Known N B → Known N B
+  having_met n looks v = record v { word = n; looks = looks }
 
   -- it has given back a turn, with a value of these notes
   abbrev pub having_done : List N → Known N B → Known N B
@@ -42,7 +42,7 @@ module _ {V N B : Type 0} where
   -- The pass v holds the turn as w, and the value x is lent. The word read, one below the new word, was even, not the last, and not below what v had met.
   -- The notes of x begin with what v had seen, and go on with notes of others. Of each joined pass they have the calls that are kept
   pub record IsLent (notes : V → List N) (by : N → ℕ) (base : V → B) (v w : Known N B) (x : V) : Type 0 where
-    pub same : w ≡ record v { seen = notes x; word = w.word }
+    pub same : w ≡ record v { seen = notes x; word = w.word; looks = w.looks }
     pub later : v.word < w.word
     pub odd : w.word % 2 ≡ 1
     pub room : w.word + 1 < 2 ^ 64
@@ -59,9 +59,13 @@ abbrev pub last_word : ℕ
 last_word = 18446744073709551614
 
 module _ {N B : Type 0} where
-  -- the pass of this lock with the word n, and all else as it was
+  -- the pass of this lock with the word n, after some loads, and all else as it was
   abbrev pub IsBack : TableId → Known N B → ℕ → TableId × Known N B → Type 0
-  IsBack id v n p = (p.0 ≡ id) × (p.1 ≡ having_met n v)
+  IsBack id v n p = (p.0 ≡ id) × (p.1 ≡ having_met n p.1.looks v)
+
+  -- it made one load, which found this word
+  abbrev pub HasLoaded : Known N B → ℕ → TableId × Known N B → Type 0
+  HasLoaded v read p = p.1.looks ≡ v.looks ++ read ∷ []
 
   -- the word read was odd, or the exchange found another word
   abbrev pub WasBusy : Known N B → ℕ → ℕ → Type 0

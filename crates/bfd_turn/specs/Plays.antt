@@ -3,7 +3,7 @@ use Rattle.std.specs.Prelude.{◌≡◌, ◌≢◌, ℕ, ◌+◌, ◌^◌, ◌<�
 use Rattle.atomic_table.specs.Table.{Me, Step}
 use Rattle.bfd_turn.specs.declared.view.View.{View}
 use Rattle.bfd_turn.specs.Lists.{Begins, calls}
-use Rattle.bfd_turn.specs.Views.{met, holding, idle_after}
+use Rattle.bfd_turn.specs.Views.{met, having_looked, holding, idle_after}
 
 abbrev Sat : Type 0 → Type 0 → Type 0 → Type 0
 Sat V N B = Me (Option V) (View N B)
@@ -28,7 +28,7 @@ module _ {N B : Type 0} where
 module _ {V N B : Type 0} where
   -- a load that the view keeps
   abbrev pub looked : (N → ℕ) → Step (Option V) → Sat V N B → ℕ → Sat V N B → Type 0
-  looked by st m n m' = (m' ≡ (met n m.0, m.1)) × Shows by m.0 n
+  looked by st m n m' = (m' ≡ (having_looked n m.0, m.1)) × Shows by m.0 n
 
   -- a load that leaves the view
   abbrev pub checked : (N → ℕ) → Step (Option V) → Sat V N B → ℕ → Sat V N B → Type 0

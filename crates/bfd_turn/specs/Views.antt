@@ -8,11 +8,11 @@ use Rattle.bfd_turn.specs.Lists.{longer, shorter, calls}
 module _ {N B : Type 0} where
   -- what the lock's callers see of a view
   abbrev pub known : View N B → Known N B
-  known v = record { number = v.number; base = v.base; seen = v.seen; word = v.word; taken = v.taken; made = v.made; joined = v.joined }
+  known v = record { number = v.number; base = v.base; seen = v.seen; word = v.word; looks = v.looks; taken = v.taken; made = v.made; joined = v.joined }
 
   -- a pass that was joined knows nothing, and has given back nothing
   abbrev pub joined_view : View N B
-  joined_view = record { role = Joined; number = 0; base = None; seen = []; told = []; own = []; word = 0; taken = 0; made = []; joined = [] }
+  joined_view = record { role = Joined; number = 0; base = None; seen = []; told = []; own = []; word = 0; looks = []; taken = 0; made = []; joined = [] }
 
   abbrev pub known_of : List (View N B) → Known N B
   known_of [] = known joined_view
@@ -20,7 +20,7 @@ module _ {N B : Type 0} where
 
   -- caller 0 of a new lock
   abbrev pub newcomer : B → ℕ → View N B
-  newcomer base turns = record { role = Idle; number = 0; base = Some base; seen = []; told = []; own = []; word = 2 * turns; taken = turns; made = []; joined = [] }
+  newcomer base turns = record { role = Idle; number = 0; base = Some base; seen = []; told = []; own = []; word = 2 * turns; looks = []; taken = turns; made = []; joined = [] }
 
   -- caller 0, once it has made the pass n
   abbrev pub parent : ℕ → View N B → View N B
@@ -28,7 +28,7 @@ module _ {N B : Type 0} where
 
   -- the pass n that caller 0 has made
   abbrev pub offspring : ℕ → View N B → View N B
-  offspring n v = record { role = Idle; number = n; base = v.base; seen = v.seen; told = []; own = []; word = v.word; taken = 0; made = []; joined = [] }
+  offspring n v = record { role = Idle; number = n; base = v.base; seen = v.seen; told = []; own = []; word = v.word; looks = []; taken = 0; made = []; joined = [] }
 
   -- caller 0, once it has taken in another pass
   abbrev pub glued : (N → ℕ) → View N B → View N B → View N B
@@ -40,14 +40,23 @@ module _ {N B : Type 0} where
     told = shorter v.seen w.seen;
     own = v.seen;
     word = max v.word w.word;
+    looks = v.looks;
     taken = v.taken + w.taken;
     made = v.made;
     joined = v.joined ++ (w.number, calls by w.number w.seen) ∷ [];
   }
 
+  -- it has met the word n, and these are the words of its loads
+  abbrev pub at_word : ℕ → List ℕ → View N B → View N B
+  at_word n looks v = record v { word = n; looks = looks }
+
   -- it has met the word n
   abbrev pub met : ℕ → View N B → View N B
-  met n v = record v { word = n }
+  met n v = at_word n v.looks v
+
+  -- it has met the word n by a load
+  abbrev pub having_looked : ℕ → View N B → View N B
+  having_looked n v = at_word n (v.looks ++ n ∷ []) v
 
   -- it holds the turn, at the word n, with a value of these notes
   abbrev pub holding : List N → ℕ → View N B → View N B

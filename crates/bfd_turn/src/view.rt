@@ -19,6 +19,8 @@ pub struct View<N, B> {
     /// What it had seen at its own last turn, or before its last join: no call of its own has come since.
     pub own: LinkedList<N>,
     pub word: u64,
+    /// The words of its loads, in their order.
+    pub looks: LinkedList<u64>,
     pub taken: u64,
     pub made: LinkedList<u32>,
     pub joined: LinkedList<(u32, LinkedList<N>)>,
@@ -34,6 +36,8 @@ pub struct Known<N, B> {
     pub seen: LinkedList<N>,
     /// The last word that the pass's own steps have met. The lock's word has reached it.
     pub word: u64,
+    /// The words of the loads that the pass made, in their order.
+    pub looks: LinkedList<u64>,
     /// How many turns this pass, and those joined into it, have given back.
     pub taken: u64,
     /// Of caller 0: the numbers of the passes that were made, in their order.

@@ -7,15 +7,16 @@ ghost use Rattle.bfd_watching.specs.Members.{watched_of};
 
 use crate::members::group;
 use bfd_line::Line;
-use bfd_replay::Progress;
+use bfd_replay::Instance;
 use bfd_script::Script;
 use bfd_watch::{LinkGroup, changes_of};
+use bfd_wheel::HashedWheel;
 use std::alloc::{AllocError, Global};
 
 /// The watched text of the events that are left.
 fn tell(
     alloc: Global,
-    progress: Progress,
+    progress: Instance<HashedWheel>,
     group: LinkGroup,
     events: Vec<Line>,
 ) -> Result<Vec<u8>, AllocError>
@@ -55,7 +56,7 @@ pub fn watched(
         pool,
         events,
     } = script;
-    let progress = Progress::open(alloc, configs, pool)?;
+    let progress = Instance::open(alloc, configs, pool)?;
     let group = group(alloc, need, members, progress.sessions())?;
     tell(alloc, progress, group, events)
 }

@@ -17,6 +17,11 @@ pub trait Timers: Drop + Sized {
         requires { count ≤ 65536 }
         ensures { IfOk result (λ timers. dues timers ≡ replicate count None) };
 
+    /// Timers for the first `count` ids, no more than there are, with no due tick. Takes no memory.
+    fn restart(&mut self, count: u32)
+        requires { count ≤ length (dues self.old) }
+        ensures { dues self.new ≡ replicate count None };
+
     /// Sets the id's due tick, below 2^60, in place of the one that it had: at most 2 steps.
     fn set<L: Ledger>(&mut self, id: u32, due: u64, steps: &mut Steps<L>)
         requires id { id < length (dues self.old) }

@@ -1,8 +1,8 @@
 //! Timers as a hashed wheel.
 use crate::change::{change, free};
 use crate::form::Timers;
-use crate::links::{Node, loops};
-use crate::list::{due_at, no_dues};
+use crate::links::{Node, loops, loops_again};
+use crate::list::{due_at, no_dues, no_dues_again};
 use crate::place::HEADS;
 use crate::take::take;
 use bfd_lanes::{Ids, least_due};
@@ -43,6 +43,12 @@ impl Timers for HashedWheel {
             dues,
             nodes,
         })
+    }
+
+    fn restart(&mut self, count: u32) {
+        no_dues_again(&mut self.dues, count);
+        loops_again(&mut self.nodes, count + HEADS);
+        self.now = 0;
     }
 
     fn set<L: Ledger>(&mut self, id: u32, due: u64, steps: &mut Steps<L>) {

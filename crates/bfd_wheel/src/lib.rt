@@ -18,6 +18,6 @@ mod take;
 pub use change::detach;
 pub use form::Timers;
 pub use hashed::HashedWheel;
-pub use links::{Node, link, loops, unlink};
-pub use list::{due_at, no_dues};
+pub use links::{Node, link, loops, loops_again, unlink};
+pub use list::{due_at, no_dues, no_dues_again};
 pub use plain::PlainTimers;

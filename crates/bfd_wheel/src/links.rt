@@ -1,5 +1,5 @@
 //! Nodes that are linked to both neighbours by indices.
-ghost use Rattle.std.specs.Prelude.{◌≡◌, ◌≢◌, ℕ, ◌<◌, length, IfOk};
+ghost use Rattle.std.specs.Prelude.{◌≡◌, ◌≢◌, ℕ, ◌^◌, ◌<◌, ◌≤◌, length, IfOk};
 ghost use Rattle.bfd_wheel.specs.Rings.{Links, Unlinks};
 ghost use Rattle.bfd_wheel.specs.Wheel.{next_in, prev_in};
 
@@ -44,6 +44,33 @@ pub fn link(nodes: &mut [Node], id: u32, head: u32)
     };
     nodes[first as usize].prev = id;
     nodes[head as usize].next = id;
+}
+
+/// Links each of the first `count` nodes to itself, and drops the others.
+#[tactic(auto, unfolding(crate::specs::Wheel::next_in, crate::specs::Wheel::prev_in))]
+pub fn loops_again(nodes: &mut Vec<Node>, count: u32)
+    requires { count ≤ length nodes.old.items }
+    ensures size { length nodes.new.items ≡ count }
+    ensures next { (j : ℕ) → j < count → next_in nodes.new.items j ≡ j }
+    ensures prev { (j : ℕ) → j < count → prev_in nodes.new.items j ≡ j }
+{
+    nodes.truncate(count as usize);
+    link_to_self(nodes);
+}
+
+/// Links each node to itself.
+#[tactic(auto, unfolding(crate::specs::Wheel::next_in, crate::specs::Wheel::prev_in))]
+fn link_to_self(nodes: &mut [Node])
+    requires { length nodes.old ≤ 2 ^ 32 }
+    ensures next { (j : ℕ) → j < length nodes.old → next_in nodes.new j ≡ j }
+    ensures prev { (j : ℕ) → j < length nodes.old → prev_in nodes.new j ≡ j }
+{
+    for at in 0..nodes.len() {
+        nodes[at] = Node {
+            next: at as u32,
+            prev: at as u32,
+        };
+    }
 }
 
 /// As many nodes, each linked to itself. The only refusal is want of memory.

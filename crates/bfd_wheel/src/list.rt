@@ -12,6 +12,15 @@ pub fn no_dues(alloc: Global, count: u32) -> Result<Vec<u64>, AllocError>
     vec![in alloc; NEVER; count as usize]
 }
 
+/// `NEVER` for each of the first `count` ids.
+pub fn no_dues_again(dues: &mut Vec<u64>, count: u32)
+    requires { count ≤ length dues.old.items }
+    ensures { dues.new.items ≡ replicate count never }
+{
+    dues.truncate(count as usize);
+    dues.fill(NEVER);
+}
+
 /// The due tick at `id`.
 pub fn due_at(dues: &[u64], id: u32) -> Option<u64>
     requires { id < length dues.now }

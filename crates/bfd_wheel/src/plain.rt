@@ -2,7 +2,7 @@
 ghost use Rattle.std.specs.Prelude.{◌≡◌, ◌+◌, ◌^◌, ◌<◌, ◌≤◌, length, None, Some, slice_set};
 
 use crate::form::Timers;
-use crate::list::{due_at, forget, no_dues, write};
+use crate::list::{due_at, forget, no_dues, no_dues_again, write};
 use bfd_lanes::{Ids, NEVER, due_ids, least_due};
 use bfd_num::Steps;
 use std::alloc::{AllocError, Global};
@@ -32,6 +32,10 @@ impl Timers for PlainTimers {
     fn make(alloc: Global, count: u32) -> Result<Self, AllocError> {
         let dues = no_dues(alloc, count)?;
         Ok(PlainTimers { dues })
+    }
+
+    fn restart(&mut self, count: u32) {
+        no_dues_again(&mut self.dues, count);
     }
 
     fn set<L: Ledger>(&mut self, id: u32, due: u64, steps: &mut Steps<L>)

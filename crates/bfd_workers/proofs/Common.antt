@@ -20,7 +20,7 @@ pub use Rattle.bfd_shard.specs.Shard.{CanHappen, IsShard, Shard}
 pub use Rattle.bfd_turn.specs.Lists.{calls, has, numbers_of}
 pub use Rattle.bfd_workers.specs.Counts.{one_up, sum_to, ups}
 pub use Rattle.bfd_workers.specs.Jobs.{AllJobsJoined, AreJobs, AreOwn, HasEnded, HasWorkedOn, IsFreshAt, IsJoining, IsNewJob, JobsAreJoined, Work, number_of, own_queue, seen_as}
-pub use Rattle.bfd_workers.specs.Working.{AreMet, HasDoneAt, HasDoneEvents, HasFinished, HasLeft, HasStopped, HasTold, HasUsed, IsElsewhere, IsIdle, IsSole, IsStopAt, IsTurnRefused, IsWorkerReady, entries_by, events_in}
+pub use Rattle.bfd_workers.specs.Working.{AreMet, HasDoneAt, HasDoneEvents, HasFinished, HasLeft, HasStopped, HasTold, HasUsedAt, IsElsewhere, IsIdle, IsSole, IsStopAt, IsTurnRefused, IsWorkerReady, entries_by, events_in}
 pub use mathlib.Core.Logic.{dite}
 pub use native.Mathlib.Decide.{ℕ_discrete}
 pub use Rattle.bfd_script.specs.Report.{dropped, lines_from, packets_sent, report}
@@ -29,7 +29,7 @@ pub use Rattle.bfd_shard.specs.declared.entry.Entry.{Entry}
 pub use Rattle.bfd_engine.specs.declared.fault.EngineFault.TheVariants.{Full, Memory, Spent}
 pub use Rattle.bfd_engine.specs.Turned.{by, entry_of, given_after}
 pub use Rattle.bfd_workers.specs.Ends.{AreStates, AreTold, HasToldShards, IsDoneJob, IsFine, IsState}
-pub use Rattle.bfd_engine.specs.Opening.{IsNewPass, IsSorted}
+pub use Rattle.bfd_engine.specs.Opening.{IsNewPass}
 pub use Rattle.bfd_replay.specs.World.{replayed, totals, world}
 pub use Rattle.bfd_shard.proofs.Lists.{put_other}
 pub use Rattle.bfd_shard.specs.History.{events_of, last_tick, later, moved, outcome_of, runs}

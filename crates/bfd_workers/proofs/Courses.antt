@@ -1,5 +1,5 @@
 -- A worker on its way, through a queue and from shard to shard.
-use Rattle.bfd_workers.proofs.Common.{◌≡◌, ◌≢◌, inl, inr, ◌<◌, ◌≤◌, ◌+◌, ◌++◌, ◌∙◌, ◌∷◌, ℕ, [], List, length, sym, ap, refl, append_assoc, arith, length-append, slice_index_or, get_or_append_left, get_or-append_seam, cases_lt, dite, ℕ_discrete, EngineFault, Shards, Knows, IsOf, AllThere, seen_at, taken_at, Numbered, Piece, HasDoneAt, HasFinished, HasLeft, HasStopped, HasTold, HasUsed, IsElsewhere, IsIdle, IsTurnRefused, IsStopAt}
+use Rattle.bfd_workers.proofs.Common.{◌≡◌, ◌≢◌, inl, inr, ◌<◌, ◌≤◌, ◌+◌, ◌++◌, ◌∙◌, ◌∷◌, ℕ, [], List, length, sym, ap, refl, append_assoc, arith, length-append, slice_index_or, get_or_append_left, get_or-append_seam, cases_lt, dite, ℕ_discrete, EngineFault, Shards, Knows, IsOf, AllThere, seen_at, taken_at, Numbered, Piece, HasDoneAt, HasFinished, HasLeft, HasStopped, HasTold, HasUsedAt, IsElsewhere, IsIdle, IsTurnRefused, IsStopAt}
 use Rattle.bfd_workers.proofs.Soles.{done_more, stopped_at}
 
 -- the events of the queue up to here were done on the shard, and these are left
@@ -41,7 +41,7 @@ pub record OverShards (engine : Shards) (queues : List (List Numbered)) (k l : K
   pub there : AllThere l.1
   pub number : l.0 ≡ k.0
   pub done : (r : ℕ) → r < length parts → HasDoneAt engine r (slice_index_or queues r []) l (slice_index_or parts r [])
-  pub used : (r : ℕ) → r < length parts → HasUsed l r (slice_index_or queues r [])
+  pub used : (r : ℕ) → r < length parts → HasUsedAt l r (slice_index_or queues r [])
   pub idle : (r : ℕ) → length parts ≤ r → r < length engine.locks → IsIdle l r
 
 done_as : {engine : Shards} {r : ℕ} {queue : List Numbered} (l m : Knows) {part : List Piece} → m.0 ≡ l.0 → seen_at m r ≡ seen_at l r → taken_at m r ≡ taken_at l r
@@ -51,7 +51,7 @@ done_as l m number seen taken d = rw number (rw seen (rw taken d))
 idle_as : {r : ℕ} {l : Knows} (m : Knows) → seen_at m r ≡ seen_at l r → taken_at m r ≡ taken_at l r → IsIdle l r → IsIdle m r
 idle_as m seen taken i = record { seen = cc; taken = cc }
 
-used_as : {r : ℕ} {queue : List Numbered} {l : Knows} (m : Knows) → seen_at m r ≡ seen_at l r → taken_at m r ≡ taken_at l r → HasUsed l r queue → HasUsed m r queue
+used_as : {r : ℕ} {queue : List Numbered} {l : Knows} (m : Knows) → seen_at m r ≡ seen_at l r → taken_at m r ≡ taken_at l r → HasUsedAt l r queue → HasUsedAt m r queue
 used_as m seen taken u = record { few = omega (arith, u.few, taken); none = λ e. idle_as m seen taken (u.none e) }
 
 -- the first shards that have a part, or this one
@@ -60,7 +60,7 @@ last_or_front r n h other = omega (arith, h, other)
 
 pub over_more : (engine : Shards) (queues : List (List Numbered)) (queue : List Numbered) (shard : ℕ) (k l m : Knows) (parts parts2 : List (List Piece)) (part : List Piece)
     → shard ≡ length parts → slice_index_or queues shard [] ≡ queue → parts2 ≡ parts ++ part ∷ [] → OverShards engine queues k l parts
-    → IsOf engine m.1 → AllThere m.1 → IsElsewhere l m shard → HasUsed m shard queue → HasDoneAt engine shard queue m part → OverShards engine queues k m parts2
+    → IsOf engine m.1 → AllThere m.1 → IsElsewhere l m shard → HasUsedAt m shard queue → HasDoneAt engine shard queue m part → OverShards engine queues k m parts2
 over_more engine queues queue shard k l m parts parts2 part at is pushed o of there moved used done =
     let long : length parts2 ≡ length parts + 1 = omega (arith, ap length pushed, length-append parts (part ∷ [])) in
     record {
@@ -77,11 +77,11 @@ over_more engine queues queue shard k l m parts parts2 part at is pushed o of th
           idle_as m (moved.seen r other) (moved.taken r other) (o.idle r (omega (arith, h, long)) inside);
     }
 
-idle_used : {l : Knows} {r : ℕ} (queue : List Numbered) → IsIdle l r → HasUsed l r queue
+idle_used : {l : Knows} {r : ℕ} (queue : List Numbered) → IsIdle l r → HasUsedAt l r queue
 idle_used queue i = record { few = omega (arith, i.taken); none = λ e. i }
 
 used_there : {engine : Shards} {queues : List (List Numbered)} {k l : Knows} {parts : List (List Piece)} → OverShards engine queues k l parts
-    → (r : ℕ) → r < length engine.locks → HasUsed l r (slice_index_or queues r [])
+    → (r : ℕ) → r < length engine.locks → HasUsedAt l r (slice_index_or queues r [])
 used_there {queues} {parts} o r inside = elim (cases_lt r (length parts)) [
   | inl front ↦ o.used r front
   | inr later ↦ idle_used (slice_index_or queues r []) (o.idle r later inside)
@@ -89,7 +89,7 @@ used_there {queues} {parts} o r inside = elim (cases_lt r (length parts)) [
 
 -- what is left, also where a turn of this shard was refused
 pub over_left : (engine : Shards) (queues : List (List Numbered)) (queue : List Numbered) (shard : ℕ) (k l m : Knows) (parts : List (List Piece)) → shard ≡ length parts
-    → slice_index_or queues shard [] ≡ queue → OverShards engine queues k l parts → IsOf engine m.1 → AllThere m.1 → IsElsewhere l m shard → HasUsed m shard queue → HasLeft engine queues k m
+    → slice_index_or queues shard [] ≡ queue → OverShards engine queues k l parts → IsOf engine m.1 → AllThere m.1 → IsElsewhere l m shard → HasUsedAt m shard queue → HasLeft engine queues k m
 over_left engine queues queue shard k l m parts at is o of there moved used = record {
   of = of;
   there = there;

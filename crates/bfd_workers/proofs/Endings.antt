@@ -1,5 +1,5 @@
 -- Once the engine is closed: each shard's journal has its own worker's entries alone, so each worker told what its queues give.
-use Rattle.bfd_workers.proofs.Common.{◌≡◌, ◌≢◌, ◌<◌, ◌≤◌, ◌+◌, ◌%◌, ◌==◌, ◌||◌, ◌∙◌, ◌∷◌, Bool, true, false, ℕ, zero, suc, [], List, length, map, get_or, sym, ap, subst, refl, arith, Some, Result, Ok, Err, slice_get, slice_index_or, if◌then◌else◌, length-map, get_or-map, slice_get-get_or, slice_get_within, get_or_from_slice_get, eq-eqb, dite, ℕ_discrete, Shard, calls, has, numbers_of, EngineFault, Shards, Knows, seen_at, met_word, made_at, kept_at, mine, EachJoined, IsClosed, AreClosed, Numbered, Piece, AreMet, IsWorkerReady, HasUsed, IsSole, IsStopAt, AllJobsJoined, AreJobs, AreOwn, HasEnded, HasWorkedOn, IsFreshAt, IsJoining, IsNewJob, Work, number_of, own_queue, Entry, Memory, Full, Spent, by, AreStates, AreTold, IsDoneJob, IsFine, IsState, HasToldShards}
+use Rattle.bfd_workers.proofs.Common.{◌≡◌, ◌≢◌, ◌<◌, ◌≤◌, ◌+◌, ◌%◌, ◌==◌, ◌||◌, ◌∙◌, ◌∷◌, Bool, true, false, ℕ, zero, suc, [], List, length, map, get_or, sym, ap, subst, refl, arith, Some, Result, Ok, Err, slice_get, slice_index_or, if◌then◌else◌, length-map, get_or-map, slice_get-get_or, slice_get_within, get_or_from_slice_get, eq-eqb, dite, ℕ_discrete, Shard, calls, has, numbers_of, EngineFault, Shards, Knows, seen_at, met_word, made_at, kept_at, mine, EachJoined, IsClosed, AreClosed, Numbered, Piece, AreMet, IsWorkerReady, HasUsedAt, IsSole, IsStopAt, AllJobsJoined, AreJobs, AreOwn, HasEnded, HasWorkedOn, IsFreshAt, IsJoining, IsNewJob, Work, number_of, own_queue, Entry, Memory, Full, Spent, by, AreStates, AreTold, IsDoneJob, IsFine, IsState, HasToldShards}
 use Rattle.std.proofs.lemmas.Bool.Decides.{nat_tests}
 use Rattle.std.proofs.Math.Nat.{mod-lt}
 use Rattle.bfd_turn.specs.Plays.{AllKept}
@@ -21,7 +21,7 @@ done_job {w} {v} long new worked = record {
   of = worked.left.of;
   there = worked.left.there;
   number = cc;
-  used = λ s h. subst (HasUsed v.pass s) (new.own.each s (omega (arith, h, long))) (worked.left.used s h);
+  used = λ s h. subst (HasUsedAt v.pass s) (new.own.each s (omega (arith, h, long))) (worked.left.used s h);
   mine = w.queues;
   own = new.own;
   ended = worked.ended;

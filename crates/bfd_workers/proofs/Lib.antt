@@ -2,7 +2,6 @@ mod Common
 pub mod Soles
 pub mod Courses
 pub mod Owning
-pub mod Sorting
 pub mod Joining
 pub mod Endings
 pub mod Summing

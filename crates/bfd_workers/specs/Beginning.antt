@@ -3,17 +3,16 @@ use Rattle.std.specs.Prelude.{ℕ, ◌≡◌, List}
 use Rattle.std.specs.List.{AllByRecursion}
 use Rattle.bfd_sbfd.specs.declared.reflecting.Reflector.{Reflector}
 use Rattle.bfd_session.specs.declared.event.SessionConfig.{SessionConfig}
-use Rattle.bfd_session.specs.Rows.{table_of}
+use Rattle.bfd_session.specs.Tables.{members}
 use Rattle.bfd_line.specs.declared.entries.Line.{Line}
 use Rattle.bfd_gather.specs.Happenings.{told_apart}
 use Rattle.bfd_plan.specs.Planned.{AreQueues, IsMet, happenings}
 use Rattle.bfd_plan.specs.declared.plan.Plan.{Plan}
 
--- where each session stands, the table of the sessions and the reflectors, the queues of so many shards, and what is told of the events
--- of no session; the others are events that the sessions may be given
-pub record IsBeginning (configs : List SessionConfig) (pool : List Reflector) (events : List Line) (shards : ℕ) (known : List SessionConfig) (plan : Plan) : Type 0 where
-  pub places : known ≡ configs
-  pub demux : plan.demux ≡ table_of configs pool
+-- the table of the sessions and the reflectors, the queues of so many shards, and what is told of the events of no session; the others
+-- are events that the sessions may be given
+pub record IsBeginning (configs : List SessionConfig) (pool : List Reflector) (events : List Line) (shards : ℕ) (plan : Plan) : Type 0 where
+  pub table : plan.table ≡ members configs pool
   pub queues : AreQueues shards (happenings configs pool events) plan.queues.items
   pub apart : plan.apart ≡ told_apart 1 (happenings configs pool events)
   pub met : AllByRecursion (IsMet configs) (happenings configs pool events)

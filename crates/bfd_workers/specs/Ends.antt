@@ -9,7 +9,7 @@ use Rattle.bfd_engine.specs.Engines.{Shards, configs_at}
 use Rattle.bfd_gather.specs.declared.queue.Numbered.{Numbered}
 use Rattle.bfd_gather.specs.Pieces.{Piece}
 use Rattle.bfd_gather.specs.Happenings.{shard_tells}
-use Rattle.bfd_workers.specs.Working.{entries_by, events_in, HasUsed}
+use Rattle.bfd_workers.specs.Working.{entries_by, events_in, HasUsedAt}
 use Rattle.bfd_workers.specs.Jobs.{AreOwn, HasEnded, Work, own_queue}
 use Rattle.bfd_engine.specs.Engines.{IsOf, AllThere}
 
@@ -18,7 +18,7 @@ pub record IsDoneJob (engine : Shards) (queues : List (List Numbered)) (workers 
   pub of : IsOf engine w.pass.1
   pub there : AllThere w.pass.1
   pub number : w.pass.0 ≡ at + 1
-  pub used : (shard : ℕ) → shard < length engine.locks → HasUsed w.pass shard (own_queue workers at shard (slice_index_or queues shard []))
+  pub used : (shard : ℕ) → shard < length engine.locks → HasUsedAt w.pass shard (own_queue workers at shard (slice_index_or queues shard []))
   pub mine : List (List Numbered)
   pub own : AreOwn workers at queues mine
   pub ended : HasEnded engine mine w.pass w.told

@@ -10,4 +10,4 @@ use Rattle.bfd_workers.specs.Replayed.{AreOfScript}
 -- this is held of the script's report
 abbrev pub HoldsReport : Lists → Held → Type 0
 HoldsReport script (Parts parts events) = AreOfScript script parts.items events
-HoldsReport script (Texts texts) = flat_map (λ text. text.items) texts.items ≡ replayed script
+HoldsReport script (Texts texts freeing) = flat_map (λ text. text.items) texts.items ≡ replayed script

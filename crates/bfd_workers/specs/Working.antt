@@ -77,7 +77,7 @@ pub record IsIdle (k : Knows) (shard : ℕ) : Type 0 where
   pub taken : taken_at k shard ≡ 0
 
 -- of a shard, when its worker has ended: at most as many turns as events, and nothing seen where it had none
-pub record HasUsed (l : Knows) (shard : ℕ) (queue : List Numbered) : Type 0 where
+pub record HasUsedAt (l : Knows) (shard : ℕ) (queue : List Numbered) : Type 0 where
   pub few : taken_at l shard ≤ length queue
   pub none : queue ≡ [] → IsIdle l shard
 
@@ -111,7 +111,7 @@ pub record HasLeft (engine : Shards) (queues : List (List Numbered)) (k l : Know
   pub of : IsOf engine l.1
   pub there : AllThere l.1
   pub number : l.0 ≡ k.0
-  pub used : (shard : ℕ) → shard < length engine.locks → HasUsed l shard (slice_index_or queues shard [])
+  pub used : (shard : ℕ) → shard < length engine.locks → HasUsedAt l shard (slice_index_or queues shard [])
 
 -- an event of every session
 abbrev pub is_tick : ShardEvent → Bool

@@ -10,6 +10,7 @@ use bfd_script::Script;
 use std::alloc::Global;
 use std::marker::Model;
 use std::snapshot::Snapshot;
+use std::thread::{JoinHandle, Threads};
 
 /// What there is of a report.
 #[derive(Drop)]
@@ -17,8 +18,8 @@ pub(crate) enum Held {
     /// What each shard told, and last what was told of events of no session; and how many events there were.
     Parts(Vec<Part>, u64),
 
-    /// Texts that stand one behind another.
-    Texts(Vec<Vec<u8>>),
+    /// Texts that stand one behind another, and the thread that frees the shards, if there is one.
+    Texts(Vec<Vec<u8>>, Option<JoinHandle<()>>),
 }
 
 /// The report of a replay in texts, or in its parts, and then it is put together when it is written. Contracts see the report.
@@ -41,6 +42,13 @@ impl Model for ReportInParts {
     ghost invariant = { λ r. HoldsReport r.script.value r.held };
 }
 
+/// Waits for the thread, if there is one.
+fn join<R: Threads>(rt: &R, thread: Option<JoinHandle<()>>) {
+    if let Some(thread) = thread {
+        thread.join(rt);
+    }
+}
+
 impl ReportInParts {
     /// Whether there is nothing to write: never, since a report has a last line in any case.
     #[tactic(auto, using(crate::proofs::LastLine::replayed_some))]
@@ -54,8 +62,14 @@ impl ReportInParts {
     }
 
     /// Writes the report text by text, or in pieces as it is put together. It is refused as Failed where the sink failed, and as Memory
-    /// where memory was wanting, here or there; the sink took a front of the report then.
-    pub fn write_to<K: Sink>(self, alloc: Global, sink: &mut K) -> Result<(), Fault>
+    /// where memory was wanting, here or there; the sink took a front of the report then. The thread that frees the shards has ended
+    /// when it returns.
+    pub fn write_to<R: Threads, K: Sink>(
+        self,
+        rt: &R,
+        alloc: Global,
+        sink: &mut K,
+    ) -> Result<(), Fault>
         ensures whole { OnOk result (Appends (K.taken sink.old) (K.taken sink.new) self) }
         ensures failed { IsErrOf result Fault.Failed → Rose (K.faults sink.old) (K.faults sink.new) }
         ensures front { TookFront (K.taken sink.old) (K.taken sink.new) self }
@@ -66,7 +80,11 @@ impl ReportInParts {
         let ReportInParts { held, .. } = self;
         match held {
             Held::Parts(parts, events) => report_to(alloc, parts, events, sink),
-            Held::Texts(texts) => write_each(sink, texts.as_slice()),
+            Held::Texts(texts, freeing) => {
+                let written = write_each(sink, texts.as_slice());
+                join(rt, freeing);
+                written
+            }
         }
     }
 }

@@ -32,4 +32,4 @@ mod running;
 mod working;
 
 pub use in_parts::ReportInParts;
-pub use replaying::{Outcome, Report, replay, reported, reported_in_parts};
+pub use replaying::{ClosedShards, Outcome, Report, replay, reported, reported_in_parts};

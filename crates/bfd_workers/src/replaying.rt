@@ -12,8 +12,9 @@ use crate::beginning::begun;
 use crate::counting::{up_all, up_at_last};
 use crate::finish::in_order;
 use crate::in_parts::{Held, ReportInParts};
-use crate::running::{opened, run_all};
+use crate::running::run_all;
 use bfd_edge::Gate;
+use bfd_engine::Engine;
 use bfd_gather::{Part, report, report_at_once};
 use bfd_line::Line;
 use bfd_plan::{Plan, longest};
@@ -26,7 +27,7 @@ use std::alloc::{AllocError, Global};
 use std::snapshot::Snapshot;
 use std::sync::Wait;
 use std::thread;
-use std::thread::Threads;
+use std::thread::{JoinHandle, Threads};
 
 /// What a replay gives, with its shards.
 #[derive(Drop)]
@@ -60,6 +61,9 @@ pub struct Report {
     pub up: u32,
 }
 
+/// The closed shards of a replay, by number, for clauses alone.
+pub type ClosedShards<W> = Snapshot<Vec<ShardState<W>>>;
+
 /// The parts of a script's report, and the closed shards.
 fn worked<W: Timers + Send, R: Threads + Wait + Sync, G: Gate + Sync>(
     rt: &R,
@@ -82,15 +86,15 @@ fn worked<W: Timers + Send, R: Threads + Wait + Sync, G: Gate + Sync>(
 {
     let at_once = 1 < workers;
     let room = 5 * configs.len() + 5;
-    let (made, (places, plan)) = begun(rt, alloc, &configs, &pool, events, shards, workers)?;
+    let (made, plan) = begun(rt, alloc, &configs, pool, events, shards, workers)?;
     drop(configs);
     let Plan {
-        demux,
+        table,
         queues,
         apart,
     } = plan;
     let most = longest(&queues);
-    let (engine, first) = opened(rt, alloc, demux, made, places, pool, most, at_once)?;
+    let (engine, first) = Engine::of_shards(rt, alloc, table, made, most, at_once)?;
     let (states, all) = run_all(rt, alloc, engine, first, queues, workers, room, gate)?;
     let parts = in_order(alloc, all, shards, apart)?;
     Ok((parts, states))
@@ -148,35 +152,41 @@ fn report_lists<W: Timers + Send, R: Threads + Wait + Sync, G: Gate + Sync>(
     shards: u32,
     workers: u32,
     gate: &G,
-) -> Result<Report, AllocError>
+) -> Result<(Report, ClosedShards<W>), AllocError>
     requires table { IsTable configs.items pool.items }
     requires few { length events.items ≤ 200000 }
     requires shards { (0 < shards) × (shards ≤ 64) }
     requires workers { (0 < workers) × (workers ≤ 64) }
-    ensures text { IfOk result (λ outcome. outcome.text.items
+    ensures text { IfOk result (λ r. r.0.text.items
         ≡ replayed (script_with configs.items pool.items events.items)) }
-    ensures events { IfOk result (λ outcome. outcome.events
+    ensures events { IfOk result (λ r. r.0.events
         ≡ (totals (script_with configs.items pool.items events.items)).events) }
-    ensures txs { IfOk result (λ outcome. outcome.txs
+    ensures txs { IfOk result (λ r. r.0.txs
         ≡ (totals (script_with configs.items pool.items events.items)).txs) }
-    ensures drops { IfOk result (λ outcome. outcome.drops
+    ensures drops { IfOk result (λ r. r.0.drops
         ≡ (totals (script_with configs.items pool.items events.items)).drops) }
-    ensures up { IfOk result (λ outcome. outcome.up
+    ensures up { IfOk result (λ r. r.0.up
         ≡ (totals (script_with configs.items pool.items events.items)).ups) }
+    ensures states { IfOk result (λ r. HaveReplayed (script_with configs.items pool.items events.items)
+        shards workers r.1.value.items) }
 {
     let count = events.len();
     let (parts, states) = worked::<W, R, G>(
         rt, alloc, configs, pool, events, shards, workers, gate,
     )?;
+    let closed = Snapshot::of(&states);
     let up = up_at_last(rt, alloc, 1 < workers, states)?;
     let gathered = report(alloc, parts, count as u64)?;
-    Ok(Report {
-        text: gathered.text,
-        events: count as u64,
-        txs: gathered.txs,
-        drops: gathered.drops,
-        up,
-    })
+    Ok((
+        Report {
+            text: gathered.text,
+            events: count as u64,
+            txs: gathered.txs,
+            drops: gathered.drops,
+            up,
+        },
+        closed,
+    ))
 }
 
 /// Replays the script on 1 to 64 shards, with 1 to 64 workers at once, each with a pass of its own.
@@ -212,8 +222,8 @@ pub fn replay<W: Timers + Send, R: Threads + Wait + Sync, G: Gate + Sync>(
     replay_lists(rt, alloc, configs, pool, events, shards, workers, gate)
 }
 
-/// The same replay, for whoever wants its counts beside its report: the shards with their journals are let go before the report is put
-/// together, so that the two are never held at once. The one refusal is want of memory.
+/// The same replay, for a caller that needs its counts besides its report. The shards with their journals are freed before the report is
+/// put together, so the two are never held at once; what they were stays for clauses. It fails only when out of memory.
 #[tactic(auto, using(bfd_plan::proofs::Worlds::is_table))]
 pub fn reported<W: Timers + Send, R: Threads + Wait + Sync, G: Gate + Sync>(
     rt: &R,
@@ -222,15 +232,16 @@ pub fn reported<W: Timers + Send, R: Threads + Wait + Sync, G: Gate + Sync>(
     shards: u32,
     workers: u32,
     gate: &G,
-) -> Result<Report, AllocError>
+) -> Result<(Report, ClosedShards<W>), AllocError>
     requires script { IsScript script }
     requires shards { (0 < shards) × (shards ≤ 64) }
     requires workers { (0 < workers) × (workers ≤ 64) }
-    ensures text { IfOk result (λ outcome. outcome.text.items ≡ replayed script) }
-    ensures events { IfOk result (λ outcome. outcome.events ≡ (totals script).events) }
-    ensures txs { IfOk result (λ outcome. outcome.txs ≡ (totals script).txs) }
-    ensures drops { IfOk result (λ outcome. outcome.drops ≡ (totals script).drops) }
-    ensures up { IfOk result (λ outcome. outcome.up ≡ (totals script).ups) }
+    ensures text { IfOk result (λ r. r.0.text.items ≡ replayed script) }
+    ensures events { IfOk result (λ r. r.0.events ≡ (totals script).events) }
+    ensures txs { IfOk result (λ r. r.0.txs ≡ (totals script).txs) }
+    ensures drops { IfOk result (λ r. r.0.drops ≡ (totals script).drops) }
+    ensures up { IfOk result (λ r. r.0.up ≡ (totals script).ups) }
+    ensures states { IfOk result (λ r. HaveReplayed script shards workers r.1.value.items) }
 {
     let Script {
         configs,
@@ -240,23 +251,22 @@ pub fn reported<W: Timers + Send, R: Threads + Wait + Sync, G: Gate + Sync>(
     report_lists::<W, R, G>(rt, alloc, configs, pool, events, shards, workers, gate)
 }
 
-/// Lets shards go: with `beside` in a thread for which nobody waits, where one can be had, and else before it returns.
-fn let_go<W: Timers + Send + 'static, R: Threads>(
+/// Frees shards in a thread of its own, and gives that thread; where none can be had, before it returns.
+fn free<W: Timers + Send + 'static, R: Threads>(
     rt: &R,
-    beside: bool,
     states: Vec<ShardState<W>>,
-) {
-    if beside {
-        let _ = thread::spawn(rt, move || {
-            let _states = states;
-        });
-    }
+) -> Option<JoinHandle<()>> {
+    let freeing = thread::spawn(rt, move || {
+        let _states = states;
+    });
+    freeing.ok()
 }
 
 /// The same replay, whose report is written by whoever holds what this gives. With several workers it is put together here, by up to
-/// four threads at once; the shards with their journals are let go then, in a thread for which nobody waits, where one can be had: they
+/// four threads at once; the shards with their journals are freed then, in a thread that `write_to` waits for, where one can be had: they
 /// may still be there when this returns. With one worker they are gone by then, and the report is put together only when it is
-/// written. The one refusal is want of memory, as which 2^64 packets that were sent or were dropped count.
+/// written. What the closed shards were stays for clauses. It fails only when out of memory, as which 2^64 packets that were sent or
+/// were dropped count.
 #[tactic(auto, using(bfd_plan::proofs::Worlds::is_table))]
 pub fn reported_in_parts<W: Timers + Send + 'static, R: Threads + Wait + Sync, G: Gate + Sync>(
     rt: &R,
@@ -265,11 +275,12 @@ pub fn reported_in_parts<W: Timers + Send + 'static, R: Threads + Wait + Sync, G
     shards: u32,
     workers: u32,
     gate: &G,
-) -> Result<ReportInParts, AllocError>
+) -> Result<(ReportInParts, ClosedShards<W>), AllocError>
     requires script { IsScript script }
     requires shards { (0 < shards) × (shards ≤ 64) }
     requires workers { (0 < workers) × (workers ≤ 64) }
-    ensures { IfOk result (λ report. report ≡ replayed script) }
+    ensures report { IfOk result (λ r. r.0 ≡ replayed script) }
+    ensures states { IfOk result (λ r. HaveReplayed script shards workers r.1.value.items) }
 {
     let known = Snapshot::of(&script);
     let Script {
@@ -281,15 +292,19 @@ pub fn reported_in_parts<W: Timers + Send + 'static, R: Threads + Wait + Sync, G
     let (parts, states) = worked::<W, R, G>(
         rt, alloc, configs, pool, events, shards, workers, gate,
     )?;
+    let closed = Snapshot::of(&states);
     let at_once = 1 < workers;
     let held = if at_once {
-        Held::Texts(report_at_once(rt, alloc, parts, count)?)
+        Held::Texts(report_at_once(rt, alloc, parts, count)?, free(rt, states))
     } else {
+        drop(states);
         Held::Parts(parts, count)
     };
-    let_go(rt, at_once, states);
-    Ok(ReportInParts {
-        script: known,
-        held,
-    })
+    Ok((
+        ReportInParts {
+            script: known,
+            held,
+        },
+        closed,
+    ))
 }

@@ -1,54 +1,22 @@
 //! The engine of a replay, from its opening to its closing.
 ghost use Rattle.std.specs.Prelude.{ℕ, ◌≡◌, ◌≤◌, ◌<◌, ◌+◌, ◌*◌, [], IfOk, length, map, slice_index_or};
 ghost use Rattle.bfd_engine.specs.Engines.{configs_at};
-ghost use Rattle.bfd_engine.specs.Opening.{AreNewStates, IsNewPass};
+ghost use Rattle.bfd_engine.specs.Opening.{IsNewPass};
 ghost use Rattle.bfd_workers.specs.Ends.{AreStates, AreTold};
-ghost use Rattle.bfd_session.specs.Rows.{table_of as table_in};
-ghost use Rattle.bfd_replay.specs.Stage.{IsTable};
 ghost use Rattle.bfd_workers.specs.Working.{AreMet};
 
 use crate::finish::all_told;
 use crate::jobs::work_all;
 use crate::passes::{deal_jobs, join_all};
-use bfd_demux::Demux;
 use bfd_edge::Gate;
 use bfd_engine::{Engine, EnginePass, Unclosed};
 use bfd_gather::Part;
-use bfd_plan::{Places, Queue};
-use bfd_sbfd::Reflector;
+use bfd_plan::Queue;
 use bfd_shard::ShardState;
 use bfd_wheel::Timers;
 use std::alloc::{AllocError, Global};
 use std::sync::Wait;
 use std::thread::Threads;
-
-/// An engine of these shards, which are new ones of the sessions at these places, with this table of the sessions and the pool. Its
-/// locks are made at once or in turn.
-#[tactic(auto, using(bfd_replay::proofs::Stages::no_fault))]
-pub(crate) fn opened<W: Timers + Send, R: Threads + Sync>(
-    rt: &R,
-    alloc: Global,
-    demux: Demux,
-    states: Vec<ShardState<W>>,
-    places: Places,
-    pool: Vec<Reflector>,
-    limit: usize,
-    at_once: bool,
-) -> Result<(Engine<W>, EnginePass), AllocError>
-    requires shards { (0 < length states.items) × (length states.items ≤ 64) }
-    requires new { AreNewStates (length states.items) places states.items }
-    requires table { IsTable places pool.items }
-    requires rows { demux ≡ table_in places pool.items }
-    ensures shards { IfOk result (λ r. length r.0.locks ≡ length states.items) }
-    ensures configs { IfOk result (λ r. r.0.configs ≡ places) }
-    ensures limit { IfOk result (λ r. r.0.limit ≡ limit) }
-    ensures pass { IfOk result (λ r. IsNewPass r.0 r.1) }
-{
-    let (discrs, configs) = places.apart();
-    Engine::of_shards(
-        rt, alloc, demux, states, configs, discrs, pool, limit, at_once,
-    )
-}
 
 /// The queues of an engine's shards, done by so many workers: the closed shards, and what each worker told of each shard. The
 /// one refusal is want of memory.

@@ -6,7 +6,7 @@ ghost use Rattle.bfd_engine.specs.Engines.{IsOf, AllThere, configs_at};
 ghost use Rattle.bfd_engine.specs.Calls.{seen_at, taken_at};
 ghost use Rattle.bfd_engine.specs.Turned.{room_in};
 ghost use Rattle.bfd_gather.specs.Pieces.{event_pieces};
-ghost use Rattle.bfd_workers.specs.Working.{AreMet, HasDoneAt, HasFinished, HasLeft, HasStopped, HasTold, HasUsed, IsElsewhere, IsIdle, IsWorkerReady, IsTurnRefused, IsStopAt, is_tick};
+ghost use Rattle.bfd_workers.specs.Working.{AreMet, HasDoneAt, HasFinished, HasLeft, HasStopped, HasTold, HasUsedAt, IsElsewhere, IsIdle, IsWorkerReady, IsTurnRefused, IsStopAt, is_tick};
 
 use bfd_edge::Gate;
 use bfd_engine::{Engine, EngineFault, EnginePass};
@@ -111,7 +111,7 @@ fn one_shard<W: Timers, R: Wait, G: Gate, L: Ledger>(
     ensures of { IsOf engine.now pass.new.1 }
     ensures there { AllThere pass.new.1 }
     ensures elsewhere { IsElsewhere pass.old pass.new shard }
-    ensures used { HasUsed pass.new shard queue }
+    ensures used { HasUsedAt pass.new shard queue }
     ensures done { OnOk result (HasDoneAt engine.now shard queue pass.new part.new) }
     ensures stopped { IfErr result (λ fault. IsStopAt fault engine.now shard (length queue) pass.new) }
     ensures room { outs.new.room ≡ outs.old.room }

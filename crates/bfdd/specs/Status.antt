@@ -1,6 +1,8 @@
 -- How a run ends.
 use Rattle.std.specs.Prelude.{◌≡◌, ◌⊎◌, ℕ, true, List, Option, ⊤}
 use Rattle.std.specs.Io.KnownBytes.{Appends}
+use Rattle.std.specs.declared.io.ErrorKind.{ErrorKind}
+use Rattle.std.specs.declared.io.ErrorKind.TheVariants.{OutOfMemory}
 use Rattle.bfd_edge.specs.Faults.{Rose}
 use Rattle.bfd_fields.specs.declared.fault.BadLine.{BadLine as FaultyLine}
 use Rattle.bfd_words.specs.declared.job.Job.{Job}
@@ -8,6 +10,11 @@ use Rattle.bfd_jobs.specs.declared.status.Status.{Status}
 use Rattle.bfd_jobs.specs.declared.status.Status.TheVariants.{Done, Usage, BadLine, ReadFault, WriteFault, PortFault, LinkFault, TooLarge, JournalFull, Turns, ClockFault, Memory, NoMember}
 use Rattle.bfd_gather.specs.Written.{TookFront}
 use Rattle.bfd_jobs.specs.Words.{is_reading, is_serving, is_watching}
+
+-- the status where the words can't be had
+abbrev pub status_without_words : ErrorKind → Status
+status_without_words OutOfMemory = Memory
+status_without_words kind = Usage
 
 -- a fact about the faulty line, where the status names one
 abbrev pub OnBadLine : Status → (FaultyLine → Type 0) → Type 0

@@ -12,6 +12,7 @@
 #![tactic(auto)]
 
 ghost use Rattle.std.specs.Prelude.{◌≡◌, ◌⊎◌, IfErr};
+ghost use Rattle.bfdd.specs.Status.{status_without_words};
 
 mod output;
 mod running;
@@ -24,18 +25,29 @@ use std::env;
 use std::io::ErrorKind;
 use std::process::ExitCode;
 
-/// The words after the program's name: Memory where there is no memory for them, and Usage where they can't be had
-/// otherwise, as where one isn't UTF-8.
+/// The status where the words can't be had: Memory where there is no memory for them, and else Usage, as where one isn't UTF-8.
+fn status_without_words(kind: ErrorKind) -> Status
+    ensures value { result ≡ status_without_words kind }
+    ensures either { (result ≡ Status.Memory) ⊎ (result ≡ Status.Usage) }
+{
+    match kind {
+        ErrorKind::OutOfMemory => Status::Memory,
+        _ => Status::Usage,
+    }
+}
+
+/// The words after the program's name, or the status with which it ends without them.
 fn words_after_name(rt: &HostRuntime) -> Result<Vec<String>, Status>
     ensures { IfErr result (λ status. (status ≡ Status.Memory) ⊎ (status ≡ Status.Usage)) }
 {
-    let mut words = match env::args(rt) {
-        Ok(words) => words,
-        Err(error) if error.kind() == ErrorKind::OutOfMemory => return Err(Status::Memory),
-        Err(_) => return Err(Status::Usage),
-    };
-    let _name = words.next();
-    words.collect(rt.alloc()).map_err(|_| Status::Memory)
+    match env::args(rt) {
+        Ok(words) => {
+            let mut words = words;
+            let _name = words.next();
+            words.collect(rt.alloc()).map_err(|_| Status::Memory)
+        }
+        Err(error) => Err(status_without_words(error.kind())),
+    }
 }
 
 fn main(rt: HostRuntime) -> ExitCode {

@@ -14,6 +14,7 @@ use bfd_levels::Levels;
 use bfd_wheel::HashedWheel;
 use bfd_words::Form;
 use std::alloc::Global;
+use std::thread::Threads;
 
 /// The status where the sink failed: a faulty line that wasn't told whole is still one.
 fn broken_off(status: Status) -> Status
@@ -26,7 +27,12 @@ fn broken_off(status: Status) -> Status
 }
 
 /// Writes the whole text; a report that isn't there whole is made, or put together, as it is written.
-fn write_text<K: Sink>(alloc: Global, text: Text, sink: &mut K) -> Result<(), Fault>
+fn write_text<R: Threads, K: Sink>(
+    rt: &R,
+    alloc: Global,
+    text: Text,
+    sink: &mut K,
+) -> Result<(), Fault>
     requires { HasScript text }
     ensures whole { OnOk result (Appends (K.taken sink.old) (K.taken sink.new) (held_text text)) }
     ensures failed { IsErrOf result Fault.Failed → Rose (K.faults sink.old) (K.faults sink.new) }
@@ -38,19 +44,24 @@ fn write_text<K: Sink>(alloc: Global, text: Text, sink: &mut K) -> Result<(), Fa
         Text::Whole(bytes) => write_all(sink, bytes.as_slice()),
         Text::Report(script, Form::Hashed) => report_to::<HashedWheel, K>(alloc, script, sink),
         Text::Report(script, Form::Levels) => report_to::<Levels, K>(alloc, script, sink),
-        Text::InParts(report) => report.write_to(alloc, sink),
+        Text::InParts(report) => report.write_to(rt, alloc, sink),
     }
 }
 
 /// Writes what a run has to write, and answers how it ends.
-pub(crate) fn write_answer<K: Sink>(alloc: Global, answer: Answer, sink: &mut K) -> Status
+pub(crate) fn write_answer<R: Threads, K: Sink>(
+    rt: &R,
+    alloc: Global,
+    answer: Answer,
+    sink: &mut K,
+) -> Status
     ensures { Writes answer result (K.taken sink.old) (K.taken sink.new) (K.faults sink.old) (K.faults sink.new) }
 {
     let Answer { status, text } = answer;
     if text.is_empty() {
         return status;
     }
-    match write_text(alloc, text, sink) {
+    match write_text(rt, alloc, text, sink) {
         Ok(()) => status,
         Err(Fault::Failed) => broken_off(status),
         Err(Fault::Memory) => Status::Memory,

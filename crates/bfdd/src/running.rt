@@ -132,7 +132,7 @@ where
         return Status::Usage;
     };
     match answer_to_job(rt, alloc, &job, source, ports, ticker, gate) {
-        Ok(answer) => write_answer(alloc, answer, sink),
+        Ok(answer) => write_answer(rt, alloc, answer, sink),
         Err(Fault::Failed) => Status::ReadFault,
         Err(Fault::Memory) => Status::Memory,
     }

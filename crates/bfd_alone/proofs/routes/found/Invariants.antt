@@ -4,7 +4,7 @@ use Rattle.bfd_alone.proofs.Routing.{IsFound}
 use Rattle.bfd_alone.proofs.routes.found.Given as goal
 
 abbrev pub invariant-lines : goal.invariant-lines
-invariant-lines l = IsFound l.places l.pool l.fn.events.items (reverse l.left.items) l.routes.items
+invariant-lines l = IsFound l.table.configs l.table.pool l.fn.events.items (reverse l.left.items) l.routes.items
 
 abbrev pub decreases-lines : goal.decreases-lines
 decreases-lines l = length l.left.items

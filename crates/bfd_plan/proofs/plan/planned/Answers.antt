@@ -13,8 +13,8 @@ plan_each-requires-clause-within g c = λ _ _ k d inside. omega (arith, c.in_ok-
 
 pub runs-init : goal.runs-init
 runs-init g c = record {
-  put = put_start c.in_ok-queues.queues.items c.in_ok-demux.ensures.runs
-      (cc (reverse-reverse c.in_ok-left.left.items)) c.in_ok-left.ensures.long (rw (← c.deref.ensures.value) c.in_ok-left.ensures.each)
+  put = put_start c.in_ok-queues.queues.items c.of-table.ensures c.in_ok-demux.ensures.runs
+      (cc (reverse-reverse c.in_ok-left.left.items)) c.in_ok-left.ensures.long c.in_ok-left.ensures.each
       c.in_ok-queues.ensures.long c.in_ok-queues.ensures.each c.new-apart.ensures;
 }
 

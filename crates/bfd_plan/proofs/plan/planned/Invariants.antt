@@ -5,7 +5,7 @@ use Rattle.bfd_plan.proofs.plan.planned.Given as goal
 
 abbrev pub invariant-runs : goal.invariant-runs
 invariant-runs g l = record {
-  put : IsPut l.places l.pool.items l.fn.events.items l.shards l.queues.items l.apart (reverse l.left.items);
+  put : IsPut l.fn.roster l.fn.pool.items l.fn.events.items l.shards l.queues.items l.apart (reverse l.left.items);
 }
 
 abbrev pub decreases-runs : goal.decreases-runs

@@ -5,7 +5,10 @@ use Rattle.bfd_serve.proofs.working.worker.Goals as goal
 use Rattle.bfd_serve.proofs.working.worker.Goals.{in-Quiet, in-Got+in_default-handled}
 
 pub returns-in_default-clause-worked : goal.returns-in_default-clause-worked
-returns-in_default-clause-worked g c = worked_without c.args.engine.now c.args.pass.now (g.L.Link.told c.args.link.now) c.args.turns c.requires.open
+returns-in_default-clause-worked g c = worked_without c.args.engine.now c.args.pass.now (g.L.Link.told c.args.link.now) c.args.turns c.requires.open (omega arith)
+
+pub returns-then-turns-eq0-clause-worked : goal.returns-then-turns-eq0-clause-worked
+returns-then-turns-eq0-clause-worked g c = working_turns c.args.engine.now (working_start c.args.engine.now c.args.pass.now (g.L.Link.told c.args.link.now) c.requires.open) (omega arith)
 
 pub returns-in-Err-clause-worked : goal.returns-in-Err-clause-worked
 returns-in-Err-clause-worked g c = let t = g.L.Link.told in (working_got c.args.engine.now _ _ c.handle-handled.new.pass _ _ _ (t c.handle-handled.new.link)

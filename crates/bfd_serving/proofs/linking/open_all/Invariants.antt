@@ -1,5 +1,5 @@
 -- The links so far are open.
-use Rattle.bfd_serving.proofs.Common.{◌≡◌, ◌≤◌, length, vec_capacity, All, IsNewLink, IsUncalled, IsOpenTo}
+use Rattle.bfd_serving.proofs.Common.{◌≡◌, ◌≤◌, length, vec_capacity, All, IsNewLink, IsUncalled, IsOpenTo, AreTheirs}
 use Rattle.bfd_serving.proofs.linking.open_all.Given as goal
 
 abbrev pub invariant-loop-at : goal.invariant-loop-at
@@ -8,5 +8,6 @@ invariant-loop-at g l = record {
   own : IsNewLink (g.P.Link.Link.told l.own);
   new : All (IsUncalled g.P.Link.Link.told) l.links.items;
   long : length l.links.items ≡ l.at;
+  theirs : AreTheirs g.P.Link.Link.told l.own l.links.items;
   room : l.workers ≤ vec_capacity l.links;
 }

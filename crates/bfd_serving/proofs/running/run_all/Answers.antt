@@ -1,6 +1,16 @@
 -- What all did, by the closed shards.
 use Rattle.bfd_serving.proofs.Closings.{each_joined, have_run, unspent, closed_shards}
+use Rattle.bfd_serving.proofs.Theirs.{theirs_after, theirs_same}
 use Rattle.bfd_serving.proofs.running.run_all.Goals as goal
+
+pub returns-in-Err-clause-theirs : goal.returns-in-Err-clause-theirs
+returns-in-Err-clause-theirs g c = theirs_same g.L.Link.told c.args.links.items c.in-Err.links.items c.in-Err.ensures.refused.2 c.in-Err.ensures.refused.0 c.requires.theirs
+
+pub returns-in-Ok-close-clause-theirs : goal.returns-in-Ok-close-clause-theirs
+returns-in-Ok-close-clause-theirs g c = theirs_after g.L.Link.told c.serve.new.own c.args.links.items c.in-Ok.served.links.items c.in-Ok.ensures.served c.requires.theirs
+
+pub returns-in-Err-close-clause-theirs : goal.returns-in-Err-close-clause-theirs
+returns-in-Err-close-clause-theirs g c = theirs_after g.L.Link.told c.serve.new.own c.args.links.items c.in-Ok.served.links.items c.in-Ok.ensures.served c.requires.theirs
 
 pub close-requires-clause-joined : goal.close-requires-clause-joined
 close-requires-clause-joined g c = each_joined c.args.engine c.serve.new.first c.in-Ok.ensures.served.made

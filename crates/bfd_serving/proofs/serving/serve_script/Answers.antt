@@ -41,7 +41,7 @@ returns-clause-run g c =
     let ok = c.in-Ok-ran.is ∙ ap Ok c.in-Ok-ran.field-0-is in
     whole_run told c.in_ok-own.links.items c.run_all-links.result.0.items (g.P.Ports.told c.shut_all.new.ports) c.in-Ok-opened.ensures.engine (cc) (cc)
     (subst (λ r. IfOk r (λ closed. AreClosedShards e closed.states.items)) ok c.run_all-links.ensures.closed) (cc (c.in-Ok-served.ensures))
-    c.in_ok-own.ensures.own c.in_ok-own.ensures.links c.in_ok-own.ensures.long c.run_all-links.ensures.back c.shut_all.ensures.shut
+    c.in_ok-own.ensures.theirs c.in_ok-own.ensures.own c.in_ok-own.ensures.links c.in_ok-own.ensures.long c.run_all-links.ensures.back c.shut_all.ensures.shut
     (subst (λ r. IfOk r (λ closed. HaveRun e (history_at closed.states.items) c.deref-3.result.now (length c.in_ok-own.links.items) c.args.limits (told_on_link told c.in_ok-own.own c.in_ok-own.links.items) (told_on_link told c.run_all-links.new.own c.run_all-links.result.0.items) (clock c.args.ticker.now) (clock c.run_all-links.new.ticker) closed.ends.items closed.lost)) ok c.run_all-links.ensures.run)
     c.requires.turns c.requires.journal (subst (All HadMemory) c.deref-4.ensures.value c.in-Ok-finish_of.ensures.plain) (cc (c.in-Ok-finish_of.ensures.value))
 

@@ -14,3 +14,6 @@ invariant_of-result g c =
           rw (known, w.held-is) (texts_held script c.args.shards c.in_ok-parts.ensures.parts count w.in_ok-report_at_once.ensures)
       | else-at_once w ↦ rw (known, w.held-is) (parts_held script c.args.shards c.in_ok-parts.ensures.parts count)
     ]
+
+pub returns-clause-states : goal.returns-clause-states
+returns-clause-states g c = rw (← c.script.view_is, c.of-closed.ensures) c.in_ok-parts.ensures.states

@@ -15,16 +15,27 @@ use Rattle.std_heap.proofs.Global.TheSendSync as handle
 use Rattle.bfd_packet.specs.contracts.arrival.Port
 use Rattle.bfd_rules.proofs.outputs.Outs.TheSendSync as outs
 use Rattle.bfd_sbfd.proofs.reflecting.Reflector.TheSendSync as reflector
+use Rattle.bfd_ghost.proofs.list.GhostList.TheSendSync as listed
+use Rattle.bfd_demux.specs.contracts.row.Row
+use Rattle.bfd_session.specs.contracts.event.SessionConfig
 use Rattle.bfd_demux.specs.contracts.demux.Demux
-use Rattle.bfd_demux.specs.contracts.demux.Demux.TheInside as table
+use Rattle.bfd_demux.specs.contracts.demux.Demux.TheInside as selecting
 use Rattle.bfd_demux.specs.contracts.name.Name
 use Rattle.bfd_demux.specs.contracts.row.RowKind
+use Rattle.bfd_demux.proofs.guess.Ends.TheSendSync as ends
 use Rattle.bfd_demux.proofs.name.Name.TheSendSync as name
 use Rattle.bfd_demux.proofs.row.RowKind.TheSendSync as kind
-use Rattle.bfd_session.proofs.session.Session.TheSendSync as session
+use Rattle.bfd_session.specs.contracts.table.Roster
+use Rattle.bfd_session.specs.contracts.table.Roster.TheInside as roster
+use Rattle.bfd_session.specs.contracts.table.Table
+use Rattle.bfd_session.specs.contracts.table.Table.TheInside as table
+use Rattle.bfd_levels.specs.contracts.by_count.ByCount
+use Rattle.bfd_levels.specs.contracts.by_count.ByCountTimers.TheImpl.{ghosts}
+use Rattle.bfd_levels.proofs.by_count.ByCount.TheSendSync as timers
+use Rattle.bfd_shard.proofs.sessions.Sessions.TheSendSync as sessions
 use Rattle.bfd_session.proofs.event.Answer.TheSendSync as answer
-use Rattle.bfd_replay.specs.contracts.replaying.Progress
-use Rattle.bfd_replay.specs.contracts.replaying.Progress.TheInside as world
+use Rattle.bfd_replay.specs.contracts.instance.Instance as World
+use Rattle.bfd_replay.specs.contracts.instance.Instance.TheInside as world
 use Rattle.bfd_c.specs.Owning.{kept_owns}
 use Rattle.bfd_c.specs.contracts.engine.Engine as Held
 use Rattle.bfd_c.specs.contracts.engine.Engine.TheInside as inside
@@ -32,25 +43,31 @@ use Rattle.bfd_c.specs.contracts.owned.Owned.{the_row, the_type}
 
 -- a table owns lists of plain values, and of its rows nothing
 demux_send : IsSend Demux.the_row
-demux_send = view_send _ _ _ _ _ (declared_send table.the_type (
-  search (sendable, crosses) depth 20,
+demux_send = view_send _ _ _ _ _ (declared_send selecting.the_type (
+  listed.the_send Row.the_row,
   (
     Vec-send _ (declared_send (tuple_type (Name.the_row ∷ Choice.the_row Port.the_row ∷ [])) (name.the_send, (search (sendable, crosses) depth 20, tt))),
     (
       Vec-send _ (declared_send (tuple_type (RowKind.the_row ∷ u32 ∷ [])) (kind.the_send, (search (sendable, crosses) depth 20, tt))),
-      (search (sendable, crosses) depth 20, tt),
+      (search (sendable, crosses) depth 20, (ends.the_send, (ends.the_send, tt))),
     ),
   ),
 ))
 
-progress_send : IsSend Progress.the_row
-progress_send = view_send _ _ _ _ _ (declared_send world.the_type (
-  Vec-send _ session.the_send,
-  (Vec-send _ reflector.the_send, (demux_send, (search (sendable, crosses) depth 20, (outs.the_send, tt)))),
+roster_send : IsSend Roster.the_row
+roster_send = view_send _ _ _ _ _ (declared_send roster.the_type (search (sendable, crosses) depth 20, (listed.the_send SessionConfig.the_row, tt)))
+
+table_send : IsSend Table.the_row
+table_send = view_send _ _ _ _ _ (declared_send table.the_type (demux_send, (roster_send, (Vec-send _ reflector.the_send, tt))))
+
+world_send : IsSend (World.the_row ByCount.the_row ghosts)
+world_send = view_send _ _ _ _ _ (declared_send (world.the_type ByCount.the_row ghosts) (
+  table_send,
+  (sessions.the_send ByCount.the_row ghosts timers.the_send, (outs.the_send, tt)),
 ))
 
 held : IsSend Held.the_row
-held = view_send _ _ _ _ _ (declared_send inside.the_type (progress_send, (search (sendable, crosses) depth 20, (answer.the_send, tt))))
+held = view_send _ _ _ _ _ (declared_send inside.the_type (world_send, (search (sendable, crosses) depth 20, (answer.the_send, tt))))
 
 keyless : (a : Global) (p : Ptr) (h : Option (Held.the_row).Denot) → Keyless (kept_owns a p h)
 keyless a p None = tt

@@ -2,6 +2,8 @@ use Rattle.std.proofs.Common.{rules, ◌≡◌, false, ◌∙◌, ap}
 use Rattle.std.specs.Prelude.{Ok}
 use Rattle.bfd_edge.specs.declared.places.Place.TheVariants.{Opened}
 use Rattle.bfd_edge.specs.Memory.{is_to_fail}
+use Rattle.bfd_edge.specs.Links.{IsNewLink}
+use Rattle.bfd_edge.specs.MemoryLink.{HeldLink}
 use Rattle.bfd_edge.specs.MemoryLink as memory_link
 use Rattle.bfd_edge.specs.MemoryPorts.{HeldPorts, link_at, told_of, with_ended}
 use Rattle.bfd_edge.specs.Places.{place_in, ports_told, with_place}
@@ -20,25 +22,27 @@ returns-in-Err-clause-answer c =
     (calm, c.in-Err.ensures.err ∙ ap (λ ports. place_in ports.places) c.self.view_is, ap (λ (ports : HeldPorts). record ports { places = c.open.new.self }) c.self.view_is)
 
 pub invariant_of-self-in-Ok : goal.invariant_of-self-in-Ok
-invariant_of-self-in-Ok c = rw c.take_link.ensures.rest (new_still c.self.inside.links.items c.args.number c.self.invariant)
+invariant_of-self-in-Ok c = rw c.take_link-link.ensures.rest (new_still c.self.inside.links.items c.args.number c.self.invariant)
 
 pub returns-in-Ok-clause-link : goal.returns-in-Ok-clause-link
-returns-in-Ok-clause-link c = rw c.take_link.ensures.link (new_at c.self.inside.links.items c.args.number c.self.invariant)
+returns-in-Ok-clause-link c =
+    let taken : IsNewLink (memory_link.told_of c.take_link-link.result) = rw c.take_link-link.ensures.link (new_at c.self.inside.links.items c.args.number c.self.invariant) in
+    rw c.opened_as.ensures (record { counts = taken.counts; traffic = taken.traffic })
 
 pub returns-in-Ok-clause-after : goal.returns-in-Ok-clause-after
 returns-in-Ok-clause-after c =
     let number = c.args.number in
     let places = c.self.inside.places in
     let waiting = ap (λ ports. (told_of ports).opened number) c.self.view_is ∙ c.requires in
-    open_told memory_link.told_of (place_in places) _ number c.self.inside.faults c.take_link.result c.in-Ok.ensures.ok waiting
-    ∙ ap (λ ports. after_open number (Ok c.take_link.result) (told_of ports)) c.self.view_is
+    open_told memory_link.told_of (place_in places) _ number c.self.inside.faults c.opened_as.result c.in-Ok.ensures.ok waiting
+    ∙ ap (λ ports. after_open number (Ok c.opened_as.result) (told_of ports)) c.self.view_is
 
 pub returns-in-Ok-clause-answer : goal.returns-in-Ok-clause-answer
 returns-in-Ok-clause-answer c =
     let number = c.args.number in (
       search rules,
-      c.take_link.ensures.link ∙ ap (λ ports. link_at ports.links number) c.self.view_is,
-      c.take_link.ensures.rest ∙ ap (λ ports. with_ended number ports.links) c.self.view_is,
+      c.opened_as.ensures ∙ ap (λ (link : HeldLink). record link { number = number }) (c.take_link-link.ensures.link ∙ ap (λ ports. link_at ports.links number) c.self.view_is),
+      c.take_link-link.ensures.rest ∙ ap (λ ports. with_ended number ports.links) c.self.view_is,
       c.in-Ok.ensures.ok ∙ ap (λ ports. with_place number Opened (place_in ports.places)) c.self.view_is,
       search rules,
       cc,

@@ -1,7 +1,19 @@
 -- Lock by lock, the pass of the next shard closes it.
-use Rattle.bfd_engine.proofs.Common.{◌≡◌, ◌++◌, ◌∷◌, [], ℕ, None, slice_set, length, append_assoc, refl, ap, ◌∙◌}
-use Rattle.bfd_engine.proofs.Closing.{grown, none_left, next_pass, lifted, joined_here, left_more, ended_more}
+use Rattle.bfd_engine.proofs.Common.{◌≡◌, ◌++◌, ◌∷◌, [], ℕ, None, slice_set, length, append_assoc, refl, sym, ap, rules, ◌∙◌}
+use Rattle.bfd_engine.proofs.Closing.{grown, none_left, left_whole, none_ended, next_pass, lifted, joined_here, left_more, ended_more}
 use Rattle.bfd_engine.proofs.engine.Engine.close.Goals as goal
+
+pub loop-lock-init : goal.loop-lock-init
+loop-lock-init g c = record {
+  can = tt;
+  ends = tt;
+  all = search rules;
+  long = ap length c.in-Ok.ensures.items;
+  room = search rules;
+  number = refl;
+  left = left_whole (length c.in-Ok.shards.items) c.args.pass.1;
+  ended = none_ended c.args.self c.args.pass c.in-Ok.ensures.items;
+}
 
 pub lift-own-requires : goal.lift-own-requires
 lift-own-requires g c =
@@ -52,6 +64,6 @@ loop-lock-preserved g c =
 pub returns-clause-closed : goal.returns-clause-closed
 returns-clause-closed g c =
     let i = c.loop-lock.invariant in record {
-      long = i.long ∙ none_left c.loop-lock.yielded c.loop-lock.lock-iterator.rest.items i.all (cc (c.in-None.ensures.steps.0));
+      long = i.long ∙ none_left c.loop-lock.yielded c.loop-lock.lock-iterator.rest.items i.all (sym c.loop-lock.lock-iterator.rest.ok.0 ∙ c.in-None.ensures.steps.0);
       each = i.ended.each;
     }

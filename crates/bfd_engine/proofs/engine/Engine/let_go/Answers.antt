@@ -29,7 +29,7 @@ pub returns-clause-pass : goal.returns-clause-pass
 returns-clause-pass g c =
     let at : c.hold.inside.shard ≡ c.args.hold.0 = cc in
     let lock : c.index.result.now ≡ c.args.hold.1 =
-    cc (ap₂ (λ (e : Shards) n. get_or e.locks n c.index.result.now) c.self.view_is at, get_or_from_slice_get c.args.self.now.locks c.args.hold.0 c.args.hold.1 c.index.result.now c.requires.held.lock_is) in
+    c.index.ensures ∙ (ap₂ (λ (e : Shards) n. get_or e.locks n c.index.result.now) c.self.view_is at ∙ get_or_from_slice_get c.args.self.now.locks c.args.hold.0 c.args.hold.1 c.index.result.now c.requires.held.lock_is) in
     let back = c.done-back.ensures ∙ (ap₂ (λ i xs. (i, having_done xs c.hold.inside.turn.1)) lock c.hold.invariant.0
     ∙ ap (λ h. (c.args.hold.1, having_done h.2.seen h.2)) c.hold.view_is) in
     c.put.ensures ∙ ap₂ (λ n (x : K). (c.args.pass.now.0, slice_set c.args.pass.now.1 n (Some x), c.args.pass.now.2)) at back
@@ -38,9 +38,9 @@ pub returns-clause-of : goal.returns-clause-of
 returns-clause-of g c =
     let at : c.hold.inside.shard ≡ c.args.hold.0 = cc in
     let lock : c.index.result.now ≡ c.args.hold.1 =
-    cc (ap₂ (λ (e : Shards) n. get_or e.locks n c.index.result.now) c.self.view_is at, get_or_from_slice_get c.args.self.now.locks c.args.hold.0 c.args.hold.1 c.index.result.now c.requires.held.lock_is) in
+    c.index.ensures ∙ (ap₂ (λ (e : Shards) n. get_or e.locks n c.index.result.now) c.self.view_is at ∙ get_or_from_slice_get c.args.self.now.locks c.args.hold.0 c.args.hold.1 c.index.result.now c.requires.held.lock_is) in
     let is : c.put.new.self ≡ (c.args.pass.now.0, slice_set c.args.pass.now.1 c.args.hold.0 (Some c.done-back.result), c.args.pass.now.2) =
     c.put.ensures ∙ ap (λ n. (c.args.pass.now.0, slice_set c.args.pass.now.1 n (Some c.done-back.result), c.args.pass.now.2)) at in
     subst (IsOf c.args.self.now) (sym (ap (λ k. k.1) is)) (of_back c.args.self.now c.args.pass.now.1 c.args.hold.0 c.done-back.result c.requires.held.out
-    (cc (c.requires.held.lock_is, c.done-back.ensures))
+    (c.requires.held.lock_is ∙ ap Some (sym (ap (λ p. p.0) c.done-back.ensures ∙ lock)))
     (ap (λ p. p.1.base) c.done-back.ensures ∙ (ap (λ h. h.2.base) c.hold.view_is ∙ c.requires.held.base_is)) c.requires.of)

@@ -1,46 +1,45 @@
--- An arrival comes to what it is for, or is discarded by the first test that it fails.
-use Rattle.bfd_engine.proofs.Common.{◌≡◌, ◌∙◌, List, None, Some, refl, sym, ap, ap₂, append-nil, Arrival, Test, Row, Target, first_table_failing, target_of, Discarded, coming_to, coming_by, comes_to, table_of, Shards}
-use Rattle.bfd_engine.proofs.Reaching.{arrives}
+-- An arrival comes to what the table says of it.
+use Rattle.bfd_engine.proofs.Common.{subst}
+use Rattle.bfd_session.specs.declared.coming.Coming.TheVariants.{Discarded, Answered, Own}
+use Rattle.bfd_engine.proofs.Comings.{Comes, destination, own_event, discarded_done, answered_done, own_done}
+use Rattle.bfd_engine.proofs.Verdicts.{judged_own_event}
 use Rattle.bfd_engine.proofs.engine.Engine.receive.Goals as goal
 
-passed : {rows : List Row} (engine : Shards) (arrival : Arrival) {target : Target} → rows ≡ table_of engine.configs engine.pool → None ≡ first_table_failing rows arrival
-    → Some target ≡ target_of rows arrival → coming_to (Some target) arrival ≡ comes_to (table_of engine.configs engine.pool) arrival
-passed engine arrival are passes is = cc (ap₂ (λ o t. coming_by o t arrival) passes is)
+pub own-requires-clause-taken : goal.own-requires-clause-taken
+own-requires-clause-taken g c =
+    let e = c.args.self.now in
+    let h = subst (Comes c.args.arrival (Own c.in-Own.k c.in-Own.event)) c.self.view_is c.in-Own.ensures.coming in
+    (own_event e c.args.arrival (destination e c.args.arrival) c.in-Own.k c.in-Own.event h).1
 
-failed : {rows : List Row} (engine : Shards) (arrival : Arrival) {test : Test} → rows ≡ table_of engine.configs engine.pool → Some test ≡ first_table_failing rows arrival
-    → Discarded test ≡ comes_to (table_of engine.configs engine.pool) arrival
-failed engine arrival are fails = cc
+pub returns-in-Discarded-clause-call : goal.returns-in-Discarded-clause-call
+returns-in-Discarded-clause-call g c =
+    (discarded_done c.args.self.now c.args.moment c.args.arrival c.args.pass.now c.args.outs.now.items c.in-Discarded.test
+    (subst (Comes c.args.arrival (Discarded c.in-Discarded.test)) c.self.view_is c.in-Discarded.ensures.coming)).0
 
-pub deliver-requires-clause-arrives : goal.deliver-requires-clause-arrives
-deliver-requires-clause-arrives g c =
-    let rows = c.self.invariant.table ∙ ap (λ e. table_of e.configs e.pool) c.self.view_is in
-    arrives c.args.self.now.configs c.args.self.now.pool c.args.arrival c.in-Ok.target (rw (← c.self.view_is) c.self.invariant.ascends)
-    (rw (← c.self.view_is) c.self.invariant.pool_ascends) c.in-Ok.ensures.header (cc (c.in-Ok.ensures.target))
+pub returns-in-Discarded-clause-judged : goal.returns-in-Discarded-clause-judged
+returns-in-Discarded-clause-judged g c =
+    (discarded_done c.args.self.now c.args.moment c.args.arrival c.args.pass.now c.args.outs.now.items c.in-Discarded.test
+    (subst (Comes c.args.arrival (Discarded c.in-Discarded.test)) c.self.view_is c.in-Discarded.ensures.coming)).1
 
-pub deliver-requires-clause-some : goal.deliver-requires-clause-some
-deliver-requires-clause-some g c = rw (← c.self.view_is) c.self.invariant.some
+pub returns-in-Answered-clause-call : goal.returns-in-Answered-clause-call
+returns-in-Answered-clause-call g c =
+    (answered_done c.args.self.now c.args.moment c.args.arrival c.args.pass.now c.args.outs.now.items c.in-Answered.out
+    (subst (Comes c.args.arrival (Answered c.in-Answered.out)) c.self.view_is c.in-Answered.ensures.coming) c.push.ensures.items).0
 
-pub deliver-requires-clause-passes : goal.deliver-requires-clause-passes
-deliver-requires-clause-passes g c =
-    let rows = c.self.invariant.table ∙ ap (λ e. table_of e.configs e.pool) c.self.view_is in
-    cc (c.in-Ok.ensures.tests)
+pub returns-in-Answered-clause-judged : goal.returns-in-Answered-clause-judged
+returns-in-Answered-clause-judged g c =
+    (answered_done c.args.self.now c.args.moment c.args.arrival c.args.pass.now c.args.outs.now.items c.in-Answered.out
+    (subst (Comes c.args.arrival (Answered c.in-Answered.out)) c.self.view_is c.in-Answered.ensures.coming) c.push.ensures.items).1
 
-pub returns-in-Ok-clause-call : goal.returns-in-Ok-clause-call
-returns-in-Ok-clause-call g c =
-    let rows = c.self.invariant.table ∙ ap (λ e. table_of e.configs e.pool) c.self.view_is in
-    rw (← passed c.args.self.now c.args.arrival rows c.in-Ok.ensures.tests c.in-Ok.ensures.target) c.deliver.ensures.call
+pub returns-in-Own-clause-call : goal.returns-in-Own-clause-call
+returns-in-Own-clause-call g c =
+    own_done c.args.self.now c.args.moment c.args.arrival c.args.pass.now c.own.new.pass c.args.outs.now.items c.own.new.outs.items c.own.result c.in-Own.k c.in-Own.event
+    (subst (Comes c.args.arrival (Own c.in-Own.k c.in-Own.event)) c.self.view_is c.in-Own.ensures.coming) c.own.ensures.call
 
-pub returns-in-Ok-clause-judged : goal.returns-in-Ok-clause-judged
-returns-in-Ok-clause-judged g c =
-    let rows = c.self.invariant.table ∙ ap (λ e. table_of e.configs e.pool) c.self.view_is in
-    rw (← passed c.args.self.now c.args.arrival rows c.in-Ok.ensures.tests c.in-Ok.ensures.target) c.deliver.ensures.judged
-
-pub returns-in-Err-clause-call : goal.returns-in-Err-clause-call
-returns-in-Err-clause-call g c =
-    let rows = c.self.invariant.table ∙ ap (λ e. table_of e.configs e.pool) c.self.view_is in
-    rw (← failed c.args.self.now c.args.arrival rows c.in-Err.ensures.tests) (refl, refl, sym (append-nil c.args.outs.now.items))
-
-pub returns-in-Err-clause-judged : goal.returns-in-Err-clause-judged
-returns-in-Err-clause-judged g c =
-    let rows = c.self.invariant.table ∙ ap (λ e. table_of e.configs e.pool) c.self.view_is in
-    rw (← failed c.args.self.now c.args.arrival rows c.in-Err.ensures.tests) refl
+pub returns-in-Own-clause-judged : goal.returns-in-Own-clause-judged
+returns-in-Own-clause-judged g c =
+    let e = c.args.self.now in
+    let h = subst (Comes c.args.arrival (Own c.in-Own.k c.in-Own.event)) c.self.view_is c.in-Own.ensures.coming in
+    let own = own_event e c.args.arrival (destination e c.args.arrival) c.in-Own.k c.in-Own.event h in
+    judged_own_event e c.args.moment c.args.arrival c.args.pass.now c.own.new.pass c.args.outs.now.items c.own.new.outs.items c.own.result
+    (rw (← c.self.view_is) c.self.invariant.some) own.0 own.1 c.own.ensures.call

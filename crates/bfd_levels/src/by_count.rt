@@ -1,0 +1,76 @@
+//! Timers in the form that suits their number.
+ghost use Rattle.bfd_levels.specs.ByCount.{dues_of};
+
+use crate::levels::Levels;
+use bfd_lanes::Ids;
+use bfd_num::Steps;
+use bfd_wheel::{PlainTimers, Timers};
+use std::alloc::{AllocError, Global};
+use std::sync::ledger::Ledger;
+
+/// Up to so many ids a look at each due tick costs less than a wheel, whose heads take 8 kilobytes.
+const FEW: u32 = 8;
+
+/// The plain list for few ids, and a wheel of levels for more.
+#[derive(Drop)]
+pub enum ByCount {
+    /// At most 8 ids.
+    Few(PlainTimers),
+    /// More.
+    Many(Levels),
+}
+
+impl Timers for ByCount {
+    ghost dues = { λ timers. dues_of timers };
+
+    fn make(alloc: Global, count: u32) -> Result<Self, AllocError> {
+        if count <= FEW {
+            let timers = PlainTimers::make(alloc, count)?;
+            return Ok(ByCount::Few(timers));
+        }
+        let timers = Levels::make(alloc, count)?;
+        Ok(ByCount::Many(timers))
+    }
+
+    fn restart(&mut self, count: u32) {
+        match self {
+            ByCount::Few(timers) => timers.restart(count),
+            ByCount::Many(timers) => timers.restart(count),
+        }
+    }
+
+    fn set<L: Ledger>(&mut self, id: u32, due: u64, steps: &mut Steps<L>) {
+        match self {
+            ByCount::Few(timers) => timers.set(id, due, steps),
+            ByCount::Many(timers) => timers.set(id, due, steps),
+        }
+    }
+
+    fn clear<L: Ledger>(&mut self, id: u32, steps: &mut Steps<L>) {
+        match self {
+            ByCount::Few(timers) => timers.clear(id, steps),
+            ByCount::Many(timers) => timers.clear(id, steps),
+        }
+    }
+
+    fn due(&self, id: u32) -> Option<u64> {
+        match self {
+            ByCount::Few(timers) => timers.due(id),
+            ByCount::Many(timers) => timers.due(id),
+        }
+    }
+
+    fn least(&self) -> Option<u64> {
+        match self {
+            ByCount::Few(timers) => timers.least(),
+            ByCount::Many(timers) => timers.least(),
+        }
+    }
+
+    fn advance(&mut self, t: u64, out: &mut Ids) {
+        match self {
+            ByCount::Few(timers) => timers.advance(t, out),
+            ByCount::Many(timers) => timers.advance(t, out),
+        }
+    }
+}

@@ -1,0 +1,26 @@
+-- What an arrival comes to is a turn of the world.
+use Rattle.bfd_replay.proofs.Common.{◌≡◌, ◌∙◌, ap, sym, configs_of, carried_out, world_of, table_of}
+use Rattle.bfd_session.specs.Arrivals.{comes_to}
+use Rattle.bfd_replay.proofs.Comings.{discarded, answered, taken}
+use Rattle.bfd_replay.proofs.world.arrive.Goals as goal
+
+pub enact-requires-clause-can : goal.enact-requires-clause-can
+enact-requires-clause-can g c =
+    let t = c.args.table.now in
+    rw (← c.requires.configs) ((taken (comes_to (table_of t.configs t.pool) c.args.arrival) t.configs t.pool c.args.arrival c.args.moment c.in-Own.place c.in-Own.event c.in-Own.ensures).1)
+
+pub returns-in-Discarded-clause-turn : goal.returns-in-Discarded-clause-turn
+returns-in-Discarded-clause-turn g c =
+    let t = c.args.table.now in
+    rw c.requires.empty (discarded (comes_to (table_of t.configs t.pool) c.args.arrival) t.configs t.pool c.args.arrival c.args.moment c.in-Discarded.test c.args.sessions.now.sessions c.args.sessions.now.last c.in-Discarded.ensures)
+
+pub returns-in-Answered-clause-turn : goal.returns-in-Answered-clause-turn
+returns-in-Answered-clause-turn g c =
+    let t = c.args.table.now in
+    rw (c.push.ensures.items, c.requires.empty) (answered (comes_to (table_of t.configs t.pool) c.args.arrival) t.configs t.pool c.args.arrival c.args.moment c.in-Answered.out c.args.sessions.now.sessions c.args.sessions.now.last c.in-Answered.ensures)
+
+pub returns-in-Own-clause-turn : goal.returns-in-Own-clause-turn
+returns-in-Own-clause-turn g c =
+    let t = c.args.table.now in
+    let is = (taken (comes_to (table_of t.configs t.pool) c.args.arrival) t.configs t.pool c.args.arrival c.args.moment c.in-Own.place c.in-Own.event c.in-Own.ensures).0 in
+    c.enact.ensures.turn t.pool ∙ sym (ap (λ d. carried_out d (world_of c.args.sessions.now.sessions t.pool c.args.sessions.now.last)) is)

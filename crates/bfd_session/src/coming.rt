@@ -1,0 +1,15 @@
+//! What an arrival comes to.
+use crate::Event;
+use bfd_packet::Test;
+use bfd_rules::Out;
+
+/// What an arrival comes to, of the table alone (RFC 5880 section 6.8.6).
+#[derive(Drop)]
+pub enum Coming {
+    /// A test discards it, and it is no event of any session: one up to selection, or one of a reflector's (RFC 7880 section 7.2).
+    Discarded(Test),
+    /// A reflector answers it with this packet.
+    Answered(Out),
+    /// It is an own event of the session at this place.
+    Own(u32, Event),
+}

@@ -1,0 +1,9 @@
+use Rattle.std.proofs.Common.{◌≡◌, ◌≤◌, length}
+use Rattle.bfd_lanes.specs.Held.{room_of}
+use Rattle.bfd_shard_tests.proofs.wheel.in_jumps.Given as goal
+
+abbrev pub invariant-loop-id : goal.invariant-loop-id
+invariant-loop-id g l = record { count : length (g.W.Timers.dues l.timers) ≡ 17; room : 17 ≤ room_of l.out }
+
+abbrev pub invariant-loop-call : goal.invariant-loop-call
+invariant-loop-call g l = record { count : length (g.W.Timers.dues l.timers) ≡ 17; room : 17 ≤ room_of l.out }
