@@ -18,8 +18,12 @@
  * THREADS. A handle may go from thread to thread, and different handles may be used at once. A handle is in one call at a
  * time: what several threads share stands behind a lock of the caller.
  *
+ * PROCESSORS. The code runs on every x86-64 processor: it has no instruction beyond SSE2. Of the system it needs malloc, realloc,
+ * free, memcpy, memmove and memset.
+ *
  * WHAT THE CALLER OWES, since no proof can see it:
- * - A handle is written by the library alone. It isn't copied while it's open, and a forged one isn't used.
+ * - A handle is written by the library alone, and a forged one isn't used. It may be moved in memory; of two copies of an open
+ *   handle one is used and closed, and the other neither.
  * - No pointer is null, not even with length 0. It points to an object of its type, and a slice to as many bytes as its length
  *   says. No two parameters of a call overlap.
  * - Each byte of a slice and each field of a struct has been written before a call, whole arrays included, and of a struct for

@@ -1,11 +1,15 @@
 /* A BFD daemon on libbfdd, over UDP and IPv4.
  *
- *     daemon TABLE LOCAL
+ *     daemon TABLE LOCAL [LEAST_TTL]
  *
  * TABLE is a file with the table of a packet file: `bfd 1`, table lines, `run`, `end`. LOCAL is the own address of its lines,
  * and an interface's number is that of the system. It sends what the sessions send, and writes each change of state and each
  * packet that is dropped to standard output, with the microseconds since its start. It sleeps until a packet comes or the
- * engine needs a tick, and ends by SIGINT or SIGTERM. Tails of multipoint trees aren't served: no group is joined. */
+ * engine needs a tick, and ends by SIGINT or SIGTERM. Tails of multipoint trees aren't served: no group is joined.
+ *
+ * What the engine leaves to a daemon (docs/EMBEDDING.md): each session sends from a port of its own. Packets over several hops whose
+ * TTL is below LEAST_TTL are discarded. A line `DISCR VERB VALUE` of standard input is a command, which waits until the Poll Sequence
+ * of the one before has ended. By SIGHUP the table is read anew, with other keys say, after each session has said AdminDown. */
 #define _GNU_SOURCE
 #include <arpa/inet.h>
 #include <bfdd.h>
@@ -21,14 +25,23 @@
 #include <time.h>
 #include <unistd.h>
 
-enum { SBFD = 3, SOURCE = 4, PORTS = 5 }; /* the places of the reflectors' port, and of that from which sessions send */
+enum { SBFD = 3, PORTS = 4, LINES = PORTS, PLACES = 64, SOURCES = 1 << 15 };
 static const struct { uint16_t udp; uint32_t port; } ports[PORTS] = {
-    {3784, BFDD_PORT_SINGLE}, {4784, BFDD_PORT_MULTI}, {3785, BFDD_PORT_ECHO}, {7784, BFDD_PORT_SBFD}, {49152, BFDD_PORT_ANSWER}};
+    {3784, BFDD_PORT_SINGLE}, {4784, BFDD_PORT_MULTI}, {3785, BFDD_PORT_ECHO}, {7784, BFDD_PORT_SBFD}};
 static const char *const states[] = {"AdminDown", "Down", "Init", "Up"};
-static struct pollfd sockets[PORTS];
-static volatile sig_atomic_t stopped;
+static const char *const verbs[] = {"disable", "enable", "reset", "path", "tx", "rx", "mult", "demand", "echo", "key"};
+static struct pollfd sockets[PLACES]; /* of the ports, of standard input, and of initiators, whose answers come to their own port */
+static nfds_t places = LINES + 1;
+static struct { uint32_t discr; int fd; } sources[SOURCES]; /* a session and its socket; twice as many places as there are ports */
+static struct { uint32_t discr, verb; uint64_t value; } command; /* the one that waits; without one the verb is 0 */
+static int lines = STDIN_FILENO; /* -1 once it has ended */
+static struct in_addr local;
+static unsigned least_ttl;
+static volatile sig_atomic_t stopped, reread;
 
 static void stop(int number) { (void)number, stopped = 1; }
+
+static void read_again(int number) { (void)number, reread = 1; }
 
 static void fail(const char *what) {
     perror(what);
@@ -44,15 +57,41 @@ static uint64_t now(void) { /* microseconds since the first call */
     return us - start;
 }
 
-static void open_socket(int place, struct in_addr local) {
-    struct sockaddr_in at = {.sin_family = AF_INET, .sin_port = htons(ports[place].udp), .sin_addr = local};
+/* A socket on this port of the own address, or -1 where another program has it. */
+static int open_socket(uint16_t udp) {
+    struct sockaddr_in at = {.sin_family = AF_INET, .sin_port = htons(udp), .sin_addr = local};
     int on = 1, ttl = 255, fd = socket(AF_INET, SOCK_DGRAM | SOCK_NONBLOCK | SOCK_CLOEXEC, 0);
     if (fd < 0) fail("socket");
-    if (setsockopt(fd, SOL_SOCKET, SO_REUSEADDR, &on, sizeof on) || setsockopt(fd, IPPROTO_IP, IP_TTL, &ttl, sizeof ttl)
-        || setsockopt(fd, IPPROTO_IP, IP_RECVTTL, &on, sizeof on) || setsockopt(fd, IPPROTO_IP, IP_PKTINFO, &on, sizeof on))
+    if (setsockopt(fd, IPPROTO_IP, IP_TTL, &ttl, sizeof ttl) || setsockopt(fd, IPPROTO_IP, IP_RECVTTL, &on, sizeof on)
+        || setsockopt(fd, IPPROTO_IP, IP_PKTINFO, &on, sizeof on))
         fail("setsockopt");
-    if (bind(fd, (struct sockaddr *)&at, sizeof at)) fail("bind");
-    sockets[place] = (struct pollfd){.fd = fd, .events = POLLIN};
+    if (!bind(fd, (struct sockaddr *)&at, sizeof at)) return fd;
+    if (errno != EADDRINUSE) fail("bind");
+    close(fd);
+    return -1;
+}
+
+/* The socket of a session. Its port is from 49152 on, for this session alone, and the same for all that it sends (RFC 5881 section 4). */
+static int source_of(uint32_t discr) {
+    static uint16_t next = 49152; /* 0 behind the last */
+    uint32_t at = discr * 2654435769u >> 17;
+    while (sources[at].discr && sources[at].discr != discr) at = (at + 1) % SOURCES;
+    if (sources[at].discr) return sources[at].fd;
+    int fd = -1;
+    while (fd < 0) {
+        if (!next) fail("no port is left");
+        fd = open_socket(next++);
+    }
+    sources[at].discr = discr, sources[at].fd = fd;
+    return fd;
+}
+
+/* The answers to an initiator come to the port from which it asks. */
+static void listen_on(int fd) {
+    for (nfds_t place = LINES + 1; place < places; place++)
+        if (sockets[place].fd == fd) return;
+    if (places == PLACES) fail("too many initiators");
+    sockets[places++] = (struct pollfd){.fd = fd, .events = POLLIN};
 }
 
 /* All that a file has, in memory that the caller frees. */
@@ -70,7 +109,7 @@ static uint8_t *read_file(const char *path, size_t *length) {
     return text;
 }
 
-static void open_engine(bfdd_handle *engine, const char *path) {
+static bool open_engine(bfdd_handle *engine, const char *path) {
     bfdd_complaint complaint = {0};
     size_t length;
     uint8_t *text = read_file(path, &length);
@@ -78,15 +117,16 @@ static void open_engine(bfdd_handle *engine, const char *path) {
     free(text);
     if (code == BFDD_TEXT) fprintf(stderr, "%s: line %" PRIu64 " has fault %" PRIu32 "\n", path, complaint.line, complaint.fault);
     else if (code != BFDD_DONE) fprintf(stderr, "%s: not opened, for code %" PRIu32 "\n", path, code);
-    if (code != BFDD_DONE) exit(2);
+    return code == BFDD_DONE;
 }
 
 static void send_out(const bfdd_output *out) {
     struct sockaddr_in to = {.sin_family = AF_INET, .sin_port = htons(out->dport)};
     if (out->dst.family != 4) return;
     memcpy(&to.sin_addr, out->dst.bytes, 4);
-    int place = out->sport == ports[SBFD].udp ? SBFD : SOURCE;
-    if (sendto(sockets[place].fd, out->bytes, out->len, 0, (struct sockaddr *)&to, sizeof to) < 0) perror("sendto");
+    int fd = out->sport == ports[SBFD].udp ? sockets[SBFD].fd : source_of(out->discr);
+    if (out->dport == ports[SBFD].udp) listen_on(fd);
+    if (sendto(fd, out->bytes, out->len, 0, (struct sockaddr *)&to, sizeof to) < 0) perror("sendto");
 }
 
 static void take_outputs(bfdd_handle *engine, uint64_t moment) {
@@ -98,7 +138,7 @@ static void take_outputs(bfdd_handle *engine, uint64_t moment) {
 }
 
 /* Whether a packet came; its TTL, its interface and its own address stand in what the kernel tells beside it. */
-static bool hear(int place, bfdd_packet *packet, uint8_t *payload, size_t *length) {
+static bool hear(nfds_t place, bfdd_packet *packet, uint8_t *payload, size_t *length) {
     struct sockaddr_in from = {0};
     struct iovec part = {payload, *length};
     _Alignas(struct cmsghdr) char beside[256];
@@ -107,7 +147,7 @@ static bool hear(int place, bfdd_packet *packet, uint8_t *payload, size_t *lengt
     ssize_t got = recvmsg(sockets[place].fd, &message, 0);
     if (got < 0) return false;
     *length = (size_t)got;
-    *packet = (bfdd_packet){.moment = now(), .port = ports[place].port, .sport = ntohs(from.sin_port)};
+    *packet = (bfdd_packet){.moment = now(), .port = place < PORTS ? ports[place].port : BFDD_PORT_ANSWER, .sport = ntohs(from.sin_port)};
     packet->src.family = packet->dst.family = 4;
     memcpy(packet->src.bytes, &from.sin_addr, 4);
     for (struct cmsghdr *c = CMSG_FIRSTHDR(&message); c; c = CMSG_NXTHDR(&message, c)) {
@@ -125,11 +165,12 @@ static bool hear(int place, bfdd_packet *packet, uint8_t *payload, size_t *lengt
     return true;
 }
 
-static void receive(bfdd_handle *engine, int place) {
+static void receive(bfdd_handle *engine, nfds_t place) {
     uint8_t payload[256];
     bfdd_packet packet = {0};
     bfdd_answered answer = {0};
     for (size_t length = sizeof payload; hear(place, &packet, payload, &length); length = sizeof payload) {
+        if (packet.port == BFDD_PORT_MULTI && packet.ttl < least_ttl) continue; /* over a single hop the engine asks for 255 */
         uint32_t code = bfdd_receive(engine, &packet, payload, length);
         if (code != BFDD_DONE) {
             printf("%" PRIu64 " refused %" PRIu32 "\n", packet.moment, code);
@@ -139,6 +180,47 @@ static void receive(bfdd_handle *engine, int place) {
         if (bfdd_answer(engine, &answer) == BFDD_DONE && answer.kind == BFDD_DROPPED)
             printf("%" PRIu64 " drop %s\n", packet.moment, answer.name);
     }
+}
+
+/* The next command of standard input. */
+static void read_command(void) {
+    char line[100], verb[10];
+    if (!fgets(line, sizeof line, stdin)) lines = -1;
+    else if (sscanf(line, "%" SCNu32 " %9s %" SCNu64, &command.discr, verb, &command.value) >= 2)
+        for (uint32_t i = 0; i < sizeof verbs / sizeof *verbs; i++)
+            if (!strcmp(verb, verbs[i])) command.verb = i + 1;
+}
+
+/* Gives the command that waits; but not while the session has a Poll Sequence, which a packet will end. */
+static void give_command(bfdd_handle *engine) {
+    bfdd_answered answer = {0};
+    uint64_t moment = now();
+    bfdd_show(engine, moment, command.discr);
+    take_outputs(engine, moment);
+    bfdd_answer(engine, &answer);
+    if (answer.kind == BFDD_SHOWN && answer.poll) return;
+    bfdd_command(engine, moment, command.discr, command.verb, command.value);
+    take_outputs(engine, moment);
+    bfdd_answer(engine, &answer);
+    printf("%" PRIu64 " command %" PRIu32 " %s %s\n", moment, command.discr, verbs[command.verb - 1],
+           answer.kind == BFDD_REFUSED ? answer.name : "done");
+    command.verb = 0;
+}
+
+/* Opens the engine by the table as it is now. A peer that is told AdminDown takes what follows for no failure of the path (RFC 5882
+ * section 3.2). A faulty table changes nothing. */
+static void open_anew(bfdd_handle *engine, const char *path) {
+    bfdd_handle next = BFDD_HANDLE_INIT;
+    reread = 0;
+    if (!open_engine(&next, path)) return;
+    for (uint32_t at = 0; at < SOURCES; at++) {
+        if (!sources[at].discr) continue;
+        uint64_t moment = now();
+        bfdd_command(engine, moment, sources[at].discr, BFDD_DISABLE, 0);
+        take_outputs(engine, moment);
+    }
+    bfdd_close(engine);
+    *engine = next;
 }
 
 /* Sleeps until a packet comes or a tick is due, and then makes that tick. */
@@ -151,28 +233,33 @@ static void wait_and_tick(bfdd_handle *engine, const sigset_t *awake) {
         sleep = (struct timespec){.tv_sec = (time_t)(left / 1000000), .tv_nsec = (long)(left % 1000000) * 1000};
         limit = &sleep;
     }
-    if (ppoll(sockets, PORTS, limit, awake) < 0 && errno != EINTR) fail("ppoll");
+    sockets[LINES] = (struct pollfd){.fd = command.verb ? -1 : lines, .events = POLLIN};
+    if (ppoll(sockets, places, limit, awake) < 0 && errno != EINTR) fail("ppoll");
     moment = now();
     if (needed && due <= moment / 1000 && bfdd_tick(engine, moment / 1000) == BFDD_DONE) take_outputs(engine, moment);
 }
 
 int main(int count, char **words) {
-    struct in_addr local;
-    if (count != 3 || !inet_aton(words[2], &local)) return fprintf(stderr, "usage: daemon TABLE LOCAL\n"), 1;
+    if (count < 3 || count > 4 || !inet_aton(words[2], &local)) return fprintf(stderr, "usage: daemon TABLE LOCAL [LEAST_TTL]\n"), 1;
+    if (count == 4) least_ttl = (unsigned)strtoul(words[3], NULL, 10);
     sigset_t ends, awake;
-    sigemptyset(&ends), sigaddset(&ends, SIGINT), sigaddset(&ends, SIGTERM);
+    sigemptyset(&ends), sigaddset(&ends, SIGINT), sigaddset(&ends, SIGTERM), sigaddset(&ends, SIGHUP);
     sigprocmask(SIG_BLOCK, &ends, &awake);
-    signal(SIGINT, stop), signal(SIGTERM, stop);
-    setvbuf(stdout, NULL, _IOLBF, 0);
+    signal(SIGINT, stop), signal(SIGTERM, stop), signal(SIGHUP, read_again);
+    setvbuf(stdout, NULL, _IOLBF, 0), setvbuf(stdin, NULL, _IONBF, 0);
     bfdd_handle engine = BFDD_HANDLE_INIT;
-    open_engine(&engine, words[1]);
-    for (int place = 0; place < PORTS; place++) open_socket(place, local);
-    while (!stopped) {
-        wait_and_tick(&engine, &awake);
-        for (int place = 0; place < PORTS; place++)
-            if (sockets[place].revents) receive(&engine, place);
+    if (!open_engine(&engine, words[1])) return 2;
+    for (int place = 0; place < PORTS; place++) {
+        sockets[place] = (struct pollfd){.fd = open_socket(ports[place].udp), .events = POLLIN};
+        if (sockets[place].fd < 0) fail("bind");
     }
-    for (int place = 0; place < PORTS; place++) close(sockets[place].fd);
+    while (!stopped) {
+        if (reread) open_anew(&engine, words[1]);
+        if (command.verb) give_command(&engine);
+        wait_and_tick(&engine, &awake);
+        for (nfds_t place = 0; place < places; place++)
+            if (sockets[place].revents) place == LINES ? read_command() : receive(&engine, place);
+    }
     bfdd_close(&engine);
     return 0;
 }

@@ -25,4 +25,10 @@ static const bfdd_packet from_peer = {1500, BFDD_PORT_SINGLE, 1, {4, {10, 0, 0, 
 static const bfdd_session pair = {.kind = BFDD_SINGLE_HOP, .discr = 1, .iface = 1, .local = {4, {10, 0, 0, 1}},
                                   .remote = {4, {10, 0, 0, 2}}, .active = 1, .tx = 1000000, .rx = 1000000, .mult = 3};
 
+/* A table with sessions of every kind, keys and a reflector. */
+static const char all_kinds[] =
+    "bfd 2\np2p 1 single 1 10.0.0.1 10.0.0.2 active 1000000 1000000 3 0 0\nauth 1 5 7 6b\nkey 1 8 6c\n"
+    "p2p 2 single 2 10.0.0.1 10.0.0.2 passive 1000000 1000000 3 0 0\nsbfd 5 900 1 10.0.0.1 10.0.0.9 100000 3 0\n"
+    "reflector 901 50000 up\nhead 40 1 10.0.0.1 239.0.0.1 100000 3 0\ntail 30 77 1 239.0.0.1 10.0.0.2\nrun\nend\n";
+
 #endif

@@ -1,7 +1,7 @@
 #!/usr/bin/env python3
 """Replays a packet file through libbfdd, and writes the report that `bfdd replay` writes.
 
-    examples/c/replay.py LIBBFDD.SO < examples/first.script
+    bindings/python/replay.py LIBBFDD.SO < examples/first.script
 """
 import sys
 

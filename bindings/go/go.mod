@@ -1,0 +1,3 @@
+module bfdd
+
+go 1.19

@@ -1,0 +1,107 @@
+/* What calls of one handle of N sessions take: instructions by callgrind, memory by mallinfo2 and the resident set.
+   tests/c/instructions runs it under valgrind and prints the rows. */
+#define _GNU_SOURCE
+#include "check.h"
+#include <malloc.h>
+#include <unistd.h>
+#include <valgrind/callgrind.h>
+
+enum { INTERVAL = 300000 };
+
+static uint64_t outputs;
+
+static void begin(void) {
+    CALLGRIND_ZERO_STATS;
+    CALLGRIND_TOGGLE_COLLECT;
+}
+
+/* Ends a row: what was measured, and how many times. */
+static void end(const char *what, uint32_t times) {
+    CALLGRIND_TOGGLE_COLLECT;
+    char text[100];
+    snprintf(text, sizeof text, "%s, times=%" PRIu32, what, times);
+    CALLGRIND_DUMP_STATS_AT(text);
+}
+
+static long resident(void) {
+    long pages, used = 0;
+    FILE *file = fopen("/proc/self/statm", "r");
+    if (!file || fscanf(file, "%ld %ld", &pages, &used) != 2) used = 0;
+    if (file) fclose(file);
+    return used * sysconf(_SC_PAGESIZE);
+}
+
+static void word(uint8_t *at, uint32_t value) {
+    for (int i = 0; i < 4; i++) at[i] = (uint8_t)(value >> (24 - 8 * i));
+}
+
+/* A control packet of the peer of session i, in this state. */
+static void hear(bfdd_handle *engine, uint32_t i, uint64_t moment, uint8_t state, uint32_t your) {
+    uint8_t bytes[24] = {0x20, (uint8_t)(state << 6), 3, 24};
+    word(bytes + 4, 1000000 + i);
+    word(bytes + 8, your);
+    word(bytes + 12, INTERVAL);
+    word(bytes + 16, INTERVAL);
+    bfdd_packet packet = {moment, BFDD_PORT_SINGLE, 1, {4, {10, (uint8_t)(i >> 16), (uint8_t)(i >> 8), (uint8_t)i}},
+                          {4, {192, 0, 2, 1}}, 49152, 255};
+    CHECK(bfdd_receive(engine, &packet, bytes, sizeof bytes), BFDD_DONE);
+    bfdd_output output = {0};
+    while (bfdd_next(engine, &output) == BFDD_DONE) outputs++;
+}
+
+static void tick(bfdd_handle *engine, uint64_t ms) {
+    CHECK(bfdd_tick(engine, ms), BFDD_DONE);
+    bfdd_output output = {0};
+    while (bfdd_next(engine, &output) == BFDD_DONE) outputs++;
+}
+
+static char *table(uint32_t count) {
+    char *text = malloc((size_t)count * 120 + 64), *at = text;
+    if (!text) exit(1);
+    at += sprintf(at, "bfd 1\n");
+    for (uint32_t i = 1; i <= count; i++)
+        at += sprintf(at, "p2p %u single 1 192.0.2.1 10.%u.%u.%u active %d %d 3 0 %u\n", i, i >> 16, i >> 8 & 255, i & 255, INTERVAL,
+                      INTERVAL, i * 2654435761u);
+    sprintf(at, "run\nend\n");
+    return text;
+}
+
+static void open_all(bfdd_handle *engine, uint32_t count) {
+    char *text = table(count);
+    bfdd_complaint complaint = {0};
+    struct mallinfo2 before = mallinfo2();
+    long pages = resident();
+    begin();
+    CHECK(open_text(engine, text, &complaint), BFDD_DONE);
+    end("opening from a text, a session", count);
+    struct mallinfo2 after = mallinfo2();
+    printf("%" PRIu32 " sessions: %zu bytes by malloc, %ld resident, each session\n", count,
+           (after.uordblks + after.hblkhd - before.uordblks - before.hblkhd) / count, (resident() - pages) / (long)count);
+    free(text);
+}
+
+int main(int argc, char **argv) {
+    uint32_t count = argc > 1 ? (uint32_t)strtoul(argv[1], NULL, 10) : 1000, many = count < 10000 ? 10000 : count;
+    uint64_t ms = 1000, due = 0;
+    bfdd_handle engine = BFDD_HANDLE_INIT;
+    open_all(&engine, count);
+    for (uint32_t i = 1; i <= count; i++) hear(&engine, i, 1000 * ms, 1, 0);
+    for (uint32_t i = 1; i <= count; i++) hear(&engine, i, 1000 * ms + 1, 2, i);
+    begin();
+    for (uint32_t k = 0; k < many; k++) hear(&engine, 1 + k * 7919u % count, 1000 * ms + 2, 3, 1 + k * 7919u % count);
+    end("a packet of a session that is Up, its outputs read", many);
+    tick(&engine, ms);
+    begin();
+    for (int k = 0; k < 100; k++) CHECK(bfdd_tick(&engine, ms), BFDD_DONE);
+    end("a tick by which nothing is due", 100);
+    begin();
+    for (int k = 0; k < 100; k++) CHECK(bfdd_due(&engine, &due), BFDD_DONE);
+    end("the due tick", 100);
+    begin();
+    tick(&engine, ms + INTERVAL / 1000 + 1);
+    end("a tick by which all are due, with outputs, a session", count);
+    tick(&engine, ms + 10 * INTERVAL / 1000);
+    printf("%" PRIu32 " sessions: %ld bytes resident in all, %" PRIu64 " outputs\n", count, resident(), outputs);
+    bfdd_close(&engine);
+    return 0;
+}
