@@ -3,24 +3,23 @@
 #include "control.h"
 
 #include "log.h"
+#include "loop.h"
 
 #include <errno.h>
 #include <string.h>
-#include <sys/epoll.h>
 #include <unistd.h>
 
 enum { FRR_QUEUE = 8192, NEARLY_FULL = FRR_QUEUE - DP_SESSION_LENGTH };
 static const uint64_t NEVER = UINT64_MAX, PAUSE = 1000000;
 
-/* A link's place in `links`, and one more, is the owner of its sessions and its number for epoll. */
+/* A link's place in `links` is its number for the loop, and one more than that is the owner of its sessions. */
 static struct link links[LINKS];
 static bool has_sessions[LINKS];
-static uint32_t interest[LINKS]; /* the events that epoll awaits of each */
+static uint32_t interest[LINKS]; /* the events that are awaited of each */
 static size_t top;               /* no link is open at this place or above */
 static struct endpoint peer;
 static struct sessions *sessions;
-static int epoll_fd, listener = -1;
-static uint32_t epoll_base;
+static int listener = -1;
 static uint64_t connect_at = NEVER;
 static size_t received; /* bytes of sessions since the last connection was opened */
 static bool is_refused; /* the last connection failed, which was said */
@@ -32,12 +31,19 @@ static uint32_t events_of(const struct link *link) {
     return (has_room ? EPOLLIN : 0u) | (link->out_count > 0 ? EPOLLOUT : 0u);
 }
 
-static void set_interest(size_t place, int operation) {
-    struct epoll_event event = {.events = events_of(&links[place]), .data.u32 = epoll_base + 1 + (uint32_t)place};
-    if (operation == EPOLL_CTL_MOD && interest[place] == event.events) return;
-    interest[place] = event.events;
+static void link_event(uint32_t number, uint64_t now);
+
+/* The loop awaits a new link's events. */
+static void await_link(size_t place) {
     if (place >= top) top = place + 1;
-    epoll_ctl(epoll_fd, operation, links[place].fd, &event);
+    interest[place] = events_of(&links[place]);
+    loop_await(links[place].fd, LOOP_LINK, (uint32_t)place, interest[place], link_event);
+}
+
+static void set_interest(size_t place) {
+    uint32_t events = events_of(&links[place]);
+    if (interest[place] != events) loop_change(links[place].fd, LOOP_LINK, (uint32_t)place, events);
+    interest[place] = events;
 }
 
 static size_t count_open(void) {
@@ -83,10 +89,11 @@ static void open_link(uint64_t now) {
     if (place == LINKS) return say(LOG_ERROR, "no more than %d connections to FRR are opened", LINKS);
     if (!link_connect(&links[place], &peer)) return refuse(strerror(errno), now);
     if (!links[place].connecting) begin(place, now);
-    set_interest(place, EPOLL_CTL_ADD);
+    await_link(place);
 }
 
-static void accept_link(uint64_t now) {
+static void accept_link(uint32_t number, uint64_t now) {
+    (void)number;
     int fd = accept4(listener, NULL, NULL, SOCK_NONBLOCK | SOCK_CLOEXEC);
     size_t place = find_closed();
     if (fd < 0) return say(LOG_WARNING, "accept: %s", strerror(errno));
@@ -96,7 +103,7 @@ static void accept_link(uint64_t now) {
     }
     link_begin(&links[place], fd);
     begin(place, now);
-    set_interest(place, EPOLL_CTL_ADD);
+    await_link(place);
 }
 
 /* An echo reply came: all is there that FRR had for this connection. One that brought nothing isn't needed beside another. */
@@ -107,7 +114,8 @@ static void answered(size_t place, uint64_t now) {
 static void carry_out(size_t place, const struct dp_message *message, uint64_t now) {
     uint8_t bytes[LINK_REPLY];
     uint32_t owner = (uint32_t)place + 1;
-    struct dp_counters counters;
+    const struct session *s;
+    struct dp_counters counters = {0};
     struct dp_echo echo;
     switch (message->type) {
     case DP_ECHO_REQUEST:
@@ -118,14 +126,15 @@ static void carry_out(size_t place, const struct dp_message *message, uint64_t n
     case DP_ADD_SESSION:
         has_sessions[place] = true;
         received += message->length;
-        sessions_add(sessions, owner, &message->body.session, now);
+        sessions_add(sessions, owner, &message->body.session, NULL, now);
         break;
     case DP_DELETE_SESSION:
         received += message->length;
         sessions_remove(sessions, message->body.session.discr, now);
         break;
     case DP_REQUEST_COUNTERS:
-        counters = sessions_counters(sessions, message->body.discr);
+        if ((s = sessions_find(sessions, message->body.discr)))
+            counters = (struct dp_counters){s->count.bytes_in, s->count.packets_in, s->count.bytes_out, s->count.packets_out};
         link_put(&links[place], bytes, dp_write_counters(bytes, message->id, message->body.discr, &counters));
         break;
     default: break;
@@ -142,29 +151,25 @@ static void carry_out_all(size_t place, uint64_t now) {
     if (received >= NEARLY_FULL && listener < 0 && connect_at == NEVER) connect_at = now;
 }
 
-bool control_open(const struct endpoint *endpoint, bool listens, int epoll, uint32_t base) {
+bool control_open(const struct endpoint *endpoint, bool listens, struct sessions *served) {
     for (size_t i = 0; i < LINKS; i++) links[i].fd = -1;
     peer = *endpoint;
-    epoll_fd = epoll;
-    epoll_base = base;
+    sessions = served;
     connect_at = listens ? NEVER : 0;
     if (!listens) return true;
-    struct epoll_event event = {.events = EPOLLIN, .data.u32 = base};
     listener = endpoint_listen(endpoint);
-    return listener >= 0 && epoll_ctl(epoll_fd, EPOLL_CTL_ADD, listener, &event) == 0;
+    if (listener >= 0) loop_await(listener, LOOP_LISTENER, 0, EPOLLIN, accept_link);
+    return listener >= 0;
 }
 
-void control_serve(struct sessions *served) { sessions = served; }
-
-bool control_tell(void *context, uint32_t owner, const uint8_t *bytes, size_t length) {
-    (void)context;
-    struct link *link = &links[owner - 1];
-    return link->fd >= 0 && link_put(link, bytes, length);
+bool control_tell(void *context, const struct session *s, const struct session_change *change) {
+    uint8_t bytes[DP_STATE_LENGTH];
+    (void)context, (void)change;
+    if (s->owner == NO_OWNER || links[s->owner - 1].fd < 0) return false;
+    return link_put(&links[s->owner - 1], bytes, dp_write_state(bytes, &s->state));
 }
 
-void control_event(uint32_t number, uint64_t now) {
-    if (number == 0) return accept_link(now);
-    size_t place = number - 1;
+static void link_event(uint32_t place, uint64_t now) {
     struct link *link = &links[place];
     if (link->fd < 0) return; /* it was closed since */
     if (link->connecting) {
@@ -178,7 +183,7 @@ void control_event(uint32_t number, uint64_t now) {
     if (!goes_on && link->fd >= 0) drop(place, LOG_WARNING, "closed by FRR", now);
 }
 
-void control_tick(uint64_t now) {
+uint64_t control_round(uint64_t now) {
     if (connect_at <= now) open_link(now);
     while (top > 0 && links[top - 1].fd < 0) top--;
     for (size_t i = 0; i < top; i++) {
@@ -188,8 +193,7 @@ void control_tick(uint64_t now) {
             continue;
         }
         if (links[i].in_to > links[i].in_from) carry_out_all(i, now);
-        if (links[i].fd >= 0) set_interest(i, EPOLL_CTL_MOD);
+        if (links[i].fd >= 0) set_interest(i);
     }
+    return connect_at;
 }
-
-uint64_t control_due(void) { return connect_at; }

@@ -26,7 +26,8 @@ static bool parse_port(const char *text, in_port_t *port) {
     return true;
 }
 
-static bool parse_unix(const char *path, struct endpoint *endpoint) {
+bool endpoint_unix(const char *path, struct endpoint *endpoint) {
+    memset(endpoint, 0, sizeof *endpoint);
     struct sockaddr_un *at = (struct sockaddr_un *)&endpoint->address;
     size_t length = strlen(path);
     if (length == 0 || length >= sizeof at->sun_path) return false;
@@ -60,7 +61,7 @@ static bool parse_ipv6(const char *text, struct endpoint *endpoint) {
 
 bool endpoint_parse(const char *text, struct endpoint *endpoint) {
     memset(endpoint, 0, sizeof *endpoint);
-    if (strncmp(text, "unix:", 5) == 0) return parse_unix(text + 5, endpoint);
+    if (strncmp(text, "unix:", 5) == 0) return endpoint_unix(text + 5, endpoint);
     if (strncmp(text, "ipv4:", 5) == 0) return parse_ipv4(text + 5, endpoint);
     if (strncmp(text, "ipv6:", 5) == 0) return parse_ipv6(text + 5, endpoint);
     return false;

@@ -2,8 +2,8 @@
  *
  * Both buffers have a fixed size. A message that FRR sends gives at most LINK_REPLY bytes to answer, so the owner reads a
  * message only while there is room for that: where FRR doesn't read, its own messages wait in the socket. */
-#ifndef BFDD_DPLANE_LINK_H
-#define BFDD_DPLANE_LINK_H
+#ifndef BFDD_LINK_H
+#define BFDD_LINK_H
 
 #include "protocol.h"
 
@@ -25,6 +25,9 @@ struct link {
 
 /* Reads unix:PATH, ipv4:A[:PORT] or ipv6:[A][:PORT]; the port is 50700 where none is given. */
 bool endpoint_parse(const char *text, struct endpoint *endpoint);
+
+/* The unix socket at this path; false where the path is empty or too long. */
+bool endpoint_unix(const char *path, struct endpoint *endpoint);
 
 /* A socket that listens there, or -1 after an error line. A unix socket that stands there is replaced. */
 int endpoint_listen(const struct endpoint *endpoint);

@@ -1,6 +1,8 @@
 /* Lines on standard error: see log.h. */
+#define _GNU_SOURCE
 #include "log.h"
 
+#include <errno.h>
 #include <stdarg.h>
 #include <stdio.h>
 #include <string.h>
@@ -20,11 +22,11 @@ bool log_level_named(const char *name, enum log_level *level) {
 }
 
 void say(enum log_level level, const char *format, ...) {
-    char line[512];
+    char line[1024];
     va_list values;
     if (level > greatest) return;
     va_start(values, format);
     vsnprintf(line, sizeof line, format, values);
     va_end(values);
-    fprintf(stderr, "bfdd-dplane: %s: %s\n", names[level], line);
+    fprintf(stderr, "%s: %s: %s\n", program_invocation_short_name, names[level], line);
 }

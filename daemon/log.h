@@ -1,6 +1,6 @@
 /* Lines on standard error, by level. */
-#ifndef BFDD_DPLANE_LOG_H
-#define BFDD_DPLANE_LOG_H
+#ifndef BFDD_LOG_H
+#define BFDD_LOG_H
 
 #include <stdbool.h>
 

@@ -2,8 +2,8 @@
  *
  * The functions read and write bytes that the caller holds. They open no socket, keep nothing between calls and allocate
  * nothing. Every number of a message is in network order, every number of a struct in the machine's. */
-#ifndef BFDD_DPLANE_PROTOCOL_H
-#define BFDD_DPLANE_PROTOCOL_H
+#ifndef BFDD_PROTOCOL_H
+#define BFDD_PROTOCOL_H
 
 #include <stdbool.h>
 #include <stddef.h>

@@ -1,14 +1,14 @@
-/* The sessions that FRR has handed over: see sessions.h.
+/* The sessions: see sessions.h.
  *
  * A session is in two hash tables, by its discriminator and by its peer's address, and in a heap by the moment at which its
  * engine needs the next tick. It is open once it has an own address, its hold time has passed and its engine is there. A
- * value that FRR changed is given to the engine by a command; while a Poll Sequence makes the engine refuse it, it is tried
- * again after each event of the session. */
+ * value that its owner changed is given to the engine by a command; while a Poll Sequence makes the engine refuse it, it is
+ * tried again after each event of the session. */
 #include "sessions.h"
 
 #include "log.h"
+#include "words.h"
 
-#include <arpa/inet.h>
 #include <inttypes.h>
 #include <net/if.h>
 #include <stdio.h>
@@ -16,32 +16,14 @@
 #include <string.h>
 #include <sys/random.h>
 
-enum { BUCKETS = 4096, TEXT = 160, CHANGEABLE = 4 };
+enum { BUCKETS = 4096, CHANGEABLE = 4, NAME = 160, CAUSE = 160, CHANGE = 480 };
 static const uint64_t NEVER = UINT64_MAX, SECOND = 1000000, TELL_AGAIN = 5000000;
 static const uint32_t least_interval = 10000, greatest_interval = 60000000;
 static const uint32_t changeable[CHANGEABLE] = {BFDD_TX, BFDD_RX, BFDD_MULT, BFDD_DEMAND};
-static const char *const states[] = {"AdminDown", "Down", "Init", "Up"};
+static const uint8_t no_address[16];
 
-struct session {
-    struct session *next_discr, *next_peer;
-    size_t place; /* in the heap */
-    uint64_t due;
-    bfdd_handle engine;
-    bool is_open;
-    uint64_t base;   /* the moment at which its engine's clock began */
-    uint64_t starts; /* when its hold time has passed */
-    uint64_t ends;   /* when it is removed, unless a connection takes it: NEVER while it has one */
-    uint32_t owner;
-    struct dp_session wanted;
-    bfdd_address local, remote;
-    uint32_t given[CHANGEABLE]; /* what the engine has of the values that commands change */
-    uint32_t active;            /* 1, or 0 for passive: as the engine was opened */
-    struct dp_state state;      /* the own state and what the peer last sent */
-    uint64_t told_at;
-    uint8_t told[DP_STATE_LENGTH];
-    bool is_told; /* FRR has an account of it; false at first, when FRR takes it as Down */
-    struct dp_counters counters;
-};
+/* What the event was that an output came of. */
+enum event { PACKET, TICK, SHOWN, SHUT, ENABLED, ENDED };
 
 struct sessions {
     session_teller *tell;
@@ -150,28 +132,21 @@ static void heap_remove(struct sessions *all, struct session *s) {
     heap_settle(all, last);
 }
 
-/* Telling FRR ---------------------------------------------------------------------------------------------------------- */
+/* Telling -------------------------------------------------------------------------------------------------------------- */
 
-static const char *text_of(const bfdd_address *address, char *text) {
-    return inet_ntop(address->family == 4 ? AF_INET : AF_INET6, address->bytes, text, INET6_ADDRSTRLEN);
-}
-
-/* The session as a log line names it. */
-static const char *name_of(const struct session *s) {
-    static char name[TEXT];
-    char peer[INET6_ADDRSTRLEN];
-    snprintf(name, sizeof name, "session %" PRIu32 " to %s%s%s", s->wanted.discr, text_of(&s->remote, peer),
+const char *session_name(const struct session *s) {
+    static char name[NAME];
+    char peer[ADDRESS_TEXT];
+    snprintf(name, sizeof name, "session %" PRIu32 " to %s%s%s", s->wanted.discr, address_text(&s->remote, peer),
              is_multihop(s) ? " multihop" : s->wanted.ifname[0] ? " on " : "", is_multihop(s) ? "" : s->wanted.ifname);
     return name;
 }
 
-/* Tells FRR the state and the peer's values. Where the connection has no room, the next second tries again. */
-static void tell(struct sessions *all, struct session *s, uint64_t now) {
-    uint8_t bytes[DP_STATE_LENGTH];
-    dp_write_state(bytes, &s->state);
+/* Tells the owner the state and the peer's values. Where there is no room, the next second tries again. */
+static void tell(struct sessions *all, struct session *s, const struct session_change *change, uint64_t now) {
     s->told_at = now;
-    s->is_told = s->owner != NO_OWNER && all->tell(all->context, s->owner, bytes, sizeof bytes);
-    if (s->is_told) memcpy(s->told, bytes, sizeof bytes);
+    s->is_told = all->tell(all->context, s, change);
+    if (s->is_told) dp_write_state(s->told, &s->state);
 }
 
 static bool has_news(const struct session *s) {
@@ -180,63 +155,78 @@ static bool has_news(const struct session *s) {
     return memcmp(bytes, s->told, sizeof bytes) != 0;
 }
 
-static void changed(struct sessions *all, struct session *s, const bfdd_output *out, uint64_t now) {
+/* Why a state changed. An expiry may be found by any event. */
+static const char *cause_of(const struct session *s, const bfdd_output *out, enum event event, uint64_t now, char text[CAUSE]) {
+    static const char *const causes[] = {[SHUT] = "shut down here", [ENABLED] = "no longer shut down here", [ENDED] = "ended here"};
+    uint8_t diagnostic = s->state.diagnostic;
+    if (event == TICK || event == SHOWN || (out->state == BFDD_DOWN && out->diag == 1))
+        snprintf(text, CAUSE, "no packet came for %.3f ms", (double)(now - s->heard) / 1000);
+    else if (event >= SHUT) return causes[event];
+    else if (diagnostic == 0) snprintf(text, CAUSE, "the peer sent %s", state_text(s->peer_state));
+    else snprintf(text, CAUSE, "the peer sent %s, diagnostic %u (%s)", state_text(s->peer_state), diagnostic, diagnostic_text(diagnostic));
+    return text;
+}
+
+static void changed(struct sessions *all, struct session *s, const bfdd_output *out, enum event event, uint64_t now) {
+    char cause[CAUSE], line[CHANGE];
+    struct session_change change = {now, out->was, out->state, out->diag, cause_of(s, out, event, now, cause), line};
+    snprintf(line, sizeof line, "%s: %s to %s, diagnostic %u (%s): %s", session_name(s), state_text(out->was), state_text(out->state),
+             out->diag, diagnostic_text(out->diag), change.cause);
+    say(LOG_INFO, "%s", line);
+    if (out->was == BFDD_UP) s->count.up_for += now - s->since;
+    if (out->state == BFDD_UP) s->count.ups++;
     s->state.state = out->state;
-    say(LOG_INFO, "%s: %s to %s, diagnostic %d", name_of(s), states[out->was], states[out->state], out->diag);
-    tell(all, s, now);
+    s->since = now;
+    tell(all, s, &change, now);
 }
 
 /* Events --------------------------------------------------------------------------------------------------------------- */
 
-/* The moment by the clock of a session's engine. */
-static uint64_t since_base(const struct session *s, uint64_t moment) { return moment > s->base ? moment - s->base : 0; }
-
-static void take_outputs(struct sessions *all, struct session *s, uint64_t now) {
+static void take_outputs(struct sessions *all, struct session *s, enum event event, uint64_t now) {
     bfdd_output out = {0};
-    while (bfdd_next(&s->engine, &out) == BFDD_DONE) {
+    while (engine_next(&s->engine, &out)) {
         if (out.kind == BFDD_CHANGED) {
-            changed(all, s, &out, now);
+            changed(all, s, &out, event, now);
             continue;
         }
-        s->counters.packets_out++;
-        s->counters.bytes_out += out.len;
+        s->count.packets_out++;
+        s->count.bytes_out += out.len;
         sockets_send(&out, s->wanted.ifindex);
     }
 }
 
 /* Gives a command. False where the engine refuses it for a cause that passes. */
-static bool command(struct sessions *all, struct session *s, uint32_t verb, uint32_t value, uint64_t now) {
+static bool command(struct sessions *all, struct session *s, uint32_t verb, uint32_t value, enum event event, uint64_t now) {
     bfdd_answered answer = {0};
-    if (bfdd_command(&s->engine, since_base(s, now), s->wanted.discr, verb, value) != BFDD_DONE) return false;
-    bfdd_answer(&s->engine, &answer);
-    take_outputs(all, s, now);
+    if (!engine_command(&s->engine, verb, value, now, &answer)) return false;
+    take_outputs(all, s, event, now);
     return answer.kind != BFDD_REFUSED || answer.code == BFDD_WRONG_STATE;
 }
 
-/* Gives the engine what FRR has changed, until a Poll Sequence makes it refuse. */
+/* Gives the engine what the owner has changed, until a Poll Sequence makes it refuse. */
 static void give_changes(struct sessions *all, struct session *s, uint64_t now) {
     const uint32_t values[CHANGEABLE] = {s->wanted.tx, s->wanted.rx, s->wanted.mult, (s->wanted.flags & DP_DEMAND) != 0};
     for (size_t i = 0; i < CHANGEABLE; i++) {
-        if (s->given[i] != values[i] && command(all, s, changeable[i], values[i], now)) s->given[i] = values[i];
+        if (s->given[i] != values[i] && command(all, s, changeable[i], values[i], TICK, now)) s->given[i] = values[i];
     }
     bool is_shut = s->state.state == BFDD_ADMIN_DOWN, wants_shut = (s->wanted.flags & DP_SHUTDOWN) != 0;
-    if (is_shut != wants_shut) command(all, s, wants_shut ? BFDD_DISABLE : BFDD_ENABLE, 0, now);
+    if (is_shut != wants_shut) command(all, s, wants_shut ? BFDD_DISABLE : BFDD_ENABLE, 0, wants_shut ? SHUT : ENABLED, now);
 }
 
-/* After an event of an open session: its outputs, what FRR has changed meanwhile, and its next tick. */
-static void finish(struct sessions *all, struct session *s, uint64_t now) {
-    uint64_t due = 0;
-    take_outputs(all, s, now);
+/* After an event of an open session: its outputs, what its owner has changed meanwhile, and its next tick. */
+static void finish(struct sessions *all, struct session *s, enum event event, uint64_t now) {
+    take_outputs(all, s, event, now);
     give_changes(all, s, now);
-    s->due = bfdd_due(&s->engine, &due) == BFDD_DONE ? s->base + due * 1000 : NEVER;
+    s->due = engine_due(&s->engine);
     heap_settle(all, s);
 }
 
 static uint32_t get32(const uint8_t *at) { return (uint32_t)at[0] << 24 | (uint32_t)at[1] << 16 | (uint32_t)at[2] << 8 | at[3]; }
 
-/* Keeps what FRR is told of the peer, from a control packet that the engine has accepted (RFC 5880 section 4.1). */
-static void keep_peer(struct session *s, const uint8_t *payload) {
+/* Keeps what the owner is told of the peer, from a control packet that the engine has taken (RFC 5880 section 4.1). */
+static void keep_peer(struct session *s, const uint8_t *payload, size_t length) {
     uint32_t c = payload[1] >> 3 & 1u, d = payload[1] >> 1 & 1u, m = payload[1] & 1u;
+    s->peer_state = payload[1] >> 6;
     s->state.diagnostic = payload[0] & 31;
     s->state.peer_flags = c * DP_PEER_C | d * DP_PEER_DEMAND | m * DP_PEER_MULTIPOINT;
     s->state.peer_mult = payload[2];
@@ -244,80 +234,68 @@ static void keep_peer(struct session *s, const uint8_t *payload) {
     s->state.peer_tx = get32(payload + 12);
     s->state.peer_rx = get32(payload + 16);
     s->state.peer_echo_rx = get32(payload + 20);
+    s->count.packets_in++;
+    s->count.bytes_in += length;
 }
 
 static void say_dropped(const struct arrival *arrival, const char *cause) {
-    char from[INET6_ADDRSTRLEN];
-    say(LOG_DEBUG, "a packet from %s was dropped: %s", text_of(&arrival->packet.src, from), cause);
+    char from[ADDRESS_TEXT];
+    say(LOG_DEBUG, "a packet from %s was dropped: %s", address_text(&arrival->packet.src, from), cause);
 }
 
 void sessions_receive(struct sessions *all, const struct arrival *arrival) {
     struct session *s = find_for(all, arrival);
-    bfdd_packet packet = arrival->packet;
+    uint64_t now = arrival->packet.moment;
     bfdd_answered answer = {0};
     if (!s) return say_dropped(arrival, "no session");
-    if (is_multihop(s) && packet.ttl < s->wanted.least_ttl) return say_dropped(arrival, "TTL below the least one");
-    packet.moment = since_base(s, arrival->packet.moment);
-    uint32_t code = bfdd_receive(&s->engine, &packet, arrival->payload, arrival->length);
-    if (code != BFDD_DONE) return say_dropped(arrival, "not received by the engine");
-    bfdd_answer(&s->engine, &answer);
-    if (answer.kind == BFDD_HANDLED) {
-        s->counters.packets_in++;
-        s->counters.bytes_in += arrival->length;
-        keep_peer(s, arrival->payload);
-    } else {
-        say_dropped(arrival, answer.name);
-    }
-    finish(all, s, arrival->packet.moment);
-    if (s->state.state == BFDD_UP && has_news(s)) tell(all, s, arrival->packet.moment);
+    if (is_multihop(s) && arrival->packet.ttl < s->wanted.least_ttl) return say_dropped(arrival, "TTL below the least one");
+    if (!engine_receive(&s->engine, arrival->packet, arrival->payload, arrival->length, &answer))
+        return say_dropped(arrival, "not received by the engine");
+    bool is_taken = answer.kind == BFDD_HANDLED;
+    if (is_taken) keep_peer(s, arrival->payload, arrival->length);
+    else say_dropped(arrival, answer.name);
+    finish(all, s, PACKET, now);
+    if (is_taken) s->heard = now;
+    if (s->state.state == BFDD_UP && has_news(s)) tell(all, s, NULL, now);
 }
 
 /* Opening and closing -------------------------------------------------------------------------------------------------- */
 
-/* Whether FRR has given a source address. */
-static bool has_source(const struct dp_session *wanted) {
-    static const uint8_t none[16];
-    return memcmp(wanted->source, none, sizeof none) != 0;
-}
-
 static void open_engine(struct session *s, uint64_t now) {
     bfdd_session config = {.kind = is_multihop(s) ? BFDD_MULTIHOP : BFDD_SINGLE_HOP, .discr = s->wanted.discr, .other = 1,
                            .local = s->local, .remote = s->remote, .active = (s->wanted.flags & DP_PASSIVE) == 0,
-                           .tx = s->wanted.tx, .rx = s->wanted.rx, .mult = s->wanted.mult, .key_len = 1};
+                           .tx = s->wanted.tx, .rx = s->wanted.rx, .mult = s->wanted.mult, .auth = s->key.type,
+                           .key_id = s->key.id, .key_len = s->key.type ? s->key.length : 1};
+    memcpy(config.key, s->key.bytes, sizeof config.key);
     if (getrandom(&config.seed, sizeof config.seed, 0) != sizeof config.seed) config.seed = (uint32_t)now;
-    uint32_t code = bfdd_open_session(&s->engine, &config);
+    uint32_t code = engine_open(&s->engine, &config, now);
     s->is_open = code == BFDD_DONE;
-    if (!s->is_open) return say(LOG_ERROR, "%s wasn't opened: code %" PRIu32, name_of(s), code);
-    s->base = now;
+    if (!s->is_open) return say(LOG_ERROR, "%s wasn't opened: code %" PRIu32, session_name(s), code);
     s->active = config.active;
+    s->since = now;
     s->state = (struct dp_state){.discr = s->wanted.discr, .state = BFDD_DOWN};
     const uint32_t given[CHANGEABLE] = {config.tx, config.rx, config.mult, 0};
     memcpy(s->given, given, sizeof given);
-    say(LOG_INFO, "%s begins", name_of(s));
+    say(LOG_INFO, "%s begins", session_name(s));
 }
 
 /* Opens a session whose hold time has passed. Where the system has no route to the peer, the next second tries again. */
 static void open_session(struct sessions *all, struct session *s, uint64_t now) {
+    bool has_source = memcmp(s->wanted.source, no_address, sizeof no_address) != 0;
     s->due = NEVER;
-    if (has_source(&s->wanted)) {
-        s->local = (bfdd_address){.family = s->remote.family};
-        memcpy(s->local.bytes, s->wanted.source, s->remote.family == 4 ? 4 : 16);
-        open_engine(s, now);
-    } else if (sockets_source(&s->remote, s->wanted.ifindex, &s->local)) {
-        open_engine(s, now);
-    }
-    if (s->is_open) finish(all, s, now);
+    s->local.family = s->remote.family;
+    memcpy(s->local.bytes, s->wanted.source, sizeof s->local.bytes);
+    if (has_source || sockets_source(&s->remote, s->wanted.ifindex, &s->local)) open_engine(s, now);
+    if (s->is_open) finish(all, s, ENABLED, now);
     else heap_settle(all, s);
 }
 
 /* Removes a session, which sends AdminDown once. */
 static void close_session(struct sessions *all, struct session *s, uint64_t now) {
-    if (s->is_open) {
-        s->owner = NO_OWNER; /* FRR has ended it, and is told no more */
-        command(all, s, BFDD_DISABLE, 0, now);
-    }
-    say(LOG_INFO, "%s ends", name_of(s));
-    bfdd_close(&s->engine);
+    s->owner = NO_OWNER; /* FRR has ended it, and is told no more */
+    if (s->is_open) command(all, s, BFDD_DISABLE, 0, ENDED, now);
+    say(LOG_INFO, "%s ends", session_name(s));
+    engine_close(&s->engine);
     leave_tables(all, s);
     heap_remove(all, s);
     free(s);
@@ -327,9 +305,8 @@ static void close_session(struct sessions *all, struct session *s, uint64_t now)
 
 /* Why a session can't be, or NULL. */
 static const char *fault_of(const struct dp_session *wanted) {
-    static const uint8_t none[16];
     if (wanted->discr == 0) return "its discriminator is 0";
-    if (memcmp(wanted->destination, none, sizeof none) == 0) return "it has no destination";
+    if (memcmp(wanted->destination, no_address, sizeof no_address) == 0) return "it has no destination";
     if (wanted->tx < least_interval || wanted->tx > greatest_interval) return "Desired Min TX is below 10 ms or above 60 s";
     if (wanted->rx < least_interval || wanted->rx > greatest_interval) return "Required Min RX is below 10 ms or above 60 s";
     if (wanted->mult == 0) return "Detect Mult is 0";
@@ -350,12 +327,20 @@ static struct session *find_rival(const struct sessions *all, const struct sessi
     return it;
 }
 
-static void add_new(struct sessions *all, uint32_t owner, const struct dp_session *wanted, uint64_t now) {
+/* Packets of an interface in a VRF reach sockets that are bound to none where the system allows it. */
+static void warn_of_vrf(const struct session *s) {
+    if (!sockets_reach(s->wanted.ifindex))
+        say(LOG_WARNING, "%s: its interface is in a VRF, so nothing is received while net.ipv4.udp_l3mdev_accept is 0", session_name(s));
+}
+
+static void add_new(struct sessions *all, uint32_t owner, const struct dp_session *wanted, const struct session_key *key, uint64_t now) {
     struct session *s = all->count < MOST_SESSIONS ? calloc(1, sizeof *s) : NULL, *rival;
     if (!s) return say(LOG_ERROR, "session %" PRIu32 " refused: no memory, or too many", wanted->discr);
     s->wanted = *wanted;
+    if (key) s->key = *key;
     s->owner = owner;
     s->ends = NEVER;
+    s->begun = now;
     s->starts = s->due = now + (uint64_t)wanted->hold_ms * 1000;
     s->remote.family = (wanted->flags & DP_IPV6) ? 6 : 4;
     memcpy(s->remote.bytes, wanted->destination, s->remote.family == 4 ? 4 : 16);
@@ -363,11 +348,12 @@ static void add_new(struct sessions *all, uint32_t owner, const struct dp_sessio
     if (!heap_add(all, s)) return free(s), say(LOG_ERROR, "session %" PRIu32 " refused: no memory", wanted->discr);
     enter_tables(all, s);
     if ((rival = find_rival(all, s))) close_session(all, rival, now);
-    if (wanted->flags & DP_ECHO) say(LOG_WARNING, "%s: echo packets aren't sent here; control packets alone watch it", name_of(s));
+    warn_of_vrf(s);
+    if (wanted->flags & DP_ECHO) say(LOG_WARNING, "%s: echo packets aren't sent here; control packets alone watch it", session_name(s));
     if (s->starts <= now) open_session(all, s, now);
 }
 
-void sessions_add(struct sessions *all, uint32_t owner, const struct dp_session *given, uint64_t now) {
+void sessions_add(struct sessions *all, uint32_t owner, const struct dp_session *given, const struct session_key *key, uint64_t now) {
     struct dp_session wanted = *given;
     struct session *s = find(all, wanted.discr);
     const char *fault = fault_of(&wanted);
@@ -377,14 +363,14 @@ void sessions_add(struct sessions *all, uint32_t owner, const struct dp_session 
         close_session(all, s, now);
         s = NULL;
     }
-    if (!s) return add_new(all, owner, &wanted, now);
+    if (!s) return add_new(all, owner, &wanted, key, now);
     bool is_taken = s->owner != owner;
     s->wanted = wanted;
     s->owner = owner;
     s->ends = NEVER;
-    say(LOG_DEBUG, "%s was given its values again", name_of(s));
-    if (s->is_open) finish(all, s, now);
-    if (is_taken && s->state.state == BFDD_UP) tell(all, s, now);
+    say(LOG_DEBUG, "%s was given its values again", session_name(s));
+    if (s->is_open) finish(all, s, TICK, now);
+    if (is_taken && s->state.state == BFDD_UP) tell(all, s, NULL, now);
 }
 
 void sessions_remove(struct sessions *all, uint32_t discr, uint64_t now) {
@@ -421,7 +407,7 @@ void sessions_lost(struct sessions *all, uint32_t owner, uint64_t now) {
 
 /* Time ----------------------------------------------------------------------------------------------------------------- */
 
-/* What a second may have changed for a session: a route to its peer, its mode, room to tell FRR. FRR sets a session Down on
+/* What a second may have changed for a session: a route to its peer, its mode, room to tell its owner. FRR sets a session Down on
  * its own side when one of several users leaves it, so Up is told again every few seconds. */
 static void second(struct sessions *all, struct session *s, uint64_t now) {
     bool is_up = s->state.state == BFDD_UP, is_active = (s->wanted.flags & DP_PASSIVE) == 0;
@@ -429,9 +415,10 @@ static void second(struct sessions *all, struct session *s, uint64_t now) {
     if (!s->is_open) return;
     if (s->state.state == BFDD_DOWN && is_active != (s->active == 1)) {
         open_engine(s, now);
-        if (s->is_open) finish(all, s, now);
+        if (s->is_open) finish(all, s, TICK, now);
     }
-    if (s->told_at && (!s->is_told || (is_up && now - s->told_at >= TELL_AGAIN))) tell(all, s, now);
+    record_flush(&s->engine.record);
+    if (s->told_at && (!s->is_told || (is_up && now - s->told_at >= TELL_AGAIN))) tell(all, s, NULL, now);
 }
 
 static void chores(struct sessions *all, uint64_t now) {
@@ -442,12 +429,8 @@ static void chores(struct sessions *all, uint64_t now) {
 
 static void tick_one(struct sessions *all, struct session *s, uint64_t now) {
     if (!s->is_open) return open_session(all, s, now);
-    uint64_t ms = since_base(s, now) / 1000;
-    bfdd_tick(&s->engine, ms);
-    finish(all, s, now);
-    if (s->due > now) return;
-    s->due = s->base + (ms + 1) * 1000; /* needed again at once: by the next tick */
-    heap_settle(all, s);
+    engine_tick(&s->engine, now);
+    finish(all, s, TICK, now);
 }
 
 void sessions_tick(struct sessions *all, uint64_t now) {
@@ -462,23 +445,18 @@ uint64_t sessions_due(const struct sessions *all) {
 
 /* Questions ------------------------------------------------------------------------------------------------------------ */
 
-struct dp_counters sessions_counters(const struct sessions *all, uint32_t discr) {
-    const struct session *s = find(all, discr);
-    return s ? s->counters : (struct dp_counters){0};
-}
+const struct session *sessions_find(const struct sessions *all, uint32_t discr) { return find(all, discr); }
 
-static void list_one(struct sessions *all, struct session *s, uint64_t now) {
-    bfdd_answered shown = {0};
-    if (!s->is_open || bfdd_show(&s->engine, since_base(s, now), s->wanted.discr) != BFDD_DONE)
-        return say(LOG_REPORT, "%s: not begun", name_of(s));
-    bfdd_answer(&s->engine, &shown);
-    finish(all, s, now);
-    say(LOG_REPORT, "%s: %s, peer %s, sends every %" PRIu32 " us, Detection Time %" PRIu64 " us, packets %" PRIu64 " in %" PRIu64 " out",
-        name_of(s), states[shown.state & 3], states[shown.remote_state & 3], shown.used_tx, shown.detect, s->counters.packets_in,
-        s->counters.packets_out);
+void sessions_view(struct sessions *all, session_viewer *view, void *context, uint64_t now) {
+    for (size_t i = 0; i < BUCKETS; i++) {
+        for (struct session *s = all->by_discr[i]; s; s = s->next_discr) {
+            bfdd_answered shown = {0};
+            bool is_shown = s->is_open && engine_show(&s->engine, now, &shown);
+            if (s->is_open) finish(all, s, SHOWN, now);
+            view(context, s, is_shown ? &shown : NULL, now);
+        }
+    }
 }
-
-void sessions_list(struct sessions *all, uint64_t now) { for_each(all, list_one, now); }
 
 struct sessions *sessions_new(session_teller *tell, void *context, uint64_t keep) {
     struct sessions *all = calloc(1, sizeof *all);

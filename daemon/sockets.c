@@ -3,17 +3,22 @@
 #include "sockets.h"
 
 #include "log.h"
+#include "loop.h"
+#include "words.h"
 
+#include <arpa/inet.h>
 #include <errno.h>
 #include <inttypes.h>
 #include <net/if.h>
 #include <netinet/in.h>
 #include <string.h>
 #include <sys/socket.h>
+#include <stdio.h>
 #include <time.h>
 #include <unistd.h>
 
-enum { BATCH = 64, ROUNDS = 64, CONTROL_ROOM = 128, TTL = 255, TOS = 0xc0, BUFFER = 4 << 20 };
+enum { SOCKETS = 4, PAYLOAD_ROOM = 256, BATCH = 64, ROUNDS = 64, CONTROL_ROOM = 128, TTL = 255, TOS = 0xc0, BUFFER = 4 << 20 };
+enum { PAUSE = 30000000 }; /* microseconds between two warnings of packets that weren't sent */
 /* RFC 5881 section 4: source ports. FRR's bfdd holds one for each session that it made before a data plane came. */
 enum { FIRST_SOURCE_PORT = 49152, LAST_SOURCE_PORT = 65535 };
 
@@ -50,17 +55,11 @@ struct sender {
 static int receiving[SOCKETS];
 static uint64_t drained[SOCKETS]; /* when each was read empty: what comes later has come after it */
 static struct batch incoming;
+static arrival_taker *take_arrival;
+static void *take_context;
 static struct sender senders[2]; /* IPv4, IPv6 */
 
 static uint64_t microseconds(const struct timespec *t) { return (uint64_t)t->tv_sec * 1000000 + (uint64_t)t->tv_nsec / 1000; }
-
-static uint64_t clock_of(clockid_t clock) {
-    struct timespec t;
-    clock_gettime(clock, &t);
-    return microseconds(&t);
-}
-
-uint64_t clock_now(void) { return clock_of(CLOCK_MONOTONIC); }
 
 /* Makes a message ready to receive: the kernel has written what it used of the room. */
 static void give_room(struct msghdr *message) {
@@ -115,21 +114,6 @@ static bool open_or_say(int family, uint32_t port, uint32_t last, int *fd) {
     return false;
 }
 
-bool sockets_open(int receivers[SOCKETS]) {
-    batch_begin(&incoming);
-    for (int i = 0; i < SOCKETS; i++) {
-        if (!open_or_say(kinds[i].family, kinds[i].udp, kinds[i].udp, &receiving[i])) return false;
-        receivers[i] = receiving[i];
-        drained[i] = clock_now();
-    }
-    for (int i = 0; i < 2; i++) {
-        batch_begin(&senders[i].batch);
-        if (!open_or_say(i == 0 ? AF_INET : AF_INET6, FIRST_SOURCE_PORT, LAST_SOURCE_PORT, &senders[i].fd)) return false;
-        if (senders[i].fd >= 0) set(senders[i].fd, SOL_SOCKET, SO_RCVBUF, 0); /* nothing is read from it */
-    }
-    return true;
-}
-
 /* What the kernel says of a packet: TTL, interface, own address, and the time at which it came, 0 where it says none. */
 static uint64_t read_control(struct msghdr *message, struct arrival *arrival) {
     uint64_t stamp = 0;
@@ -160,7 +144,7 @@ static uint64_t read_control(struct msghdr *message, struct arrival *arrival) {
 
 /* The packet at this place of the batch. Its moment is that at which the kernel received it, so that a late reading takes no
  * session down; the clock of that time may be set, so it counts only between the last reading of the socket and now. */
-static void arrived(int place, unsigned i, uint64_t now, uint64_t wall, struct arrival *arrival) {
+static void arrived(uint32_t place, unsigned i, uint64_t now, uint64_t wall, struct arrival *arrival) {
     const union name *from = &incoming.names[i];
     bfdd_packet *packet = &arrival->packet;
     *arrival = (struct arrival){.payload = incoming.payloads[i], .length = incoming.messages[i].msg_len};
@@ -178,26 +162,55 @@ static void arrived(int place, unsigned i, uint64_t now, uint64_t wall, struct a
     }
 }
 
-void sockets_receive(int place, arrival_taker *take, void *context) {
+/* Hands over each packet that has come on this socket. */
+static void receive(uint32_t place, uint64_t now) {
     int got = BATCH;
     for (int round = 0; got == BATCH && round < ROUNDS; round++) {
         got = recvmmsg(receiving[place], incoming.messages, BATCH, 0, NULL);
-        uint64_t now = clock_now(), wall = clock_of(CLOCK_REALTIME);
+        uint64_t wall = clock_wall();
+        now = clock_now();
         for (int i = 0; i < got; i++) {
             struct arrival arrival;
             arrived(place, (unsigned)i, now, wall, &arrival);
-            take(context, &arrival);
+            take_arrival(take_context, &arrival);
             give_room(&incoming.messages[i].msg_hdr);
         }
         if (got < BATCH) drained[place] = now;
     }
 }
 
+bool sockets_open(arrival_taker *take, void *context) {
+    take_arrival = take;
+    take_context = context;
+    batch_begin(&incoming);
+    for (uint32_t i = 0; i < SOCKETS; i++) {
+        if (!open_or_say(kinds[i].family, kinds[i].udp, kinds[i].udp, &receiving[i])) return false;
+        if (receiving[i] >= 0) loop_await(receiving[i], LOOP_PACKETS, i, EPOLLIN, receive);
+        drained[i] = clock_now();
+    }
+    for (int i = 0; i < 2; i++) {
+        batch_begin(&senders[i].batch);
+        if (!open_or_say(i == 0 ? AF_INET : AF_INET6, FIRST_SOURCE_PORT, LAST_SOURCE_PORT, &senders[i].fd)) return false;
+        if (senders[i].fd >= 0) set(senders[i].fd, SOL_SOCKET, SO_RCVBUF, 0); /* nothing is read from it */
+    }
+    return true;
+}
+
+/* Says that a packet wasn't sent: a warning once in a while, since each packet to a peer may fail. */
+static void say_unsent(const union name *to, const char *cause) {
+    static uint64_t next;
+    char text[ADDRESS_TEXT];
+    bool is_v4 = to->any.sa_family == AF_INET, warns = clock_now() >= next;
+    inet_ntop(to->any.sa_family, is_v4 ? (const void *)&to->v4.sin_addr : (const void *)&to->v6.sin6_addr, text, sizeof text);
+    say(warns ? LOG_WARNING : LOG_DEBUG, "a packet to %s wasn't sent: %s", text, cause);
+    if (warns) next = clock_now() + PAUSE;
+}
+
 static void flush(struct sender *sender) {
     struct batch *batch = &sender->batch;
     for (unsigned at = 0; at < batch->count;) {
         int sent = sendmmsg(sender->fd, batch->messages + at, batch->count - at, 0);
-        if (sent < 0) say(LOG_DEBUG, "a packet wasn't sent: %s", strerror(errno));
+        if (sent < 0) say_unsent(&batch->names[at], strerror(errno));
         at += sent > 0 ? (unsigned)sent : 1;
     }
     batch->count = 0;
@@ -265,4 +278,21 @@ bool sockets_source(const bfdd_address *to, uint32_t ifindex, bfdd_address *sour
     *source = (bfdd_address){.family = to->family};
     memcpy(source->bytes, is_v4 ? (void *)&name.v4.sin_addr : (void *)&name.v6.sin6_addr, is_v4 ? 4 : 16);
     return true;
+}
+
+/* Whether a file of the system has this text near its beginning. */
+static bool file_has(const char *path, const char *text) {
+    char bytes[256];
+    FILE *file = fopen(path, "re");
+    if (!file) return false;
+    bytes[fread(bytes, 1, sizeof bytes - 1, file)] = 0;
+    fclose(file);
+    return strstr(bytes, text) != NULL;
+}
+
+bool sockets_reach(uint32_t ifindex) {
+    char interface[IF_NAMESIZE], path[64];
+    if (!if_indextoname(ifindex, interface)) return true;
+    snprintf(path, sizeof path, "/sys/class/net/%s/master/uevent", interface);
+    return !file_has(path, "DEVTYPE=vrf") || file_has("/proc/sys/net/ipv4/udp_l3mdev_accept", "1");
 }

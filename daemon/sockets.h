@@ -2,12 +2,10 @@
  *
  * Packets are received and sent many at a time, without an allocation. One socket of each family and port receives on every
  * interface, and one of each family sends; the kernel gives a packet's interface, address, TTL and time beside it. */
-#ifndef BFDD_DPLANE_SOCKETS_H
-#define BFDD_DPLANE_SOCKETS_H
+#ifndef BFDD_SOCKETS_H
+#define BFDD_SOCKETS_H
 
 #include <bfdd.h>
-
-enum { SOCKETS = 4, PAYLOAD_ROOM = 256 };
 
 /* A packet that came. Its interface is not the engine's number but the system's. */
 struct arrival {
@@ -19,15 +17,9 @@ struct arrival {
 
 typedef void arrival_taker(void *context, const struct arrival *arrival);
 
-/* Microseconds of a clock that doesn't go back. */
-uint64_t clock_now(void);
-
-/* Opens all sockets. False after an error line. The descriptors to be awaited are in `receivers`, -1 where the system has no
- * such family. */
-bool sockets_open(int receivers[SOCKETS]);
-
-/* Hands over each packet that has come on this socket. */
-void sockets_receive(int place, arrival_taker *take, void *context);
+/* Opens all sockets, whose packets the loop hands over from then on. A family that the system doesn't have is left out. False
+ * after an error line. */
+bool sockets_open(arrival_taker *take, void *context);
 
 /* Queues a packet; 0 is no interface. The queue is sent when it is full, and by sockets_flush. */
 void sockets_send(const bfdd_output *out, uint32_t ifindex);
@@ -35,5 +27,8 @@ void sockets_flush(void);
 
 /* The address from which the system would send to this one, by its routing table. False where it has no route. */
 bool sockets_source(const bfdd_address *to, uint32_t ifindex, bfdd_address *source);
+
+/* Whether packets of this interface reach the sockets: not where it is in a VRF that the system keeps apart. */
+bool sockets_reach(uint32_t ifindex);
 
 #endif

@@ -1,0 +1,64 @@
+/* bfdd-dplane: a data plane for FRR's bfdd, on the library libbfdd.
+ *
+ *     FRR's bfdd <- link <- control -> sessions -> engine -> libbfdd, and sockets for its packets
+ *
+ * There is one thread: see loop.h. Nothing is allocated for a packet. */
+#define _GNU_SOURCE
+#include "control.h"
+#include "front.h"
+
+#include <stdlib.h>
+#include <string.h>
+#include <sys/socket.h>
+#include <sys/un.h>
+#include <unistd.h>
+
+enum { LONGEST_KEEP = 86400 };
+
+static const char usage[] =
+    "usage: bfdd-dplane [OPTION].. ADDRESS\n"
+    "\n"
+    "A data plane for FRR: it runs the BFD sessions of FRR's bfdd, which is started with --dplaneaddr ADDRESS.\n"
+    "ADDRESS is unix:PATH, ipv4:A[:PORT] or ipv6:[A][:PORT]; the port is 50700 where none is given.\n"
+    "\n"
+    "  --listen         wait for FRR to connect, where it is started with unixc:, ipv4c: or ipv6c:\n"
+    "  --keep SECONDS   let sessions go on so long after the connection to FRR was lost; 0, the default, ends them at once\n"
+    FRONT_USAGE("info")
+    "\n"
+    "SIGUSR1 writes a line for each session, SIGHUP turns the level debug on and off, SIGTERM and SIGINT end the program,\n"
+    "after each session has sent AdminDown. See bfdd-dplane(8).\n";
+
+static bool listens;
+static uint64_t keep; /* seconds */
+
+static bool take_option(int option, const char *value) {
+    if (option == 'l') return listens = true;
+    return front_number(value, 0, LONGEST_KEEP, &keep);
+}
+
+/* Says to systemd that the program is ready, where it asks for that. */
+static void notify_ready(void) {
+    const char *path = getenv("NOTIFY_SOCKET"), text[] = "READY=1";
+    struct endpoint systemd;
+    if (!path || !endpoint_unix(path, &systemd)) return;
+    struct sockaddr_un *at = (struct sockaddr_un *)&systemd.address;
+    if (*path == '@') at->sun_path[0] = 0;
+    int fd = socket(AF_UNIX, SOCK_DGRAM | SOCK_CLOEXEC, 0);
+    if (fd < 0) return;
+    sendto(fd, text, sizeof text - 1, 0, (struct sockaddr *)at, (socklen_t)(offsetof(struct sockaddr_un, sun_path) + strlen(path)));
+    close(fd);
+}
+
+int main(int count, char **words) {
+    static const struct option known[] = {
+        {"listen", no_argument, NULL, 'l'}, {"keep", required_argument, NULL, 'k'}, FRONT_OPTIONS};
+    struct endpoint endpoint;
+    front_read(count, words, known, take_option, usage);
+    if (optind + 1 != count || !endpoint_parse(words[optind], &endpoint)) front_fault(usage);
+    struct sessions *sessions = front_open(control_tell, keep * 1000000, stderr, false);
+    if (!control_open(&endpoint, listens, sessions)) return 1;
+    notify_ready();
+    front_run(control_round);
+    front_close();
+    return 0;
+}

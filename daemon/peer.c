@@ -1,0 +1,278 @@
+/* bfdd-peer: BFD sessions of this host without a routing daemon, on the library libbfdd.
+ *
+ *     words or a table -> sessions -> engine -> libbfdd, and sockets for its packets
+ *
+ * Each change of a session's state is a line on standard output, and may run a command. */
+#define _GNU_SOURCE
+#include "front.h"
+#include "view.h"
+#include "words.h"
+
+#include <arpa/inet.h>
+#include <errno.h>
+#include <fcntl.h>
+#include <inttypes.h>
+#include <net/if.h>
+#include <signal.h>
+#include <spawn.h>
+#include <stdlib.h>
+#include <string.h>
+#include <sys/random.h>
+#include <unistd.h>
+
+enum { OWNER = 1, WORD = 48, TYPED = 256 };
+
+static const char usage[] =
+    "usage: bfdd-peer [OPTION].. LOCAL REMOTE\n"
+    "       bfdd-peer [OPTION].. TABLE\n"
+    "\n"
+    "Runs the BFD session of these two IPv4 or IPv6 addresses, or those of a table: a packet file without events. It writes a\n"
+    "line for each change of a session's state, and goes on until SIGINT or SIGTERM; then each session sends AdminDown.\n"
+    "\n"
+    "  --multihop       over several hops (port 4784), not one (port 3784)\n"
+    "  --interface IF   the interface, which a link-local address needs\n"
+    "  --tx MS          Desired Min TX Interval, 10 to 60000 milliseconds; 300 if not given\n"
+    "  --rx MS          Required Min RX Interval, likewise\n"
+    "  --mult N         Detect Mult, 1 to 255; 3 if not given\n"
+    "  --passive        send nothing before the peer is heard\n"
+    "  --auth TYPE:ID:KEYFILE  authenticate by the Auth Type 1 to 5, the key's number 0 to 255, and the key in this file\n"
+    "  --json           write lines of JSON\n"
+    "  --on-change COMMAND  run this by the shell at each change; BFDD_PEER, BFDD_STATE and others tell it which\n"
+    FRONT_USAGE("warning")
+    "\n"
+    "SIGUSR1, or Enter at a terminal, writes a line for each session. See bfdd-peer(1).\n";
+
+/* A session that is to be run. */
+struct entry {
+    struct dp_session wanted;
+    struct session_key key;
+};
+
+static struct entry given = {.wanted = {.tx = 300000, .rx = 300000, .mult = 3}}; /* as the options have it */
+static struct entry *entries;
+static size_t count_entries;
+static bool json;
+static const char *command;
+
+static void fail(const char *what, const char *cause) {
+    say(LOG_ERROR, "%s: %s", what, cause);
+    exit(1);
+}
+
+/* Options -------------------------------------------------------------------------------------------------------------- */
+
+static bool read_ms(const char *text, uint32_t *us) {
+    uint64_t number;
+    if (!front_number(text, 10, 60000, &number)) return false;
+    *us = (uint32_t)number * 1000;
+    return true;
+}
+
+/* The key that a file has, but for a line's end behind it. */
+static bool read_key(const char *path, struct session_key *key) {
+    uint8_t bytes[sizeof key->bytes + 2];
+    FILE *file = fopen(path, "re");
+    if (!file) fail(path, strerror(errno));
+    key->length = (uint32_t)fread(bytes, 1, sizeof bytes, file);
+    fclose(file);
+    if (key->length > 0 && bytes[key->length - 1] == '\n') key->length--;
+    if (key->length < 1 || key->length > (key->type < 4 ? 16 : 20)) return false;
+    memcpy(key->bytes, bytes, key->length);
+    return true;
+}
+
+/* Reads TYPE:ID:KEYFILE. */
+static bool read_auth(const char *text, struct session_key *key) {
+    int end = 0;
+    if (sscanf(text, "%1" SCNu32 ":%3" SCNu32 ":%n", &key->type, &key->id, &end) != 2 || end == 0) return false;
+    return key->type >= 1 && key->type <= 5 && key->id <= 255 && read_key(text + end, key);
+}
+
+static bool take_option(int option, const char *value) {
+    uint64_t number = 0;
+    switch (option) {
+    case 'm': given.wanted.flags |= DP_MULTIHOP; return true;
+    case 'p': given.wanted.flags |= DP_PASSIVE; return true;
+    case 't': return read_ms(value, &given.wanted.tx);
+    case 'r': return read_ms(value, &given.wanted.rx);
+    case 'a': return read_auth(value, &given.key);
+    case 'j': return json = true;
+    case 'c': return (command = value);
+    case 'n':
+        if (!front_number(value, 1, 255, &number)) return false;
+        given.wanted.mult = (uint8_t)number;
+        return true;
+    default:
+        given.wanted.ifindex = if_nametoindex(value);
+        if (given.wanted.ifindex == 0) fail(value, "no such interface");
+        snprintf(given.wanted.ifname, sizeof given.wanted.ifname, "%s", value);
+        return true;
+    }
+}
+
+/* Sessions ------------------------------------------------------------------------------------------------------------- */
+
+static void add_entry(const struct entry *entry) {
+    struct entry *more = realloc(entries, (count_entries + 1) * sizeof *entries);
+    if (!more) fail("the sessions", strerror(ENOMEM));
+    entries = more;
+    entries[count_entries++] = *entry;
+}
+
+/* The session of two addresses of one family. */
+static bool take_words(const char *local, const char *remote) {
+    struct dp_session *s = &given.wanted;
+    if (strchr(remote, ':')) s->flags |= DP_IPV6;
+    int family = s->flags & DP_IPV6 ? AF_INET6 : AF_INET;
+    if (inet_pton(family, local, s->source) != 1 || inet_pton(family, remote, s->destination) != 1) return false;
+    if (s->destination[0] == 0xfe && (s->destination[1] & 0xc0) == 0x80 && family == AF_INET6 && s->ifindex == 0)
+        fail(remote, "a link-local address needs --interface");
+    while (s->discr == 0) {
+        if (getrandom(&s->discr, sizeof s->discr, 0) != sizeof s->discr) fail("getrandom", strerror(errno));
+    }
+    add_entry(&given);
+    return true;
+}
+
+static size_t read_hex(const char *text, uint8_t *bytes, size_t room) {
+    size_t count = 0;
+    while (count < room && sscanf(text + 2 * count, "%2hhx", &bytes[count]) == 1) count++;
+    return count;
+}
+
+/* An address of a packet file. Whether it is one of IPv6. */
+static bool read_address(const char *text, uint8_t bytes[16]) {
+    if (inet_pton(AF_INET, text, bytes) == 1) return false;
+    return read_hex(text, bytes, 16) == 16;
+}
+
+/* The session of a line `p2p`, which the engine has found to be one. */
+static void take_p2p(const char *line) {
+    struct entry entry = {0};
+    struct dp_session *s = &entry.wanted;
+    char hops[8], local[WORD], remote[WORD], mode[8];
+    uint32_t mult, echo;
+    sscanf(line, "p2p %" SCNu32 " %7s %" SCNu32 " %47s %47s %7s %" SCNu32 " %" SCNu32 " %" SCNu32 " %" SCNu32, &s->discr, hops,
+           &s->ifindex, local, remote, mode, &s->tx, &s->rx, &mult, &echo);
+    read_address(local, s->source);
+    s->flags = (read_address(remote, s->destination) ? DP_IPV6 : 0u) | (*hops == 'm' ? DP_MULTIHOP : 0u) | (echo ? DP_ECHO : 0u)
+               | (*mode == 'p' ? DP_PASSIVE : 0u);
+    s->mult = (uint8_t)mult;
+    if (s->ifindex && !if_indextoname(s->ifindex, s->ifname)) fail(line, "no interface has this number");
+    add_entry(&entry);
+}
+
+/* The key of a line `auth`, for a session of an earlier line. */
+static void take_auth(const char *line) {
+    struct session_key key = {0};
+    uint32_t discr;
+    char secret[WORD];
+    sscanf(line, "auth %" SCNu32 " %" SCNu32 " %" SCNu32 " %47s", &discr, &key.type, &key.id, secret);
+    key.length = (uint32_t)read_hex(secret, key.bytes, sizeof key.bytes);
+    for (size_t i = 0; i < count_entries; i++) {
+        if (entries[i].wanted.discr == discr) entries[i].key = key;
+    }
+}
+
+/* Ends the program with status 2 where the proved reader finds the text to be no table. */
+static void check_table(const char *path, const char *text, size_t length) {
+    bfdd_handle handle = BFDD_HANDLE_INIT;
+    bfdd_complaint complaint = {0};
+    uint32_t code = bfdd_open(&handle, (const uint8_t *)text, length, &complaint);
+    bfdd_close(&handle);
+    if (code == BFDD_DONE) return;
+    if (code == BFDD_TEXT)
+        say(LOG_ERROR, "%s: line %" PRIu64 " has fault %" PRIu32 " of a packet file", path, complaint.line, complaint.fault);
+    else say(LOG_ERROR, "%s: %s", path, code == BFDD_EVENTS ? "a table has no events" : "no memory");
+    exit(2);
+}
+
+static void take_table(const char *path) {
+    FILE *file = fopen(path, "re");
+    char *text = NULL, *rest = NULL;
+    size_t room = 0;
+    ssize_t length = file ? getdelim(&text, &room, 0, file) : -1;
+    if (length < 0) fail(path, file ? "it is empty" : strerror(errno));
+    fclose(file);
+    check_table(path, text, (size_t)length);
+    for (char *line = strtok_r(text, "\n", &rest); line; line = strtok_r(NULL, "\n", &rest)) {
+        if (strncmp(line, "p2p ", 4) == 0) take_p2p(line);
+        else if (strncmp(line, "auth ", 5) == 0) take_auth(line);
+        else if (strncmp(line, "bfd ", 4) != 0 && strcmp(line, "run") != 0 && strcmp(line, "end") != 0)
+            fail(line, "only point-to-point sessions with one key are run");
+    }
+    free(text);
+}
+
+/* Changes -------------------------------------------------------------------------------------------------------------- */
+
+static void put_variables(const struct session *s, const struct session_change *change) {
+    char text[MOMENT_TEXT > ADDRESS_TEXT ? MOMENT_TEXT : ADDRESS_TEXT];
+    setenv("BFDD_TIME", moment_text(change->moment, text), 1);
+    setenv("BFDD_LOCAL", address_text(&s->local, text), 1);
+    setenv("BFDD_PEER", address_text(&s->remote, text), 1);
+    setenv("BFDD_INTERFACE", s->wanted.ifname, 1);
+    setenv("BFDD_WAS", state_text(change->was), 1);
+    setenv("BFDD_STATE", state_text(change->state), 1);
+    setenv("BFDD_DIAGNOSTIC", diagnostic_text(change->diagnostic), 1);
+    setenv("BFDD_CAUSE", change->cause, 1);
+}
+
+/* Runs the command, whose end isn't waited for, with nothing to read, and what it writes on standard error. */
+static void run_command(void) {
+    char *words[] = {"sh", "-c", (char *)(uintptr_t)command, NULL};
+    posix_spawn_file_actions_t files;
+    posix_spawnattr_t attributes;
+    sigset_t none, child;
+    sigemptyset(&none), sigemptyset(&child), sigaddset(&child, SIGCHLD);
+    posix_spawn_file_actions_init(&files);
+    posix_spawn_file_actions_addopen(&files, 0, "/dev/null", O_RDONLY, 0);
+    posix_spawn_file_actions_adddup2(&files, 2, 1);
+    posix_spawnattr_init(&attributes);
+    posix_spawnattr_setsigmask(&attributes, &none);
+    posix_spawnattr_setsigdefault(&attributes, &child);
+    posix_spawnattr_setflags(&attributes, POSIX_SPAWN_SETSIGMASK | POSIX_SPAWN_SETSIGDEF);
+    int cause = posix_spawn(&(pid_t){0}, "/bin/sh", &files, &attributes, words, environ);
+    if (cause) say(LOG_ERROR, "%s: %s", command, strerror(cause));
+    posix_spawn_file_actions_destroy(&files);
+    posix_spawnattr_destroy(&attributes);
+}
+
+static bool report_change(void *context, const struct session *s, const struct session_change *change) {
+    (void)context;
+    if (!change) return true;
+    view_change(stdout, json, s, change);
+    if (!command) return true;
+    put_variables(s, change);
+    run_command();
+    return true;
+}
+
+/* A line that was typed at the terminal. */
+static void take_key(uint32_t number, uint64_t now) {
+    char typed[TYPED];
+    (void)number;
+    if (read(STDIN_FILENO, typed, sizeof typed) > 0) front_view(now);
+    else loop_leave(STDIN_FILENO);
+}
+
+int main(int count, char **words) {
+    static const struct option known[] = {{"multihop", no_argument, NULL, 'm'}, {"interface", required_argument, NULL, 'i'},
+                                          {"tx", required_argument, NULL, 't'}, {"rx", required_argument, NULL, 'r'},
+                                          {"mult", required_argument, NULL, 'n'}, {"passive", no_argument, NULL, 'p'},
+                                          {"auth", required_argument, NULL, 'a'}, {"json", no_argument, NULL, 'j'},
+                                          {"on-change", required_argument, NULL, 'c'}, FRONT_OPTIONS};
+    log_set_level(LOG_WARNING);
+    setvbuf(stdout, NULL, _IOLBF, 0);
+    signal(SIGCHLD, SIG_IGN), signal(SIGTTIN, SIG_IGN);
+    front_read(count, words, known, take_option, usage);
+    if (optind + 1 == count) take_table(words[optind]);
+    else if (optind + 2 != count || !take_words(words[optind], words[optind + 1])) front_fault(usage);
+    struct sessions *sessions = front_open(report_change, 0, stdout, json);
+    for (size_t i = 0; i < count_entries; i++) sessions_add(sessions, OWNER, &entries[i].wanted, &entries[i].key, clock_now());
+    if (isatty(STDIN_FILENO)) loop_await(STDIN_FILENO, LOOP_KEY, 0, EPOLLIN, take_key);
+    front_run(NULL);
+    front_view(clock_now());
+    front_close();
+    return 0;
+}

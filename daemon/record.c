@@ -1,0 +1,130 @@
+/* The life of a session as a packet file: see record.h. */
+#define _GNU_SOURCE
+#include "record.h"
+
+#include "log.h"
+#include "words.h"
+
+#include <errno.h>
+#include <fcntl.h>
+#include <inttypes.h>
+#include <string.h>
+#include <unistd.h>
+
+enum { MOST_EVENTS = 200000, MOST_PAYLOAD = 256, PATH = 512 };
+
+static const char *folder;
+
+void record_in(const char *path) { folder = path; }
+
+/* A new file that this user alone may read, since it has the session's key. */
+static FILE *create(const char *path) {
+    int fd = open(path, O_WRONLY | O_CREAT | O_EXCL | O_CLOEXEC, 0600);
+    FILE *file = fd >= 0 ? fdopen(fd, "w") : NULL;
+    if (!file) say(LOG_ERROR, "%s: %s; its session isn't recorded", path, strerror(errno));
+    if (!file && fd >= 0) close(fd);
+    return file;
+}
+
+static void put_bytes(FILE *file, const uint8_t *bytes, size_t length) {
+    static const char digits[] = "0123456789abcdef";
+    if (length == 0) fputc('-', file);
+    for (size_t i = 0; i < length; i++) fputc(digits[bytes[i] >> 4], file), fputc(digits[bytes[i] & 15], file);
+}
+
+static void put_address(FILE *file, const bfdd_address *address) {
+    const uint8_t *b = address->bytes;
+    if (address->family == 4) fprintf(file, "%u.%u.%u.%u", b[0], b[1], b[2], b[3]);
+    else put_bytes(file, b, 16);
+    fputc(' ', file);
+}
+
+static void put_table(FILE *file, const bfdd_session *s) {
+    fprintf(file, "bfd 1\np2p %" PRIu32 " %s %" PRIu32 " ", s->discr, s->kind == BFDD_MULTIHOP ? "multi" : "single", s->iface);
+    put_address(file, &s->local);
+    put_address(file, &s->remote);
+    fprintf(file, "%s %" PRIu32 " %" PRIu32 " %" PRIu32 " %" PRIu32 " %" PRIu32 "\n", s->active ? "active" : "passive", s->tx, s->rx,
+            s->mult, s->echo, s->seed);
+    if (s->auth) {
+        fprintf(file, "auth %" PRIu32 " %" PRIu32 " %" PRIu32 " ", s->discr, s->auth, s->key_id);
+        put_bytes(file, s->key, s->key_len);
+        fputc('\n', file);
+    }
+    fputs("run\n", file);
+}
+
+/* The path of a session's record: the time of day without its hyphens and colons, and the discriminator. */
+static bool name_file(char path[PATH], const char *moment, uint32_t discr) {
+    int length = snprintf(path, PATH, "%s/", folder);
+    if (length < 0 || length + MOMENT_TEXT + 30 > PATH) return say(LOG_ERROR, "%s: too long a path", folder), false;
+    for (; *moment; moment++) {
+        if (*moment != '-' && *moment != ':') path[length++] = *moment;
+    }
+    snprintf(path + length, (size_t)(PATH - length), "-%" PRIu32 ".script", discr);
+    return true;
+}
+
+void record_begin(struct record *record, const bfdd_session *session, uint64_t base) {
+    char moment[MOMENT_TEXT], path[PATH];
+    *record = (struct record){0};
+    if (!folder || !name_file(path, moment_text(base, moment), session->discr)) return;
+    if (!(record->file = create(path))) return;
+    put_table(record->file, session);
+    strcat(path, ".start");
+    FILE *start = create(path);
+    if (!start) return;
+    fprintf(start, "start %s\n", moment);
+    fclose(start);
+}
+
+/* Whether there is room for one more event. Where there is none, the record ends. */
+static bool has_room(struct record *record) {
+    if (!record->file) return false;
+    if (record->events++ < MOST_EVENTS) return true;
+    record_end(record);
+    say(LOG_WARNING, "a session's record ends with its event %d, the most that a packet file has", MOST_EVENTS);
+    return false;
+}
+
+void record_packet(struct record *record, const bfdd_packet *packet, const uint8_t *payload, size_t length) {
+    if (!has_room(record)) return;
+    fprintf(record->file, "rx %" PRIu64 " %s %" PRIu32 " ", packet->moment, packet->port == BFDD_PORT_MULTI ? "multi" : "single",
+            packet->iface);
+    put_address(record->file, &packet->src);
+    put_address(record->file, &packet->dst);
+    fprintf(record->file, "%u ", packet->ttl);
+    put_bytes(record->file, payload, length < MOST_PAYLOAD ? length : MOST_PAYLOAD);
+    fputc('\n', record->file);
+}
+
+void record_tick(struct record *record, uint64_t ms) {
+    if (has_room(record)) fprintf(record->file, "tick %" PRIu64 "\n", ms);
+}
+
+void record_command(struct record *record, uint64_t moment, uint32_t discr, uint32_t verb, uint64_t value) {
+    static const char *const verbs[] = {"", "disable", "enable", "reset", "path", "tx", "rx", "mult", "demand", "echo", "key"};
+    if (!has_room(record)) return;
+    fprintf(record->file, "cmd %" PRIu64 " %" PRIu32 " %s", moment, discr, verbs[verb]);
+    if (verb >= BFDD_PATH) fprintf(record->file, " %" PRIu64, value);
+    fputc('\n', record->file);
+}
+
+void record_show(struct record *record, uint64_t moment, uint32_t discr) {
+    if (has_room(record)) fprintf(record->file, "show %" PRIu64 " %" PRIu32 "\n", moment, discr);
+}
+
+void record_flush(struct record *record) {
+    if (record->file && fflush(record->file) != 0) {
+        say(LOG_ERROR, "a record can't be written, and ends: %s", strerror(errno));
+        fclose(record->file);
+        record->file = NULL;
+    }
+}
+
+void record_end(struct record *record) {
+    if (!record->file) return;
+    fputs("end\n", record->file);
+    record_flush(record);
+    if (record->file) fclose(record->file);
+    record->file = NULL;
+}
