@@ -16,6 +16,7 @@ _bfdd() {
     bfdd-judge) words="--help --local --keys --slack --json --rules --program" ;;
     bfdd-listing) words="--help --report --served --program --session --peer" ;;
     bfdd-packets) words="--help --report --served --program --sent --output" ;;
+    bfdd-peer) words="--help --multihop --interface --tx --rx --mult --passive --auth --json --on-change --record --control --log" ;;
     bfdd-probe) words="--help --interface --source --multihop --auth --jitter --json --list" ;;
     bfdd-script) words="--help --output" ;;
     bfdd-timeline) words="--help --report --served --program --output --from --to --lanes --session --peer --title" ;;
@@ -29,4 +30,4 @@ _bfdd() {
     *) mapfile -t COMPREPLY < <(compgen -f -- "$word") ;;
     esac
 }
-complete -o filenames -F _bfdd bfdd bfdd-capture bfdd-evidence bfdd-explain bfdd-judge bfdd-listing bfdd-packets bfdd-probe bfdd-script bfdd-timeline
+complete -o filenames -F _bfdd bfdd bfdd-capture bfdd-evidence bfdd-explain bfdd-judge bfdd-listing bfdd-packets bfdd-peer bfdd-probe bfdd-script bfdd-timeline

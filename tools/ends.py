@@ -1,4 +1,5 @@
-"""One end of a BFD session in a capture, and the rules that need what came before. rules.py has the table, tools/judge the whole.
+"""One end of a BFD session in a capture, and the rules that need what came before. rules.py has the table, tools/judge the whole, and
+others.py the ends of seamless and multipoint BFD and the echo packets.
 
 A rule of what an end did is certain, since what it heard has passed the capturing point, but where packets are missing in the capture. A
 rule of what an end failed to do can be told of the local end alone: for the other, a packet may have been lost behind that point. So each
@@ -14,6 +15,7 @@ ADMIN_DOWN, DOWN, INIT, UP = range(4)
 RECENT = 64         # packets that are kept of each end
 REACTION = 200000   # microseconds that an end may take to do what a packet asks for
 SETTLED = 10**9     # microseconds after which values that were changed bind nothing any more
+STILL_THERE = 5000000  # microseconds after its last packet for which a session surely has its discriminator
 FEWEST_GAPS, LEAST_SPREAD = 50, 0.02  # of the rule on jitter
 
 
@@ -28,7 +30,8 @@ class End:
         self.count = self.sections = 0                     # packets, and those with an authentication section
         self.judge = self.noted = None                     # `noted`: what the last packet that was read says
         self.yours = set()                                 # each Your Discriminator
-        self.questions = collections.deque(maxlen=RECENT)  # of an initiator, without an answer yet
+        self.port_told = None                              # the last packet's source port
+        self.waiting = []                                  # echo packets sent while it wasn't Up, as far as it had told
         self.reset()
         self.heard_at, self.holes = None, []               # the last packet's moment; between which moments packets are missing
         self.recent = collections.deque(maxlen=RECENT)     # (moment, number, state, drop)
@@ -44,6 +47,7 @@ class End:
         self.unanswered_told = self.changed_without = self.old_tx = None
         self.late_gaps, self.downs, self.silence_told, self.forgot_told = 0, None, None, None
         self.zero, self.demand = [0, None], [0, None]      # packets in a row with Required Min RX 0, with D, and since when
+        self.echoes = []                                   # (since, Required Min Echo RX)
         self.seq = self.seq_at = None
         self.born = None                                   # the first packet's moment
 
@@ -61,21 +65,25 @@ class End:
 
     def sought(self, said):
         """The discriminator of the session that a packet of this end goes to."""
-        if self.port in ("sbfd", "answer"):
-            return said.your
         return self.peer.discrs[said.epoch] if self.peer and said.epoch < len(self.peer.discrs) else said.your
 
     # Packet by packet.
 
-    def take(self, number, moment, said, drop, payload):
+    def faults(self, number, moment, said, drop, of_drop=OF_DROP):
+        """What is wrong with a packet by itself, and by the test that drops it."""
         for rule, what in said.faults:
-            self.find(rule, number, moment, what)
-        if drop in OF_DROP and not any(rule == OF_DROP[drop] for rule, _ in said.faults):
-            self.find(OF_DROP[drop], number, moment, f"a receiver drops it by {drop}: {DROPS[drop][0]}")
-        if self.port in ("sbfd", "answer") and said.is_whole():
-            return self.seamless(number, moment, said)
+            if rule != "source-port" or self.port_told != said.source:  # (which all packets of a session have)
+                self.find(rule, number, moment, what)
+        self.port_told = said.source
+        if drop in of_drop and not any(rule == of_drop[drop] for rule, _ in said.faults):
+            self.find(of_drop[drop], number, moment, f"a receiver drops it by {drop}: {DROPS[drop][0]}")
+
+    def take(self, number, moment, said, drop, payload):
+        self.faults(number, moment, said, drop)
         if not said.is_whole() or drop not in (None, "YourUnknown", "AuthSeq"):
             self.recent.append((moment, number, said.state, drop or "Version"))
+            return
+        if said.your and self.judge.heads and self.answers_head(number, moment, said):
             return
         if self.peer and said.your and self.peer.discrs and said.your != self.peer.discrs[0]:
             self.names_peer(number, moment, said)
@@ -98,13 +106,27 @@ class End:
             elif not said.flags & FINAL:
                 self.periodic(moment, said)
         else:
-            self.values, self.born = [(moment, said.tx, said.rx, said.mult)], moment
+            self.begin(moment, said)
         if said.flags & FINAL:
             self.answered(moment)
         self.polled(moment, said)
         if self.peer and self.peer.heard_at is not None:
             self.lives(moment, said)
         self.remember(moment, said, drop)
+        if self.waiting:
+            for echoes, *sent in self.waiting:
+                echoes.settle(self, *sent)
+            self.waiting = []
+
+    def begin(self, moment, said):
+        """The first packet of the end, or of what it is after a restart."""
+        self.values, self.born = [(moment, said.tx, said.rx, said.mult)], moment
+        others = self.judge.owners.setdefault((self.src, said.my), [])
+        for other in others:
+            if other is not self and other.last and other.last.my == said.my and moment - other.recent[-1][0] < STILL_THERE:
+                self.find("unique-discriminator", self.number, moment, f"My Discriminator {said.my}, which the session with "
+                          f"{shown(other.dst)} has too", other.iface == self.iface)
+        others += [self] * (self not in others)
 
     def reset_for(self, moment):
         number = self.number
@@ -124,6 +146,8 @@ class End:
             for row, holds in ((self.zero, said.rx == 0), (self.demand, said.flags & DEMAND and said.state == UP)):
                 row[0] = row[0] + 1 if holds else 0
                 row[1] = moment if row[0] == 1 else row[1]
+            if not self.echoes or self.echoes[-1][1] != said.echo:
+                self.echoes = self.echoes[-7:] + [(moment, said.echo)]
 
     def find(self, rule, number, moment, what, certain=True, since=None):
         """A finding. With `since`, one that a packet would clear which the capture lacks, of what was sent from then on."""
@@ -341,6 +365,15 @@ class End:
 
     # Discriminators and sequence numbers.
 
+    def answers_head(self, number, moment, said):
+        """Whether a packet goes to a head of multipoint BFD, and from no session of its address."""
+        head = self.judge.heads.get((self.dst, said.your))
+        if not head or not head.last or head.last.rx or self.peer and said.your in self.peer.discrs:
+            return False
+        self.find("tail-answer", number, moment, f"a packet to the head with My Discriminator {said.your} and Required Min RX 0; allowed: "
+                  "none")
+        return True
+
     def names_peer(self, number, moment, said):
         """Your Discriminator against all that the peer had in the capture."""
         peer = self.peer
@@ -371,21 +404,6 @@ class End:
         self.find("auth-sequence", self.number, moment, f"sequence number {number} after {self.seq}; allowed: {first} to "
                   f"{(self.seq + window) % 2**32}")
         return False
-
-    # Seamless BFD.
-
-    def seamless(self, number, moment, said):
-        """A question of an initiator is kept; an answer has to be one to a question that isn't answered yet (RFC 7880 section 7.2)."""
-        if self.port == "sbfd":
-            self.questions.append((said.my, said.your, bool(said.flags & POLL)))
-            return
-        asked = self.peer.questions if self.peer else ()
-        question = (said.your, said.my, bool(said.flags & FINAL))
-        if question in asked:
-            asked.remove(question)
-        else:
-            self.find("reflector-answer", number, moment, f"an answer to {said.your} from {said.my} with F {question[2]:d}; "
-                      "allowed: one to each question, as those before it have asked", self.peer is not None)
 
     # The end of the capture.
 

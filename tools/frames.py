@@ -42,6 +42,7 @@ class Datagram(NamedTuple):
     port: str  # the kind of port, as an `rx` line names it, or `aggregate`
     payload: bytes
     source: int = 0  # the source port
+    target: int = 0  # the destination port
 
 
 class Unreadable(Exception):
@@ -186,11 +187,12 @@ def datagram_of(frame):
     tags, data, is_ipv6 = network
     try:
         ip = (dpkt.ip6.IP6 if is_ipv6 else dpkt.ip.IP)(data)
-    except (dpkt.dpkt.Error, struct.error, ValueError, IndexError, KeyError):
+        is_udp = ip.p == 17  # (of IPv6 it is there where the extension headers could be read)
+    except (dpkt.dpkt.Error, struct.error, ValueError, IndexError, KeyError, AttributeError):
         if len(frame.data) < frame.size and data[6 if is_ipv6 else 9:][:1] == bytes([17]):
             raise Unreadable(HEADLESS) from None
         raise Unreadable("frames whose IP packet can't be read") from None
-    if ip.p != 17:
+    if not is_udp:
         return None
     if (44 in ip.extension_hdrs) if is_ipv6 else (ip.mf or ip.offset):
         raise Unreadable("fragments of IP packets")
@@ -208,4 +210,4 @@ def udp_of(frame, tags, ip, is_ipv6):
     if len(payload) < min(udp.ulen - 8, 256):
         raise Unreadable(SHORT)
     place = (frame.place if frame.link != COOKED_2 else int.from_bytes(frame.data[4:8], "big"), *tags)
-    return Datagram(place, ip.src, ip.dst, ip.hlim if is_ipv6 else ip.ttl, port, payload, udp.sport)
+    return Datagram(place, ip.src, ip.dst, ip.hlim if is_ipv6 else ip.ttl, port, payload, udp.sport, udp.dport)

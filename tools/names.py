@@ -85,9 +85,13 @@ def start_path(path):
 
 
 def keep_start(path, start):
-    """Writes beside a packet file when its moment 0 was, microseconds since 1970."""
+    """Writes beside a packet file when its moment 0 was, microseconds since 1970; nothing before that, or beyond the year 9999."""
     try:
-        start_path(path).write_text((BEGINNING + datetime.timedelta(microseconds=start)).strftime(FORMAT))
+        start_path(path).unlink(missing_ok=True)
+        if start >= 0:
+            start_path(path).write_text((BEGINNING + datetime.timedelta(microseconds=start)).strftime(FORMAT))
+    except OverflowError:
+        return
     except OSError as fault:
         raise Complaint(f"{start_path(path)}: {fault.strerror}") from None
 
@@ -95,14 +99,18 @@ def keep_start(path, start):
 def start_of(path):
     """When the moment 0 of a packet file was, microseconds since 1970, or None where nothing says it."""
     try:
-        text = start_path(path).read_text("ascii") if path != "-" else None
+        if path == "-":
+            return None
+        text = start_path(path).read_text("ascii")
     except FileNotFoundError:
         return None
     except (OSError, UnicodeDecodeError) as fault:
         raise Complaint(f"{start_path(path)}: {getattr(fault, 'strerror', None) or 'no text'}") from None
     try:
-        return text and (datetime.datetime.strptime(text, FORMAT).replace(tzinfo=datetime.timezone.utc) - BEGINNING) \
-            // datetime.timedelta(microseconds=1)
+        since = datetime.datetime.strptime(text, FORMAT).replace(tzinfo=datetime.timezone.utc) - BEGINNING
+        if since < datetime.timedelta():
+            raise ValueError
+        return since // datetime.timedelta(microseconds=1)
     except ValueError:
         raise Complaint(f"{start_path(path)} isn't the start of a capture, as `start 2026-11-27T10:15:00.123456Z`") from None
 

@@ -32,6 +32,8 @@ def drops_of(rows, keys, program):
     """Asks the program. Fills `drop` of each Said, and answers {number of a frame: test} for sessions with keys."""
     slots, given, unkeyed = {}, set(), set()
     for number, moment, end, said, payload in rows:
+        if end.port == "echo":
+            continue
         slot = slots.get((end, said.epoch)) or slots.setdefault((end, said.epoch), slot_of(end, said, keys, unkeyed))
         if end.keyed:
             slot.lines.append(line_of(end, moment, said.ttl, payload))
@@ -61,6 +63,8 @@ def slot_of(end, said, keys, unkeyed):
     if end.port == "sbfd":
         return Slot(discr, [f"reflector {discr} 1000000 up"], None)
     ends = f"{end.iface} {spelled(end.dst)} {spelled(end.src)}"
+    if end.port == "head":
+        return Slot(discr, [f"tail {discr} {discr} {ends}"], (end.port, discr, end.dst, end.src))
     if end.port == "answer":
         return Slot(discr, [f"sbfd {discr} {said.my or 1} {ends} 1000000 3 0"], None)
     rx = min(max(end.peer.rx_told if end.peer else 1000000, 10000), 60000000)
@@ -80,7 +84,8 @@ def slot_of(end, said, keys, unkeyed):
 
 
 def line_of(end, moment, ttl, payload):
-    return f"rx {moment} {end.port} {end.iface} {spelled(end.src)} {spelled(end.dst)} {ttl} {payload[:256].hex() or '-'}"
+    port = "single" if end.port == "head" else end.port
+    return f"rx {moment} {port} {end.iface} {spelled(end.src)} {spelled(end.dst)} {ttl} {payload[:256].hex() or '-'}"
 
 
 def packed(pieces):

@@ -19,6 +19,9 @@ STATES = ["AdminDown", "Down", "Init", "Up"]
 PORTS = {"single": 3784, "multi": 4784, "echo": 3785, "sbfd": 7784, "answer": 49152}  # an answer goes back to the initiator's port
 SOURCE_PORT = 49152
 EVENTS = ("tick", "rx", "cmd", "show")
+# In which order the lines of a packet file stand.
+PLACES = {"bfd": 0, "run": 2, "end": 4, "": 5} | dict.fromkeys(EVENTS, 3) | dict.fromkeys(
+    ("p2p", "sbfd", "reflector", "head", "tail", "auth", "key"), 1)
 ECHO = bytes.fromhex("42464465")  # the first word of an echo packet
 BITS = {"P": 0x20, "F": 0x10, "C": 0x08, "A": 0x04, "D": 0x02, "M": 0x01}
 MOST_BYTES, LONGEST_LINE = 67108864, 4096  # of a packet file
@@ -89,6 +92,11 @@ def spelled(address):
     return ".".join(map(str, address)) if len(address) == 4 else address.hex()
 
 
+def is_group(address):
+    """Whether an address is one of a group."""
+    return address[0] >> 4 == 14 if len(address) == 4 else address[0] == 255
+
+
 def shown(address):
     """An address as people write it."""
     return str(ipaddress.ip_address(address))
@@ -150,6 +158,7 @@ class Script:
     def __init__(self, text, name):
         self.sessions, self.reflectors, self.events, self.last_tick = {}, set(), [], 0
         self.auth = {}  # the Auth Type of a session, by its discriminator
+        self.place = 0  # that of the last line's word
         for number, line in enumerate(text.split("\n"), 1):
             try:
                 if len(line) > LONGEST_LINE or not line.isprintable():
@@ -162,6 +171,9 @@ class Script:
 
     def take(self, fields):
         word = fields[0]
+        if PLACES.get(word, -1) < self.place or word in EVENTS and self.place < PLACES["run"]:
+            raise ValueError
+        self.place = PLACES[word]
         if word in ("p2p", "sbfd", "head", "tail"):
             discr, at = number_of(fields[1], 2**32 - 1), 2 if word == "head" else 3
             head = number_of(fields[2], 2**32 - 1) if word == "tail" else None
@@ -175,8 +187,6 @@ class Script:
             self.auth[number_of(fields[1], 2**32 - 1)] = number_of(fields[2], 255)
         elif word == "key":
             number_of(fields[1], 2**32 - 1)
-        elif word not in ("bfd", "run", "end", ""):
-            raise ValueError
 
     def event_of(self, fields):
         """The event of a line, which is behind those that were asked for before."""
@@ -193,13 +203,14 @@ class Script:
     def may_have(self, word, words):
         """Whether a report may have such a line, by what a tool looks at."""
         if word in ("drop", "refuse"):
-            return True
+            return len(words) == 1 and words[0].isalpha()
         discr = int(words[0]) if words[0].isdigit() and len(words[0]) <= 10 else None
         if word == "tx":
             known = discr in self.sessions or discr in self.reflectors
             return known and len(words) == 2 and len(words[1]) in range(2, 513, 2) and not words[1].strip("0123456789abcdef")
-        return discr in self.sessions and (word == "show" or word == "state" and len(words) == 4 and words[1] in STATES
-                                           and words[2] in STATES)
+        names, numbers = {"show": ((1, 3), (2, 4, 5, 6, 7, 8, 9)), "state": ((1, 2), (3,))}.get(word, ((), ()))
+        return (discr in self.sessions and len(words) == 1 + len(names) + len(numbers) > 1 and all(words[at] in STATES for at in names)
+                and all(words[at].isdigit() and len(words[at]) <= 20 for at in numbers))
 
     def effective(self, moment):
         """A moment before the last tick counts as that tick's."""
@@ -321,6 +332,7 @@ def replayed(program, text):
         ran = subprocess.run([*program, "replay"], input=text.encode("ascii"), stdout=subprocess.PIPE)
     except OSError as fault:
         raise Complaint(f"{' '.join(program)} can't be run: {fault.strerror}") from None
+    os.environ["BFDD_TOLD"] = "yes"  # (bin/try needs to say once that nothing is proved)
     if ran.returncode not in (0, 2):
         raise Complaint(f"{' '.join(program)} replay ended with status {ran.returncode}{REFUSED.get(ran.returncode, '')}")
     try:

@@ -1,7 +1,7 @@
 """The BFD packets of a capture, as fast as Python gives them: the usual frames are read in place, all others by frames.py.
 
 Each packet is a tuple (number of its frame from 1, microseconds from the first frame, place, source, destination, TTL, source port,
-kind of port, payload). Nothing here is proved.
+destination port, kind of port, payload). Nothing here is proved.
 """
 import collections
 import struct
@@ -41,7 +41,7 @@ class Read:
 def slow(frame):
     """A packet as frames.py reads it, or None."""
     found = datagram_of(frame)
-    return found and (found.place, found.src, found.dst, found.ttl, found.source, found.port, found.payload)
+    return found and (found.place, found.src, found.dst, found.ttl, found.source, found.target, found.port, found.payload)
 
 
 def quick(frame):
@@ -73,4 +73,4 @@ def quick(frame):
     if kind is None or len(payload) != size - 8:
         return None
     place = (frame.place,) if link != COOKED_2 else (int.from_bytes(data[4:8], "big"),)
-    return place, src, dst, ttl, source, kind, payload
+    return place, src, dst, ttl, source, port, kind, payload

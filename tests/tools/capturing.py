@@ -1,8 +1,8 @@
 """Tests of tools/capture, on captures that captures.py writes by hand."""
 import gzip
+import os
 import random
 import re
-import resource
 import struct
 import subprocess
 
@@ -326,6 +326,17 @@ def capture_explains_bad_input(place):
 
 
 @test("dpkt")
+def capture_leaves_out_ipv6_that_cannot_be_read(place):
+    """An extension header that ends behind the packet, or that the library can't step over: its object then has no protocol."""
+    came = framed(ETHERNET, ip_packet(PEER_6, OURS_6, 3784, captures.payload("state=Down my=7")))
+    for kind in (0, 43, 44, 50, 51, 60):
+        damaged = bytearray(framed(ETHERNET, ip_packet(PEER_6, OURS_6, 3784, b"", extension=bytes([kind, 255, 0, 0, 0, 0, 0, 0]))))
+        damaged[20] = kind
+        text, said = place.tool("capture", "--local", "fd00::1", place.file("a.pcap", pcap([(0, came), (1, bytes(damaged))])))
+        same(text.count("\nrx "), 1, f"header {kind}: {said}")
+
+
+@test("dpkt")
 def capture_takes_frames_of_any_moment(place):
     came = framed(ETHERNET, ip_packet(PEER, OURS, 3784, captures.payload("state=Up")))
     for last, count in ((10**18, 2), (10**18 + 1, 1)):
@@ -333,6 +344,10 @@ def capture_takes_frames_of_any_moment(place):
         text, said = place.tool("capture", "--local", "10.0.0.1", place.file("a.pcap", data))
         same((text.count("\nrx "), f"left out: {2 - count} frames" in said), (count, count < 2), "packets that came")
         has(place.replay(text), "\ndone ")
+    path = place.file("b.pcap", pcapng([(3 * 10**17, came), (3 * 10**17 + 1, came)]))
+    start = place.file("b.script.start", "start 2023-11-14T22:13:20.000000Z\n")
+    place.tool("capture", "--local", "10.0.0.1", "-o", place.folder / "b.script", path)
+    same(os.path.exists(start), False, "the start of a capture beyond the year 9999")
 
 
 @test("dpkt")
@@ -348,9 +363,7 @@ def capture_uses_the_whole_frames_of_a_cut_file(place):
 def capture_takes_a_million_packets(place):
     theirs = framed(ETHERNET, ip_packet(PEER, OURS, 3784, captures.payload("state=Up my=7 your=1")))
     other = framed(ETHERNET, ip_packet(PEER, OURS, 53, bytes(range(200))))
-    before = resource.getrusage(resource.RUSAGE_CHILDREN).ru_utime
-    text, said = captured(place, pcap([(at * 100, other if at % 4 else theirs) for at in range(1000000)]))
-    if resource.getrusage(resource.RUSAGE_CHILDREN).ru_utime - before > 100:
-        raise Wrong("it took more than 100 seconds of processor time")
+    with place.within(100):
+        text, said = captured(place, pcap([(at * 100, other if at % 4 else theirs) for at in range(1000000)]))
     same((text.count("\nrx ") + text.count("\ntick "), text[-5:]), (200000, "\nend\n"), "event lines, and the end")
     has(said, "event lines beyond 200000, from second", "250000 BFD packets", "750000 frames of other traffic")

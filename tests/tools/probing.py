@@ -53,28 +53,38 @@ def probe_plays_authentication(place):
         same(rows, {"comes-up": "wrong"}, "another secret")
 
 
+def probed_serve(place, net, names):
+    """The verdicts of some probes on a `serve` of its own, which lasts for 200 seconds at most; None where the machine was too busy."""
+    script = place.file("a.script", "bfd 1\np2p 1 single 1 127.0.0.1 127.0.0.2 active 100000 100000 3 0 7\nrun\nend\n")
+    with open(script, "rb") as given:
+        words = ["serve", "--workers", "5", "--ticks", "199000", "--journal", "200000"]
+        served = subprocess.Popen(["ip", "netns", "exec", net.names["a"], *place.program, *words], stdin=given, stdout=subprocess.DEVNULL)
+    net.started.append(served)
+    time.sleep(1)
+    try:
+        return probed(net, "a", "127.0.0.1", "--source", "127.0.0.2", "--jitter", "5", *names)
+    except subprocess.TimeoutExpired:
+        return None
+    finally:
+        served.kill()
+        served.wait()
+
+
 @test("netns")
 def probe_finds_no_fault_of_the_engine(place):
-    """`serve` does right in each row but those of its sockets."""
-    script = place.file("a.script", "bfd 1\np2p 1 single 1 127.0.0.1 127.0.0.2 active 100000 100000 3 0 7\nrun\nend\n")
+    """`serve` does right in each row but those of its sockets. Of all rows half are asked of one run, and half of another."""
+    listed = subprocess.run([TOP / "tools/probe", "--list"], capture_output=True, text=True).stdout.splitlines()
+    names = [line.split()[0] for line in listed if not line.endswith((", with --auth", ", with --multihop"))]
+    found = {}
     with Net(place) as net:
-        words = [str(TOP / "tools/probe"), "127.0.0.1", "--source", "127.0.0.2", "--jitter", "5", "--json"]
-        for _ in range(2):
-            with open(script, "rb") as given:
-                words_of_serve = ["serve", "--workers", "5", "--ticks", "190000", "--journal", "200000"]
-                served = subprocess.Popen(["ip", "netns", "exec", net.names["a"], *place.program, *words_of_serve],
-                                          stdin=given, stdout=subprocess.DEVNULL)
-            net.started.append(served)
-            time.sleep(1)
-            ran = net.run("a", *words)
-            served.kill()
-            served.wait()
-            if "Traceback" in ran.stderr or ran.returncode not in (0, 3):
-                raise Wrong(f"tools/probe: status {ran.returncode}: {ran.stderr}")
-            others = {name for name, verdict in verdicts(ran.stdout).items() if verdict != "right"}
-            if others == OF_SOCKETS:
-                break
-        same(others, OF_SOCKETS, "rows that aren't right")
+        for half in (names[::2], names[1::2]):
+            for _ in range(2):
+                rows = probed_serve(place, net, half)
+                if rows and {name for name in half if rows.get(name) != "right"} == OF_SOCKETS & set(half):
+                    break
+            found |= {name: (rows or {}).get(name) for name in half}
+    same({name for name, verdict in found.items() if verdict != "right"}, OF_SOCKETS, f"rows that aren't right of {len(found)}")
+    same(len(found) > 45, True, "rows")
 
 
 @test()

@@ -1,4 +1,6 @@
 """What the tests of tests/tools stand on: how one is marked, what it finds, and the folder that it has."""
+import contextlib
+import resource
 import shlex
 import shutil
 import subprocess
@@ -25,8 +27,8 @@ def test(*needs):
 class Place:
     """A folder for a test, with the program in it."""
 
-    def __init__(self, folder, program):
-        self.folder, self.program = Path(folder), program
+    def __init__(self, folder, program, is_proved=True):
+        self.folder, self.program, self.is_proved = Path(folder), program, is_proved
 
     def file(self, name, data):
         path = self.folder / name
@@ -42,6 +44,16 @@ class Place:
             raise Wrong(f"tools/{name} {words}: status {ran.returncode}, and must be {status}: {complaint}")
         return ran.stdout.decode("ascii", "replace"), complaint
 
+    @contextlib.contextmanager
+    def within(self, most):
+        """What takes more than so many seconds of processor time is wrong. The limit is one with the proved program: the unproved one has
+        checks in it and is some ten times as slow, and of another nothing is known."""
+        before = resource.getrusage(resource.RUSAGE_CHILDREN).ru_utime
+        yield
+        took = resource.getrusage(resource.RUSAGE_CHILDREN).ru_utime - before
+        if self.is_proved and took > most:
+            raise Wrong(f"it took {took:.0f} seconds of processor time, and {most} are the most")
+
     def replay(self, text):
         return subprocess.run([*self.program, "replay"], input=text.encode("ascii"), stdout=subprocess.PIPE).stdout.decode("ascii")
 
@@ -52,7 +64,7 @@ class Place:
             shutil.copytree(TOP / part, top / part, ignore=shutil.ignore_patterns("__pycache__"))
         (top / "stand-in").write_text(f'#!/bin/sh\nexec {shlex.join(self.program)} "$@"\n')
         (top / "bin/proved").write_text(f"#!/bin/sh\necho {shlex.quote(str(top / 'stand-in'))}\n")
-        (top / "bin/library").write_text('#!/bin/sh\necho a stand-in >"$1/libbfdd.a"\n')
-        (top / "bin/dplane").write_text('#!/bin/sh\necho a stand-in >"$1/bfdd-dplane"\n')
+        (top / "bin/library").write_text('#!/bin/sh\nmkdir -p "$1/lib"\necho a stand-in >"$1/lib/libbfdd.a"\n')
+        (top / "bin/dplane").write_text('#!/bin/sh\necho a stand-in | tee "$1/bfdd-dplane" >"$1/bfdd-peer"\n')
         (top / "stand-in").chmod(0o755)
         return top
