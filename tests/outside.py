@@ -74,6 +74,21 @@ def until(condition, what, seconds=20):
         time.sleep(0.005)
 
 
+def doing(process):
+    """What each thread of a process does, and what its links have waiting: for the story of a run that doesn't end."""
+    def text(path):
+        try:
+            return Path(path).read_text().strip()
+        except OSError as fault:
+            return fault.strerror
+    story = []
+    for task in sorted(Path(f"/proc/{process}/task").glob("*")):
+        words = text(task / "stat").rpartition(")")[2].split()
+        story.append(f"thread {task.name}: state {words[0]}, {int(words[11]) + int(words[12])} ticks of processor time, in {text(task / 'wchan')}"
+                     if len(words) > 12 else f"thread {task.name}: gone")
+    return "\n".join([*story, "its links, by the kernel:", text(f"/proc/{process}/net/udp")])
+
+
 class Run:
     """The program serving a script. Its moments count from shortly before `since`, a moment of the monotonic clock."""
 
@@ -99,8 +114,9 @@ class Run:
         try:
             complaint = self.process.communicate(timeout=seconds)[1].decode("utf-8", "replace")
         except subprocess.TimeoutExpired:
+            story = doing(self.process.pid)
             self.process.kill()
-            raise Wrong(f"it didn't end within {seconds} seconds") from None
+            raise Late(f"it didn't end within {seconds} seconds; {story}") from None
         self.out.close()
         if "Traceback" in complaint:
             raise Wrong(complaint)
