@@ -1,9 +1,12 @@
 //! What an open handle holds.
-ghost use Rattle.std.specs.Prelude.{◌≡◌, IfOk, drop};
+ghost use Rattle.std.specs.Prelude.{◌≡◌, ◌≢◌, IfOk, Some, drop};
 ghost use Rattle.std.specs.Option.{option_copied};
+ghost use Rattle.bfd_session.specs.Step.{IsFit};
 ghost use Rattle.bfd_replay.specs.Stage.{IsTable};
 ghost use Rattle.bfd_c.specs.Engines.{instance_after, asked, first_of, soonest, new_instance};
+ghost use Rattle.bfd_c.specs.Joining as joining;
 
+use bfd_demux::AddFault;
 use bfd_levels::ByCount;
 use bfd_line::Line;
 use bfd_replay::Instance as World;
@@ -26,6 +29,14 @@ pub(crate) const END: u32 = 4;
 pub(crate) const TEXT: u32 = 5;
 
 pub(crate) const EVENTS: u32 = 6;
+
+const TAKEN_DISCR: u32 = 7;
+
+const TAKEN_ADDRESSES: u32 = 8;
+
+const FULL: u32 = 9;
+
+const NONE: u32 = 10;
 
 /// Sessions and reflectors, the outputs of the last event, of which so many were read, and its answer.
 #[derive(Drop)]
@@ -50,6 +61,19 @@ fn further(items: &[Out], read: usize) -> usize
     ensures { drop result items.now ≡ drop 1 (drop read items.now) }
 {
     if read < items.len() { read + 1 } else { read }
+}
+
+/// The code of a fault.
+fn add_code(fault: AddFault) -> u32
+    ensures { result ≡ joining.add_code fault }
+{
+    match fault {
+        AddFault::TooMany => FULL,
+        AddFault::ZeroDiscr => RANGE,
+        AddFault::SameDiscr => TAKEN_DISCR,
+        AddFault::SameAddresses => TAKEN_ADDRESSES,
+        AddFault::Memory => MEMORY,
+    }
 }
 
 impl Engine {
@@ -90,6 +114,51 @@ impl Engine {
             }
             None => RANGE,
         }
+    }
+
+    /// One session more.
+    pub(crate) fn add(&mut self, alloc: Global, config: SessionConfig) -> u32
+        requires { IsFit config }
+        ensures done { result ≢ 2 → (self.new, result) ≡ joining.session_added (Some config) self.old }
+        ensures memory { result ≡ 2 → (joining.session_added (Some config) self.old).1 ≡ 0 }
+        ensures kept { result ≡ 2 → self.new ≡ self.old }
+    {
+        match self.world.add(alloc, config) {
+            Ok(()) => DONE,
+            Err(fault) => add_code(fault),
+        }
+    }
+
+    /// The session of this discriminator leaves.
+    pub(crate) fn remove(&mut self, discr: u32) -> u32
+        ensures { (self.new, result) ≡ joining.session_removed discr self.old }
+    {
+        if self.world.remove(discr) {
+            return DONE;
+        }
+        NONE
+    }
+
+    /// One reflector more.
+    pub(crate) fn add_reflector(&mut self, reflector: Reflector) -> u32
+        ensures done { result ≢ 2 → (self.new, result) ≡ joining.reflector_added (Some reflector) self.old }
+        ensures memory { result ≡ 2 → (joining.reflector_added (Some reflector) self.old).1 ≡ 0 }
+        ensures kept { result ≡ 2 → self.new ≡ self.old }
+    {
+        match self.world.add_reflector(reflector) {
+            Ok(()) => DONE,
+            Err(fault) => add_code(fault),
+        }
+    }
+
+    /// The reflector of this discriminator leaves.
+    pub(crate) fn remove_reflector(&mut self, discr: u32) -> u32
+        ensures { (self.new, result) ≡ joining.reflector_removed discr self.old }
+    {
+        if self.world.remove_reflector(discr) {
+            return DONE;
+        }
+        NONE
     }
 
     /// The least tick that a session needs next.

@@ -34,6 +34,14 @@ pub enum Error {
     Text { line: u64, fault: u32 },
     /// The text has event lines.
     Events,
+    /// A session or a reflector has the discriminator already.
+    TakenDiscr,
+    /// A session of the kind has the selecting addresses already.
+    TakenAddresses,
+    /// There are 65,536 sessions and reflectors already.
+    Full,
+    /// No session, or no reflector, has the discriminator.
+    None,
     /// Another code of `bfdd.h`.
     Code(u32),
 }
@@ -45,6 +53,10 @@ impl fmt::Display for Error {
             Error::Range => write!(to, "a value is outside its range"),
             Error::Text { line, fault } => write!(to, "line {line} of the table has fault {fault}"),
             Error::Events => write!(to, "the table has event lines"),
+            Error::TakenDiscr => write!(to, "the discriminator is in use"),
+            Error::TakenAddresses => write!(to, "a session has the addresses already"),
+            Error::Full => write!(to, "no session or reflector more can be held"),
+            Error::None => write!(to, "no session or reflector has the discriminator"),
             Error::Code(code) => write!(to, "code {code}"),
         }
     }
@@ -58,6 +70,10 @@ fn done(code: u32) -> Result<(), Error> {
         sys::BFDD_MEMORY => Err(Error::Memory),
         sys::BFDD_RANGE => Err(Error::Range),
         sys::BFDD_EVENTS => Err(Error::Events),
+        sys::BFDD_TAKEN_DISCR => Err(Error::TakenDiscr),
+        sys::BFDD_TAKEN_ADDRESSES => Err(Error::TakenAddresses),
+        sys::BFDD_FULL => Err(Error::Full),
+        sys::BFDD_NONE => Err(Error::None),
         code => Err(Error::Code(code)),
     }
 }
@@ -303,6 +319,26 @@ impl Engine {
     pub fn open_session(session: &Session) -> Result<Self, Error> {
         let mut engine = Engine { handle: sys::BFDD_HANDLE_INIT };
         done(unsafe { sys::bfdd_open_session(&mut engine.handle, &session.to_c()) }).map(|()| engine)
+    }
+
+    /// One session more. The others, and the outputs that weren't read, stay as they are; so it is with the three calls below.
+    pub fn add(&mut self, session: &Session) -> Result<(), Error> {
+        done(unsafe { sys::bfdd_add(&mut self.handle, &session.to_c()) })
+    }
+
+    /// A session leaves. Its peer is told nothing: for that disable it before.
+    pub fn remove(&mut self, discr: u32) -> Result<(), Error> {
+        done(unsafe { sys::bfdd_remove(&mut self.handle, discr) })
+    }
+
+    /// One reflector more, with its Required Min RX Interval, whose answers say Up or AdminDown.
+    pub fn add_reflector(&mut self, discr: u32, rx: u32, is_up: bool) -> Result<(), Error> {
+        done(unsafe { sys::bfdd_add_reflector(&mut self.handle, discr, rx, is_up.into()) })
+    }
+
+    /// A reflector leaves.
+    pub fn remove_reflector(&mut self, discr: u32) -> Result<(), Error> {
+        done(unsafe { sys::bfdd_remove_reflector(&mut self.handle, discr) })
     }
 
     /// A packet came in.
