@@ -246,8 +246,33 @@ static void joining(void) {
     bfdd_close(&engine);
 }
 
+/* The last place is taken, and not one more. */
+static void full(void) {
+    enum { MOST = 65536 };
+    static char text[MOST * 26 + 20];
+    bfdd_handle engine = BFDD_HANDLE_INIT;
+    bfdd_complaint complaint = {0};
+    int length = sprintf(text, "bfd 2\n");
+    for (int discr = 2; discr <= MOST; discr++) length += sprintf(text + length, "reflector %d 50000 up\n", discr);
+    strcpy(text + length, "run\nend\n");
+    CHECK(open_text(&engine, text, &complaint), BFDD_DONE);
+    CHECK(bfdd_add(&engine, &pair), BFDD_DONE);
+    bfdd_session s = pair;
+    CHECK(bfdd_add(&engine, &s), BFDD_FULL);
+    CHECK(bfdd_add_reflector(&engine, MOST + 1, 50000, 1), BFDD_FULL);
+    s.mult = 0;
+    CHECK(bfdd_add(&engine, &s), BFDD_RANGE);
+    CHECK(bfdd_remove(&engine, 1), BFDD_DONE);
+    CHECK(bfdd_add_reflector(&engine, MOST + 1, 50000, 1), BFDD_DONE);
+    CHECK(bfdd_add(&engine, &pair), BFDD_FULL);
+    CHECK(bfdd_remove_reflector(&engine, 2), BFDD_DONE);
+    CHECK(bfdd_add(&engine, &pair), BFDD_DONE);
+    bfdd_close(&engine);
+}
+
 int main(void) {
     joining();
+    full();
     closed();
     texts();
     fields();

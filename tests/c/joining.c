@@ -2,7 +2,10 @@
  * its sessions do what each does in a handle of its own; outputs that weren't read, and the others' timers, stay. */
 #include "check.h"
 
-enum { MOST = 40, RUNS = 60, EVENTS = 600, LINES = MOST * 120 };
+#ifndef RUNS
+#define RUNS 60
+#endif
+enum { MOST = 40, EVENTS = 600, LINES = MOST * 120 };
 
 static uint64_t drawn = 88172645463325252u;
 
