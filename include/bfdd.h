@@ -51,10 +51,10 @@ enum bfdd_code {
     BFDD_END = 4,    /* nothing is left to be read; no tick is needed */
     BFDD_TEXT = 5,   /* the text is no table */
     BFDD_EVENTS = 6, /* the text has event lines */
-    BFDD_TAKEN_DISCR = 7,     /* a session or a reflector has the discriminator already */
+    BFDD_TAKEN_DISCR = 7, /* a session or a reflector has the discriminator already */
     BFDD_TAKEN_ADDRESSES = 8, /* a session of the kind has the selecting addresses already */
-    BFDD_FULL = 9,   /* there are 65,536 sessions and reflectors already */
-    BFDD_NONE = 10   /* no session, or no reflector, has the discriminator */
+    BFDD_FULL = 9, /* there are 65,536 sessions and reflectors already */
+    BFDD_NOT_FOUND = 10 /* no session, or no reflector, has the discriminator */
 };
 
 /* A handle. Its fields are the library's. */
@@ -130,14 +130,14 @@ uint32_t bfdd_open_session(bfdd_handle *handle, const bfdd_session *session);
 uint32_t bfdd_add(bfdd_handle *handle, const bfdd_session *session);
 
 /* The session of this discriminator leaves, and tells its peer nothing: for that it is disabled before, which makes it send
- * AdminDown. BFDD_CLOSED, BFDD_NONE. */
+ * AdminDown. BFDD_CLOSED, BFDD_NOT_FOUND. */
 uint32_t bfdd_remove(bfdd_handle *handle, uint32_t discr);
 
 /* One reflector more (RFC 7880 section 7.2), of this discriminator, from 1, and Required Min RX Interval, 10,000 to 60,000,000: its
  * answers say Up where `up` is 1, AdminDown where it is 0. BFDD_CLOSED, BFDD_RANGE, BFDD_FULL, BFDD_TAKEN_DISCR, BFDD_MEMORY. */
 uint32_t bfdd_add_reflector(bfdd_handle *handle, uint32_t discr, uint32_t rx, uint32_t up);
 
-/* The reflector of this discriminator leaves. BFDD_CLOSED, BFDD_NONE. */
+/* The reflector of this discriminator leaves. BFDD_CLOSED, BFDD_NOT_FOUND. */
 uint32_t bfdd_remove_reflector(bfdd_handle *handle, uint32_t discr);
 
 /* Closes a handle, and frees all that it owns. A closed handle stays closed. */

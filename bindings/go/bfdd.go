@@ -29,7 +29,7 @@ const (
 	ErrTakenDiscr     Code = C.BFDD_TAKEN_DISCR     // a session or a reflector has the discriminator already
 	ErrTakenAddresses Code = C.BFDD_TAKEN_ADDRESSES // a session of the kind has the selecting addresses already
 	ErrFull           Code = C.BFDD_FULL            // there are 65,536 sessions and reflectors already
-	ErrNone           Code = C.BFDD_NONE            // no session, or no reflector, has the discriminator
+	ErrNotFound       Code = C.BFDD_NOT_FOUND       // no session, or no reflector, has the discriminator
 )
 
 func (code Code) Error() string {
@@ -48,7 +48,7 @@ func (code Code) Error() string {
 		return "bfdd: a session has the addresses already"
 	case ErrFull:
 		return "bfdd: no session or reflector more can be held"
-	case ErrNone:
+	case ErrNotFound:
 		return "bfdd: no session or reflector has the discriminator"
 	}
 	return fmt.Sprintf("bfdd: code %d", uint32(code))

@@ -7,7 +7,7 @@
 import ctypes
 from ctypes import POINTER, Structure, byref, c_bool, c_char, c_char_p, c_size_t, c_uint8, c_uint16, c_uint32, c_uint64, c_void_p
 
-DONE, CLOSED, MEMORY, RANGE, END, TEXT, EVENTS, TAKEN_DISCR, TAKEN_ADDRESSES, FULL, NONE = range(11)
+DONE, CLOSED, MEMORY, RANGE, END, TEXT, EVENTS, TAKEN_DISCR, TAKEN_ADDRESSES, FULL, NOT_FOUND = range(11)
 PORTS = {"single": 1, "multi": 2, "echo": 3, "sbfd": 4, "answer": 5}
 VERBS = {"disable": 1, "enable": 2, "reset": 3, "path": 4, "tx": 5, "rx": 6, "mult": 7, "demand": 8, "echo": 9, "key": 10}
 STATES = ["AdminDown", "Down", "Init", "Up"]
@@ -105,6 +105,12 @@ class Engine:
 
     def remove(self, discr):
         self.call("remove", discr)
+
+    def add_reflector(self, discr, rx, is_up):
+        self.call("add_reflector", discr, rx, is_up)
+
+    def remove_reflector(self, discr):
+        self.call("remove_reflector", discr)
 
     def receive(self, moment, port, iface, src, dst, ttl, payload, sport=49152):
         packet = Packet(moment, PORTS[port], iface, address(src), address(dst), sport, ttl)

@@ -199,10 +199,10 @@ static void joining(void) {
         s.discr = discr, s.iface = discr;
         CHECK(bfdd_add(&engine, &s), BFDD_DONE);
     }
-    CHECK(bfdd_remove(&engine, 41), BFDD_NONE);
-    CHECK(bfdd_remove(&engine, 0), BFDD_NONE);
+    CHECK(bfdd_remove(&engine, 41), BFDD_NOT_FOUND);
+    CHECK(bfdd_remove(&engine, 0), BFDD_NOT_FOUND);
     CHECK(bfdd_remove(&engine, 7), BFDD_DONE);
-    CHECK(bfdd_remove(&engine, 7), BFDD_NONE);
+    CHECK(bfdd_remove(&engine, 7), BFDD_NOT_FOUND);
     CHECK(bfdd_add_reflector(&engine, 0, 50000, 1), BFDD_RANGE);
     CHECK(bfdd_add_reflector(&engine, 900, 9999, 1), BFDD_RANGE);
     CHECK(bfdd_add_reflector(&engine, 900, 50000, 2), BFDD_RANGE);
@@ -211,8 +211,8 @@ static void joining(void) {
     CHECK(bfdd_add_reflector(&engine, 7, 50000, 0), BFDD_DONE);
     s.discr = 900;
     CHECK(bfdd_add(&engine, &s), BFDD_TAKEN_DISCR);
-    CHECK(bfdd_remove(&engine, 900), BFDD_NONE);
-    CHECK(bfdd_remove_reflector(&engine, 8), BFDD_NONE);
+    CHECK(bfdd_remove(&engine, 900), BFDD_NOT_FOUND);
+    CHECK(bfdd_remove_reflector(&engine, 8), BFDD_NOT_FOUND);
     CHECK(bfdd_remove_reflector(&engine, 7), BFDD_DONE);
     CHECK(bfdd_answer(&engine, &answer), BFDD_DONE);
     CHECK(answer.kind, BFDD_TICKED);
@@ -241,7 +241,7 @@ static void joining(void) {
     CHECK(bfdd_receive(&engine, &packet, down, sizeof down), BFDD_DONE);
     CHECK(bfdd_answer(&engine, &answer), BFDD_DONE);
     CHECK(answer.code, BFDD_DROP_NO_SESSION);
-    for (uint32_t discr = 1; discr <= 40; discr++) CHECK(bfdd_remove(&engine, discr), discr == 7 ? BFDD_NONE : BFDD_DONE);
+    for (uint32_t discr = 1; discr <= 40; discr++) CHECK(bfdd_remove(&engine, discr), discr == 7 ? BFDD_NOT_FOUND : BFDD_DONE);
     CHECK(bfdd_due(&engine, &due), BFDD_END);
     bfdd_close(&engine);
 }

@@ -58,11 +58,11 @@ static void change(bfdd_handle *engine) {
         CHECK(bfdd_add(engine, &s), s.kind == BFDD_SINGLE_HOP || s.kind == BFDD_MULTIHOP || s.kind == BFDD_TAIL ? BFDD_TAKEN_ADDRESSES : BFDD_DONE);
         bfdd_remove(engine, 999);
     } else if (draw(2)) {
-        CHECK(bfdd_remove(engine, d), at[d].session ? BFDD_DONE : BFDD_NONE);
+        CHECK(bfdd_remove(engine, d), at[d].session ? BFDD_DONE : BFDD_NOT_FOUND);
         bfdd_close(&at[d].alone);
         at[d].session = false;
     } else {
-        CHECK(bfdd_remove_reflector(engine, d), at[d].reflector ? BFDD_DONE : BFDD_NONE);
+        CHECK(bfdd_remove_reflector(engine, d), at[d].reflector ? BFDD_DONE : BFDD_NOT_FOUND);
         at[d].reflector = false;
     }
 }
@@ -137,7 +137,7 @@ static long same_outputs(bfdd_handle *engine, uint32_t d) {
     other.discr = draw(2) * 999;
     for (; bfdd_next(&at[d].alone, &its) == BFDD_DONE; outputs++) {
         CHECK(bfdd_add(engine, &other), other.discr ? BFDD_DONE : BFDD_RANGE);
-        CHECK(bfdd_remove(engine, other.discr), other.discr ? BFDD_DONE : BFDD_NONE);
+        CHECK(bfdd_remove(engine, other.discr), other.discr ? BFDD_DONE : BFDD_NOT_FOUND);
         CHECK(bfdd_next(engine, &out), BFDD_DONE);
         CHECK(memcmp(&out, &its, sizeof out), 0);
     }

@@ -36,7 +36,7 @@ const TAKEN_ADDRESSES: u32 = 8;
 
 const FULL: u32 = 9;
 
-const NONE: u32 = 10;
+const NOT_FOUND: u32 = 10;
 
 /// Sessions and reflectors, the outputs of the last event, of which so many were read, and its answer.
 #[derive(Drop)]
@@ -136,7 +136,7 @@ impl Engine {
         if self.world.remove(discr) {
             return DONE;
         }
-        NONE
+        NOT_FOUND
     }
 
     /// One reflector more.
@@ -158,7 +158,7 @@ impl Engine {
         if self.world.remove_reflector(discr) {
             return DONE;
         }
-        NONE
+        NOT_FOUND
     }
 
     /// The least tick that a session needs next.

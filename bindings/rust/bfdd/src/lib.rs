@@ -6,7 +6,7 @@
 //! caller chooses.
 //!
 //! ```
-//! use bfdd::{Engine, Kind, Output, Packet, Port, Session, State};
+//! use bfdd::{Engine, Error, Kind, Output, Packet, Port, Session, State};
 //!
 //! let (here, there) = ([10, 0, 0, 1].into(), [10, 0, 0, 2].into());
 //! let mut engine = Engine::open_session(&Session::new(Kind::SingleHop, 1, 1, here, there))?;
@@ -15,6 +15,13 @@
 //! engine.receive(&Packet { moment: 1500, port: Port::Single, iface: 1, src: there, dst: here, sport: 49152, ttl: 255 }, &packet)?;
 //! let changed = engine.outputs().next();
 //! assert!(matches!(changed, Some(Output::Changed { discr: 1, was: State::Down, state: State::Init, diag: 0 })));
+//! assert_eq!(engine.add(&Session::new(Kind::SingleHop, 2, 1, here, there)), Err(Error::TakenAddresses));
+//! engine.add(&Session::new(Kind::SingleHop, 2, 2, here, there))?;
+//! engine.remove(1)?;
+//! assert_eq!(engine.remove(1), Err(Error::NotFound));
+//! assert_eq!(engine.add_reflector(2, 50_000, true), Err(Error::TakenDiscr));
+//! engine.add_reflector(1, 50_000, true)?;
+//! engine.remove_reflector(1)?;
 //! # Ok::<(), bfdd::Error>(())
 //! ```
 
@@ -41,7 +48,7 @@ pub enum Error {
     /// There are 65,536 sessions and reflectors already.
     Full,
     /// No session, or no reflector, has the discriminator.
-    None,
+    NotFound,
     /// Another code of `bfdd.h`.
     Code(u32),
 }
@@ -56,7 +63,7 @@ impl fmt::Display for Error {
             Error::TakenDiscr => write!(to, "the discriminator is in use"),
             Error::TakenAddresses => write!(to, "a session has the addresses already"),
             Error::Full => write!(to, "no session or reflector more can be held"),
-            Error::None => write!(to, "no session or reflector has the discriminator"),
+            Error::NotFound => write!(to, "no session or reflector has the discriminator"),
             Error::Code(code) => write!(to, "code {code}"),
         }
     }
@@ -73,7 +80,7 @@ fn done(code: u32) -> Result<(), Error> {
         sys::BFDD_TAKEN_DISCR => Err(Error::TakenDiscr),
         sys::BFDD_TAKEN_ADDRESSES => Err(Error::TakenAddresses),
         sys::BFDD_FULL => Err(Error::Full),
-        sys::BFDD_NONE => Err(Error::None),
+        sys::BFDD_NOT_FOUND => Err(Error::NotFound),
         code => Err(Error::Code(code)),
     }
 }
