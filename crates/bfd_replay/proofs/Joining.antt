@@ -61,7 +61,7 @@ taken_out (suc p) c (d ∷ cs) o =
     let other : (discr_of d == discr_of c) ≡ false = number_turned (discr_of d) (discr_of c) ∙ o.0 in
     rw other (ap (λ xs. d ∷ xs) (taken_out p c cs o.1))
 
-module _ {t t2 : Members} (c : SessionConfig) (clear : add_fault (row_of c) (table_of t.configs t.pool) ≡ None) (grown : t2 ≡ with_session c t) where
+module _ (t : Members) {t2 : Members} (c : SessionConfig) (clear : add_fault (row_of c) (table_of t.configs t.pool) ≡ None) (grown : t2 ≡ with_session c t) where
   apart : Others (discr_of c) t.configs
   apart =
       let fit = fits (row_of c) (table_of t.configs t.pool) clear in
@@ -76,14 +76,6 @@ module _ {t t2 : Members} (c : SessionConfig) (clear : add_fault (row_of c) (tab
   -- the table from which it is taken out again is as it was
   pub table_undone : {t3 : Members} (discr : ℕ) → discr ≡ discr_of c → t3 ≡ without_session discr t2 → t3 ≡ t
   table_undone discr same taken = rw (taken, same, grown) (ap (λ cs. members cs t.pool) (taken_out (place_for (discr_of c) t.configs) c t.configs apart))
-
-  -- a place among the configurations is one among the sessions, and there is room for one more
-  pub seat_free : (ss : List Running) (p : ℕ) → t.configs ≡ configs_of ss → p ≤ length t.configs → (p ≤ length ss) × (length ss < 65536)
-  seat_free ss p are within =
-      let same : length t.configs ≡ length ss = ap length are ∙ length-map ss (λ s. s.config) in
-      let fit = fits (row_of c) (table_of t.configs t.pool) clear in
-      let few : length t.configs + length t.pool < 65536 = subst (λ (n : ℕ). n < 65536) (length_table t.configs t.pool) fit.few in
-      (omega (arith, same, within), omega (arith, same, few))
 
 pub session_joins : (ss : List Running) (p : ℕ) (c : SessionConfig) (pool : List Reflector) (last : ℕ) {cs : List SessionConfig} {ss2 : List Running}
     → cs ≡ configs_of ss → p ≡ place_for (discr_of c) cs → ss2 ≡ insert ss p (started c) → world_of ss2 pool last ≡ world_with c (world_of ss pool last)
