@@ -221,8 +221,9 @@ typedef struct {
     uint32_t kind; /* an enum bfdd_answer_kind */
     uint32_t code; /* dropped: an enum bfdd_drop; refused: an enum bfdd_refusal */
     char name[16]; /* dropped and refused: the cause by name, which ends with a zero */
-    uint32_t discr; /* shown: this and all below */
-    uint8_t state, diag, remote_state; /* states are enum bfdd_state, the diagnostic is RFC 5880's */
+    uint32_t discr; /* the session to which the packet, command or question came, also where it was dropped or refused by that session;
+                     * 0 where it came to none or to a reflector, and of a tick */
+    uint8_t state, diag, remote_state; /* shown: these and all below; states are enum bfdd_state, the diagnostic is RFC 5880's */
     uint8_t poll;   /* the Poll Sequence: 0 none, 1 wanted, 2 running */
     uint32_t remote_discr;
     uint32_t adv_tx;  /* the Desired Min TX Interval that is advertised */

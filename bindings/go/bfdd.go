@@ -176,6 +176,7 @@ const (
 )
 
 // An Answer says what became of the last event: of one that was dropped or refused Code and Name, of one that shows a session the rest.
+// Discr is the session to which the event came; 0 where it came to none or to a reflector, and of a tick.
 type Answer struct {
 	Kind               AnswerKind
 	Code               uint32

@@ -30,7 +30,11 @@ func Example() {
 			fmt.Println(out.Dst, out.Dport, out.TTL, len(out.Payload))
 		}
 	}
-	// Output: 1 Down Init 0
+	answer, _ := engine.Answer()
+	fmt.Println(answer.Kind == bfdd.Handled, answer.Discr)
+	// Output:
+	// 1 Down Init 0
+	// true 1
 }
 
 func ExampleEngine_Add() {

@@ -180,6 +180,7 @@ static long each_alone(void) {
         } else {
             CHECK(bfdd_answer(&engine, &answer), BFDD_DONE);
             CHECK(answer.kind, it.kind < 4 ? BFDD_DROPPED : BFDD_REFUSED);
+            CHECK(answer.discr, 0);
         }
         CHECK(bfdd_next(&engine, &out), BFDD_END);
         same_due(&engine);

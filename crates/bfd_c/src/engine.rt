@@ -38,12 +38,13 @@ const FULL: u32 = 9;
 
 const NOT_FOUND: u32 = 10;
 
-/// Sessions and reflectors, the outputs of the last event, of which so many were read, and its answer.
+/// Sessions and reflectors, the outputs of the last event, of which so many were read, its answer, and the session to which it came.
 #[derive(Drop)]
 pub struct Engine {
     world: World<ByCount>,
     read: usize,
     answer: Answer,
+    discr: u32,
 }
 
 impl Model for Engine {
@@ -52,7 +53,7 @@ impl Model for Engine {
 
     ghost Value = { Instance };
 
-    ghost view = { λ e. record { world = e.world.world; left = drop e.read e.world.items; answer = e.answer } };
+    ghost view = { λ e. record { world = e.world.world; left = drop e.read e.world.items; answer = e.answer; discr = e.discr } };
 }
 
 /// How many outputs were read, once one more was, if one was left.
@@ -92,6 +93,7 @@ impl Engine {
             world,
             read,
             answer: Answer::Handled,
+            discr: 0,
         })
     }
 
@@ -99,7 +101,9 @@ impl Engine {
     fn happen(&mut self, line: Line)
         ensures { self.new ≡ instance_after line self.old }
     {
-        self.answer = self.world.happen(line);
+        let (answer, discr) = self.world.happen_naming(line);
+        self.answer = answer;
+        self.discr = discr;
         self.read = 0;
     }
 
@@ -180,6 +184,13 @@ impl Engine {
         ensures { self.new ≡ record self.old { left = drop 1 self.old.left } }
     {
         self.read = further(self.world.items(), self.read);
+    }
+
+    /// The session to which the last event came, or 0.
+    pub(crate) fn discr(&self) -> u32
+        ensures { result ≡ self.now.discr }
+    {
+        self.discr
     }
 
     /// What the last event was answered.

@@ -1,7 +1,7 @@
 -- Names that proofs of this crate cite, passed on from one place. Declares nothing.
 pub use Rattle.std.proofs.Common.{Err, List, None, Ok, Option, Result, Some, [], add-one, ap, append-nil, append_assoc, arith, drop, false, map, max, refl, rules, set, suc, sym, take, zero, ℕ, ◌*◌, ◌++◌, ◌+◌, ◌<◌, ◌∙◌, ◌∷◌, ◌≡◌, ◌≤◌}
 pub use Rattle.bfd_line.specs.declared.entries.Line.{Line}
-pub use Rattle.bfd_replay.specs.World.{World, carried_out, happens, outcomes, own_of, reflected, turn_giving, turned, world_of}
+pub use Rattle.bfd_replay.specs.World.{World, carried_out, happens, outcomes, own_of, reached, reflected, turn_giving, turned, world_of}
 unfoldable pub use Rattle.bfd_replay.specs.World.{own, ticks}
 pub use Rattle.bfd_rules.specs.declared.outputs.Out.{Out}
 pub use Rattle.bfd_sbfd.specs.declared.reflecting.Reflector.{Reflector}

@@ -1,5 +1,5 @@
 -- A world with one session or reflector more, and without one.
-use Rattle.bfd_replay.proofs.Common.{◌≡◌, ◌<◌, ◌≤◌, ◌+◌, ◌*◌, ◌==◌, ◌||◌, ◌++◌, ◌∷◌, ◌∙◌, ℕ, zero, suc, Bool, false, true, not, None, Option, Some, List, [], get_or, length, map, nat_lt, subst, take, drop, refl, sym, ap, arith, add-one, eq-eqb, filter, list_any, AllByRecursion, Reflector, SessionConfig, Running, World, configs_of, discr_of, started, table_of, world_of, Outputs}
+use Rattle.bfd_replay.proofs.Common.{◌≡◌, ◌<◌, ◌≤◌, ◌+◌, ◌*◌, ◌==◌, ◌||◌, ◌++◌, ◌∷◌, ◌∙◌, ℕ, zero, suc, Bool, false, true, not, None, Some, List, [], get_or, length, map, nat_lt, take, drop, refl, sym, ap, arith, add-one, eq-eqb, filter, list_any, AllByRecursion, Reflector, SessionConfig, Running, configs_of, discr_of, started, table_of, world_of, Outputs}
 use Rattle.std.specs.List.{insert, remove}
 use Rattle.std.proofs.lemmas.List.{length-map}
 use Rattle.std.proofs.lemmas.List.Edits.{length-insert, length-remove}
@@ -12,7 +12,6 @@ use Rattle.bfd_session.specs.Changes.{place_for, with_session, without_pooled, w
 use Rattle.bfd_session.specs.Rows.{place_of, row_of, row_of_reflector, rows_of}
 use Rattle.bfd_session.specs.Tables.{Members, members}
 use Rattle.bfd_session.proofs.Changes.{map_inserted, map_removed}
-use Rattle.bfd_session.proofs.Tables.{length_table}
 use Rattle.bfd_replay.specs.Stage.{IsStage}
 use Rattle.bfd_replay.specs.World.{without_at, world_with, world_without}
 

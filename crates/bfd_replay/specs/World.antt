@@ -123,6 +123,22 @@ carried_out (Passes t) w = ticks t w
 abbrev pub happens : Line → World → Turn
 happens line w = carried_out (doing (configs_of w.sessions) w.pool line) w
 
+-- the discriminator of a session, if there is one
+abbrev pub session_discr : Option Running → ℕ
+session_discr None = 0
+session_discr (Some s) = discr_of s.config
+
+-- that of the session to which an event came; 0 where it came to none, to a reflector, or as a tick to all
+abbrev pub reached : Doing → World → ℕ
+reached (Rests answer) w = 0
+reached (Reflects place arrival) w = 0
+reached (Happens place moment event) w = session_discr (slice_get w.sessions place)
+reached (Passes t) w = 0
+
+-- the same of a line of a script
+abbrev pub discr_reached : Line → World → ℕ
+discr_reached line w = reached (doing (configs_of w.sessions) w.pool line) w
+
 -- what the lines give, one after another
 abbrev pub outcomes : List Line → World → List Outcome
 outcomes [] w = []

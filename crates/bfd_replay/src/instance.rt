@@ -107,6 +107,15 @@ impl<W: Timers> Instance<W> {
     pub fn happen(&mut self, line: Line) -> Answer
         ensures { turn_giving self.new.world self.new.items result ≡ world.happens line self.old.world }
     {
+        self.happen_naming(line).0
+    }
+
+    /// The same, with the discriminator of the session to which the event came; 0 where it came to none, to a reflector, or as a tick
+    /// to all.
+    pub fn happen_naming(&mut self, line: Line) -> (Answer, u32)
+        ensures turn { turn_giving self.new.world self.new.items result.0 ≡ world.happens line self.old.world }
+        ensures reached { result.1 ≡ world.discr_reached line self.old.world }
+    {
         self.outs.clear();
         happen(&self.table, &mut self.sessions, line, &mut self.outs)
     }

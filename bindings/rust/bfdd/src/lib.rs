@@ -15,6 +15,7 @@
 //! engine.receive(&Packet { moment: 1500, port: Port::Single, iface: 1, src: there, dst: here, sport: 49152, ttl: 255 }, &packet)?;
 //! let changed = engine.outputs().next();
 //! assert!(matches!(changed, Some(Output::Changed { discr: 1, was: State::Down, state: State::Init, diag: 0 })));
+//! assert_eq!(engine.answered_by(), Some(1));
 //! assert_eq!(engine.add(&Session::new(Kind::SingleHop, 2, 1, here, there)), Err(Error::TakenAddresses));
 //! engine.add(&Session::new(Kind::SingleHop, 2, 2, here, there))?;
 //! engine.remove(1)?;
@@ -390,6 +391,14 @@ impl Engine {
             sys::BFDD_SHOWN => Answer::Shown(shown(&given)),
             _ => Answer::Handled,
         }
+    }
+
+    /// The session to which the last event came, also where that session dropped or refused it; none where it came to no session or to a
+    /// reflector, and of a tick.
+    pub fn answered_by(&mut self) -> Option<u32> {
+        let mut given = sys::bfdd_answered::default();
+        unsafe { sys::bfdd_answer(&mut self.handle, &mut given) };
+        (given.discr > 0).then_some(given.discr)
     }
 
     /// The outputs of the last event that are left, in the order in which they came. What isn't read before the next event is gone.

@@ -1,5 +1,5 @@
 -- The session stands at the place that the table has for it, or the table is as it was.
-use Rattle.bfd_replay.proofs.Common.{ap, length}
+use Rattle.bfd_replay.proofs.Common.{ap}
 use Rattle.bfd_session.specs.Tables.{Members}
 use Rattle.bfd_shard.specs.Sessions.{Timed}
 use Rattle.bfd_replay.proofs.Joining.{place_is, session_joins, stage_joins, stage_same, table_undone}

@@ -1,7 +1,7 @@
 -- The session at the place of the discriminator leaves.
-use Rattle.bfd_replay.proofs.Common.{ap, refl}
+use Rattle.bfd_replay.proofs.Common.{ap}
 use Rattle.bfd_session.specs.Tables.{Members}
-use Rattle.bfd_replay.proofs.Joining.{none_leaves, session_leaves, stage_leaves}
+use Rattle.bfd_replay.proofs.Joining.{session_leaves, stage_leaves}
 use Rattle.bfd_replay.proofs.instance.Instance.remove.Goals as goal
 
 pub invariant_of-self : goal.invariant_of-self
