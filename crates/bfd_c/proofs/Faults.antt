@@ -24,9 +24,9 @@ no_memory row rows e = no_memory_by (nat_le 65536 (length rows)) (row.discr == 0
 
 pub memory_last : (found : Option AddFault) (fault : AddFault) (w : World) (e : Instance) → ((fault ≡ Memory) × (found ≡ None)) ⊎ (found ≡ Some fault) → (found ≡ Some Memory → ⊥)
     → add_code fault ≡ 2 → (unless found w e).1 ≡ 0
-memory_last found fault w e (inl h) no two = rw h.1 refl
-memory_last found TooMany w e (inr h) no two = (let other : 9 ≡ 2 = two in absurd (omega (arith, other)))
-memory_last found ZeroDiscr w e (inr h) no two = (let other : 3 ≡ 2 = two in absurd (omega (arith, other)))
-memory_last found SameDiscr w e (inr h) no two = (let other : 7 ≡ 2 = two in absurd (omega (arith, other)))
-memory_last found SameAddresses w e (inr h) no two = (let other : 8 ≡ 2 = two in absurd (omega (arith, other)))
-memory_last found Memory w e (inr h) no two = absurd (no h)
+memory_last found fault w e (inl h) not_memory two = rw h.1 refl
+memory_last found TooMany w e (inr h) not_memory two = (let other : 9 ≡ 2 = two in absurd (omega (arith, other)))
+memory_last found ZeroDiscr w e (inr h) not_memory two = (let other : 3 ≡ 2 = two in absurd (omega (arith, other)))
+memory_last found SameDiscr w e (inr h) not_memory two = (let other : 7 ≡ 2 = two in absurd (omega (arith, other)))
+memory_last found SameAddresses w e (inr h) not_memory two = (let other : 8 ≡ 2 = two in absurd (omega (arith, other)))
+memory_last found Memory w e (inr h) not_memory two = absurd (not_memory h)

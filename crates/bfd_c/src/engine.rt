@@ -127,10 +127,10 @@ impl Engine {
         ensures memory { result ≡ 2 → (joining.session_added (Some config) self.old).1 ≡ 0 }
         ensures kept { result ≡ 2 → self.new ≡ self.old }
     {
-        match self.world.add(alloc, config) {
-            Ok(()) => DONE,
-            Err(fault) => add_code(fault),
-        }
+        let Err(fault) = self.world.add(alloc, config) else {
+            return DONE;
+        };
+        add_code(fault)
     }
 
     /// The session of this discriminator leaves.
@@ -149,10 +149,10 @@ impl Engine {
         ensures memory { result ≡ 2 → (joining.reflector_added (Some reflector) self.old).1 ≡ 0 }
         ensures kept { result ≡ 2 → self.new ≡ self.old }
     {
-        match self.world.add_reflector(reflector) {
-            Ok(()) => DONE,
-            Err(fault) => add_code(fault),
-        }
+        let Err(fault) = self.world.add_reflector(reflector) else {
+            return DONE;
+        };
+        add_code(fault)
     }
 
     /// The reflector of this discriminator leaves.
