@@ -50,7 +50,11 @@ enum bfdd_code {
     BFDD_RANGE = 3,  /* a value is outside its range */
     BFDD_END = 4,    /* nothing is left to be read; no tick is needed */
     BFDD_TEXT = 5,   /* the text is no table */
-    BFDD_EVENTS = 6  /* the text has event lines */
+    BFDD_EVENTS = 6, /* the text has event lines */
+    BFDD_TAKEN_DISCR = 7, /* a session or a reflector has the discriminator already */
+    BFDD_TAKEN_ADDRESSES = 8, /* a session of the kind has the selecting addresses already */
+    BFDD_FULL = 9, /* there are 65,536 sessions and reflectors already */
+    BFDD_NOT_FOUND = 10 /* no session, or no reflector, has the discriminator */
 };
 
 /* A handle. Its fields are the library's. */
@@ -117,6 +121,24 @@ typedef struct {
 /* Opens a handle with this session alone. Several keys, several sessions and reflectors need bfdd_open. What the handle owned
  * is freed, once all is there. BFDD_RANGE, BFDD_MEMORY. */
 uint32_t bfdd_open_session(bfdd_handle *handle, const bfdd_session *session);
+
+/* Sessions and reflectors come and go in an open handle: the others, their timers and the outputs that weren't read stay as they
+ * are. The time is linear in the sessions; no event's is.
+ *
+ * One session more. It starts at the last tick, so that the next tick sends its first packet. BFDD_CLOSED, BFDD_RANGE, BFDD_FULL,
+ * BFDD_TAKEN_DISCR, BFDD_TAKEN_ADDRESSES, BFDD_MEMORY. */
+uint32_t bfdd_add(bfdd_handle *handle, const bfdd_session *session);
+
+/* The session of this discriminator leaves, and tells its peer nothing: for that it is disabled before, which makes it send
+ * AdminDown. BFDD_CLOSED, BFDD_NOT_FOUND. */
+uint32_t bfdd_remove(bfdd_handle *handle, uint32_t discr);
+
+/* One reflector more (RFC 7880 section 7.2), of this discriminator, from 1, and Required Min RX Interval, 10,000 to 60,000,000: its
+ * answers say Up where `up` is 1, AdminDown where it is 0. BFDD_CLOSED, BFDD_RANGE, BFDD_FULL, BFDD_TAKEN_DISCR, BFDD_MEMORY. */
+uint32_t bfdd_add_reflector(bfdd_handle *handle, uint32_t discr, uint32_t rx, uint32_t up);
+
+/* The reflector of this discriminator leaves. BFDD_CLOSED, BFDD_NOT_FOUND. */
+uint32_t bfdd_remove_reflector(bfdd_handle *handle, uint32_t discr);
 
 /* Closes a handle, and frees all that it owns. A closed handle stays closed. */
 void bfdd_close(bfdd_handle *handle);
@@ -199,8 +221,9 @@ typedef struct {
     uint32_t kind; /* an enum bfdd_answer_kind */
     uint32_t code; /* dropped: an enum bfdd_drop; refused: an enum bfdd_refusal */
     char name[16]; /* dropped and refused: the cause by name, which ends with a zero */
-    uint32_t discr; /* shown: this and all below */
-    uint8_t state, diag, remote_state; /* states are enum bfdd_state, the diagnostic is RFC 5880's */
+    uint32_t discr; /* the session to which the packet, command or question came, also where it was dropped or refused by that session;
+                     * 0 where it came to none or to a reflector, and of a tick */
+    uint8_t state, diag, remote_state; /* shown: these and all below; states are enum bfdd_state, the diagnostic is RFC 5880's */
     uint8_t poll;   /* the Poll Sequence: 0 none, 1 wanted, 2 running */
     uint32_t remote_discr;
     uint32_t adv_tx;  /* the Desired Min TX Interval that is advertised */

@@ -25,6 +25,11 @@ const (
 	ErrMemory Code = C.BFDD_MEMORY // there was no memory
 	ErrRange  Code = C.BFDD_RANGE  // a value is outside its range
 	ErrEvents Code = C.BFDD_EVENTS // the table has event lines
+
+	ErrTakenDiscr     Code = C.BFDD_TAKEN_DISCR     // a session or a reflector has the discriminator already
+	ErrTakenAddresses Code = C.BFDD_TAKEN_ADDRESSES // a session of the kind has the selecting addresses already
+	ErrFull           Code = C.BFDD_FULL            // there are 65,536 sessions and reflectors already
+	ErrNotFound       Code = C.BFDD_NOT_FOUND       // no session, or no reflector, has the discriminator
 )
 
 func (code Code) Error() string {
@@ -37,6 +42,14 @@ func (code Code) Error() string {
 		return "bfdd: a value is outside its range"
 	case ErrEvents:
 		return "bfdd: the table has event lines"
+	case ErrTakenDiscr:
+		return "bfdd: the discriminator is in use"
+	case ErrTakenAddresses:
+		return "bfdd: a session has the addresses already"
+	case ErrFull:
+		return "bfdd: no session or reflector more can be held"
+	case ErrNotFound:
+		return "bfdd: no session or reflector has the discriminator"
 	}
 	return fmt.Sprintf("bfdd: code %d", uint32(code))
 }
@@ -163,6 +176,7 @@ const (
 )
 
 // An Answer says what became of the last event: of one that was dropped or refused Code and Name, of one that shows a session the rest.
+// Discr is the session to which the event came; 0 where it came to none or to a reflector, and of a tick.
 type Answer struct {
 	Kind               AnswerKind
 	Code               uint32
@@ -227,6 +241,31 @@ func opened(engine *Engine, code C.uint32_t) (*Engine, error) {
 
 // Close frees all that the engine owns; it then answers ErrClosed.
 func (e *Engine) Close() { C.bfdd_close(&e.handle) }
+
+// Add has one session more. The others, and the outputs that weren't read, stay as they are; so it is with the three calls below.
+func (e *Engine) Add(session *Session) error {
+	from := session.toC()
+	return failure(C.bfdd_add(&e.handle, &from))
+}
+
+// Remove lets a session leave. Its peer is told nothing: for that disable it before.
+func (e *Engine) Remove(discr uint32) error {
+	return failure(C.bfdd_remove(&e.handle, C.uint32_t(discr)))
+}
+
+// AddReflector has one reflector more, with its Required Min RX Interval, whose answers say Up or AdminDown.
+func (e *Engine) AddReflector(discr, rx uint32, up bool) error {
+	said := C.uint32_t(0)
+	if up {
+		said = 1
+	}
+	return failure(C.bfdd_add_reflector(&e.handle, C.uint32_t(discr), C.uint32_t(rx), said))
+}
+
+// RemoveReflector lets a reflector leave.
+func (e *Engine) RemoveReflector(discr uint32) error {
+	return failure(C.bfdd_remove_reflector(&e.handle, C.uint32_t(discr)))
+}
 
 // Receive hands in a packet that came.
 func (e *Engine) Receive(packet *Packet, payload []byte) error {

@@ -30,7 +30,33 @@ func Example() {
 			fmt.Println(out.Dst, out.Dport, out.TTL, len(out.Payload))
 		}
 	}
-	// Output: 1 Down Init 0
+	answer, _ := engine.Answer()
+	fmt.Println(answer.Kind == bfdd.Handled, answer.Discr)
+	// Output:
+	// 1 Down Init 0
+	// true 1
+}
+
+func ExampleEngine_Add() {
+	here, there := netip.MustParseAddr("10.0.0.1"), netip.MustParseAddr("10.0.0.2")
+	engine, _ := bfdd.Open([]byte("bfd 1\nrun\nend\n"))
+	defer engine.Close()
+	session := bfdd.Session{Kind: bfdd.SingleHop, Discr: 1, Iface: 1, Local: here, Remote: there, Active: true,
+		Tx: 1000000, Rx: 1000000, Mult: 3}
+	fmt.Println(engine.Add(&session))
+	fmt.Println(engine.Add(&session))
+	session.Discr = 2
+	fmt.Println(errors.Is(engine.Add(&session), bfdd.ErrTakenAddresses))
+	fmt.Println(engine.AddReflector(2, 50000, true))
+	fmt.Println(engine.Remove(1), engine.RemoveReflector(2))
+	fmt.Println(engine.Remove(1))
+	// Output:
+	// <nil>
+	// bfdd: the discriminator is in use
+	// true
+	// <nil>
+	// <nil> <nil>
+	// bfdd: no session or reflector has the discriminator
 }
 
 func Example_codes() {

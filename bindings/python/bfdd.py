@@ -7,7 +7,7 @@
 import ctypes
 from ctypes import POINTER, Structure, byref, c_bool, c_char, c_char_p, c_size_t, c_uint8, c_uint16, c_uint32, c_uint64, c_void_p
 
-DONE, CLOSED, MEMORY, RANGE, END, TEXT, EVENTS = range(7)
+DONE, CLOSED, MEMORY, RANGE, END, TEXT, EVENTS, TAKEN_DISCR, TAKEN_ADDRESSES, FULL, NOT_FOUND = range(11)
 PORTS = {"single": 1, "multi": 2, "echo": 3, "sbfd": 4, "answer": 5}
 VERBS = {"disable": 1, "enable": 2, "reset": 3, "path": 4, "tx": 5, "rx": 6, "mult": 7, "demand": 8, "echo": 9, "key": 10}
 STATES = ["AdminDown", "Down", "Init", "Up"]
@@ -57,6 +57,8 @@ def load(path):
     handle = POINTER(Handle)
     for name, *types in [
             ("open", handle, c_char_p, c_size_t, POINTER(Complaint)), ("open_session", handle, POINTER(Session)),
+            ("add", handle, POINTER(Session)), ("remove", handle, c_uint32),
+            ("add_reflector", handle, c_uint32, c_uint32, c_uint32), ("remove_reflector", handle, c_uint32),
             ("receive", handle, POINTER(Packet), c_char_p, c_size_t), ("tick", handle, c_uint64),
             ("command", handle, c_uint64, c_uint32, c_uint32, c_uint64), ("show", handle, c_uint64, c_uint32),
             ("answer", handle, POINTER(Answered)), ("next", handle, POINTER(Output)), ("due", handle, POINTER(c_uint64))]:
@@ -97,6 +99,18 @@ class Engine:
 
     def open(self, text):
         self.call("open", text, len(text), byref(Complaint()))
+
+    def add(self, session):
+        self.call("add", byref(session))
+
+    def remove(self, discr):
+        self.call("remove", discr)
+
+    def add_reflector(self, discr, rx, is_up):
+        self.call("add_reflector", discr, rx, is_up)
+
+    def remove_reflector(self, discr):
+        self.call("remove_reflector", discr)
 
     def receive(self, moment, port, iface, src, dst, ttl, payload, sport=49152):
         packet = Packet(moment, PORTS[port], iface, address(src), address(dst), sport, ttl)

@@ -11,6 +11,10 @@ static void closed(void) {
     CHECK(bfdd_tick(&engine, UINT64_MAX), BFDD_CLOSED);
     CHECK(bfdd_command(&engine, 0, 1, BFDD_DISABLE, 0), BFDD_CLOSED);
     CHECK(bfdd_show(&engine, 0, 1), BFDD_CLOSED);
+    CHECK(bfdd_add(&engine, &pair), BFDD_CLOSED);
+    CHECK(bfdd_remove(&engine, 1), BFDD_CLOSED);
+    CHECK(bfdd_add_reflector(&engine, 900, 50000, 1), BFDD_CLOSED);
+    CHECK(bfdd_remove_reflector(&engine, 900), BFDD_CLOSED);
     CHECK(bfdd_next(&engine, &out), BFDD_CLOSED);
     CHECK(bfdd_answer(&engine, &answer), BFDD_CLOSED);
     CHECK(bfdd_due(&engine, &due), BFDD_CLOSED);
@@ -176,7 +180,99 @@ static void events(void) {
     bfdd_close(&engine);
 }
 
+/* Sessions and reflectors come and go, and the others stay. */
+static void joining(void) {
+    bfdd_handle engine = BFDD_HANDLE_INIT;
+    bfdd_output out = {0};
+    bfdd_answered answer = {0};
+    bfdd_session s = pair;
+    uint64_t due = 0;
+    CHECK(bfdd_open_session(&engine, &s), BFDD_DONE);
+    CHECK(bfdd_tick(&engine, 5000), BFDD_DONE);
+    /* an output that wasn't read stays over all calls */
+    CHECK(bfdd_add(&engine, &s), BFDD_TAKEN_DISCR);
+    s.discr = 5;
+    CHECK(bfdd_add(&engine, &s), BFDD_TAKEN_ADDRESSES);
+    s.iface = 65536;
+    CHECK(bfdd_add(&engine, &s), BFDD_RANGE);
+    for (uint32_t discr = 40; discr > 1; discr--) {
+        s.discr = discr, s.iface = discr;
+        CHECK(bfdd_add(&engine, &s), BFDD_DONE);
+    }
+    CHECK(bfdd_remove(&engine, 41), BFDD_NOT_FOUND);
+    CHECK(bfdd_remove(&engine, 0), BFDD_NOT_FOUND);
+    CHECK(bfdd_remove(&engine, 7), BFDD_DONE);
+    CHECK(bfdd_remove(&engine, 7), BFDD_NOT_FOUND);
+    CHECK(bfdd_add_reflector(&engine, 0, 50000, 1), BFDD_RANGE);
+    CHECK(bfdd_add_reflector(&engine, 900, 9999, 1), BFDD_RANGE);
+    CHECK(bfdd_add_reflector(&engine, 900, 50000, 2), BFDD_RANGE);
+    CHECK(bfdd_add_reflector(&engine, 8, 50000, 1), BFDD_TAKEN_DISCR);
+    CHECK(bfdd_add_reflector(&engine, 900, 50000, 1), BFDD_DONE);
+    CHECK(bfdd_add_reflector(&engine, 7, 50000, 0), BFDD_DONE);
+    s.discr = 900;
+    CHECK(bfdd_add(&engine, &s), BFDD_TAKEN_DISCR);
+    CHECK(bfdd_remove(&engine, 900), BFDD_NOT_FOUND);
+    CHECK(bfdd_remove_reflector(&engine, 8), BFDD_NOT_FOUND);
+    CHECK(bfdd_remove_reflector(&engine, 7), BFDD_DONE);
+    CHECK(bfdd_answer(&engine, &answer), BFDD_DONE);
+    CHECK(answer.kind, BFDD_TICKED);
+    CHECK(bfdd_next(&engine, &out), BFDD_DONE);
+    CHECK(out.discr, 1);
+    CHECK(bfdd_next(&engine, &out), BFDD_END);
+    /* the new ones send at the next tick, each once, and the first not again */
+    CHECK(bfdd_due(&engine, &due), BFDD_DONE);
+    CHECK(due <= 5000, true);
+    CHECK(bfdd_tick(&engine, 5001), BFDD_DONE);
+    for (uint32_t discr = 2; discr <= 40; discr++) {
+        if (discr == 7) continue;
+        CHECK(bfdd_next(&engine, &out), BFDD_DONE);
+        CHECK(out.kind, BFDD_SENT);
+        CHECK(out.discr, discr);
+    }
+    CHECK(bfdd_next(&engine, &out), BFDD_END);
+    /* a packet finds a session that came, and none that went */
+    bfdd_packet packet = from_peer;
+    packet.moment = 5002000, packet.iface = 30;
+    CHECK(bfdd_receive(&engine, &packet, down, sizeof down), BFDD_DONE);
+    CHECK(bfdd_next(&engine, &out), BFDD_DONE);
+    CHECK(out.kind, BFDD_CHANGED);
+    CHECK(out.discr, 30);
+    packet.iface = 7;
+    CHECK(bfdd_receive(&engine, &packet, down, sizeof down), BFDD_DONE);
+    CHECK(bfdd_answer(&engine, &answer), BFDD_DONE);
+    CHECK(answer.code, BFDD_DROP_NO_SESSION);
+    for (uint32_t discr = 1; discr <= 40; discr++) CHECK(bfdd_remove(&engine, discr), discr == 7 ? BFDD_NOT_FOUND : BFDD_DONE);
+    CHECK(bfdd_due(&engine, &due), BFDD_END);
+    bfdd_close(&engine);
+}
+
+/* The last place is taken, and not one more. */
+static void full(void) {
+    enum { MOST = 65536 };
+    static char text[MOST * 26 + 20];
+    bfdd_handle engine = BFDD_HANDLE_INIT;
+    bfdd_complaint complaint = {0};
+    int length = sprintf(text, "bfd 2\n");
+    for (int discr = 2; discr <= MOST; discr++) length += sprintf(text + length, "reflector %d 50000 up\n", discr);
+    strcpy(text + length, "run\nend\n");
+    CHECK(open_text(&engine, text, &complaint), BFDD_DONE);
+    CHECK(bfdd_add(&engine, &pair), BFDD_DONE);
+    bfdd_session s = pair;
+    CHECK(bfdd_add(&engine, &s), BFDD_FULL);
+    CHECK(bfdd_add_reflector(&engine, MOST + 1, 50000, 1), BFDD_FULL);
+    s.mult = 0;
+    CHECK(bfdd_add(&engine, &s), BFDD_RANGE);
+    CHECK(bfdd_remove(&engine, 1), BFDD_DONE);
+    CHECK(bfdd_add_reflector(&engine, MOST + 1, 50000, 1), BFDD_DONE);
+    CHECK(bfdd_add(&engine, &pair), BFDD_FULL);
+    CHECK(bfdd_remove_reflector(&engine, 2), BFDD_DONE);
+    CHECK(bfdd_add(&engine, &pair), BFDD_DONE);
+    bfdd_close(&engine);
+}
+
 int main(void) {
+    joining();
+    full();
     closed();
     texts();
     fields();

@@ -158,11 +158,13 @@ static void shown(void) {
     CHECK(is.used_rx, 300000);
     CHECK(is.detect, 3600000);
     CHECK(bfdd_show(&engine, 2200000, 22), BFDD_DONE);
-    answered(&engine, BFDD_REFUSED, BFDD_UNKNOWN_SESSION, "UnknownSession");
+    CHECK(answered(&engine, BFDD_REFUSED, BFDD_UNKNOWN_SESSION, "UnknownSession").discr, 0);
+    CHECK(bfdd_command(&engine, 2200000, 21, BFDD_TX, 0), BFDD_DONE);
+    CHECK(answered(&engine, BFDD_REFUSED, BFDD_VALUE_OUT_OF_RANGE, "OutOfRange").discr, 21);
     CHECK(bfdd_tick(&engine, 5599), BFDD_DONE);
     ends_with(&engine, "26e00418000000150000000b000aae60000493e000000000");
     CHECK(bfdd_tick(&engine, 5600), BFDD_DONE);
-    answered(&engine, BFDD_TICKED, 0, "");
+    CHECK(answered(&engine, BFDD_TICKED, 0, "").discr, 0);
     changes(&engine, 21, BFDD_UP, BFDD_DOWN, 1);
     bfdd_close(&engine);
 }
@@ -192,7 +194,8 @@ static void packets(void) {
         CHECK(bfdd_open_session(&engine, &whole), BFDD_DONE);
         bool by_discr = rows[at].drop == BFDD_DROP_YOUR_UNKNOWN;
         receive(&engine, &rows[at].packet, by_discr ? heard : "204006180000000b00000000000927c0000c350000000000");
-        answered(&engine, rows[at].drop ? BFDD_DROPPED : BFDD_HANDLED, rows[at].drop, rows[at].name);
+        bfdd_answered is = answered(&engine, rows[at].drop ? BFDD_DROPPED : BFDD_HANDLED, rows[at].drop, rows[at].name);
+        CHECK(is.discr, at == 0 || rows[at].drop == BFDD_DROP_TTL ? 21 : 0);
     }
     /* the moment: a packet later by 50 milliseconds is sent for later */
     for (uint64_t later = 0; later < 2; later++) {
@@ -232,7 +235,7 @@ static void others(void) {
     packet.dst.bytes[0] = 239;
     CHECK(bfdd_open_session(&engine, &session), BFDD_DONE);
     receive(&engine, &packet, "20c10418000003850000000000061a800000000000000000");
-    answered(&engine, BFDD_DROPPED, BFDD_DROP_NO_TAIL, "NoTail");
+    CHECK(answered(&engine, BFDD_DROPPED, BFDD_DROP_NO_TAIL, "NoTail").discr, 0);
     receive(&engine, &packet, "20c10418000003840000000000061a800000000000000000");
     changes(&engine, 21, BFDD_DOWN, BFDD_UP, 0);
 
@@ -243,6 +246,7 @@ static void others(void) {
     CHECK(open_text(&engine, "bfd 1\nreflector 900 50000 up\nrun\nend\n", &complaint), BFDD_DONE);
     receive(&engine, &packet, "204203180000000500000384000f42400000000000000000");
     sends(&engine, &reflected);
+    CHECK(answered(&engine, BFDD_HANDLED, 0, "").discr, 0);
     CHECK(open_text(&engine, "bfd 1\nreflector 0 50000 up\nrun\nend\n", &complaint), BFDD_TEXT);
     CHECK(complaint.line, 2);
     CHECK(complaint.fault, BFDD_OUT_OF_RANGE);

@@ -66,6 +66,23 @@ static char *table(uint32_t count) {
     return text;
 }
 
+/* Some of the sessions leave, and come again. */
+static void join(bfdd_handle *engine, uint32_t count) {
+    uint32_t times = count < 10 ? count : 10, step = count / times;
+    begin();
+    for (uint32_t k = 0; k < times; k++) CHECK(bfdd_remove(engine, 1 + k * step), BFDD_DONE);
+    end("a session leaves", times);
+    begin();
+    for (uint32_t k = 0; k < times; k++) {
+        uint32_t i = 1 + k * step;
+        bfdd_session s = {.kind = BFDD_SINGLE_HOP, .discr = i, .iface = 1, .local = {4, {192, 0, 2, 1}},
+                          .remote = {4, {10, (uint8_t)(i >> 16), (uint8_t)(i >> 8), (uint8_t)i}}, .active = 1, .tx = INTERVAL,
+                          .rx = INTERVAL, .mult = 3};
+        CHECK(bfdd_add(engine, &s), BFDD_DONE);
+    }
+    end("a session comes", times);
+}
+
 static void open_all(bfdd_handle *engine, uint32_t count) {
     char *text = table(count);
     bfdd_complaint complaint = {0};
@@ -100,6 +117,7 @@ int main(int argc, char **argv) {
     begin();
     tick(&engine, ms + INTERVAL / 1000 + 1);
     end("a tick by which all are due, with outputs, a session", count);
+    join(&engine, count);
     tick(&engine, ms + 10 * INTERVAL / 1000);
     printf("%" PRIu32 " sessions: %ld bytes resident in all, %" PRIu64 " outputs\n", count, resident(), outputs);
     bfdd_close(&engine);

@@ -42,6 +42,15 @@ int main(void) {
     CHECK(TRIED(bfdd_tick(&engine, 5000)), 0);
     CHECK(TRIED(bfdd_command(&engine, 5000000, 2, BFDD_DISABLE, 0)), 0);
     CHECK(TRIED(bfdd_show(&engine, 5000000, 2)), 0);
+    bfdd_session more = pair;
+    more.discr = 3, more.iface = 3;
+    CHECK(TRIED((bfdd_remove(&engine, 3), bfdd_add(&engine, &more))) > 2, true);
+    CHECK(TRIED(bfdd_remove(&engine, 3)), 0);
+    long reflectors = 0;
+    for (uint32_t discr = 902; discr < 1000; discr++)
+        reflectors += TRIED((bfdd_remove_reflector(&engine, discr), bfdd_add_reflector(&engine, discr, 50000, 1)));
+    CHECK(reflectors > 0, true);
+    CHECK(TRIED(bfdd_remove_reflector(&engine, 901)), 0);
     fields = TRIED(bfdd_open_session(&engine, &pair));
     CHECK(fields > 3, true);
     bfdd_close(&engine);

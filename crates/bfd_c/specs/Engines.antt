@@ -13,18 +13,19 @@ use Rattle.bfd_session.specs.Kinds.{Running}
 use Rattle.bfd_line.specs.declared.entries.Line.{Line}
 use Rattle.bfd_fields.specs.declared.fault.BadLine.{BadLine}
 use Rattle.bfd_script.specs.Reading.{Lists}
-use Rattle.bfd_replay.specs.World.{World, happens, opened}
+use Rattle.bfd_replay.specs.World.{World, discr_reached, happens, opened}
 
 -- an engine: its sessions and reflectors with the greatest tick so far, the outputs of the last event that are left to be read,
--- and what it was answered
+-- what it was answered, and the discriminator of the session to which it came, or 0
 pub record Instance : Type 0 where
   pub world : World
   pub left : List Out
   pub answer : Answer
+  pub discr : ℕ
 
 -- the engine of a table, before the first event
 abbrev pub new_instance : List SessionConfig → List Reflector → Instance
-new_instance configs pool = record { world = opened configs pool; left = []; answer = Handled }
+new_instance configs pool = record { world = opened configs pool; left = []; answer = Handled; discr = 0 }
 
 -- the engine after an event
 abbrev pub instance_after : Line → Instance → Instance
@@ -32,6 +33,7 @@ instance_after line e = record {
   world = (happens line e.world).world;
   left = (happens line e.world).outcome.items;
   answer = (happens line e.world).outcome.answer;
+  discr = discr_reached line e.world;
 }
 
 -- an event that was asked for, or values of which one is outside its range; and the code

@@ -28,7 +28,7 @@ output_read_of (Some e) before = output_read e.left before
 -- what stands in the struct of an answer afterwards, and the code
 abbrev pub answer_read : Option Instance → Answered → Answered × ℕ
 answer_read None before = (before, 1)
-answer_read (Some e) before = (answer_for_c e.answer, 0)
+answer_read (Some e) before = (answer_for_c e.discr e.answer, 0)
 
 -- the due tick, and the code
 abbrev pub due_read_by : Option ℕ → ℕ → ℕ × ℕ

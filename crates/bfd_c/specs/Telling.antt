@@ -101,13 +101,13 @@ refusal_number OutOfRange = 3
 refusal_number WrongKind = 4
 refusal_number UnknownSession = 5
 
--- an answer without a view: 0 handled, 1 ticked, 2 dropped by a test, 3 refused
-abbrev pub plain_answer : ℕ → ℕ → List ℕ → Answered
-plain_answer kind code name = record {
+-- an answer without a view: 0 handled, 1 ticked, 2 dropped by a test, 3 refused; and the session to which the event came
+abbrev pub plain_answer : ℕ → ℕ → List ℕ → ℕ → Answered
+plain_answer kind code name discr = record {
   kind = kind;
   code = code;
   name = name;
-  discr = 0;
+  discr = discr;
   state = 0;
   diag = 0;
   remote_state = 0;
@@ -137,12 +137,13 @@ view_of s = record {
   detect = s.detect;
 }
 
-abbrev pub answer_for_c : Answer → Answered
-answer_for_c Handled = plain_answer 0 0 (replicate 16 0)
-answer_for_c Ticked = plain_answer 1 0 (replicate 16 0)
-answer_for_c (Dropped test) = plain_answer 2 (test_number test) (name_bytes (name_of test))
-answer_for_c (Refused refusal) = plain_answer 3 (refusal_number refusal) (name_bytes (refusal_name refusal))
-answer_for_c (Showing s) = view_of s
+-- what an event was answered that came to the session of a discriminator, or to none
+abbrev pub answer_for_c : ℕ → Answer → Answered
+answer_for_c discr Handled = plain_answer 0 0 (replicate 16 0) discr
+answer_for_c discr Ticked = plain_answer 1 0 (replicate 16 0) discr
+answer_for_c discr (Dropped test) = plain_answer 2 (test_number test) (name_bytes (name_of test)) discr
+answer_for_c discr (Refused refusal) = plain_answer 3 (refusal_number refusal) (name_bytes (refusal_name refusal)) discr
+answer_for_c discr (Showing s) = view_of s
 
 -- the number of a line's fault
 abbrev pub fault_number : LineFault → ℕ

@@ -1,9 +1,12 @@
 //! What an open handle holds.
-ghost use Rattle.std.specs.Prelude.{◌≡◌, IfOk, drop};
+ghost use Rattle.std.specs.Prelude.{◌≡◌, ◌≢◌, IfOk, Some, drop};
 ghost use Rattle.std.specs.Option.{option_copied};
+ghost use Rattle.bfd_session.specs.Step.{IsFit};
 ghost use Rattle.bfd_replay.specs.Stage.{IsTable};
 ghost use Rattle.bfd_c.specs.Engines.{instance_after, asked, first_of, soonest, new_instance};
+ghost use Rattle.bfd_c.specs.Joining as joining;
 
+use bfd_demux::AddFault;
 use bfd_levels::ByCount;
 use bfd_line::Line;
 use bfd_replay::Instance as World;
@@ -27,12 +30,21 @@ pub(crate) const TEXT: u32 = 5;
 
 pub(crate) const EVENTS: u32 = 6;
 
-/// Sessions and reflectors, the outputs of the last event, of which so many were read, and its answer.
+const TAKEN_DISCR: u32 = 7;
+
+const TAKEN_ADDRESSES: u32 = 8;
+
+const FULL: u32 = 9;
+
+const NOT_FOUND: u32 = 10;
+
+/// Sessions and reflectors, the outputs of the last event, of which so many were read, its answer, and the session to which it came.
 #[derive(Drop)]
 pub struct Engine {
     world: World<ByCount>,
     read: usize,
     answer: Answer,
+    discr: u32,
 }
 
 impl Model for Engine {
@@ -41,7 +53,7 @@ impl Model for Engine {
 
     ghost Value = { Instance };
 
-    ghost view = { λ e. record { world = e.world.world; left = drop e.read e.world.items; answer = e.answer } };
+    ghost view = { λ e. record { world = e.world.world; left = drop e.read e.world.items; answer = e.answer; discr = e.discr } };
 }
 
 /// How many outputs were read, once one more was, if one was left.
@@ -50,6 +62,19 @@ fn further(items: &[Out], read: usize) -> usize
     ensures { drop result items.now ≡ drop 1 (drop read items.now) }
 {
     if read < items.len() { read + 1 } else { read }
+}
+
+/// The code of a fault.
+fn add_code(fault: AddFault) -> u32
+    ensures { result ≡ joining.add_code fault }
+{
+    match fault {
+        AddFault::TooMany => FULL,
+        AddFault::ZeroDiscr => RANGE,
+        AddFault::SameDiscr => TAKEN_DISCR,
+        AddFault::SameAddresses => TAKEN_ADDRESSES,
+        AddFault::Memory => MEMORY,
+    }
 }
 
 impl Engine {
@@ -68,6 +93,7 @@ impl Engine {
             world,
             read,
             answer: Answer::Handled,
+            discr: 0,
         })
     }
 
@@ -75,7 +101,9 @@ impl Engine {
     fn happen(&mut self, line: Line)
         ensures { self.new ≡ instance_after line self.old }
     {
-        self.answer = self.world.happen(line);
+        let (answer, discr) = self.world.happen_naming(line);
+        self.answer = answer;
+        self.discr = discr;
         self.read = 0;
     }
 
@@ -90,6 +118,51 @@ impl Engine {
             }
             None => RANGE,
         }
+    }
+
+    /// One session more.
+    pub(crate) fn add(&mut self, alloc: Global, config: SessionConfig) -> u32
+        requires { IsFit config }
+        ensures done { result ≢ 2 → (self.new, result) ≡ joining.session_added (Some config) self.old }
+        ensures memory { result ≡ 2 → (joining.session_added (Some config) self.old).1 ≡ 0 }
+        ensures kept { result ≡ 2 → self.new ≡ self.old }
+    {
+        let Err(fault) = self.world.add(alloc, config) else {
+            return DONE;
+        };
+        add_code(fault)
+    }
+
+    /// The session of this discriminator leaves.
+    pub(crate) fn remove(&mut self, discr: u32) -> u32
+        ensures { (self.new, result) ≡ joining.session_removed discr self.old }
+    {
+        if self.world.remove(discr) {
+            return DONE;
+        }
+        NOT_FOUND
+    }
+
+    /// One reflector more.
+    pub(crate) fn add_reflector(&mut self, reflector: Reflector) -> u32
+        ensures done { result ≢ 2 → (self.new, result) ≡ joining.reflector_added (Some reflector) self.old }
+        ensures memory { result ≡ 2 → (joining.reflector_added (Some reflector) self.old).1 ≡ 0 }
+        ensures kept { result ≡ 2 → self.new ≡ self.old }
+    {
+        let Err(fault) = self.world.add_reflector(reflector) else {
+            return DONE;
+        };
+        add_code(fault)
+    }
+
+    /// The reflector of this discriminator leaves.
+    pub(crate) fn remove_reflector(&mut self, discr: u32) -> u32
+        ensures { (self.new, result) ≡ joining.reflector_removed discr self.old }
+    {
+        if self.world.remove_reflector(discr) {
+            return DONE;
+        }
+        NOT_FOUND
     }
 
     /// The least tick that a session needs next.
@@ -111,6 +184,13 @@ impl Engine {
         ensures { self.new ≡ record self.old { left = drop 1 self.old.left } }
     {
         self.read = further(self.world.items(), self.read);
+    }
+
+    /// The session to which the last event came, or 0.
+    pub(crate) fn discr(&self) -> u32
+        ensures { result ≡ self.now.discr }
+    {
+        self.discr
     }
 
     /// What the last event was answered.

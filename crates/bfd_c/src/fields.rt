@@ -101,7 +101,7 @@ fn keys(f: &Fields) -> Option<Option<Keys>>
 }
 
 /// Whether this is an interval that may be configured.
-fn interval(n: u32) -> bool
+pub(crate) fn interval(n: u32) -> bool
     ensures value { result ≡ is_interval n }
     ensures range { result ≡ true → (10000 ≤ n) × (n ≤ 60000000) }
 {

@@ -3,7 +3,8 @@
 //! A program in C keeps a handle, which is closed or owns an engine: the sessions and reflectors of a table, and what the last
 //! event gave. `bfdd_open` and `bfdd_open_session` open it, `bfdd_close` closes it. `bfdd_receive`, `bfdd_tick`, `bfdd_command`
 //! and `bfdd_show` are one event each. `bfdd_next` then hands out the event's outputs one by one, `bfdd_answer` what it was
-//! answered, and `bfdd_due` the tick that is needed next. `include/bfdd.h` is the C side.
+//! answered, and `bfdd_due` the tick that is needed next. `bfdd_add` and `bfdd_remove` let sessions come and go, `bfdd_add_reflector` and
+//! `bfdd_remove_reflector` reflectors. `include/bfdd.h` is the C side.
 //!
 //! It stands on `bfd_replay`, whose `Instance` is a world of sessions that goes event by event and keeps no journal, on
 //! `bfd_levels` for its timers, on `bfd_script` for the lines of a table, and on what those stand on. It promises that each call is that world's event, or the
@@ -18,6 +19,7 @@ mod asking;
 mod engine;
 mod fields;
 mod handle;
+mod joining;
 mod naming;
 mod opening;
 mod owned;
@@ -30,6 +32,7 @@ pub use asking::{bfdd_command, bfdd_receive, bfdd_show, bfdd_tick};
 pub use engine::Engine;
 pub use fields::Fields;
 pub use handle::Handle;
+pub use joining::{bfdd_add, bfdd_add_reflector, bfdd_remove, bfdd_remove_reflector};
 pub use opening::{Complaint, bfdd_close, bfdd_open, bfdd_open_session};
 pub use owned::{Opaque, Owned};
 pub use reading::{bfdd_answer, bfdd_due, bfdd_next};

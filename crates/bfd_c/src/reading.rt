@@ -53,7 +53,7 @@ pub extern "C" fn bfdd_answer(alloc: Global, handle: &mut Handle, answer: &mut A
 {
     match handle.take(alloc) {
         Some(engine) => {
-            *answer = told_answer(engine.answer());
+            *answer = told_answer(engine.discr(), engine.answer());
             *handle = Handle::hold(engine);
             DONE
         }

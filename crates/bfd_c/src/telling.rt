@@ -34,7 +34,8 @@ pub struct Output {
 }
 
 /// What an event was answered: the kind 0 is handled, 1 ticked, 2 dropped, 3 refused, 4 shown. Of dropped and refused, `code` is
-/// the number and `name` the name of the cause, with zeros behind it. What a kind doesn't use is 0.
+/// the number and `name` the name of the cause, with zeros behind it. `discr` is the session to which the event came; 0 where it came to
+/// none, to a reflector, or as a tick to all. What a kind doesn't use is 0.
 #[repr(C)]
 #[derive(Drop)]
 pub struct Answered {
@@ -118,14 +119,14 @@ pub(crate) fn told_output(out: &Out) -> Output
 }
 
 /// An answer without a view.
-fn plain_answer(kind: u32, code: u32, name: [u8; 16]) -> Answered
-    ensures { result ≡ telling.plain_answer kind code name }
+fn plain_answer(kind: u32, code: u32, name: [u8; 16], discr: u32) -> Answered
+    ensures { result ≡ telling.plain_answer kind code name discr }
 {
     Answered {
         kind,
         code,
         name,
-        discr: 0,
+        discr,
         state: 0,
         diag: 0,
         remote_state: 0,
@@ -159,16 +160,16 @@ fn view(shown: &Shown) -> Answered
     }
 }
 
-/// The answer for C.
-pub(crate) fn told_answer(answer: &Answer) -> Answered
-    ensures { result ≡ telling.answer_for_c answer.now }
+/// The answer for C, of an event that came to the session of this discriminator.
+pub(crate) fn told_answer(discr: u32, answer: &Answer) -> Answered
+    ensures { result ≡ telling.answer_for_c discr answer.now }
 {
     match answer {
-        Answer::Handled => plain_answer(0, 0, [0; 16]),
-        Answer::Ticked => plain_answer(1, 0, [0; 16]),
-        Answer::Dropped(test) => plain_answer(2, test_number(*test), test_name(*test)),
+        Answer::Handled => plain_answer(0, 0, [0; 16], discr),
+        Answer::Ticked => plain_answer(1, 0, [0; 16], discr),
+        Answer::Dropped(test) => plain_answer(2, test_number(*test), test_name(*test), discr),
         Answer::Refused(refusal) => {
-            plain_answer(3, refusal_number(*refusal), refusal_name(*refusal))
+            plain_answer(3, refusal_number(*refusal), refusal_name(*refusal), discr)
         }
         Answer::Shown(shown) => view(shown),
     }

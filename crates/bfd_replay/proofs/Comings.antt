@@ -1,5 +1,5 @@
 -- What an arrival comes to is what the world says of it.
-use Rattle.bfd_replay.proofs.Common.{◌≡◌, ℕ, List, [], ◌∷◌, Option, None, Some, Result, Ok, Err, refl, ap, ◌∙◌, Out, Reflector, SessionConfig, Running, Answer, Event, World, carried_out, reflected, turned, turn_giving, world_of, arriving, Happens, slice_get}
+use Rattle.bfd_replay.proofs.Common.{◌≡◌, ℕ, List, [], ◌∷◌, Option, Some, Result, Ok, Err, refl, Out, Reflector, SessionConfig, Running, Event, World, carried_out, reached, reflected, turned, world_of, arriving, Happens, slice_get}
 use Rattle.bfd_packet.specs.declared.arrival.Arrival.{Arrival}
 use Rattle.bfd_packet.specs.declared.arrival.Datagram.{Datagram}
 use Rattle.bfd_packet.specs.declared.discard.Test.{Test}
@@ -8,7 +8,20 @@ use Rattle.bfd_sbfd.specs.Reflect.{reflect}
 use Rattle.bfd_session.specs.declared.event.Answer.TheVariants.{Handled, Dropped}
 use Rattle.bfd_session.specs.declared.coming.Coming.TheVariants as coming
 use Rattle.bfd_session.specs.Arrivals.{Destination, Discarded, Reflected, Own}
-use Rattle.bfd_session.specs.Reaching.{IsComing, IsNamed, IsTaken, answered_as}
+use Rattle.bfd_session.specs.Reaching.{IsComing, IsTaken, answered_as}
+
+-- neither is an event of a session
+pub none_discarded : (d : Destination) (cs : List SessionConfig) (pool : List Reflector) (arrival : Arrival) (moment : ℕ) (test : Test) (w : World)
+    → IsComing cs pool arrival d (coming.Discarded test) → 0 ≡ reached (arriving moment arrival d) w
+none_discarded (Discarded t) cs pool arrival moment test w h = refl
+none_discarded (Own place event) cs pool arrival moment test w h = absurd (let e = h.0 in cc)
+none_discarded (Reflected place) cs pool arrival moment test w h = refl
+
+pub none_answered : (d : Destination) (cs : List SessionConfig) (pool : List Reflector) (arrival : Arrival) (moment : ℕ) (out : Out) (w : World)
+    → IsComing cs pool arrival d (coming.Answered out) → 0 ≡ reached (arriving moment arrival d) w
+none_answered (Discarded t) cs pool arrival moment out w h = refl
+none_answered (Own place event) cs pool arrival moment out w h = absurd (let e = h.0 in cc)
+none_answered (Reflected place) cs pool arrival moment out w h = refl
 
 pub discarded : (d : Destination) (cs : List SessionConfig) (pool : List Reflector) (arrival : Arrival) (moment : ℕ) (test : Test) (ss : List Running) (last : ℕ)
     → IsComing cs pool arrival d (coming.Discarded test) → turned ss pool last [] (Dropped test) ≡ carried_out (arriving moment arrival d) (world_of ss pool last)

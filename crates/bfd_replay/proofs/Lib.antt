@@ -4,3 +4,4 @@ pub mod Comings
 pub mod SameConfigs
 pub mod Stages
 pub mod Telling
+pub mod Joining

@@ -1,5 +1,5 @@
 -- A world at the start and after an event, and its table.
-use Rattle.bfd_replay.proofs.Common.{None, ◌≡◌, ◌≤◌, ◌+◌, ◌*◌, ℕ, ◌∙◌, List, length, map, ap, sym, arith, Reflector, SessionConfig, Running, Answer, Line, configs_of, table_of, started, turned, world_of, happens, Outputs}
+use Rattle.bfd_replay.proofs.Common.{None, ◌≡◌, ◌+◌, ◌*◌, ℕ, ◌∙◌, List, length, map, ap, sym, arith, Reflector, SessionConfig, Running, Answer, Line, configs_of, table_of, started, turned, world_of, happens, Outputs}
 use Rattle.std.proofs.lemmas.List.{length-map}
 use Rattle.bfd_demux.specs.Rows.{build_fault}
 use Rattle.bfd_session.specs.Tables.{Members, members}

@@ -1,5 +1,5 @@
 -- The world of a script is one group of sessions with a pool beside it.
-use Rattle.bfd_replay.proofs.Common.{◌≡◌, ℕ, List, [], ◌∷◌, ◌++◌, refl, sym, ap, ◌∙◌, Option, None, Some, Out, Reflector, Running, Answer, Event, Outcome, World, own, own_of, ticks, turned, turn_giving, world_of, slice_get}
+use Rattle.bfd_replay.proofs.Common.{◌≡◌, ℕ, List, [], ◌++◌, refl, sym, ap, ◌∙◌, Option, None, Some, Out, Reflector, Running, Answer, Event, World, own, own_of, ticks, turned, world_of, slice_get}
 use Rattle.bfd_shard.specs.declared.entry.ShardEvent.{ShardEvent}
 use Rattle.bfd_shard.specs.declared.entry.ShardEvent.TheVariants.{Own, Tick}
 use Rattle.bfd_shard.specs.History.{later, own_moved, own_outcome}

@@ -1,8 +1,10 @@
 -- What the events of a replay give, one after another.
-use Rattle.std.specs.Prelude.{ℕ, max, Option, None, Some, Result, Ok, Err, List, [], ◌∷◌, map, length, sum_by, slice_get, slice_set}
-use Rattle.std.specs.List.{filter, flat_map}
+use Rattle.std.specs.Prelude.{ℕ, ◌==◌, Bool, is_some, not, max, Option, None, Some, Result, Ok, Err, List, [], ◌∷◌, map, length, sum_by, slice_get, slice_set}
+use Rattle.std.specs.List.{filter, flat_map, insert, list_any, remove}
 use Rattle.bfd_packet.specs.declared.arrival.Datagram.{Datagram}
 use Rattle.bfd_packet.specs.declared.discard.Test.{Test}
+use Rattle.bfd_demux.specs.declared.fault.AddFault.{AddFault}
+use Rattle.bfd_demux.specs.Rows.{add_fault}
 use Rattle.bfd_rules.specs.declared.outputs.Out.{Out}
 use Rattle.bfd_rules.specs.declared.outputs.Out.TheVariants.{Sent}
 use Rattle.bfd_sbfd.specs.declared.reflecting.Reflector.{Reflector}
@@ -12,7 +14,9 @@ use Rattle.bfd_session.specs.declared.event.SessionConfig.{SessionConfig}
 use Rattle.bfd_session.specs.declared.event.Event.{Event}
 use Rattle.bfd_session.specs.declared.event.Answer.{Answer}
 use Rattle.bfd_session.specs.declared.event.Answer.TheVariants.{Handled, Ticked, Dropped}
-use Rattle.bfd_session.specs.Kinds.{Running, configs_of}
+use Rattle.bfd_session.specs.Kinds.{Running, configs_of, discr_of}
+use Rattle.bfd_session.specs.Changes.{place_for, pool_place_for}
+use Rattle.bfd_session.specs.Rows.{place_of, row_of, row_of_reflector, table_of}
 use Rattle.bfd_session.specs.Step.{started}
 use Rattle.bfd_session.specs.Alone.{Outcome, stepped, step_outcome, ticked, tick_items}
 use Rattle.bfd_line.specs.declared.entries.Line.{Line}
@@ -43,6 +47,40 @@ turned sessions pool last items answer = turn_giving (world_of sessions pool las
 -- the world at the start
 abbrev pub opened : List SessionConfig → List Reflector → World
 opened configs pool = world_of (map started configs) pool 0
+
+-- the world with a session of this configuration, which stands where its discriminator has it and starts at the last tick
+abbrev pub world_with : SessionConfig → World → World
+world_with config w = record w { sessions = insert w.sessions (place_for (discr_of config) (configs_of w.sessions)) (started config) }
+
+-- without the session at a place
+abbrev pub without_at : Option ℕ → World → World
+without_at None w = w
+without_at (Some place) w = record w { sessions = remove w.sessions place }
+
+-- and without the session of this discriminator
+abbrev pub world_without : ℕ → World → World
+world_without discr w = without_at (place_of discr (configs_of w.sessions)) w
+
+-- the same of reflectors
+abbrev pub world_with_reflector : Reflector → World → World
+world_with_reflector reflector w = record w { pool = insert w.pool (pool_place_for reflector.discr w.pool) reflector }
+
+abbrev pub world_without_reflector : ℕ → World → World
+world_without_reflector discr w = record w { pool = filter (λ reflector. not (reflector.discr == discr)) w.pool }
+
+-- a session has this discriminator, and a reflector
+abbrev pub knows_session : ℕ → World → Bool
+knows_session discr w = is_some (place_of discr (configs_of w.sessions))
+
+abbrev pub knows_reflector : ℕ → World → Bool
+knows_reflector discr w = list_any (λ reflector. reflector.discr == discr) w.pool
+
+-- what keeps a session or a reflector from being added
+abbrev pub session_fault : SessionConfig → World → Option AddFault
+session_fault config w = add_fault (row_of config) (table_of (configs_of w.sessions) w.pool)
+
+abbrev pub reflector_fault : Reflector → World → Option AddFault
+reflector_fault reflector w = add_fault (row_of_reflector reflector) (table_of (configs_of w.sessions) w.pool)
 
 -- an event that changes no session, and has this answer
 abbrev pub rests : Answer → World → Turn
@@ -84,6 +122,22 @@ carried_out (Passes t) w = ticks t w
 -- a line of a script
 abbrev pub happens : Line → World → Turn
 happens line w = carried_out (doing (configs_of w.sessions) w.pool line) w
+
+-- the discriminator of a session, if there is one
+abbrev pub session_discr : Option Running → ℕ
+session_discr None = 0
+session_discr (Some s) = discr_of s.config
+
+-- that of the session to which an event came; 0 where it came to none, to a reflector, or as a tick to all
+abbrev pub reached : Doing → World → ℕ
+reached (Rests answer) w = 0
+reached (Reflects place arrival) w = 0
+reached (Happens place moment event) w = session_discr (slice_get w.sessions place)
+reached (Passes t) w = 0
+
+-- the same of a line of a script
+abbrev pub discr_reached : Line → World → ℕ
+discr_reached line w = reached (doing (configs_of w.sessions) w.pool line) w
 
 -- what the lines give, one after another
 abbrev pub outcomes : List Line → World → List Outcome

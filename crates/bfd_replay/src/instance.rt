@@ -1,14 +1,16 @@
 //! A world of sessions on its way.
-ghost use Rattle.std.specs.Prelude.{◌≡◌, IfOk, map};
+ghost use Rattle.std.specs.Prelude.{◌≡◌, ◌⊎◌, ◌<◌, ◌≤◌, ◌+◌, ◌*◌, ◌++◌, ◌∷◌, None, Some, IfOk, MatchResult, OnErr, OnOk, drop, false, length, map, take};
 ghost use Rattle.bfd_lanes.specs.Places.{least};
 ghost use Rattle.bfd_session.specs.Due.{due as due_tick};
+ghost use Rattle.bfd_session.specs.Step.{IsFit, started};
 ghost use Rattle.bfd_session.specs.Tables.{members};
 ghost use Rattle.bfd_replay.specs.Stage.{IsTable};
 ghost use Rattle.bfd_replay.specs.World.{turn_giving};
 ghost use Rattle.bfd_replay.specs.World as world;
 
+use crate::room::make_room;
 use crate::world::happen;
-use bfd_demux::Demux;
+use bfd_demux::{AddFault, Demux};
 use bfd_line::Line;
 use bfd_rules::{Out, Outs};
 use bfd_sbfd::Reflector;
@@ -58,6 +60,29 @@ pub fn table(
     Ok(Table::of(demux, roster, pool))
 }
 
+/// Seats a session at this place, with room for its outputs. Where memory is wanting the sessions are as they were.
+fn seat<W: Timers>(
+    alloc: Global,
+    sessions: &mut Sessions<W>,
+    outs: &mut Outs,
+    place: u32,
+    config: SessionConfig,
+) -> Result<(), AllocError>
+    requires place { place ≤ length sessions.old.sessions }
+    requires few { length sessions.old.sessions < 65536 }
+    requires fit { IsFit config }
+    ensures sessions { OnOk result (sessions.new.sessions
+        ≡ take place sessions.old.sessions ++ started config ∷ drop place sessions.old.sessions) }
+    ensures last { sessions.new.last ≡ sessions.old.last }
+    ensures same { OnErr result (sessions.new ≡ sessions.old) }
+    ensures items { outs.new.items ≡ outs.old.items }
+    ensures room { OnOk result (5 * (length sessions.old.sessions + 1) + 5 ≤ outs.new.room) }
+    ensures kept { outs.old.room ≤ outs.new.room }
+{
+    make_room(alloc, outs, 5 * (sessions.sessions().len() + 1) + 5)?;
+    sessions.add(alloc, place, config)
+}
+
 impl<W: Timers> Instance<W> {
     /// The world at the start of a script with this table. Fails only when out of memory.
     pub fn open(
@@ -82,8 +107,83 @@ impl<W: Timers> Instance<W> {
     pub fn happen(&mut self, line: Line) -> Answer
         ensures { turn_giving self.new.world self.new.items result ≡ world.happens line self.old.world }
     {
+        self.happen_naming(line).0
+    }
+
+    /// The same, with the discriminator of the session to which the event came; 0 where it came to none, to a reflector, or as a tick
+    /// to all.
+    pub fn happen_naming(&mut self, line: Line) -> (Answer, u32)
+        ensures turn { turn_giving self.new.world self.new.items result.0 ≡ world.happens line self.old.world }
+        ensures reached { result.1 ≡ world.discr_reached line self.old.world }
+    {
         self.outs.clear();
         happen(&self.table, &mut self.sessions, line, &mut self.outs)
+    }
+
+    /// One session more, of this configuration, which is within its ranges: it starts at the last tick. Nothing else changes, the
+    /// outputs of the last event neither. A fault says why it isn't added, and then nothing has changed; `Memory` comes only when
+    /// out of memory, and where no other fault is. Takes time linear in the sessions and reflectors.
+    pub fn add(&mut self, alloc: Global, config: SessionConfig) -> Result<(), AddFault>
+        requires { IsFit config }
+        ensures world { OnOk result (self.new.world ≡ world.world_with config self.old.world) }
+        ensures items { OnOk result (self.new.items ≡ self.old.items) }
+        ensures fault { MatchResult result
+            (λ _. world.session_fault config self.old.world ≡ None)
+            (λ fault. ((fault ≡ AddFault.Memory) × (world.session_fault config self.old.world ≡ None))
+            ⊎ (world.session_fault config self.old.world ≡ Some fault)) }
+        ensures same { OnErr result (self.new ≡ self.old) }
+    {
+        let discr = config.discr();
+        let place = self.table.add(&config)?;
+        match seat(alloc, &mut self.sessions, &mut self.outs, place, config) {
+            Ok(()) => Ok(()),
+            Err(AllocError) => {
+                self.table.remove(discr);
+                Err(AddFault::Memory)
+            }
+        }
+    }
+
+    /// The session of this discriminator leaves; false where there is none. Nothing else changes, the outputs of the last event
+    /// neither. Takes no memory, and time linear in the sessions.
+    pub fn remove(&mut self, discr: u32) -> bool
+        ensures found { result ≡ world.knows_session discr self.old.world }
+        ensures world { self.new.world ≡ world.world_without discr self.old.world }
+        ensures same { result ≡ false → self.new ≡ self.old }
+        ensures items { self.new.items ≡ self.old.items }
+    {
+        match self.table.remove(discr) {
+            Some(place) => {
+                self.sessions.remove(place);
+                true
+            }
+            None => false,
+        }
+    }
+
+    /// One reflector more. Nothing else changes, the outputs of the last event neither. A fault says why it isn't added, as `add`
+    /// has it, and then nothing has changed.
+    pub fn add_reflector(&mut self, reflector: Reflector) -> Result<(), AddFault>
+        ensures world { OnOk result (self.new.world ≡ world.world_with_reflector reflector self.old.world) }
+        ensures items { OnOk result (self.new.items ≡ self.old.items) }
+        ensures fault { MatchResult result
+            (λ _. world.reflector_fault reflector self.old.world ≡ None)
+            (λ fault. ((fault ≡ AddFault.Memory) × (world.reflector_fault reflector self.old.world ≡ None))
+            ⊎ (world.reflector_fault reflector self.old.world ≡ Some fault)) }
+        ensures same { OnErr result (self.new ≡ self.old) }
+    {
+        self.table.add_reflector(reflector)
+    }
+
+    /// The reflector of this discriminator leaves; false where there is none. Nothing else changes, the outputs of the last event
+    /// neither. Takes no memory.
+    pub fn remove_reflector(&mut self, discr: u32) -> bool
+        ensures found { result ≡ world.knows_reflector discr self.old.world }
+        ensures world { self.new.world ≡ world.world_without_reflector discr self.old.world }
+        ensures same { result ≡ false → self.new ≡ self.old }
+        ensures items { self.new.items ≡ self.old.items }
+    {
+        self.table.remove_reflector(discr)
     }
 
     /// The outputs of the last event, by ascending discriminator, each session's in their order.

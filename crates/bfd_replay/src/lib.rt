@@ -10,6 +10,7 @@
 #![tactic(auto)]
 
 mod instance;
+mod room;
 mod world;
 
 pub use instance::{Instance, table};

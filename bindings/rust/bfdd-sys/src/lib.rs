@@ -14,6 +14,7 @@ macro_rules! numbers {
 
 numbers! {
     BFDD_DONE = 0, BFDD_CLOSED = 1, BFDD_MEMORY = 2, BFDD_RANGE = 3, BFDD_END = 4, BFDD_TEXT = 5, BFDD_EVENTS = 6,
+    BFDD_TAKEN_DISCR = 7, BFDD_TAKEN_ADDRESSES = 8, BFDD_FULL = 9, BFDD_NOT_FOUND = 10,
 }
 
 numbers! {
@@ -107,6 +108,10 @@ pub const BFDD_HANDLE_INIT: bfdd_handle = bfdd_handle { kept: core::ptr::null_mu
 extern "C" {
     pub fn bfdd_open(handle: *mut bfdd_handle, text: *const u8, length: usize, complaint: *mut bfdd_complaint) -> u32;
     pub fn bfdd_open_session(handle: *mut bfdd_handle, session: *const bfdd_session) -> u32;
+    pub fn bfdd_add(handle: *mut bfdd_handle, session: *const bfdd_session) -> u32;
+    pub fn bfdd_remove(handle: *mut bfdd_handle, discr: u32) -> u32;
+    pub fn bfdd_add_reflector(handle: *mut bfdd_handle, discr: u32, rx: u32, up: u32) -> u32;
+    pub fn bfdd_remove_reflector(handle: *mut bfdd_handle, discr: u32) -> u32;
     pub fn bfdd_close(handle: *mut bfdd_handle);
     pub fn bfdd_receive(handle: *mut bfdd_handle, packet: *const bfdd_packet, payload: *const u8, length: usize) -> u32;
     pub fn bfdd_tick(handle: *mut bfdd_handle, ms: u64) -> u32;

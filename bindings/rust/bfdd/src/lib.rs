@@ -6,7 +6,7 @@
 //! caller chooses.
 //!
 //! ```
-//! use bfdd::{Engine, Kind, Output, Packet, Port, Session, State};
+//! use bfdd::{Engine, Error, Kind, Output, Packet, Port, Session, State};
 //!
 //! let (here, there) = ([10, 0, 0, 1].into(), [10, 0, 0, 2].into());
 //! let mut engine = Engine::open_session(&Session::new(Kind::SingleHop, 1, 1, here, there))?;
@@ -15,6 +15,14 @@
 //! engine.receive(&Packet { moment: 1500, port: Port::Single, iface: 1, src: there, dst: here, sport: 49152, ttl: 255 }, &packet)?;
 //! let changed = engine.outputs().next();
 //! assert!(matches!(changed, Some(Output::Changed { discr: 1, was: State::Down, state: State::Init, diag: 0 })));
+//! assert_eq!(engine.answered_by(), Some(1));
+//! assert_eq!(engine.add(&Session::new(Kind::SingleHop, 2, 1, here, there)), Err(Error::TakenAddresses));
+//! engine.add(&Session::new(Kind::SingleHop, 2, 2, here, there))?;
+//! engine.remove(1)?;
+//! assert_eq!(engine.remove(1), Err(Error::NotFound));
+//! assert_eq!(engine.add_reflector(2, 50_000, true), Err(Error::TakenDiscr));
+//! engine.add_reflector(1, 50_000, true)?;
+//! engine.remove_reflector(1)?;
 //! # Ok::<(), bfdd::Error>(())
 //! ```
 
@@ -34,6 +42,14 @@ pub enum Error {
     Text { line: u64, fault: u32 },
     /// The text has event lines.
     Events,
+    /// A session or a reflector has the discriminator already.
+    TakenDiscr,
+    /// A session of the kind has the selecting addresses already.
+    TakenAddresses,
+    /// There are 65,536 sessions and reflectors already.
+    Full,
+    /// No session, or no reflector, has the discriminator.
+    NotFound,
     /// Another code of `bfdd.h`.
     Code(u32),
 }
@@ -45,6 +61,10 @@ impl fmt::Display for Error {
             Error::Range => write!(to, "a value is outside its range"),
             Error::Text { line, fault } => write!(to, "line {line} of the table has fault {fault}"),
             Error::Events => write!(to, "the table has event lines"),
+            Error::TakenDiscr => write!(to, "the discriminator is in use"),
+            Error::TakenAddresses => write!(to, "a session has the addresses already"),
+            Error::Full => write!(to, "no session or reflector more can be held"),
+            Error::NotFound => write!(to, "no session or reflector has the discriminator"),
             Error::Code(code) => write!(to, "code {code}"),
         }
     }
@@ -58,6 +78,10 @@ fn done(code: u32) -> Result<(), Error> {
         sys::BFDD_MEMORY => Err(Error::Memory),
         sys::BFDD_RANGE => Err(Error::Range),
         sys::BFDD_EVENTS => Err(Error::Events),
+        sys::BFDD_TAKEN_DISCR => Err(Error::TakenDiscr),
+        sys::BFDD_TAKEN_ADDRESSES => Err(Error::TakenAddresses),
+        sys::BFDD_FULL => Err(Error::Full),
+        sys::BFDD_NOT_FOUND => Err(Error::NotFound),
         code => Err(Error::Code(code)),
     }
 }
@@ -305,6 +329,26 @@ impl Engine {
         done(unsafe { sys::bfdd_open_session(&mut engine.handle, &session.to_c()) }).map(|()| engine)
     }
 
+    /// One session more. The others, and the outputs that weren't read, stay as they are; so it is with the three calls below.
+    pub fn add(&mut self, session: &Session) -> Result<(), Error> {
+        done(unsafe { sys::bfdd_add(&mut self.handle, &session.to_c()) })
+    }
+
+    /// A session leaves. Its peer is told nothing: for that disable it before.
+    pub fn remove(&mut self, discr: u32) -> Result<(), Error> {
+        done(unsafe { sys::bfdd_remove(&mut self.handle, discr) })
+    }
+
+    /// One reflector more, with its Required Min RX Interval, whose answers say Up or AdminDown.
+    pub fn add_reflector(&mut self, discr: u32, rx: u32, is_up: bool) -> Result<(), Error> {
+        done(unsafe { sys::bfdd_add_reflector(&mut self.handle, discr, rx, is_up.into()) })
+    }
+
+    /// A reflector leaves.
+    pub fn remove_reflector(&mut self, discr: u32) -> Result<(), Error> {
+        done(unsafe { sys::bfdd_remove_reflector(&mut self.handle, discr) })
+    }
+
     /// A packet came in.
     pub fn receive(&mut self, packet: &Packet, payload: &[u8]) -> Result<(), Error> {
         let packet = sys::bfdd_packet {
@@ -347,6 +391,14 @@ impl Engine {
             sys::BFDD_SHOWN => Answer::Shown(shown(&given)),
             _ => Answer::Handled,
         }
+    }
+
+    /// The session to which the last event came, also where that session dropped or refused it; none where it came to no session or to a
+    /// reflector, and of a tick.
+    pub fn answered_by(&mut self) -> Option<u32> {
+        let mut given = sys::bfdd_answered::default();
+        unsafe { sys::bfdd_answer(&mut self.handle, &mut given) };
+        (given.discr > 0).then_some(given.discr)
     }
 
     /// The outputs of the last event that are left, in the order in which they came. What isn't read before the next event is gone.

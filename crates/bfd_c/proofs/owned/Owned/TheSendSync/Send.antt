@@ -67,7 +67,7 @@ world_send = view_send _ _ _ _ _ (declared_send (world.the_type ByCount.the_row 
 ))
 
 held : IsSend Held.the_row
-held = view_send _ _ _ _ _ (declared_send inside.the_type (world_send, (search (sendable, crosses) depth 20, (answer.the_send, tt))))
+held = view_send _ _ _ _ _ (declared_send inside.the_type (world_send, (search (sendable, crosses) depth 20, (answer.the_send, (search (sendable, crosses) depth 20, tt)))))
 
 keyless : (a : Global) (p : Ptr) (h : Option (Held.the_row).Denot) → Keyless (kept_owns a p h)
 keyless a p None = tt

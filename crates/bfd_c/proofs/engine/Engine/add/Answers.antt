@@ -1,0 +1,12 @@
+-- Out of memory is told only where the session has no fault.
+use Rattle.bfd_c.proofs.Common.{sym, ◌∙◌}
+use Rattle.bfd_session.specs.Kinds.{configs_of}
+use Rattle.bfd_session.specs.Rows.{row_of, table_of}
+use Rattle.bfd_replay.specs.World.{session_fault, world_with}
+use Rattle.bfd_c.proofs.Faults.{memory_last, no_memory}
+use Rattle.bfd_c.proofs.engine.Engine.add.Goals as goal
+
+pub returns-clause-memory : goal.returns-clause-memory
+returns-clause-memory c = λ two. rw (← c.self.view_is)
+    (memory_last (session_fault c.args.config c.self.inside.world.world) c.in-Err.fault (world_with c.args.config c.self.inside.world.world) _
+    c.in-Err.ensures.fault (no_memory (row_of c.args.config) (table_of (configs_of c.self.inside.world.world.sessions) c.self.inside.world.world.pool)) (sym c.add_code.ensures ∙ two))
