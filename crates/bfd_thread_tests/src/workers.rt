@@ -1,8 +1,10 @@
-//! A replay on two shards by two workers: which worker's turns the shards that it hands out have.
-ghost use Rattle.std.specs.Prelude.{IfSome};
+//! A replay on two shards by two workers: which worker's turns the shards that it hands out have. A replay of many sessions, by one and
+//! by several.
+ghost use Rattle.std.specs.Prelude.{◌<◌, ◌≤◌, IfSome};
 ghost use Rattle.bfd_script.specs.Sound.{IsScript};
 
 use bfd_edge::OpenGate;
+use bfd_load::generate;
 use bfd_script::{Script, read};
 use bfd_shard::ShardState;
 use bfd_wheel::HashedWheel;
@@ -50,4 +52,34 @@ fn shards_of_two_workers(rt: HostRuntime) {
         assert!(rt; callers(state) == [caller; 2]);
     }
     assert!(rt; outcome.states.len() == 2);
+}
+
+/// The report of 200 sessions over 2,000 ticks, on so many shards by so many workers.
+fn many<R: Threads + Wait + Sync>(
+    rt: &R,
+    alloc: Global,
+    shards: u32,
+    workers: u32,
+) -> Option<Vec<u8>>
+    requires shards { (0 < shards) × (shards ≤ 64) }
+    requires workers { (0 < workers) × (workers ≤ 64) }
+{
+    let script = generate(alloc, 200, 2000, 1).ok()?;
+    let outcome: Outcome<HashedWheel> = replay(rt, alloc, script, shards, workers, &OpenGate).ok()?;
+    Some(outcome.text)
+}
+
+/// Whether both reports are there and are the same, and tell of more than this many bytes.
+fn are_same(one: Option<Vec<u8>>, other: Option<Vec<u8>>, least: usize) -> bool {
+    match (one, other) {
+        (Some(one), Some(other)) => one == other && least < one.len(),
+        _ => false,
+    }
+}
+
+#[test]
+fn many_sessions(rt: HostRuntime) {
+    let alone = many(&rt, rt.alloc(), 1, 1);
+    let spread = many(&rt, rt.alloc(), 7, 5);
+    assert!(rt; are_same(alone, spread, 100_000));
 }

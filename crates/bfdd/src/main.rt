@@ -75,6 +75,8 @@ fn main(rt: HostRuntime) -> ExitCode {
 #[cfg(test)]
 mod meeting_tests;
 #[cfg(test)]
+mod row_tests;
+#[cfg(test)]
 mod serve_tests;
 #[cfg(test)]
 mod tests;
