@@ -81,5 +81,5 @@ fn are_same(one: Option<Vec<u8>>, other: Option<Vec<u8>>, least: usize) -> bool 
 fn many_sessions(rt: HostRuntime) {
     let alone = many(&rt, rt.alloc(), 1, 1);
     let spread = many(&rt, rt.alloc(), 7, 5);
-    assert!(rt; are_same(alone, spread, 100_000));
+    assert!(rt; are_same(alone, spread, 10_000));
 }
