@@ -7,3 +7,4 @@ pub mod Telling
 pub mod Reading
 pub mod Opening
 pub mod Singles
+pub mod Names
