@@ -8,3 +8,5 @@ pub mod Reading
 pub mod Opening
 pub mod Singles
 pub mod Names
+pub mod Many
+pub mod Version
