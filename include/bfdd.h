@@ -254,18 +254,18 @@ uint32_t bfdd_due(bfdd_handle *handle, uint64_t *ms);
 typedef struct {
     bfdd_packet packet;
     const uint8_t *payload;
-    size_t length;         /* of the payload */
-    bfdd_answered answer;  /* what the packet was answered, once it was handled */
+    size_t length; /* of the payload */
 } bfdd_arrival;
 
 enum { BFDD_MANY = 64 }; /* how many packets, and how many outputs, one call takes at most */
 
-/* Packets came in. Each is handed in as by bfdd_receive, in their order, and gets its answer. `handled` gets how many were handled,
- * the first ones: none is handled behind a packet that left outputs, so that they can be read before the rest is handed in.
- * BFDD_DONE: all were handled, or the last one left outputs. BFDD_CLOSED. BFDD_RANGE: there are more than 64, or a value of the
- * packet behind those that were handled is outside its range. BFDD_MEMORY: there was no memory for that packet. No packet behind
- * those that were handled has changed anything. */
-uint32_t bfdd_packets(bfdd_handle *handle, bfdd_arrival *arrivals, size_t count, size_t *handled);
+/* Packets came in. Each is handed in as by bfdd_receive, in their order, and its answer goes to the place with its number. `handled`
+ * gets how many were handled, the first ones: none is handled behind a packet that left outputs, so that they can be read before the
+ * rest is handed in. BFDD_DONE: all were handled, or the last one left outputs. BFDD_CLOSED. BFDD_RANGE: there are more than 64 packets,
+ * or fewer places than packets; or a value of the packet behind those that were handled is outside its range. BFDD_MEMORY: there was no
+ * memory for that packet. What wasn't handled has changed nothing, its place neither. */
+uint32_t bfdd_packets(bfdd_handle *handle, const bfdd_arrival *arrivals, size_t count, bfdd_answered *answers, size_t places,
+                      size_t *handled);
 
 /* The next outputs of the last event, in the order in which they came: as many as there are places, or all that are left. `read` gets
  * how many these are. BFDD_CLOSED; BFDD_RANGE where there is no place, or more than 64; BFDD_END where all were read. Then `read` is

@@ -53,7 +53,7 @@ class Output(Structure):
 
 
 class Arrival(Structure):
-    _fields_ = [("packet", Packet), ("payload", c_char_p), ("length", c_size_t), ("answer", Answered)]
+    _fields_ = [("packet", Packet), ("payload", c_char_p), ("length", c_size_t)]
 
 
 class Text(Structure):
@@ -69,7 +69,7 @@ def load(path):
             ("receive", handle, POINTER(Packet), c_char_p, c_size_t), ("tick", handle, c_uint64),
             ("command", handle, c_uint64, c_uint32, c_uint32, c_uint64), ("show", handle, c_uint64, c_uint32),
             ("answer", handle, POINTER(Answered)), ("next", handle, POINTER(Output)), ("due", handle, POINTER(c_uint64)),
-            ("packets", handle, POINTER(Arrival), c_size_t, POINTER(c_size_t)),
+            ("packets", handle, POINTER(Arrival), c_size_t, POINTER(Answered), c_size_t, POINTER(c_size_t)),
             ("outputs", handle, POINTER(Output), c_size_t, POINTER(c_size_t)),
             ("find_name", c_uint32, c_uint32, POINTER(Text)), ("version",)]:
         call = getattr(library, f"bfdd_{name}")

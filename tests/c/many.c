@@ -20,7 +20,6 @@ static bfdd_arrival next_arrival(uint64_t moment, uint8_t payload[64]) {
     bfdd_arrival it = {.packet = from_peer, .payload = payload, .length = draw(3) ? sizeof down : 64};
     it.packet.moment = moment, it.packet.iface = draw(50) ? 1 + draw(2) : 65536;
     it.packet.port = draw(4) ? BFDD_PORT_SINGLE : 1 + draw(5);
-    memset(&it.answer, 0x77, sizeof it.answer);
     return it;
 }
 
@@ -52,14 +51,14 @@ static void same_due(bfdd_handle *many, bfdd_handle *single) {
 }
 
 /* The twin gets what was handled, and answers the same; only the last packet left outputs. */
-static void same_packets(bfdd_handle *many, bfdd_handle *single, const bfdd_arrival *in, size_t handled) {
+static void same_packets(bfdd_handle *many, bfdd_handle *single, const bfdd_arrival *in, const bfdd_answered *answers, size_t handled) {
     bfdd_answered answer = {0}, last = {0};
     bfdd_output out = {0};
     for (size_t at = 0; at < handled; at++) {
         if (at) CHECK(bfdd_next(single, &out), BFDD_END);
         CHECK(bfdd_receive(single, &in[at].packet, in[at].payload, in[at].length), BFDD_DONE);
         CHECK(bfdd_answer(single, &answer), BFDD_DONE);
-        CHECK(memcmp(&answer, &in[at].answer, sizeof answer), 0);
+        CHECK(memcmp(&answer, &answers[at], sizeof answer), 0);
     }
     CHECK(bfdd_answer(many, &last), BFDD_DONE);
     CHECK(bfdd_answer(single, &answer), BFDD_DONE);
@@ -76,15 +75,17 @@ static bool is_untouched(const bfdd_answered *answer) {
 static long refusals, most_handled;
 
 /* All of a list, call after call. */
-static void hand_in(bfdd_handle *many, bfdd_handle *single, bfdd_arrival *in, size_t count) {
+static void hand_in(bfdd_handle *many, bfdd_handle *single, const bfdd_arrival *in, size_t count) {
+    bfdd_answered answers[MOST];
+    memset(answers, 0x77, sizeof answers);
     for (size_t at = 0, handled = 77; at < count; at += handled) {
         const long stood = blocks;
         asked = 0, refused = draw(3) ? 0 : 1 + (long)draw(3);
-        const uint32_t code = bfdd_packets(many, in + at, count - at, &handled);
+        const uint32_t code = bfdd_packets(many, in + at, count - at, answers + at, count - at + draw(2), &handled);
         refused = 0;
         CHECK(handled <= count - at, true);
-        same_packets(many, single, in + at, handled);
-        for (size_t other = at + handled; other < count; other++) CHECK(is_untouched(&in[other].answer), true);
+        same_packets(many, single, in + at, answers + at, handled);
+        for (size_t other = at + handled; other < MOST; other++) CHECK(is_untouched(&answers[other]), true);
         if (code == BFDD_MEMORY) CHECK(blocks >= stood - 1 && in[at + handled].length > 52, true);
         refusals += code == BFDD_MEMORY;
         if ((long)handled > most_handled) most_handled = (long)handled;
@@ -105,21 +106,26 @@ static void hand_in(bfdd_handle *many, bfdd_handle *single, bfdd_arrival *in, si
 static void codes(void) {
     bfdd_handle engine = BFDD_HANDLE_INIT;
     bfdd_arrival in[MOST];
+    bfdd_answered answers[MOST];
     bfdd_output out[MOST] = {0};
     uint8_t payload[64];
     size_t count = 77;
+    memset(answers, 0x77, sizeof answers);
     for (int at = 0; at < MOST; at++) in[at] = next_arrival(1000, payload), in[at].packet.iface = 1;
-    CHECK(bfdd_packets(&engine, in, 1, &count), BFDD_CLOSED);
+    CHECK(bfdd_packets(&engine, in, 1, answers, 1, &count), BFDD_CLOSED);
     CHECK(count, 0);
     count = 77, out[0].kind = 99;
     CHECK(bfdd_outputs(&engine, out, 1, &count), BFDD_CLOSED);
     CHECK(count, 0);
     CHECK(bfdd_open_session(&engine, &pair), BFDD_DONE);
     count = 77;
-    CHECK(bfdd_packets(&engine, in, MOST, &count), BFDD_RANGE);
+    CHECK(bfdd_packets(&engine, in, MOST, answers, MOST, &count), BFDD_RANGE);
     CHECK(count, 0);
-    for (int at = 0; at < MOST; at++) CHECK(is_untouched(&in[at].answer), true);
-    CHECK(bfdd_packets(&engine, in, 0, &count), BFDD_DONE);
+    count = 77;
+    CHECK(bfdd_packets(&engine, in, 2, answers, 1, &count), BFDD_RANGE);
+    CHECK(count, 0);
+    CHECK(bfdd_packets(&engine, in, 0, answers, 0, &count), BFDD_DONE);
+    for (int at = 0; at < MOST; at++) CHECK(is_untouched(&answers[at]), true);
     CHECK(count, 0);
     CHECK(bfdd_outputs(&engine, out, 1, &count), BFDD_END);
     CHECK(bfdd_tick(&engine, 5000), BFDD_DONE);

@@ -3,6 +3,7 @@ use Rattle.std.specs.Prelude.{ℕ, zero, suc, ◌+◌, ◌==◌, ◌||◌, List,
 use Rattle.bfd_rules.specs.declared.outputs.Out.{Out}
 use Rattle.bfd_line.specs.declared.entries.Line.{Line}
 use Rattle.bfd_c.specs.declared.many.Arrived.{Arrived}
+use Rattle.bfd_c.specs.declared.telling.Answered.{Answered}
 use Rattle.bfd_c.specs.declared.telling.Output.{Output}
 use Rattle.bfd_c.specs.Engines.{Instance, asked, instance_after}
 use Rattle.bfd_c.specs.Lines.{packet_line}
@@ -12,56 +13,55 @@ use Rattle.bfd_c.specs.Telling.{answer_for_c, output_of}
 abbrev pub line_of_arrived : Arrived → Option Line
 line_of_arrived a = packet_line a.packet a.payload.now
 
--- the packet with its answer, once the engine is this
-abbrev pub with_answer : Arrived → Instance → Arrived
-with_answer a after = record a { answer = answer_for_c after.answer }
-
--- what comes of many packets: the engine, the packets with the answers of those that were handled, how many these are, and the code
+-- what comes of many packets: the engine, the places with the answers of those that were handled, how many these are, and the code
 pub record Handed : Type 0 where
   pub engine : Instance
-  pub arrivals : List Arrived
+  pub answers : List Answered
   pub packets : ℕ
   pub code : ℕ
 
 -- none of them was handled, for this code
-abbrev pub none_handed : ℕ → List Arrived → Instance → Handed
-none_handed code arrivals e = record { engine = e; arrivals = arrivals; packets = 0; code = code }
+abbrev pub none_handed : ℕ → List Answered → Instance → Handed
+none_handed code answers e = record { engine = e; answers = answers; packets = 0; code = code }
 
--- one was handled before those of which this came
-abbrev pub one_before : Arrived → Handed → Handed
-one_before a behind = record behind { arrivals = a ∷ behind.arrivals; packets = behind.packets + 1 }
+-- one was handled, with this answer, before those of which this came
+abbrev pub one_before : Answered → Handed → Handed
+one_before answer behind = record behind { answers = answer ∷ behind.answers; packets = behind.packets + 1 }
 
--- after a packet that left outputs none is handled, so that they can be read; else those behind it are
-abbrev pub handed_behind : List Out → Arrived → List Arrived → Instance → Handed → Handed
-handed_behind [] a arrivals after behind = one_before a behind
-handed_behind (out ∷ outs) a arrivals after behind = one_before a (none_handed 0 arrivals after)
+-- behind a packet that left outputs none is handled, so that they can be read; else those behind it are
+abbrev pub handed_behind : List Out → Answered → List Answered → Instance → Handed → Handed
+handed_behind [] answer answers after behind = one_before answer behind
+handed_behind (out ∷ outs) answer answers after behind = one_before answer (none_handed 0 answers after)
 
 -- one packet, and then those behind it; where its values ask for no event, none is handled
-abbrev pub handed_by : Option Line → Arrived → List Arrived → Instance → Handed → Handed
-handed_by None a arrivals e behind = none_handed 3 (a ∷ arrivals) e
-handed_by (Some line) a arrivals e behind =
-    handed_behind (instance_after line e).left (with_answer a (instance_after line e)) arrivals (instance_after line e) behind
+abbrev pub handed_by : Option Line → Answered → List Answered → Instance → Handed → Handed
+handed_by None place answers e behind = none_handed 3 (place ∷ answers) e
+handed_by (Some line) place answers e behind =
+    handed_behind (instance_after line e).left (answer_for_c (instance_after line e).answer) answers (instance_after line e) behind
 
 -- why a packet isn't handled for which there is no memory
 abbrev pub unhandled_code : Option Line → ℕ
 unhandled_code None = 3
 unhandled_code (Some line) = 2
 
--- packets one after another, where there is memory for the first so many
-abbrev pub handed : ℕ → List Arrived → Instance → Handed
-handed memory [] e = none_handed 0 [] e
-handed zero (a ∷ arrivals) e = none_handed (unhandled_code (line_of_arrived a)) (a ∷ arrivals) e
-handed (suc memory) (a ∷ arrivals) e =
-    handed_by (line_of_arrived a) a arrivals e (handed memory arrivals (asked (line_of_arrived a) e).0)
+-- packets one after another with places for their answers, where there is memory for the first so many
+abbrev pub handed : ℕ → List Arrived → List Answered → Instance → Handed
+handed memory [] places e = none_handed 0 places e
+handed memory (a ∷ arrivals) [] e = none_handed 0 [] e
+handed zero (a ∷ arrivals) (place ∷ places) e = none_handed (unhandled_code (line_of_arrived a)) (place ∷ places) e
+handed (suc memory) (a ∷ arrivals) (place ∷ places) e =
+    handed_by (line_of_arrived a) place places e (handed memory arrivals places (asked (line_of_arrived a) e).0)
 
--- the same of a handle: what it holds, the packets, how many were handled, and the code; above 64 packets none is
-abbrev pub handed_fields : Handed → Option Instance × (List Arrived × (ℕ × ℕ))
-handed_fields h = (Some h.engine, (h.arrivals, (h.packets, h.code)))
+-- the same of a handle: what it holds, the places, how many were handled, and the code; none is above 64 packets, or where a place is
+-- missing
+abbrev pub handed_fields : Handed → Option Instance × (List Answered × (ℕ × ℕ))
+handed_fields h = (Some h.engine, (h.answers, (h.packets, h.code)))
 
-abbrev pub handed_to : ℕ → List Arrived → Option Instance → Option Instance × (List Arrived × (ℕ × ℕ))
-handed_to memory arrivals None = (None, (arrivals, (0, 1)))
-handed_to memory arrivals (Some e) =
-    if nat_lt 64 (length arrivals) then (Some e, (arrivals, (0, 3))) else handed_fields (handed memory arrivals e)
+abbrev pub handed_to : ℕ → List Arrived → List Answered → Option Instance → Option Instance × (List Answered × (ℕ × ℕ))
+handed_to memory arrivals places None = (None, (places, (0, 1)))
+handed_to memory arrivals places (Some e) =
+    if nat_lt 64 (length arrivals) || nat_lt (length places) (length arrivals) then (Some e, (places, (0, 3)))
+    else handed_fields (handed memory arrivals places e)
 
 -- outputs in these places, from the first on; what stands in the others stays
 abbrev pub outputs_in : List Out → List Output → List Output

@@ -100,7 +100,7 @@ structs! {
         dst: bfdd_address, len: u32, bytes: [u8; 52],
     }
 
-    bfdd_arrival: 136 { packet: bfdd_packet, payload: *const u8, length: usize, answer: bfdd_answered }
+    bfdd_arrival: 80 { packet: bfdd_packet, payload: *const u8, length: usize }
 
     bfdd_text: 16 { bytes: *const c_char, length: usize }
 }
@@ -126,7 +126,14 @@ extern "C" {
     pub fn bfdd_answer(handle: *mut bfdd_handle, answer: *mut bfdd_answered) -> u32;
     pub fn bfdd_next(handle: *mut bfdd_handle, output: *mut bfdd_output) -> u32;
     pub fn bfdd_due(handle: *mut bfdd_handle, ms: *mut u64) -> u32;
-    pub fn bfdd_packets(handle: *mut bfdd_handle, arrivals: *mut bfdd_arrival, count: usize, handled: *mut usize) -> u32;
+    pub fn bfdd_packets(
+        handle: *mut bfdd_handle,
+        arrivals: *const bfdd_arrival,
+        count: usize,
+        answers: *mut bfdd_answered,
+        places: usize,
+        handled: *mut usize,
+    ) -> u32;
     pub fn bfdd_outputs(handle: *mut bfdd_handle, places: *mut bfdd_output, count: usize, read: *mut usize) -> u32;
     pub fn bfdd_find_name(named: u32, number: u32, text: *mut bfdd_text) -> u32;
     pub fn bfdd_version() -> u32;

@@ -372,9 +372,11 @@ impl Engine {
             (to.packet, to.payload, to.length) = (packet.to_c(), payload.as_ptr(), payload.len());
         }
         let count = packets.len().min(arrivals.len());
+        let mut given = [sys::bfdd_answered::default(); sys::BFDD_MANY as usize];
         let mut handled = 0;
-        let code = unsafe { sys::bfdd_packets(&mut self.handle, arrivals.as_mut_ptr(), count, &mut handled) };
-        answers.extend(arrivals[..handled].iter().map(|it| answered(&it.answer)));
+        let (from, to) = (arrivals.as_ptr(), given.as_mut_ptr());
+        let code = unsafe { sys::bfdd_packets(&mut self.handle, from, count, to, given.len(), &mut handled) };
+        answers.extend(given[..handled].iter().map(answered));
         done(code)
     }
 

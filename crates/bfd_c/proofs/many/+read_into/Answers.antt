@@ -1,6 +1,6 @@
 -- Without a place all stays.
 use Rattle.std.proofs.Common.{rules, ◌≡◌, length}
-use Rattle.bfd_c.proofs.Many.{no_place}
+use Rattle.bfd_c.proofs.Handing.{no_place}
 use Rattle.bfd_c.proofs.many.+read_into.Goals as goal
 
 pub returns-in_default-clause-told : goal.returns-in_default-clause-told
