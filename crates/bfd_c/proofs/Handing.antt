@@ -1,5 +1,5 @@
--- What comes of many packets, by what came of the first; and places for outputs that are none.
-use Rattle.std.proofs.Common.{◌≡◌, ◌≢◌, ◌+◌, ℕ, List, [], ◌∷◌, length, ap, arith, subst, sym, ◌∙◌}
+-- What comes of many packets where the first was handled; and places for outputs that are none.
+use Rattle.std.proofs.Common.{◌≡◌, ℕ, List, [], ◌∷◌, length, ap, arith, subst, sym, ◌∙◌}
 use Rattle.std.specs.Prelude.{Bool, true, false, Option, None, Some, is_some, option_copied}
 use Rattle.std.specs.Borrow.{Bor}
 use Rattle.bfd_c.proofs.Common.{T, refl}
@@ -8,20 +8,8 @@ use Rattle.bfd_rules.specs.declared.outputs.Out.{Out}
 use Rattle.bfd_c.specs.declared.telling.Answered.{Answered}
 use Rattle.bfd_c.specs.declared.telling.Output.{Output}
 use Rattle.bfd_c.specs.Engines.{Instance, asked, first_of, instance_after}
-use Rattle.bfd_c.specs.Many.{Handed, handed_by, handed_behind, none_handed, one_before, outputs_in, unhandled_code}
+use Rattle.bfd_c.specs.Many.{Handed, handed_by, handed_behind, none_handed, one_before, outputs_in}
 use Rattle.bfd_c.specs.Telling.{answer_for_c}
-
--- values outside their ranges
-pub refused : (line : Option Line) (place : Answered) (places : List Answered) (e after : Instance) (code : ℕ) (behind : Handed)
-    → (after, code) ≡ asked line e → code ≢ 0
-    → none_handed code (place ∷ places) after ≡ handed_by line place places e behind
-refused None place places e after code behind h k = ap (λ (p : Instance × ℕ). none_handed p.1 (place ∷ places) p.0) h
-refused (Some line) place places e after code behind h k = absurd (k (ap (λ (p : Instance × ℕ). p.1) h))
-
--- no memory
-pub unhandled : (line : Option Line) → line ≢ None → 2 ≡ unhandled_code line
-unhandled None h = absurd (h refl)
-unhandled (Some line) h = refl
 
 stopped_behind : (left : List Out) (first : Option (Bor Out)) (place : Answered) (places : List Answered) (after : Instance) (behind : Handed)
     → option_copied first ≡ first_of left → is_some first ≡ true
