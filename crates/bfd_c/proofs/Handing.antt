@@ -1,13 +1,13 @@
 -- What comes of many packets where the first was handled; and places for outputs that are none.
 use Rattle.std.proofs.Common.{◌≡◌, ℕ, List, [], ◌∷◌, length, ap, arith, subst, sym, ◌∙◌}
-use Rattle.std.specs.Prelude.{Bool, true, false, Option, None, Some, is_some, option_copied}
+use Rattle.std.specs.Prelude.{true, false, Option, None, Some, is_some, option_copied}
 use Rattle.std.specs.Borrow.{Bor}
 use Rattle.bfd_c.proofs.Common.{T, refl}
 use Rattle.bfd_line.specs.declared.entries.Line.{Line}
 use Rattle.bfd_rules.specs.declared.outputs.Out.{Out}
 use Rattle.bfd_c.specs.declared.telling.Answered.{Answered}
 use Rattle.bfd_c.specs.declared.telling.Output.{Output}
-use Rattle.bfd_c.specs.Engines.{Instance, asked, first_of, instance_after}
+use Rattle.bfd_c.specs.Engines.{Instance, asked, first_of}
 use Rattle.bfd_c.specs.Many.{Handed, handed_by, handed_behind, none_handed, one_before, outputs_in}
 use Rattle.bfd_c.specs.Telling.{answer_for_c}
 

@@ -72,9 +72,10 @@ outputs_in (out ∷ outs) (place ∷ places) = output_of out ∷ outputs_in outs
 -- an engine of which as many outputs were read as there are places, or all; the places, how many were read, and the code
 abbrev pub many_by : List Out → List Output → Instance → Instance × (List Output × (ℕ × ℕ))
 many_by [] places e = (e, (places, (0, 4)))
-many_by (out ∷ outs) places e =
-    (record e { left = drop (length places) (out ∷ outs) },
-     (outputs_in (out ∷ outs) places, (min (length places) (length (out ∷ outs)), 0)))
+many_by (out ∷ outs) places e = (
+  record e { left = drop (length places) (out ∷ outs) },
+  (outputs_in (out ∷ outs) places, (min (length places) (length (out ∷ outs)), 0)),
+)
 
 -- the same of a handle; without a place, and above 64, nothing is read
 abbrev pub held_with : Instance × (List Output × (ℕ × ℕ)) → Option Instance × (List Output × (ℕ × ℕ))

@@ -23,12 +23,7 @@ pub struct Arrived<'a> {
 }
 
 /// One packet, and its answer.
-fn hear_one(
-    alloc: Global,
-    engine: &mut Engine,
-    arrived: &Arrived<'_>,
-    answer: &mut Answered,
-) -> u32
+fn hear_one(alloc: Global, engine: &mut Engine, arrived: &Arrived<'_>, answer: &mut Answered) -> u32
     ensures done { result ≢ 2 → (engine.new, result) ≡ asked (line_of_arrived arrived.now) engine.old }
     ensures memory { result ≡ 2 → engine.new ≡ engine.old }
     ensures fits { result ≡ 2 → line_of_arrived arrived.now ≢ None }
