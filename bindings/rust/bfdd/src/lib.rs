@@ -19,7 +19,7 @@
 //! let mut answers = Vec::new();
 //! engine.receive_many(&[(far, &packet), (far, &packet[..9])], &mut answers)?;
 //! let names: Vec<_> = answers.iter().map(|it| if let Answer::Dropped(why) = it { why.name() } else { "" }).collect();
-//! assert_eq!(names, ["Ttl", "Short"]);
+//! assert_eq!(names, ["Ttl", "LengthOver"]);
 //! # Ok::<(), bfdd::Error>(())
 //! ```
 
