@@ -15,12 +15,12 @@
 //! engine.receive(&Packet { moment: 1500, port: Port::Single, iface: 1, src: there, dst: here, sport: 49152, ttl: 255 }, &packet)?;
 //! let changed = engine.outputs().next();
 //! assert!(matches!(changed, Some(Output::Changed { discr: 1, was: State::Down, state: State::Init, diag: 0 })));
+//! assert_eq!(engine.answered_by(), Some(1));
 //! let far = Packet { moment: 2000, port: Port::Single, iface: 1, src: there, dst: here, sport: 49152, ttl: 254 };
 //! let mut answers = Vec::new();
 //! engine.receive_many(&[(far, &packet), (far, &packet[..9])], &mut answers)?;
 //! let names: Vec<_> = answers.iter().map(|it| if let Answer::Dropped(why) = it { why.name() } else { "" }).collect();
 //! assert_eq!(names, ["Ttl", "LengthOver"]);
-//! assert_eq!(engine.answered_by(), Some(1));
 //! assert_eq!(engine.add(&Session::new(Kind::SingleHop, 2, 1, here, there)), Err(Error::TakenAddresses));
 //! engine.add(&Session::new(Kind::SingleHop, 2, 2, here, there))?;
 //! engine.remove(1)?;
