@@ -6,24 +6,27 @@
  *
  * OWNERSHIP. A handle is closed, or owns one engine. The caller keeps the handle; the engine behind it is the library's. A
  * handle begins as BFDD_HANDLE_INIT, and bfdd_close frees all that it owns. Everything else is the caller's: no call keeps a
- * pointer that it was given, and none hands one out.
+ * pointer that it was given, and none hands one out but to a name, a text that is never freed.
  *
  * UNITS. Moments are microseconds since a start that the caller chooses, below 2^60. Ticks are milliseconds since the same
  * start, at most 1,152,921,504,606,846. Intervals are microseconds. Numbers are in the machine's order, the bytes of
  * addresses in network order.
  *
  * ERRORS. A call answers BFDD_DONE, or why it did nothing: then the engine is as it was, and so is every struct but for a
- * complaint about a text. That a packet is dropped or a command refused is an answer and no error: see bfdd_answer.
+ * complaint about a text and what bfdd_packets tells. That a packet is dropped or a command refused is an answer and no error: see bfdd_answer.
  *
  * THREADS. A handle may go from thread to thread, and different handles may be used at once. A handle is in one call at a
  * time: what several threads share stands behind a lock of the caller.
+ *
+ * MOVING. Between two calls the bytes of a handle may be copied to another place, as by memcpy or by realloc of what holds it, if
+ * from then on the old place isn't used, not even by bfdd_close. Nothing in the library points to a handle.
  *
  * PROCESSORS. The code runs on every x86-64 processor: it has no instruction beyond SSE2. Of the system it needs malloc, realloc,
  * free, memcpy, memmove and memset.
  *
  * WHAT THE CALLER OWES, since no proof can see it:
- * - A handle is written by the library alone, and a forged one isn't used. It may be moved in memory; of two copies of an open
- *   handle one is used and closed, and the other neither.
+ * - A handle is written by the library alone, and a forged one isn't used. Of two copies of an open handle one is used and closed,
+ *   and the other neither.
  * - No pointer is null, not even with length 0. It points to an object of its type, and a slice to as many bytes as its length
  *   says. No two parameters of a call overlap.
  * - Each byte of a slice and each field of a struct has been written before a call, whole arrays included, and of a struct for
@@ -41,6 +44,15 @@
 #ifdef __cplusplus
 extern "C" {
 #endif
+
+/* The version of this header. What is compiled with it runs with a library of the same major version, and of this minor version or a
+ * later one: bfdd_version() >= BFDD_VERSION. */
+#define BFDD_VERSION_MAJOR 1
+#define BFDD_VERSION_MINOR 1
+#define BFDD_VERSION (BFDD_VERSION_MAJOR * 65536 + BFDD_VERSION_MINOR)
+
+/* The version of the library, by the same rule. */
+uint32_t bfdd_version(void);
 
 /* What a call answers. */
 enum bfdd_code {
@@ -232,7 +244,7 @@ typedef struct {
     uint64_t detect;  /* the Detection Time */
 } bfdd_answered;
 
-/* What the last event was answered. BFDD_CLOSED. */
+/* What the last event was answered; after bfdd_packets the last packet that was handled. BFDD_CLOSED. */
 uint32_t bfdd_answer(bfdd_handle *handle, bfdd_answered *answer);
 
 enum bfdd_output_kind { BFDD_CHANGED = 1, BFDD_SENT = 2 };
@@ -258,6 +270,60 @@ uint32_t bfdd_next(bfdd_handle *handle, bfdd_output *output);
 /* The least tick that is needed next: none below it does anything. It may lie at or below the last tick; then the next tick
  * does what is due. It changes with each event. BFDD_CLOSED; BFDD_END where none is needed before the next event. */
 uint32_t bfdd_due(bfdd_handle *handle, uint64_t *ms);
+
+/* Many at once ------------------------------------------------------------------------------------------------------------ */
+
+/* One of many packets that came in, as by recvmmsg. */
+typedef struct {
+    bfdd_packet packet;
+    const uint8_t *payload;
+    size_t length; /* of the payload */
+} bfdd_arrival;
+
+enum { BFDD_MANY = 64 }; /* how many packets, and how many outputs, one call takes at most */
+
+/* Packets came in. Each is handed in as by bfdd_receive, in their order, and its answer goes to the place with its number. `handled`
+ * gets how many were handled, the first ones: none is handled behind a packet that left outputs, so that they can be read before the
+ * rest is handed in. BFDD_DONE: all were handled, or the last one left outputs. BFDD_CLOSED. BFDD_RANGE: there are more than 64 packets,
+ * or fewer places than packets; or a value of the packet behind those that were handled is outside its range. BFDD_MEMORY: there was no
+ * memory for that packet. What wasn't handled has changed nothing, its place neither. */
+uint32_t bfdd_packets(bfdd_handle *handle, const bfdd_arrival *arrivals, size_t count, bfdd_answered *answers, size_t places,
+                      size_t *handled);
+
+/* The next outputs of the last event, in the order in which they came: as many as there are places, or all that are left. `read` gets
+ * how many these are. BFDD_CLOSED; BFDD_RANGE where there is no place, or more than 64; BFDD_END where all were read. Then `read` is
+ * 0. */
+uint32_t bfdd_outputs(bfdd_handle *handle, bfdd_output *places, size_t count, size_t *read);
+
+/* Names ------------------------------------------------------------------------------------------------------------------- */
+
+/* What has names. Those of faults, drops, refusals and states are the words of packet files and reports (docs/FORMATS.md). */
+enum bfdd_named {
+    BFDD_NAME_CODE = 1,       /* enum bfdd_code: "Done", "Closed", "Memory", "Range", "End", "Text", "Events", "TakenDiscr",
+                               * "TakenAddresses", "Full", "NotFound" */
+    BFDD_NAME_FAULT = 2,      /* enum bfdd_fault, as "NoSuchSession" */
+    BFDD_NAME_DROP = 3,       /* enum bfdd_drop, as "AuthSeq" */
+    BFDD_NAME_REFUSAL = 4,    /* enum bfdd_refusal, as "PollBusy" */
+    BFDD_NAME_STATE = 5,      /* enum bfdd_state: "AdminDown", "Down", "Init", "Up" */
+    BFDD_NAME_DIAGNOSTIC = 6, /* a diagnostic, in the words of RFC 5880 section 4.1; from 9 to 31 it is "Reserved" */
+    BFDD_NAME_OUTPUT = 7      /* enum bfdd_output_kind: the words of a report's lines, "state" and "tx" */
+};
+
+/* A text that is never freed and never changes. The length counts the zero at its end. */
+typedef struct {
+    const char *bytes;
+    size_t length;
+} bfdd_text;
+
+/* The name of a number, of a kind by enum bfdd_named. `text` is one before the call too, as {"", 0}. BFDD_RANGE where there is no such
+ * kind, or no such number of it. */
+uint32_t bfdd_find_name(uint32_t named, uint32_t number, bfdd_text *text);
+
+/* The same as a string, or NULL. It stays as long as the program, or until the shared object is unloaded. */
+static inline const char *bfdd_name(uint32_t named, uint32_t number) {
+    bfdd_text text = {"", 0};
+    return bfdd_find_name(named, number, &text) == BFDD_DONE ? text.bytes : NULL;
+}
 
 #ifdef __cplusplus
 }

@@ -61,6 +61,30 @@ func failure(code C.uint32_t) error {
 	return Code(code)
 }
 
+// A Named has names.
+type Named uint32
+
+const (
+	NamedCode       Named = C.BFDD_NAME_CODE
+	NamedFault      Named = C.BFDD_NAME_FAULT
+	NamedDrop       Named = C.BFDD_NAME_DROP
+	NamedRefusal    Named = C.BFDD_NAME_REFUSAL
+	NamedState      Named = C.BFDD_NAME_STATE
+	NamedDiagnostic Named = C.BFDD_NAME_DIAGNOSTIC
+	NamedOutput     Named = C.BFDD_NAME_OUTPUT
+)
+
+// Name is the name of a number, or "" where it has none.
+func Name(named Named, number uint32) string {
+	return C.GoString(C.bfdd_name(C.uint32_t(named), C.uint32_t(number)))
+}
+
+// Version is the version of the library, major and minor.
+func Version() (major, minor uint32) {
+	number := uint32(C.bfdd_version())
+	return number >> 16, number & 0xffff
+}
+
 // A TableError says that a text is no table.
 type TableError struct {
 	Line  uint64 // the first faulty line, from 1

@@ -74,3 +74,13 @@ func Example_codes() {
 	// <nil>
 	// true
 }
+
+func ExampleName() {
+	fmt.Println(bfdd.Name(bfdd.NamedDiagnostic, 1))
+	fmt.Println(bfdd.Name(bfdd.NamedState, 4) == "")
+	fmt.Println(bfdd.Version())
+	// Output:
+	// Control Detection Time Expired
+	// true
+	// 1 1
+}

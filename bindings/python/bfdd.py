@@ -13,6 +13,7 @@ VERBS = {"disable": 1, "enable": 2, "reset": 3, "path": 4, "tx": 5, "rx": 6, "mu
 STATES = ["AdminDown", "Down", "Init", "Up"]
 CHANGED, SENT = 1, 2
 HANDLED, TICKED, DROPPED, REFUSED, SHOWN = range(5)
+NAMED = {"code": 1, "fault": 2, "drop": 3, "refusal": 4, "state": 5, "diagnostic": 6, "output": 7}
 
 
 class Handle(Structure):
@@ -51,6 +52,14 @@ class Output(Structure):
                 ("dst", Address), ("len", c_uint32), ("bytes", c_uint8 * 52)]
 
 
+class Arrival(Structure):
+    _fields_ = [("packet", Packet), ("payload", c_char_p), ("length", c_size_t)]
+
+
+class Text(Structure):
+    _fields_ = [("bytes", c_char_p), ("length", c_size_t)]
+
+
 def load(path):
     """The library, with the types of its calls."""
     library = ctypes.CDLL(path)
@@ -61,11 +70,21 @@ def load(path):
             ("add_reflector", handle, c_uint32, c_uint32, c_uint32), ("remove_reflector", handle, c_uint32),
             ("receive", handle, POINTER(Packet), c_char_p, c_size_t), ("tick", handle, c_uint64),
             ("command", handle, c_uint64, c_uint32, c_uint32, c_uint64), ("show", handle, c_uint64, c_uint32),
-            ("answer", handle, POINTER(Answered)), ("next", handle, POINTER(Output)), ("due", handle, POINTER(c_uint64))]:
+            ("answer", handle, POINTER(Answered)), ("next", handle, POINTER(Output)), ("due", handle, POINTER(c_uint64)),
+            ("packets", handle, POINTER(Arrival), c_size_t, POINTER(Answered), c_size_t, POINTER(c_size_t)),
+            ("outputs", handle, POINTER(Output), c_size_t, POINTER(c_size_t)),
+            ("find_name", c_uint32, c_uint32, POINTER(Text)), ("version",)]:
         call = getattr(library, f"bfdd_{name}")
         call.argtypes, call.restype = types, c_uint32
     library.bfdd_close.argtypes, library.bfdd_close.restype = [handle], None
     return library
+
+
+def name(library, named, number):
+    """The name of a number, of a kind as in NAMED, or None."""
+    text = Text(b"", 0)
+    found = library.bfdd_find_name(NAMED[named], number, byref(text)) == DONE
+    return text.bytes.decode() if found else None
 
 
 def address(text):

@@ -33,7 +33,7 @@ static const void *give(uint8_t *page, const void *bytes, size_t size) {
     return place;
 }
 
-static uint8_t *of_handle, *of_struct, *of_slice, *of_answer;
+static uint8_t *of_handle, *of_struct, *of_slice, *of_answer, *of_count;
 
 static uint64_t read_all(bfdd_handle *engine) {
     uint64_t count = 0;
@@ -73,6 +73,26 @@ static uint64_t packets(bfdd_handle *engine) {
     return count;
 }
 
+/* So many packets by one call, with a place each, and outputs in so many places. */
+static uint64_t many(bfdd_handle *engine) {
+    uint64_t count = 0;
+    for (size_t size = 0; size <= 35; size++) {
+        bfdd_arrival in[35] = {0};
+        for (size_t at = 0; at < size; at++)
+            in[at] = (bfdd_arrival){from_peer, give(of_slice, down, sizeof down), sizeof down}, in[at].packet.iface = 2;
+        size_t *told = put(of_count, NULL, sizeof *told);
+        bfdd_answered *answers = put(of_answer, NULL, size * sizeof *answers);
+        CHECK(bfdd_packets(engine, give(of_struct, in, size * sizeof *in), size, answers, size, told), BFDD_DONE);
+        count += *told;
+        CHECK(bfdd_tick(engine, 20000 + 100 * size), BFDD_DONE);
+        const size_t places = size ? size : 1;
+        while (bfdd_outputs(engine, put(of_answer, NULL, places * sizeof(bfdd_output)), places, told) == BFDD_DONE) count += *told;
+    }
+    const bfdd_text none = {"", 0};
+    CHECK(bfdd_find_name(BFDD_NAME_STATE, BFDD_UP, put(of_answer, &none, sizeof none)), BFDD_DONE);
+    return count;
+}
+
 static uint64_t run(void) {
     bfdd_handle *engine = put(of_handle, NULL, sizeof *engine);
     *engine = (bfdd_handle)BFDD_HANDLE_INIT;
@@ -82,6 +102,7 @@ static uint64_t run(void) {
         CHECK(bfdd_tick(engine, ms), BFDD_DONE);
         count += read_all(engine);
     }
+    count += many(engine);
     CHECK(bfdd_command(engine, 20000000, 2, BFDD_DISABLE, 0), BFDD_DONE);
     count += read_all(engine);
     CHECK(bfdd_show(engine, 20000000, 5), BFDD_DONE);
@@ -92,11 +113,11 @@ static uint64_t run(void) {
 }
 
 int main(void) {
-    of_handle = fenced(), of_struct = fenced(), of_slice = fenced(), of_answer = fenced();
+    of_handle = fenced(), of_struct = fenced(), of_slice = fenced(), of_answer = fenced(), of_count = fenced();
     uint64_t at_start = run();
     CHECK(at_start > 100, true);
     at_end = true;
     CHECK(run(), at_start);
-    printf("%" PRIu64 " outputs\n", at_start);
+    printf("%" PRIu64 " packets and outputs\n", at_start);
     return 0;
 }

@@ -58,3 +58,8 @@ AT(bfdd_output, src, 20);
 AT(bfdd_output, dst, 40);
 AT(bfdd_output, len, 60);
 AT(bfdd_output, bytes, 64);
+OF(bfdd_arrival, 80);
+AT(bfdd_arrival, payload, 64);
+AT(bfdd_arrival, length, 72);
+OF(bfdd_text, 16);
+AT(bfdd_text, length, 8);

@@ -8,3 +8,6 @@ pub mod Reading
 pub mod Opening
 pub mod Singles
 pub mod Joining
+pub mod Names
+pub mod Many
+pub mod Version

@@ -96,7 +96,7 @@ fn call(alloc: Global, handle: &mut Handle, line: Option<Line>) -> u32
 }
 
 /// A packet for an open engine.
-fn hear(alloc: Global, engine: &mut Engine, values: &Packet, payload: &[u8]) -> u32
+pub(crate) fn hear(alloc: Global, engine: &mut Engine, values: &Packet, payload: &[u8]) -> u32
     ensures done { result ≢ 2 → (engine.new, result) ≡ asked (packet_line values.now payload.now) engine.old }
     ensures memory { result ≡ 2 → engine.new ≡ engine.old }
     ensures fits { result ≡ 2 → packet_line values.now payload.now ≢ None }

@@ -9,7 +9,7 @@ use crate::telling::{Answered, Output, told_answer, told_output};
 use std::alloc::Global;
 
 /// The next output that wasn't read.
-fn read_next(engine: &mut Engine, output: &mut Output) -> u32
+pub(crate) fn read_next(engine: &mut Engine, output: &mut Output) -> u32
     ensures call { (engine.new, result) ≡ next_by engine.old.left engine.old }
     ensures told { output.new ≡ output_read engine.old.left output.old }
 {

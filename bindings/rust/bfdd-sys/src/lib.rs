@@ -4,7 +4,7 @@
 #![no_std]
 #![allow(non_camel_case_types)]
 
-use core::ffi::c_void;
+use core::ffi::{c_char, c_void};
 use core::mem::size_of;
 
 /// Numbers of one kind, under the header's names.
@@ -49,6 +49,13 @@ numbers! { BFDD_ADMIN_DOWN = 0, BFDD_DOWN = 1, BFDD_INIT = 2, BFDD_UP = 3 }
 
 numbers! { BFDD_CHANGED = 1, BFDD_SENT = 2 }
 
+numbers! { BFDD_MANY = 64 }
+
+numbers! {
+    BFDD_NAME_CODE = 1, BFDD_NAME_FAULT = 2, BFDD_NAME_DROP = 3, BFDD_NAME_REFUSAL = 4, BFDD_NAME_STATE = 5,
+    BFDD_NAME_DIAGNOSTIC = 6, BFDD_NAME_OUTPUT = 7,
+}
+
 /// A struct of the header, with the size that it has there.
 macro_rules! structs {
     ($($name:ident: $size:literal { $($field:ident: $type:ty),* $(,)? })*) => { $(
@@ -61,7 +68,7 @@ macro_rules! structs {
         impl Default for $name {
             /// All zeros, as a struct for an answer begins.
             fn default() -> Self {
-                // SAFETY: the fields are integers and arrays of integers.
+                // SAFETY: the fields are integers, arrays of integers, and pointers that are set before a call.
                 unsafe { core::mem::zeroed() }
             }
         }
@@ -93,6 +100,10 @@ structs! {
         kind: u32, discr: u32, was: u8, state: u8, diag: u8, ttl: u8, iface: u32, sport: u16, dport: u16, src: bfdd_address,
         dst: bfdd_address, len: u32, bytes: [u8; 52],
     }
+
+    bfdd_arrival: 80 { packet: bfdd_packet, payload: *const u8, length: usize }
+
+    bfdd_text: 16 { bytes: *const c_char, length: usize }
 }
 
 /// A handle. It can't be copied, and may be moved.
@@ -120,4 +131,15 @@ extern "C" {
     pub fn bfdd_answer(handle: *mut bfdd_handle, answer: *mut bfdd_answered) -> u32;
     pub fn bfdd_next(handle: *mut bfdd_handle, output: *mut bfdd_output) -> u32;
     pub fn bfdd_due(handle: *mut bfdd_handle, ms: *mut u64) -> u32;
+    pub fn bfdd_packets(
+        handle: *mut bfdd_handle,
+        arrivals: *const bfdd_arrival,
+        count: usize,
+        answers: *mut bfdd_answered,
+        places: usize,
+        handled: *mut usize,
+    ) -> u32;
+    pub fn bfdd_outputs(handle: *mut bfdd_handle, places: *mut bfdd_output, count: usize, read: *mut usize) -> u32;
+    pub fn bfdd_find_name(named: u32, number: u32, text: *mut bfdd_text) -> u32;
+    pub fn bfdd_version() -> u32;
 }

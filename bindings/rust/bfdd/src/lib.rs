@@ -6,7 +6,7 @@
 //! caller chooses.
 //!
 //! ```
-//! use bfdd::{Engine, Error, Kind, Output, Packet, Port, Session, State};
+//! use bfdd::{Answer, Engine, Error, Kind, Output, Packet, Port, Session, State};
 //!
 //! let (here, there) = ([10, 0, 0, 1].into(), [10, 0, 0, 2].into());
 //! let mut engine = Engine::open_session(&Session::new(Kind::SingleHop, 1, 1, here, there))?;
@@ -16,6 +16,11 @@
 //! let changed = engine.outputs().next();
 //! assert!(matches!(changed, Some(Output::Changed { discr: 1, was: State::Down, state: State::Init, diag: 0 })));
 //! assert_eq!(engine.answered_by(), Some(1));
+//! let far = Packet { moment: 2000, port: Port::Single, iface: 1, src: there, dst: here, sport: 49152, ttl: 254 };
+//! let mut answers = Vec::new();
+//! engine.receive_many(&[(far, &packet), (far, &packet[..9])], &mut answers)?;
+//! let names: Vec<_> = answers.iter().map(|it| if let Answer::Dropped(why) = it { why.name() } else { "" }).collect();
+//! assert_eq!(names, ["Ttl", "LengthOver"]);
 //! assert_eq!(engine.add(&Session::new(Kind::SingleHop, 2, 1, here, there)), Err(Error::TakenAddresses));
 //! engine.add(&Session::new(Kind::SingleHop, 2, 2, here, there))?;
 //! engine.remove(1)?;
@@ -27,6 +32,7 @@
 //! ```
 
 use bfdd_sys as sys;
+use std::ffi::CStr;
 use std::fmt;
 use std::net::IpAddr;
 
@@ -84,6 +90,40 @@ fn done(code: u32) -> Result<(), Error> {
         sys::BFDD_NOT_FOUND => Err(Error::NotFound),
         code => Err(Error::Code(code)),
     }
+}
+
+/// What has names.
+#[derive(Clone, Copy, Debug, PartialEq, Eq)]
+#[repr(u32)]
+pub enum Named {
+    Code = sys::BFDD_NAME_CODE,
+    Fault = sys::BFDD_NAME_FAULT,
+    Drop = sys::BFDD_NAME_DROP,
+    Refusal = sys::BFDD_NAME_REFUSAL,
+    State = sys::BFDD_NAME_STATE,
+    Diagnostic = sys::BFDD_NAME_DIAGNOSTIC,
+    Output = sys::BFDD_NAME_OUTPUT,
+}
+
+/// The name of a number, if it has one.
+///
+/// ```
+/// assert_eq!(bfdd::name(bfdd::Named::Diagnostic, 1), Some("Control Detection Time Expired"));
+/// assert_eq!(bfdd::name(bfdd::Named::State, 4), None);
+/// assert_eq!(bfdd::version(), (1, 1));
+/// ```
+pub fn name(named: Named, number: u32) -> Option<&'static str> {
+    let mut text = sys::bfdd_text { bytes: c"".as_ptr(), length: 0 };
+    // SAFETY: `text` is one; what it is afterwards is a string of the library, which is never freed.
+    let code = unsafe { sys::bfdd_find_name(named as u32, number, &mut text) };
+    let found = (code == sys::BFDD_DONE).then(|| unsafe { CStr::from_ptr(text.bytes) });
+    found.and_then(|it| it.to_str().ok())
+}
+
+/// The version of the library, major and minor.
+pub fn version() -> (u32, u32) {
+    let number = unsafe { sys::bfdd_version() };
+    (number >> 16, number & 0xffff)
 }
 
 #[derive(Clone, Copy, Debug, PartialEq, Eq)]
@@ -187,6 +227,20 @@ pub struct Packet {
     pub dst: IpAddr,
     pub sport: u16,
     pub ttl: u8,
+}
+
+impl Packet {
+    fn to_c(self) -> sys::bfdd_packet {
+        sys::bfdd_packet {
+            moment: self.moment,
+            port: self.port as u32,
+            iface: self.iface,
+            src: to_c(self.src),
+            dst: to_c(self.dst),
+            sport: self.sport,
+            ttl: self.ttl,
+        }
+    }
 }
 
 /// A command, with its value: intervals in microseconds, `Demand` 1 or 0, `Path` 0, 6 or 8, `Key` an id.
@@ -351,16 +405,23 @@ impl Engine {
 
     /// A packet came in.
     pub fn receive(&mut self, packet: &Packet, payload: &[u8]) -> Result<(), Error> {
-        let packet = sys::bfdd_packet {
-            moment: packet.moment,
-            port: packet.port as u32,
-            iface: packet.iface,
-            src: to_c(packet.src),
-            dst: to_c(packet.dst),
-            sport: packet.sport,
-            ttl: packet.ttl,
-        };
-        done(unsafe { sys::bfdd_receive(&mut self.handle, &packet, payload.as_ptr(), payload.len()) })
+        done(unsafe { sys::bfdd_receive(&mut self.handle, &packet.to_c(), payload.as_ptr(), payload.len()) })
+    }
+
+    /// Packets came in: each is handed in as by [`Engine::receive`], in their order, up to 64. Each that was handled adds its answer to
+    /// `answers`. None is handled behind one that left outputs: read these, and then hand in the rest.
+    pub fn receive_many(&mut self, packets: &[(Packet, &[u8])], answers: &mut Vec<Answer>) -> Result<(), Error> {
+        let mut arrivals = [sys::bfdd_arrival::default(); sys::BFDD_MANY as usize];
+        for (to, (packet, payload)) in arrivals.iter_mut().zip(packets) {
+            (to.packet, to.payload, to.length) = (packet.to_c(), payload.as_ptr(), payload.len());
+        }
+        let count = packets.len().min(arrivals.len());
+        let mut given = [sys::bfdd_answered::default(); sys::BFDD_MANY as usize];
+        let mut handled = 0;
+        let (from, to) = (arrivals.as_ptr(), given.as_mut_ptr());
+        let code = unsafe { sys::bfdd_packets(&mut self.handle, from, count, to, given.len(), &mut handled) };
+        answers.extend(given[..handled].iter().map(answered));
+        done(code)
     }
 
     /// The clock has come to this millisecond.
@@ -383,14 +444,7 @@ impl Engine {
     pub fn answer(&mut self) -> Answer {
         let mut given = sys::bfdd_answered::default();
         unsafe { sys::bfdd_answer(&mut self.handle, &mut given) };
-        let cause = Cause { code: given.code, name: given.name };
-        match given.kind {
-            sys::BFDD_TICKED => Answer::Ticked,
-            sys::BFDD_DROPPED => Answer::Dropped(cause),
-            sys::BFDD_REFUSED => Answer::Refused(cause),
-            sys::BFDD_SHOWN => Answer::Shown(shown(&given)),
-            _ => Answer::Handled,
-        }
+        answered(&given)
     }
 
     /// The session to which the last event came, also where that session dropped or refused it; none where it came to no session or to a
@@ -432,6 +486,17 @@ impl Iterator for Outputs<'_> {
         let mut given = sys::bfdd_output::default();
         let code = unsafe { sys::bfdd_next(&mut self.engine.handle, &mut given) };
         (code == sys::BFDD_DONE).then(|| output(&given))
+    }
+}
+
+fn answered(given: &sys::bfdd_answered) -> Answer {
+    let cause = Cause { code: given.code, name: given.name };
+    match given.kind {
+        sys::BFDD_TICKED => Answer::Ticked,
+        sys::BFDD_DROPPED => Answer::Dropped(cause),
+        sys::BFDD_REFUSED => Answer::Refused(cause),
+        sys::BFDD_SHOWN => Answer::Shown(shown(given)),
+        _ => Answer::Handled,
     }
 }
 

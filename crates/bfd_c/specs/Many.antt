@@ -1,0 +1,87 @@
+-- Packets handed in many at once, and outputs read many at once: each as by a call of its own, in their order.
+use Rattle.std.specs.Prelude.{ℕ, zero, suc, ◌+◌, ◌==◌, ◌||◌, List, [], ◌∷◌, length, drop, min, nat_lt, Option, None, Some, if◌then◌else◌}
+use Rattle.bfd_rules.specs.declared.outputs.Out.{Out}
+use Rattle.bfd_line.specs.declared.entries.Line.{Line}
+use Rattle.bfd_c.specs.declared.many.Arrived.{Arrived}
+use Rattle.bfd_c.specs.declared.telling.Answered.{Answered}
+use Rattle.bfd_c.specs.declared.telling.Output.{Output}
+use Rattle.bfd_c.specs.Engines.{Instance, asked, instance_after}
+use Rattle.bfd_c.specs.Lines.{packet_line}
+use Rattle.bfd_c.specs.Telling.{answer_for_c, output_of}
+
+-- the event that one of many packets asks for
+abbrev pub line_of_arrived : Arrived → Option Line
+line_of_arrived a = packet_line a.packet a.payload.now
+
+-- what comes of many packets: the engine, the places with the answers of those that were handled, how many these are, and the code
+pub record Handed : Type 0 where
+  pub engine : Instance
+  pub answers : List Answered
+  pub packets : ℕ
+  pub code : ℕ
+
+-- none of them was handled, for this code
+abbrev pub none_handed : ℕ → List Answered → Instance → Handed
+none_handed code answers e = record { engine = e; answers = answers; packets = 0; code = code }
+
+-- one was handled, with this answer, before those of which this came
+abbrev pub one_before : Answered → Handed → Handed
+one_before answer behind = record behind { answers = answer ∷ behind.answers; packets = behind.packets + 1 }
+
+-- behind a packet that left outputs none is handled, so that they can be read; else those behind it are
+abbrev pub handed_behind : List Out → Answered → List Answered → Instance → Handed → Handed
+handed_behind [] answer answers after behind = one_before answer behind
+handed_behind (out ∷ outs) answer answers after behind = one_before answer (none_handed 0 answers after)
+
+-- one packet, and then those behind it; where its values ask for no event, none is handled
+abbrev pub handed_by : Option Line → Answered → List Answered → Instance → Handed → Handed
+handed_by None place answers e behind = none_handed 3 (place ∷ answers) e
+handed_by (Some line) place answers e behind =
+    handed_behind (instance_after line e).left (answer_for_c (instance_after line e).discr (instance_after line e).answer) answers (instance_after line e) behind
+
+-- why a packet isn't handled for which there is no memory
+abbrev pub unhandled_code : Option Line → ℕ
+unhandled_code None = 3
+unhandled_code (Some line) = 2
+
+-- packets one after another with places for their answers, where there is memory for the first so many
+abbrev pub handed : ℕ → List Arrived → List Answered → Instance → Handed
+handed memory [] places e = none_handed 0 places e
+handed memory (a ∷ arrivals) [] e = none_handed 0 [] e
+handed zero (a ∷ arrivals) (place ∷ places) e = none_handed (unhandled_code (line_of_arrived a)) (place ∷ places) e
+handed (suc memory) (a ∷ arrivals) (place ∷ places) e =
+    handed_by (line_of_arrived a) place places e (handed memory arrivals places (asked (line_of_arrived a) e).0)
+
+-- the same of a handle: what it holds, the places, how many were handled, and the code; none is above 64 packets, or where a place is
+-- missing
+abbrev pub handed_fields : Handed → Option Instance × (List Answered × (ℕ × ℕ))
+handed_fields h = (Some h.engine, (h.answers, (h.packets, h.code)))
+
+abbrev pub handed_to : ℕ → List Arrived → List Answered → Option Instance → Option Instance × (List Answered × (ℕ × ℕ))
+handed_to memory arrivals places None = (None, (places, (0, 1)))
+handed_to memory arrivals places (Some e) =
+    if nat_lt 64 (length arrivals) || nat_lt (length places) (length arrivals) then (Some e, (places, (0, 3)))
+    else handed_fields (handed memory arrivals places e)
+
+-- outputs in these places, from the first on; what stands in the others stays
+abbrev pub outputs_in : List Out → List Output → List Output
+outputs_in [] places = places
+outputs_in (out ∷ outs) [] = []
+outputs_in (out ∷ outs) (place ∷ places) = output_of out ∷ outputs_in outs places
+
+-- an engine of which as many outputs were read as there are places, or all; the places, how many were read, and the code
+abbrev pub many_by : List Out → List Output → Instance → Instance × (List Output × (ℕ × ℕ))
+many_by [] places e = (e, (places, (0, 4)))
+many_by (out ∷ outs) places e = (
+  record e { left = drop (length places) (out ∷ outs) },
+  (outputs_in (out ∷ outs) places, (min (length places) (length (out ∷ outs)), 0)),
+)
+
+-- the same of a handle; without a place, and above 64, nothing is read
+abbrev pub held_with : Instance × (List Output × (ℕ × ℕ)) → Option Instance × (List Output × (ℕ × ℕ))
+held_with read = (Some read.0, read.1)
+
+abbrev pub many_read : List Output → Option Instance → Option Instance × (List Output × (ℕ × ℕ))
+many_read places None = (None, (places, (0, 1)))
+many_read places (Some e) =
+    if length places == 0 || nat_lt 64 (length places) then (Some e, (places, (0, 3))) else held_with (many_by e.left places e)

@@ -1,0 +1,156 @@
+//! Calls that do many things at once: packets in, and outputs out.
+ghost use Rattle.std.specs.Prelude.{◌≡◌, ◌≢◌, ◌≤◌, None, length, drop, min};
+ghost use Rattle.bfd_c.specs.Engines.{asked, instance_after};
+ghost use Rattle.bfd_c.specs.Telling.{answer_for_c};
+ghost use Rattle.bfd_c.specs.Many.{Handed, handed, handed_to, line_of_arrived, many_by, many_read, outputs_in};
+
+use crate::asking::hear;
+use crate::engine::{CLOSED, DONE, END, Engine, RANGE};
+use crate::handle::Handle;
+use crate::reading::read_next;
+use crate::telling::{Answered, Output, told_answer};
+use crate::wire::Packet;
+use std::alloc::Global;
+
+const MOST: usize = 64;
+
+/// One of many packets that came in, with its payload.
+#[repr(C)]
+#[derive(Clone, Copy, Drop)]
+pub struct Arrived<'a> {
+    pub packet: Packet,
+    pub payload: &'a [u8],
+}
+
+/// One packet, and its answer.
+fn hear_one(alloc: Global, engine: &mut Engine, arrived: &Arrived<'_>, answer: &mut Answered) -> u32
+    ensures done { result ≢ 2 → (engine.new, result) ≡ asked (line_of_arrived arrived.now) engine.old }
+    ensures memory { result ≡ 2 → engine.new ≡ engine.old }
+    ensures fits { result ≡ 2 → line_of_arrived arrived.now ≢ None }
+    ensures answer { result ≡ 0 → answer.new ≡ answer_for_c engine.new.discr engine.new.answer }
+    ensures none { result ≢ 0 → answer.new ≡ answer.old }
+{
+    let code = hear(alloc, engine, &arrived.packet, arrived.payload);
+    if code == DONE {
+        *answer = told_answer(engine.discr(), engine.answer());
+    }
+    code
+}
+
+/// Packets one after another, until one leaves an output or can't be handled. How many were handled, and the code.
+fn hand_in(
+    alloc: Global,
+    engine: &mut Engine,
+    arrivals: &[Arrived<'_>],
+    answers: &mut [Answered],
+) -> (usize, u32)
+    ensures done { result.1 ≢ 2 → record { engine = engine.new; answers = answers.new; packets = result.0; code = result.1 }
+        ≡ handed (length arrivals.now) arrivals.now answers.old engine.old }
+    ensures memory { result.1 ≡ 2 → record { engine = engine.new; answers = answers.new; packets = result.0; code = result.1 }
+        ≡ handed result.0 arrivals.now answers.old engine.old }
+    ensures most { result.0 ≤ length arrivals.now }
+{
+    let Some((arrived, others)) = arrivals.split_first() else {
+        return (0, DONE);
+    };
+    let Some((answer, places)) = answers.split_first_mut() else {
+        return (0, DONE);
+    };
+    let code = hear_one(alloc, engine, arrived, answer);
+    if code != DONE {
+        return (0, code);
+    }
+    if engine.first().is_some() {
+        return (1, DONE);
+    }
+    let (packets, code) = hand_in(alloc, engine, others, places);
+    (packets + 1, code)
+}
+
+/// Outputs in these places, as many as there are of both.
+fn read_into(engine: &mut Engine, places: &mut [Output]) -> usize
+    ensures left { engine.new ≡ record engine.old { left = drop (length places.old) engine.old.left } }
+    ensures told { places.new ≡ outputs_in engine.old.left places.old }
+    ensures count { result ≡ min (length places.old) (length engine.old.left) }
+{
+    let Some((place, others)) = places.split_first_mut() else {
+        return 0;
+    };
+    if read_next(engine, place) != DONE {
+        return 0;
+    }
+    read_into(engine, others) + 1
+}
+
+/// Packets came in: each is handed in as by `bfdd_receive`, in their order, and its answer goes to its place. None is handled behind
+/// one that left outputs, so that they can be read, nor behind one that can't be handled.
+///
+/// `handled` gets how many were handled, the first ones. 0 comes where all were, or the last one left outputs. 1 comes exactly where
+/// the handle is closed; 3 where it's open and there are more than 64 or fewer places, or else exactly where the values of the packet
+/// behind those that were handled are outside their ranges, as `bfdd_receive` says; 2 only for want of memory for its payload, where 3
+/// doesn't come. The packets that weren't handled have changed nothing, and their places stay.
+#[unsafe(no_mangle)]
+pub extern "C" fn bfdd_packets(
+    alloc: Global,
+    handle: &mut Handle,
+    arrivals: &[Arrived<'_>],
+    answers: &mut [Answered],
+    handled: &mut usize,
+) -> u32
+    ensures done { result ≢ 2 → (handle.new.kept.held, (answers.new, (handled.new, result)))
+        ≡ handed_to (length arrivals.now) arrivals.now answers.old handle.old.kept.held }
+    ensures memory { result ≡ 2 → (handle.new.kept.held, (answers.new, (handled.new, result)))
+        ≡ handed_to handled.new arrivals.now answers.old handle.old.kept.held }
+{
+    *handled = 0;
+    match handle.take(alloc) {
+        Some(engine) => {
+            let mut engine = engine;
+            let mut code = RANGE;
+            if arrivals.len() <= MOST && arrivals.len() <= answers.len() {
+                (*handled, code) = hand_in(alloc, &mut engine, arrivals, answers);
+            }
+            *handle = Handle::hold(engine);
+            code
+        }
+        None => CLOSED,
+    }
+}
+
+/// Outputs, or why none was read.
+fn read_many(engine: &mut Engine, places: &mut [Output]) -> (usize, u32)
+    ensures { (engine.new, (places.new, result)) ≡ many_by engine.old.left places.old engine.old }
+{
+    if engine.first().is_none() {
+        return (0, END);
+    }
+    (read_into(engine, places), DONE)
+}
+
+/// The next outputs of the last event, in their order, as many as there are places, or all.
+///
+/// `count` gets how many were read. 1 comes exactly where the handle is closed, 3 exactly where it's open and there is no place or
+/// there are more than 64, 4 exactly where neither comes and all were read. Then nothing else has changed.
+#[unsafe(no_mangle)]
+pub extern "C" fn bfdd_outputs(
+    alloc: Global,
+    handle: &mut Handle,
+    places: &mut [Output],
+    count: &mut usize,
+) -> u32
+    ensures { (handle.new.kept.held, (places.new, (count.new, result))) ≡ many_read places.old handle.old.kept.held }
+{
+    *count = 0;
+    match handle.take(alloc) {
+        Some(engine) => {
+            let mut engine = engine;
+            let mut code = RANGE;
+            if !places.is_empty() && places.len() <= MOST {
+                (*count, code) = read_many(&mut engine, places);
+            }
+            *handle = Handle::hold(engine);
+            code
+        }
+        None => CLOSED,
+    }
+}
