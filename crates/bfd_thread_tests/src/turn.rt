@@ -1,13 +1,10 @@
-//! A lock over a value that keeps pairs of a caller and a number: two threads that add to it, and one that is at the last word.
-ghost use Rattle.std.specs.Prelude.{◌≡◌, ◌++◌, ◌∷◌, [], OnErr, OnOk, IfSome};
-ghost use Rattle.bfd_turn.specs.Passes.{AllJoined, IsOf};
+//! A lock that is at the last word, over a value that keeps pairs of a caller and a number.
+ghost use Rattle.std.specs.Prelude.{◌≡◌, [], IfSome};
 ghost use Rattle.bfd_turn.specs.Refusals.{IsRefused};
 
 use bfd_turn::{Pass, Recorded, TryFault, TurnLock};
-use std::alloc::{AllocError, Global};
-use std::sync::Wait;
+use std::alloc::Global;
 use std::test::Fail;
-use std::thread::{Threads, join};
 
 #[derive(Drop)]
 struct Pairs {
@@ -39,106 +36,16 @@ impl Recorded for Pairs {
 
 impl Pairs {
     fn empty(alloc: Global) -> Pairs
-        ensures { (result.pairs.items ≡ []) × (result.limit ≡ 7) }
+        ensures { result.pairs.items ≡ [] }
     {
         Pairs {
             limit: 7,
             pairs: Vec::new(alloc),
         }
     }
-
-    fn add(&mut self, caller: u32, number: u32) -> Result<(), AllocError>
-        ensures ok { OnOk result (self.new.pairs.items ≡ self.old.pairs.items ++ (caller, number) ∷ []) }
-        ensures err { OnErr result (self.new.pairs.items ≡ self.old.pairs.items) }
-        ensures limit { self.new.limit ≡ self.old.limit }
-    {
-        self.pairs.push((caller, number))?;
-        Ok(())
-    }
 }
 
 type Own = Pass<(u32, u32), u32>;
-
-// Adds one pair in a turn, which waits until it is had. Nothing comes back where memory or turns ran out.
-fn add_one<R: Wait>(rt: &R, lock: &TurnLock<Pairs>, pass: Own, number: u32) -> Option<Own>
-    requires { pass.0 ≡ lock.now }
-    ensures { IfSome result (IsOf lock.now pass.1) }
-{
-    let caller = pass.caller();
-    let mut turn = lock.turn(rt, pass).ok()?;
-    let added = turn.value().add(caller, number);
-    let pass = lock.done(turn);
-    added.ok()?;
-    Some(pass)
-}
-
-// Adds the pairs of the numbers below `count`, each in a turn of its own.
-fn add_all<R: Wait>(rt: &R, lock: &TurnLock<Pairs>, mut pass: Own, count: u32) -> Option<Own>
-    requires { pass.0 ≡ lock.now }
-    ensures { IfSome result (IsOf lock.now pass.1) }
-{
-    for number in 0..count {
-        pass = add_one(rt, lock, pass, number)?;
-    }
-    Some(pass)
-}
-
-// Two threads, each with a pass, add `count` pairs each.
-fn add_by_two<R: Threads + Wait + Sync>(
-    rt: &R,
-    lock: &TurnLock<Pairs>,
-    mut first: Own,
-    count: u32,
-) -> Option<Own>
-    requires first { (first.0 ≡ lock.now) × (first.1.number ≡ 0) }
-    requires made { (first.1.made ≡ []) × (first.1.joined ≡ []) }
-    ensures first { IfSome result (λ p. (p.0 ≡ lock.now) × (p.1.number ≡ 0)) }
-    ensures joined { IfSome result (λ p. AllJoined p.1) }
-{
-    let other = lock.split(&mut first, 1);
-    let (first, other) = join(
-        rt,
-        || -> Option<Own>
-            requires { first.0 ≡ lock.now }
-            ensures { IfSome result (IsOf lock.entry.now first.1) }
-        { add_all(rt, lock, first, count) },
-        || -> Option<Own>
-            requires { other.0 ≡ lock.now }
-            ensures { IfSome result (IsOf lock.entry.now other.1) }
-        { add_all(rt, lock, other, count) },
-    );
-    let mut first = first?;
-    let other = other?;
-    lock.join(&mut first, other);
-    Some(first)
-}
-
-// Whether the numbers of one caller are those below `count`, in their order.
-fn are_in_order(pairs: &[(u32, u32)], caller: u32, count: u32) -> bool {
-    let mut next = 0u32;
-    for pair in pairs {
-        if pair.0 == caller {
-            if pair.1 != next {
-                return false;
-            }
-            next = next.wrapping_add(1);
-        }
-    }
-    next == count
-}
-
-#[test]
-fn two_threads_add_to_one_history(rt: HostRuntime) -> Result<(), Fail> {
-    let alloc = rt.alloc();
-    let (lock, first) = TurnLock::new(alloc, Pairs::empty(alloc), 0)?;
-    let first = add_by_two(&rt, &lock, first, 1000).ok_or("memory or turns ran out")?;
-    let value = lock.close(first);
-    let pairs = value.notes();
-    assert!(rt;
-        pairs.len() == 2000 && are_in_order(pairs, 0, 1000) && are_in_order(pairs, 1, 1000)
-    );
-    Ok(())
-}
 
 // Why one try is refused. A turn that is had is given back.
 fn refusal_of(lock: &TurnLock<Pairs>, pass: Own) -> Option<TryFault<(u32, u32), u32>>
