@@ -1,7 +1,6 @@
 //! Tests of a lock, of an engine, of a watch that follows a shard, and of a replay by workers.
 //!
-//! `turn` has the tests of `bfd_turn`, `watch` one of `bfd_watch`, `workers` those of `bfd_workers`, and `limits` a full shard and ticks that
-//! go back. Of an engine `engine` has calls
+//! `turn` has the tests of `bfd_turn`, `watch` one of `bfd_watch`, and `workers` one of `bfd_workers`. Of an engine `engine` has calls
 //! one after another, and the fixture; `eight` eight threads on three shards, `daemon` a packet thread and a timer thread, from the
 //! opening of the engine to its closing, and `clients` a client that follows a shard beside them. `bfdd` has the tests of `bfd_serve`.
 //!
@@ -16,8 +15,6 @@ mod daemon;
 mod eight;
 #[cfg(test)]
 mod engine;
-#[cfg(test)]
-mod limits;
 #[cfg(test)]
 mod turn;
 #[cfg(test)]
