@@ -7,7 +7,7 @@ use Rattle.bfd_demux.specs.declared.fault.AddFault.{AddFault}
 use Rattle.bfd_demux.specs.declared.fault.AddFault.TheVariants.{TooMany, ZeroDiscr, SameDiscr, SameAddresses, Memory}
 use Rattle.bfd_demux.specs.declared.row.Row.{Row}
 use Rattle.bfd_demux.specs.Rows.{add_fault, same_addresses, same_discr}
-use Rattle.bfd_replay.specs.World.{World}
+use Rattle.bfd_instance.specs.World.{World}
 use Rattle.bfd_c.specs.Engines.{Instance}
 use Rattle.bfd_c.specs.Joining.{add_code, unless}
 

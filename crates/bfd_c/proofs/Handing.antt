@@ -3,7 +3,7 @@ use Rattle.std.proofs.Common.{◌≡◌, ℕ, List, [], ◌∷◌, length, ap, a
 use Rattle.std.specs.Prelude.{true, false, Option, None, Some, is_some, option_copied}
 use Rattle.std.specs.Borrow.{Bor}
 use Rattle.bfd_c.proofs.Common.{T, refl}
-use Rattle.bfd_line.specs.declared.entries.Line.{Line}
+use Rattle.bfd_script.specs.declared.line.entries.Line.{Line}
 use Rattle.bfd_rules.specs.declared.outputs.Out.{Out}
 use Rattle.bfd_c.specs.declared.telling.Answered.{Answered}
 use Rattle.bfd_c.specs.declared.telling.Output.{Output}

@@ -10,10 +10,10 @@ use Rattle.bfd_session.specs.declared.event.Answer.{Answer}
 use Rattle.bfd_session.specs.declared.event.Answer.TheVariants.{Handled}
 use Rattle.bfd_session.specs.Due.{due}
 use Rattle.bfd_session.specs.Kinds.{Running}
-use Rattle.bfd_line.specs.declared.entries.Line.{Line}
-use Rattle.bfd_fields.specs.declared.fault.BadLine.{BadLine}
+use Rattle.bfd_script.specs.declared.line.entries.Line.{Line}
+use Rattle.bfd_script.specs.declared.fields.fault.BadLine.{BadLine}
 use Rattle.bfd_script.specs.Reading.{Lists}
-use Rattle.bfd_replay.specs.World.{World, discr_reached, happens, opened}
+use Rattle.bfd_instance.specs.World.{World, discr_reached, happens, opened}
 
 -- an engine: its sessions and reflectors with the greatest tick so far, the outputs of the last event that are left to be read,
 -- what it was answered, and the discriminator of the session to which it came, or 0

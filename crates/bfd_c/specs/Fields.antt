@@ -8,7 +8,7 @@ use Rattle.bfd_rules.specs.declared.config.Role.TheVariants.{Single, Multi}
 use Rattle.bfd_rules.specs.Sound.{is_interval, is_echo_interval}
 use Rattle.bfd_session.specs.declared.event.SessionConfig.{SessionConfig}
 use Rattle.bfd_session.specs.declared.event.SessionConfig.TheVariants.{Pair, Seek, Head, Tail}
-use Rattle.bfd_line.specs.Secrets.{kind_by, one_key}
+use Rattle.bfd_script.specs.Secrets.{kind_by, one_key}
 use Rattle.bfd_c.specs.declared.fields.Fields.{Fields}
 use Rattle.bfd_c.specs.Wire.{addr_of}
 

@@ -6,7 +6,7 @@ use Rattle.bfd_demux.specs.declared.fault.AddFault.{AddFault}
 use Rattle.bfd_demux.specs.declared.fault.AddFault.TheVariants.{TooMany, ZeroDiscr, SameDiscr, SameAddresses, Memory}
 use Rattle.bfd_sbfd.specs.declared.reflecting.Reflector.{Reflector}
 use Rattle.bfd_session.specs.declared.event.SessionConfig.{SessionConfig}
-use Rattle.bfd_replay.specs.World.{World, session_fault, knows_reflector, knows_session, reflector_fault, world_with_reflector, world_with, world_without_reflector, world_without}
+use Rattle.bfd_instance.specs.World.{World, session_fault, knows_reflector, knows_session, reflector_fault, world_with_reflector, world_with, world_without_reflector, world_without}
 use Rattle.bfd_c.specs.Engines.{Instance}
 
 -- the code of what keeps a session or a reflector out

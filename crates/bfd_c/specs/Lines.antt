@@ -4,8 +4,8 @@ use Rattle.bfd_num.specs.Numbers.{moment_bound, greatest_tick}
 use Rattle.bfd_packet.specs.declared.arrival.Arrival.{Arrival}
 use Rattle.bfd_rules.specs.declared.commands.Cmd.{Cmd}
 use Rattle.bfd_rules.specs.declared.commands.Cmd.TheVariants as cmd
-use Rattle.bfd_line.specs.declared.entries.Line.{Line}
-use Rattle.bfd_line.specs.declared.entries.Line.TheVariants as events
+use Rattle.bfd_script.specs.declared.line.entries.Line.{Line}
+use Rattle.bfd_script.specs.declared.line.entries.Line.TheVariants as events
 use Rattle.bfd_c.specs.declared.wire.Packet.{Packet}
 use Rattle.bfd_c.specs.Wire.{arrival_from_c}
 

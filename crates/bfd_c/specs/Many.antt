@@ -1,7 +1,7 @@
 -- Packets handed in many at once, and outputs read many at once: each as by a call of its own, in their order.
 use Rattle.std.specs.Prelude.{ℕ, zero, suc, ◌+◌, ◌==◌, ◌||◌, List, [], ◌∷◌, length, drop, min, nat_lt, Option, None, Some, if◌then◌else◌}
 use Rattle.bfd_rules.specs.declared.outputs.Out.{Out}
-use Rattle.bfd_line.specs.declared.entries.Line.{Line}
+use Rattle.bfd_script.specs.declared.line.entries.Line.{Line}
 use Rattle.bfd_c.specs.declared.many.Arrived.{Arrived}
 use Rattle.bfd_c.specs.declared.telling.Answered.{Answered}
 use Rattle.bfd_c.specs.declared.telling.Output.{Output}

@@ -6,8 +6,8 @@ use Rattle.bfd_packet.specs.States.{state_name}
 use Rattle.bfd_packet.specs.TestNames.{name_of}
 use Rattle.bfd_rules.specs.declared.commands.Refusal.TheVariants as refusals
 use Rattle.bfd_rules.specs.Names.{refusal_name}
-use Rattle.bfd_fields.specs.declared.fault.LineFault.TheVariants as faults
-use Rattle.bfd_fields.specs.Complaints.{fault_name}
+use Rattle.bfd_script.specs.declared.fields.fault.LineFault.TheVariants as faults
+use Rattle.bfd_script.specs.Complaints.{fault_name}
 
 -- Each list has the names of one kind in the order of their numbers, from 0 on. Where a number is of nothing, the empty name stands.
 abbrev pub code_names : List (List ℕ)

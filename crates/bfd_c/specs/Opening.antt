@@ -1,7 +1,7 @@
 -- What opening a handle hands out.
 use Rattle.std.specs.Prelude.{ℕ, ◌≡◌, ◌≢◌, ◌==◌, List, [], ◌∷◌, Result, Ok, Err, if◌then◌else◌}
 use Rattle.bfd_session.specs.declared.event.SessionConfig.{SessionConfig}
-use Rattle.bfd_fields.specs.declared.fault.BadLine.{BadLine}
+use Rattle.bfd_script.specs.declared.fields.fault.BadLine.{BadLine}
 use Rattle.bfd_script.specs.Reading.{Lists}
 use Rattle.bfd_c.specs.declared.opening.Complaint.{Complaint}
 use Rattle.bfd_c.specs.declared.opening.Unopened.{Unopened}

@@ -4,7 +4,7 @@ use Rattle.bfd_rules.specs.declared.config.Role.{Role}
 use Rattle.bfd_rules.specs.Sound.{is_echo_interval}
 use Rattle.bfd_session.specs.declared.event.SessionConfig.{SessionConfig}
 use Rattle.bfd_session.specs.Step.{IsFit}
-use Rattle.bfd_line.specs.Ranges.{IsRow}
+use Rattle.bfd_script.specs.Ranges.{IsRow}
 use Rattle.bfd_c.specs.declared.fields.Fields.{Fields}
 
 -- its values are in their ranges

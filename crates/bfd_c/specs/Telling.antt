@@ -11,9 +11,9 @@ use Rattle.bfd_rules.specs.declared.outputs.Out.TheVariants.{Changed, Sent}
 use Rattle.bfd_session.specs.declared.event.Answer.{Answer}
 use Rattle.bfd_session.specs.declared.event.Answer.TheVariants.{Handled, Ticked, Dropped, Refused, Shown as Showing}
 use Rattle.bfd_session.specs.declared.event.Shown.{Shown}
-use Rattle.bfd_fields.specs.declared.fault.LineFault.{LineFault}
-use Rattle.bfd_fields.specs.declared.fault.LineFault.TheVariants as faults
-use Rattle.bfd_fields.specs.declared.fault.BadLine.{BadLine}
+use Rattle.bfd_script.specs.declared.fields.fault.LineFault.{LineFault}
+use Rattle.bfd_script.specs.declared.fields.fault.LineFault.TheVariants as faults
+use Rattle.bfd_script.specs.declared.fields.fault.BadLine.{BadLine}
 use Rattle.bfd_c.specs.declared.opening.Complaint.{Complaint}
 use Rattle.bfd_rules.specs.Names.{refusal_name}
 use Rattle.bfd_c.specs.declared.telling.Output.{Output}

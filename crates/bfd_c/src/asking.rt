@@ -6,9 +6,9 @@ ghost use Rattle.bfd_c.specs.Lines.{cmd_of, command_line, packet_line, show_line
 use crate::engine::{CLOSED, Engine, MEMORY};
 use crate::handle::Handle;
 use crate::wire::{Packet, arrival};
-use bfd_line::Line;
 use bfd_num::{Moment, Tick};
 use bfd_rules::Cmd;
+use bfd_script::line::Line;
 use std::alloc::{AllocError, Global};
 
 /// A tick.

@@ -2,16 +2,16 @@
 ghost use Rattle.std.specs.Prelude.{◌≡◌, ◌≢◌, IfOk, Some, drop};
 ghost use Rattle.std.specs.Option.{option_copied};
 ghost use Rattle.bfd_session.specs.Step.{IsFit};
-ghost use Rattle.bfd_replay.specs.Stage.{IsTable};
+ghost use Rattle.bfd_instance.specs.Stage.{IsTable};
 ghost use Rattle.bfd_c.specs.Engines.{instance_after, asked, first_of, soonest, new_instance};
 ghost use Rattle.bfd_c.specs.Joining as joining;
 
 use bfd_demux::AddFault;
+use bfd_instance::Instance as World;
 use bfd_levels::ByCount;
-use bfd_line::Line;
-use bfd_replay::Instance as World;
 use bfd_rules::Out;
 use bfd_sbfd::Reflector;
+use bfd_script::line::Line;
 use bfd_session::{Answer, SessionConfig};
 use std::alloc::{AllocError, Global};
 use std::marker::Model;

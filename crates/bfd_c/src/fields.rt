@@ -1,9 +1,9 @@
 //! One session by its fields, as C gives them.
 ghost use Rattle.std.specs.Prelude.{◌≡◌, ◌≤◌, ◌<◌, true, IfSome, Some, length};
 ghost use Rattle.bfd_rules.specs.Sound.{is_interval, is_echo_interval};
-ghost use Rattle.bfd_line.specs.Secrets as secrets;
-ghost use Rattle.bfd_line.specs.Ranges.{AreKeys};
-ghost use Rattle.bfd_fields.specs.Values.{IsAddress};
+ghost use Rattle.bfd_script.specs.Secrets as secrets;
+ghost use Rattle.bfd_script.specs.Ranges.{AreKeys};
+ghost use Rattle.bfd_script.specs.Values.{IsAddress};
 ghost use Rattle.bfd_c.specs.Fields as fields;
 ghost use Rattle.bfd_c.specs.Fields.{config_of, has_name, is_paired, has_sending, keys_from_c};
 ghost use Rattle.bfd_c.specs.Singles.{HasName, IsPaired, HasSending, IsInRanges};

@@ -1,6 +1,6 @@
 //! The calls that open and close a handle.
 ghost use Rattle.std.specs.Prelude.{◌≡◌, ◌≢◌, true, [], None, IfOk, MatchResult};
-ghost use Rattle.bfd_replay.specs.Stage.{IsTable};
+ghost use Rattle.bfd_instance.specs.Stage.{IsTable};
 ghost use Rattle.bfd_script.specs.Reading.{script_of};
 ghost use Rattle.bfd_c.specs.Engines.{opened_by, opened_for, new_instance};
 ghost use Rattle.bfd_c.specs.Fields.{config_of};
@@ -11,8 +11,8 @@ ghost use Rattle.bfd_c.specs.Telling as telling;
 use crate::engine::{DONE, EVENTS, Engine, MEMORY, RANGE, TEXT};
 use crate::fields::{Fields, config};
 use crate::handle::Handle;
-use bfd_fields::{BadLine, LineFault, ScriptFault};
 use bfd_sbfd::Reflector;
+use bfd_script::fields::{BadLine, LineFault, ScriptFault};
 use bfd_script::read;
 use bfd_session::SessionConfig;
 use std::alloc::{AllocError, Global};

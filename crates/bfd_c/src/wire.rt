@@ -1,6 +1,6 @@
 //! Addresses and packets, as C gives and reads them.
 ghost use Rattle.std.specs.Prelude.{◌≡◌, ◌≢◌, None, IfOk, IfSome, OnErr};
-ghost use Rattle.bfd_fields.specs.Values.{IsAddress};
+ghost use Rattle.bfd_script.specs.Values.{IsAddress};
 ghost use Rattle.bfd_c.specs.Wire.{addr_of, address_for_c, arrival_from_c, port_by_number};
 
 use bfd_packet::{Addr, Arrival, Bits128, Payload, Port};

@@ -4,7 +4,7 @@ use Rattle.std.proofs.lemmas.List.{map-append}
 use Rattle.std.proofs.lemmas.List.Elements.{filter-append}
 use Rattle.std.specs.List.{filter, range_with_len}
 use Rattle.std.proofs.lemmas.Bool.{eq-eqb, ne_eqb}
-use Rattle.bfd_line.specs.declared.entries.Line.{Line}
+use Rattle.bfd_script.specs.declared.line.entries.Line.{Line}
 use Rattle.bfd_load.specs.Load.{earlier, hears, is_silent, packet, packets}
 
 -- with the remainder of the tick a session hears a packet unless it is silent

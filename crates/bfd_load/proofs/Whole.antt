@@ -10,10 +10,10 @@ use Rattle.bfd_session.specs.Kinds.{discr_of}
 use Rattle.bfd_session.specs.Rows.{Ascends, Differs, same_selector}
 use Rattle.bfd_sbfd.specs.declared.reflecting.Reflector.{Reflector}
 use Rattle.bfd_session.specs.Step.{IsFit}
-use Rattle.bfd_line.specs.declared.entries.Line.{Line}
-use Rattle.bfd_line.specs.declared.entries.Line.TheVariants.{Tick}
+use Rattle.bfd_script.specs.declared.line.entries.Line.{Line}
+use Rattle.bfd_script.specs.declared.line.entries.Line.TheVariants.{Tick}
 use Rattle.bfd_script.specs.Reading.{Lists, is_named}
-use Rattle.bfd_line.specs.Ranges.{IsEvent, IsRow}
+use Rattle.bfd_script.specs.Ranges.{IsEvent, IsRow}
 use Rattle.bfd_script.specs.Sound.{AreConfigs, AreEvents, ArePool, IsScript}
 use Rattle.bfd_load.specs.Load.{config, earlier, events, hears, is_silent, packet, packets, script, tick_events}
 use Rattle.bfd_load.proofs.Bytes.{are_bytes, long}

@@ -11,8 +11,8 @@ use Rattle.bfd_packet.specs.Layout.{text_of}
 use Rattle.bfd_rules.specs.declared.config.Role.TheVariants.{Single}
 use Rattle.bfd_session.specs.declared.event.SessionConfig.{SessionConfig}
 use Rattle.bfd_session.specs.declared.event.SessionConfig.TheVariants.{Pair}
-use Rattle.bfd_line.specs.declared.entries.Line.{Line}
-use Rattle.bfd_line.specs.declared.entries.Line.TheVariants.{Rx, Tick}
+use Rattle.bfd_script.specs.declared.line.entries.Line.{Line}
+use Rattle.bfd_script.specs.declared.line.entries.Line.TheVariants.{Rx, Tick}
 use Rattle.bfd_script.specs.Reading.{Lists}
 
 -- every session hears a packet once in so many ticks, and session i at the ticks that leave the remainder that i leaves

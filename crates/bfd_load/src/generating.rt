@@ -4,11 +4,11 @@ ghost use Rattle.std.specs.List.{filter, range_with_len};
 ghost use Rattle.bfd_script.specs.Sound.{IsScript};
 ghost use Rattle.bfd_load.specs.Load as load;
 
-use bfd_line::Line;
 use bfd_num::{Moment, Tick};
 use bfd_packet::{Addr, Arrival, AuthBytes, Control, Payload, Port, SOURCE_PORT, State, write};
 use bfd_rules::{Config, Role};
 use bfd_script::Script;
+use bfd_script::line::Line;
 use bfd_session::SessionConfig;
 use std::alloc::{AllocError, Global};
 

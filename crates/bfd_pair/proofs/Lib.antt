@@ -10,3 +10,5 @@ pub mod Hearing
 pub mod Handshakes
 pub mod Peers
 pub mod Pairs
+pub mod Totals
+pub mod Played

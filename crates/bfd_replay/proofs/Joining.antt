@@ -1,136 +1,112 @@
--- A world with one session or reflector more, and without one.
-use Rattle.bfd_replay.proofs.Common.{◌≡◌, ◌<◌, ◌≤◌, ◌+◌, ◌*◌, ◌==◌, ◌||◌, ◌++◌, ◌∷◌, ◌∙◌, ℕ, zero, suc, Bool, false, true, not, None, Some, List, [], get_or, length, map, nat_lt, take, drop, refl, sym, ap, arith, add-one, eq-eqb, filter, list_any, AllByRecursion, Reflector, SessionConfig, Running, configs_of, discr_of, started, table_of, world_of, Outputs}
-use Rattle.std.specs.List.{insert, remove}
-use Rattle.std.proofs.lemmas.List.{length-map}
-use Rattle.std.proofs.lemmas.List.Edits.{length-insert, length-remove}
-use Rattle.bfd_packet.proofs.Turned.{number_turned}
-use Rattle.bfd_demux.specs.declared.row.Row.{Row}
-use Rattle.bfd_demux.specs.Rows.{add_fault}
-use Rattle.bfd_demux.proofs.Indexing.{fits}
-use Rattle.bfd_demux.proofs.Lookups.{length-filter-le}
-use Rattle.bfd_session.specs.Changes.{place_for, with_session, without_pooled, without_session}
-use Rattle.bfd_session.specs.Rows.{place_of, row_of, row_of_reflector, rows_of}
-use Rattle.bfd_session.specs.Tables.{Members, members}
-use Rattle.bfd_session.proofs.Changes.{map_inserted, map_removed}
-use Rattle.bfd_replay.specs.Stage.{IsStage}
-use Rattle.bfd_replay.specs.World.{without_at, world_with, world_without}
+-- Passes that are made for the workers, and taken in again.
+use Rattle.bfd_replay.proofs.WorkerCommon.{◌≡◌, ◌≢◌, ◌<◌, ◌≤◌, ◌+◌, ◌*◌, ◌%◌, ◌++◌, ◌∙◌, ◌∷◌, ℕ, zero, suc, [], List, length, map, sym, ap, refl, append_assoc, append-nil, arith, length-append, Some, slice_get, slice_index_or, map-append, ne_eqb, slice_get_within, same_Some, dite, ℕ_discrete, Shards, Knows, IsOf, AllThere, seen_at, taken_at, kept_at, mine, Parted, Joined, Numbered, Work, AllJobsJoined, AreJobs, JobsAreJoined, AreOwn, IsJoining, number_of, own_queue, IsNewPass}
+use Rattle.bfd_turn.proofs.Beginnings.{begins_through}
+use Rattle.bfd_engine.proofs.Places.{last_here, front_here}
 
--- each has another discriminator
-abbrev Others : ℕ → List SessionConfig → Type 0
-Others discr cs = AllByRecursion (λ c. (discr == discr_of c) ≡ false) cs
+module _ {A : Type 0} where
+  -- what is true of each, with one more
+  each_more : (P : ℕ → A → Type 0) (xs ys : List A) {y : A} → ys ≡ xs ++ y ∷ [] → ((i : ℕ) (x : A) → slice_get xs i ≡ Some x → P i x) → P (length xs) y
+      → (i : ℕ) (x : A) → slice_get ys i ≡ Some x → P i x
+  each_more P xs ys {y} is each last i x e = dite (ℕ_discrete i (length xs)) (λ same.
+      rw same (rw (← (same_Some y x (cc (last_here xs y (length xs) refl)))) last))
+      (λ other. let front : i < length xs = omega (arith, slice_get_within (xs ++ y ∷ []) i x cc, length-append xs (y ∷ []), other) in
+      each i x (cc (front_here xs y i front)))
 
-others : (discr : ℕ) (cs : List SessionConfig) (rows : List Row) → list_any (λ row. discr == row.discr) (rows_of cs ++ rows) ≡ false → Others discr cs
-others discr [] rows e = tt
-others discr (c ∷ cs) rows e = by (discr == discr_of c) refl e (others discr cs rows)
-  where
-    by : (b : Bool) → (discr == discr_of c) ≡ b → (b || list_any (λ row. discr == row.discr) (rows_of cs ++ rows)) ≡ false
-        → (list_any (λ row. discr == row.discr) (rows_of cs ++ rows) ≡ false → Others discr cs) → Others discr (c ∷ cs)
-    by true is f rest = cc
-    by false is f rest = (is, rest f)
+  none_here : (i : ℕ) {x : A} → slice_get [] i ≡ Some x → ⊥
+  none_here zero e = cc
+  none_here (suc i) e = cc
 
-abbrev rest_of : List SessionConfig → List SessionConfig
-rest_of [] = []
-rest_of (c ∷ cs) = cs
+  -- the next of those that are left stands behind those that were given
+  pub next_here : (xs ys : List A) {zs : List A} (x : A) → xs ++ x ∷ ys ≡ zs → slice_get zs (length xs) ≡ Some x
+  next_here [] ys x e = cc
+  next_here (w ∷ xs) ys {zs} x e = cc (next_here xs ys {zs = xs ++ x ∷ ys} x refl)
 
--- a session stands once where no other has its discriminator
-stands_once : (p q : ℕ) (c : SessionConfig) (cs : List SessionConfig) → p ≤ length cs → q ≤ length cs → Others (discr_of c) cs → insert cs p c ≡ insert cs q c → p ≡ q
-stands_once zero zero c cs a b o e = refl
-stands_once zero (suc q) c [] a b o e = absurd (omega (arith, b))
-stands_once zero (suc q) c (d ∷ cs) a b o e =
-    let same : c ≡ d = ap (λ xs. get_or xs 0 c) e in
-    absurd (cc (o.0, eq-eqb (discr_of c) (discr_of d) (ap discr_of same)))
-stands_once (suc p) zero c [] a b o e = absurd (omega (arith, a))
-stands_once (suc p) zero c (d ∷ cs) a b o e =
-    let same : d ≡ c = ap (λ xs. get_or xs 0 c) e in
-    absurd (cc (o.0, eq-eqb (discr_of c) (discr_of d) (ap discr_of (sym same))))
-stands_once (suc p) (suc q) c [] a b o e = absurd (omega (arith, a))
-stands_once (suc p) (suc q) c (d ∷ cs) a b o e = ap suc (stands_once p q c cs (omega (arith, a)) (omega (arith, b)) o.1 (ap rest_of e))
-
-all_stay : (discr : ℕ) (cs : List SessionConfig) → Others discr cs → filter (λ c. not (discr_of c == discr)) cs ≡ cs
-all_stay discr [] o = refl
-all_stay discr (c ∷ cs) o =
-    let other : (discr_of c == discr) ≡ false = number_turned (discr_of c) discr ∙ o.0 in
-    rw other (ap (λ xs. c ∷ xs) (all_stay discr cs o.1))
-
-taken_out : (p : ℕ) (c : SessionConfig) (cs : List SessionConfig) → Others (discr_of c) cs → filter (λ d. not (discr_of d == discr_of c)) (insert cs p c) ≡ cs
-taken_out zero c [] o = rw (eq-eqb (discr_of c) (discr_of c) refl) refl
-taken_out zero c (d ∷ cs) o = rw (eq-eqb (discr_of c) (discr_of c) refl) (all_stay (discr_of c) (d ∷ cs) o)
-taken_out (suc p) c [] o = rw (eq-eqb (discr_of c) (discr_of c) refl) refl
-taken_out (suc p) c (d ∷ cs) o =
-    let other : (discr_of d == discr_of c) ≡ false = number_turned (discr_of d) (discr_of c) ∙ o.0 in
-    rw other (ap (λ xs. d ∷ xs) (taken_out p c cs o.1))
-
-module _ (t : Members) {t2 : Members} (c : SessionConfig) (clear : add_fault (row_of c) (table_of t.configs t.pool) ≡ None) (grown : t2 ≡ with_session c t) where
-  apart : Others (discr_of c) t.configs
-  apart =
-      let fit = fits (row_of c) (table_of t.configs t.pool) clear in
-      others (discr_of c) t.configs (map row_of_reflector t.pool) fit.discr
-
-  -- the place at which the table says that it put a session is that of its discriminator
-  pub place_is : (p : ℕ) → (p ≤ length t.configs) × (t2.configs ≡ insert t.configs p c) → p ≡ place_for (discr_of c) t.configs
-  place_is p put =
-      stands_once p (place_for (discr_of c) t.configs) c t.configs put.0 (length-filter-le (λ (d : SessionConfig). nat_lt (discr_of d) (discr_of c)) t.configs) apart
-      (sym put.1 ∙ ap (λ (m : Members). m.configs) grown)
-
-  -- the table from which it is taken out again is as it was
-  pub table_undone : {t3 : Members} (discr : ℕ) → discr ≡ discr_of c → t3 ≡ without_session discr t2 → t3 ≡ t
-  table_undone discr same taken = rw (taken, same, grown) (ap (λ cs. members cs t.pool) (taken_out (place_for (discr_of c) t.configs) c t.configs apart))
-
-pub session_joins : (ss : List Running) (p : ℕ) (c : SessionConfig) (pool : List Reflector) (last : ℕ) {cs : List SessionConfig} {ss2 : List Running}
-    → cs ≡ configs_of ss → p ≡ place_for (discr_of c) cs → ss2 ≡ insert ss p (started c) → world_of ss2 pool last ≡ world_with c (world_of ss pool last)
-session_joins ss p c pool last are stands made =
-    ap (λ xs. world_of xs pool last) (made ∙ ap (λ n. insert ss n (started c)) (stands ∙ ap (place_for (discr_of c)) are))
-
-pub stage_joins : (ss : List Running) (p : ℕ) (c : SessionConfig) {ss2 : List Running} (table : Members) {table2 : Members} {outs2 : Outputs} → table.configs ≡ configs_of ss
-    → (p ≤ length table.configs) × (table2.configs ≡ insert table.configs p c) → ss2 ≡ insert ss p (started c) → 5 * (length ss + 1) + 5 ≤ outs2.room → IsStage ss2 table2 outs2
-stage_joins ss p c {ss2} table are put made room =
-    let same : length table.configs ≡ length ss = ap length are ∙ length-map ss (λ s. s.config) in
-    record {
-      configs = put.1 ∙ ap (λ cs. insert cs p c) are ∙ sym (map_inserted (λ (s : Running). s.config) ss p (started c)) ∙ ap configs_of (sym made);
-      room_for_all = omega (arith, room, ap length made, length-insert ss p (started c) (omega (arith, same, put.0)));
-    }
-
-pub stage_same : {ss ss2 : List Running} {table table2 : Members} {outs outs2 : Outputs} → IsStage ss table outs → ss2 ≡ ss → table2 ≡ table → outs.room ≤ outs2.room → IsStage ss2 table2 outs2
-stage_same {ss} {ss2} {table} {table2} stage sessions same room = record {
-  configs = cc;
-  room_for_all = omega (arith, stage.room_for_all, ap length sessions, room);
+pub jobs_none : {engine : Shards} (queues : List (List Numbered)) (workers : ℕ) {l : Knows} {works : List Work} → IsNewPass engine l → works ≡ [] → AreJobs engine queues workers 0 l works
+jobs_none queues workers new none = record {
+  of = new.of;
+  there = new.there;
+  number = new.number;
+  used = new.used;
+  long = cc;
+  fresh = λ s h. record { seen = new.seen s h; taken = new.taken s h; kept = new.kept s h; made = cc (new.made s h) };
+  each = λ i w e. absurd (none_here i (ap (λ ws. slice_get ws i) (sym none) ∙ e));
 }
 
--- a session that was taken out
+pub jobs_more : (engine : Shards) (queues : List (List Numbered)) (workers at : ℕ) (l m : Knows) (works works2 : List Work) (w : Work) → AreJobs engine queues workers at l works
+    → works2 ≡ works ++ w ∷ [] → IsOf engine m.1 → AllThere m.1 → m.0 ≡ 0 → m.2 ≡ l.2 + 1 → w.pass.0 ≡ l.2 + 1 → IsOf engine w.pass.1 → AllThere w.pass.1
+    → ((s : ℕ) → s < length engine.locks → Parted l m w.pass s) → AreOwn workers at queues w.queues → AreJobs engine queues workers (at + 1) m works2
+jobs_more engine queues workers at l m works works2 w j is of there zero_is used number of_new there_new parted own = record {
+  of = of;
+  there = there;
+  number = zero_is;
+  used = cc;
+  long = cc (length-append works (w ∷ []));
+  fresh = λ s h. let p = parted s h in let f = j.fresh s h in record {
+    seen = cc;
+    taken = cc;
+    kept = cc;
+    made = cc (map-append number_of works (w ∷ []));
+  };
+  each = each_more _ works _ is j.each (record {
+    of = of_new;
+    there = there_new;
+    number = cc;
+    idle = λ s h. record { seen = (parted s h).seen_new ∙ (j.fresh s h).seen; taken = (parted s h).taken_new };
+    own = rw j.long own;
+  });
+}
 
-one_out : {X : Type 0} (xs : List X) (p : ℕ) → take p xs ++ drop (p + 1) xs ≡ remove xs p
-one_out xs p = rw add-one refl
+-- passes that are taken in
 
-pub session_leaves : (ss : List Running) (p discr : ℕ) (pool : List Reflector) (last : ℕ) {cs : List SessionConfig} {ss2 : List Running}
-    → cs ≡ configs_of ss → Some p ≡ place_of discr cs → ss2 ≡ take p ss ++ drop (p + 1) ss → world_of ss2 pool last ≡ world_without discr (world_of ss pool last)
-session_leaves ss p discr pool last are found made =
-    ap (λ xs. world_of xs pool last) (made ∙ one_out ss p) ∙ ap (λ o. without_at o (world_of ss pool last)) (found ∙ ap (place_of discr) are)
+pub joined_none : {engine : Shards} (most : ℕ) (k : Knows) → IsOf engine k.1 → AllThere k.1 → k.0 ≡ 0 → AllJobsJoined engine most k k []
+joined_none most k of there zero_is = record {
+  of = of;
+  there = there;
+  number = zero_is;
+  each = λ s h. record {
+    own = refl;
+    kept = sym (append-nil (kept_at k s));
+    made = refl;
+    begins = λ i w e. absurd (none_here i e);
+    words = λ i w e. absurd (none_here i e);
+    few = grind arith;
+  };
+}
 
-pub none_leaves : (ss : List Running) (discr : ℕ) (pool : List Reflector) (last : ℕ) {cs : List SessionConfig} → cs ≡ configs_of ss → None ≡ place_of discr cs
-    → world_of ss pool last ≡ world_without discr (world_of ss pool last)
-none_leaves ss discr pool last are found = ap (λ o. without_at o (world_of ss pool last)) (found ∙ ap (place_of discr) are)
+times_more : (most n : ℕ) → most * (n + 1) ≡ most * n + most
+times_more most n = grind arith
 
-pub stage_leaves : (ss : List Running) (p : ℕ) {ss2 : List Running} {table table2 : Members} {outs : Outputs} → IsStage ss table outs
-    → (p < length table.configs) × (table2.configs ≡ remove table.configs p) → ss2 ≡ take p ss ++ drop (p + 1) ss → IsStage ss2 table2 outs
-stage_leaves ss p {ss2} {table} stage cut made =
-    let left : ss2 ≡ remove ss p = made ∙ one_out ss p in
-    let same : length table.configs ≡ length ss = ap length stage.configs ∙ length-map ss (λ s. s.config) in
-    record {
-      configs = cut.1 ∙ ap (λ cs. remove cs p) stage.configs ∙ sym (map_removed (λ (s : Running). s.config) ss p) ∙ ap configs_of (sym left);
-      room_for_all = omega (arith, stage.room_for_all, ap length left, length-remove ss p (omega (arith, same, cut.0)));
-    }
+one_joined : {most : ℕ} {k l m : Knows} {works : List Work} (w : Work) {s : ℕ} → JobsAreJoined most k l works s → Joined l w.pass m s → taken_at w.pass s ≤ most → JobsAreJoined most k m (works ++ w ∷ []) s
+one_joined {most} {k} {l} {m} {works} w {s} j t few = record {
+  own = cc;
+  kept = t.kept ∙ (ap (λ xs. xs ++ (w.pass.0, mine w.pass s) ∷ []) j.kept
+      ∙ (append_assoc (kept_at k s) (map (λ x. (x.pass.0, mine x.pass s)) works) ((w.pass.0, mine w.pass s) ∷ [])
+      ∙ ap (λ xs. kept_at k s ++ xs) (sym (map-append (λ x. (x.pass.0, mine x.pass s)) works (w ∷ [])))));
+  made = cc;
+  begins = each_more _ works (works ++ w ∷ []) refl (λ i x e. begins_through (seen_at x.pass s) _ _ (j.begins i x e) t.first) t.other;
+  words = each_more _ works (works ++ w ∷ []) refl (λ i x e. omega (arith, j.words i x e, t.word)) t.word_other;
+  few = (let q = ap (λ x. most * x) (length-append works (w ∷ [])) in
+      omega (arith, j.few, t.taken, few, times_more most (length works), q));
+}
 
--- where no reflector has the discriminator, all stay
+pub joined_more : {engine : Shards} {most : ℕ} {k l m : Knows} {works : List Work} {w : Work} → AllJobsJoined engine most k l works → IsJoining engine most w
+    → IsOf engine m.1 → AllThere m.1 → m.0 ≡ 0 → ((s : ℕ) → s < length engine.locks → Joined l w.pass m s) → AllJobsJoined engine most k m (works ++ w ∷ [])
+joined_more {w} j is of there zero_is joined = record {
+  of = of;
+  there = there;
+  number = zero_is;
+  each = λ s h. one_joined w (j.each s h) (joined s h) (is.few s h);
+}
 
-none_out : (discr : ℕ) (pool : List Reflector) → list_any (λ (r : Reflector). r.discr == discr) pool ≡ false → filter (λ (r : Reflector). not (r.discr == discr)) pool ≡ pool
-none_out discr [] e = refl
-none_out discr (r ∷ pool) e = by (r.discr == discr) refl e (none_out discr pool)
-  where
-    by : (b : Bool) → (r.discr == discr) ≡ b → (b || list_any (λ (x : Reflector). x.discr == discr) pool) ≡ false
-        → (list_any (λ (x : Reflector). x.discr == discr) pool ≡ false → filter (λ (x : Reflector). not (x.discr == discr)) pool ≡ pool)
-        → filter (λ (x : Reflector). not (x.discr == discr)) (r ∷ pool) ≡ r ∷ pool
-    by true is f rest = cc
-    by false is f rest = rw is (ap (λ xs. r ∷ xs) (rest f))
+-- another worker has none of this shard
+pub own_away : (workers at s : ℕ) (queue : List Numbered) → s % workers ≢ at → own_queue workers at s queue ≡ []
+own_away workers at s queue h = rw (ne_eqb (s % workers) at h) refl
 
-pub pool_same : (t : Members) {t2 : Members} (discr : ℕ) {known : Bool} → known ≡ list_any (λ (r : Reflector). r.discr == discr) t.pool → t2 ≡ without_pooled discr t → known ≡ false → t2.pool ≡ t.pool
-pool_same t discr value less none = ap (λ (m : Members). m.pool) less ∙ none_out discr t.pool (sym value ∙ none)
+-- a worker's own queues of those that were left, which are those of the start where they are its own
+pub own_of_left : (workers at : ℕ) (all left own : List (List Numbered)) → length left ≡ length all → ((s : ℕ) → s % workers ≡ at → slice_index_or left s [] ≡ slice_index_or all s [])
+    → AreOwn workers at left own → AreOwn workers at all own
+own_of_left workers at all left own long same are = record {
+  long = cc;
+  each = λ s h. are.each s (omega (arith, h, long)) ∙ dite (ℕ_discrete (s % workers) at) (λ e. cc (same s e))
+      (λ other. own_away workers at s (slice_index_or left s []) other ∙ sym (own_away workers at s (slice_index_or all s []) other));
+}

@@ -1,7 +1,33 @@
-mod Common
-pub mod Worlds
+mod PlanCommon
 pub mod Comings
-pub mod SameConfigs
-pub mod Stages
+pub mod Planning
+pub mod Parting
+pub mod Worlds
+mod ReportCommon
+pub mod Keys
+pub mod Written
+pub mod Sizes
+pub mod Marks
+pub mod Scan
+pub mod Taking
+pub mod Alone
+pub mod Sharing
+pub mod Histories
 pub mod Telling
+pub mod Whole
+pub mod PiecesGiven
+pub mod Seams
+mod StreamCommon
+pub mod Routing
+pub mod Events
+mod WorkerCommon
+pub mod Soles
+pub mod Courses
+pub mod Owning
 pub mod Joining
+pub mod Endings
+pub mod Summing
+pub mod Ordering
+pub mod Gathered
+pub mod LastLine
+pub mod Reports

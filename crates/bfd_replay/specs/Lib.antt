@@ -1,2 +1,15 @@
-pub mod World
-pub mod Stage
+pub mod Planned
+pub mod Pieces
+pub mod Happenings
+pub mod Spread
+pub mod Inside
+pub mod Cutting
+pub mod Written
+pub mod Telling
+pub mod Working
+pub mod Jobs
+pub mod Ends
+pub mod Counts
+pub mod Replayed
+pub mod Beginning
+pub mod Held

@@ -1,16 +1,16 @@
-//! A world of sessions, event by event, and what a replay of a script gives.
+//! A script, replayed.
 //!
-//! [`Instance`] is a table and its sessions with their timers: one event in, outputs and an answer, and no journal. A packet is
-//! screened and selected, and is then an own event of the session that it names; a tick is an event of every session, by ascending
-//! discriminator. It is what the C library holds.
+//! [`plan`] finds what each line is, an event of no session or one of the table's sessions, and deals these out to the queues of
+//! shards. [`worker`] has the sessions in an engine, whose shards take their queues' events, each by its one worker. [`report`] puts
+//! what the shards told together as one report. [`stream`] is a replay on one shard whose report is written as it comes.
 //!
-//! It stands on `bfd_session`, `bfd_shard` and `bfd_script`. It promises that what each event gives is what `specs/World.antt`
-//! says, which knows of no table, no index and no due tick. That definition is also the promise of every other replay, and
-//! `replayed` is the text of its report.
+//! Lowest first: `report`, `plan`, and on both `stream` and `worker`. Each promises the report of `bfd_instance`'s
+//! `specs/World.antt`, which knows of no shard, no worker and no lock.
+//!
+//! It stands on `bfd_engine` for the turns, on `bfd_instance` for that definition, on `bfd_script` and on `bfd_edge` for gate and sink.
 #![tactic(auto)]
 
-mod instance;
-mod room;
-mod world;
-
-pub use instance::{Instance, table};
+pub mod plan;
+pub mod report;
+pub mod stream;
+pub mod worker;

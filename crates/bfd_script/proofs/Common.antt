@@ -12,7 +12,7 @@ pub use Rattle.std.specs.Prelude.{find, is_some, sum_by}
 pub use Rattle.bfd_demux.proofs.AlikeRows.{nat_level, selector_level, selector_level_back, unaddressed_back}
 pub use Rattle.bfd_demux.specs.Rows.{build_fault, has_addresses}
 pub use Rattle.bfd_demux.specs.declared.row.RowKind.{RowKind}
-pub use Rattle.bfd_line.specs.Ranges.{AreKeys, AreNext, IsChain, IsKey, IsNext, IsReflector, IsRow}
+pub use Rattle.bfd_script.specs.Ranges.{AreKeys, AreNext, IsChain, IsKey, IsNext, IsReflector, IsRow}
 pub use Rattle.bfd_sbfd.specs.declared.reflecting.Reflector.{Reflector}
 pub use Rattle.bfd_script.specs.Reading.{is_full, is_named, is_taken, script_of, told_from}
 pub use Rattle.bfd_script.specs.Rows.{by_discr, by_number, changed, has_discr, has_number, has_place, has_reflector, has_selector, insert_by, inserted, keyed_more, keyed_with, keys_in, keys_of, one_more, pool_by_discr, pooled, reflector_discr}
@@ -24,5 +24,5 @@ pub use Rattle.bfd_session.specs.Rows.{Ascends, Differs, place_of, row_of, same_
 pub use Rattle.bfd_session.specs.declared.event.SessionConfig.{SessionConfig}
 pub use Rattle.std.specs.declared.cmp.Ordering.TheVariants.{Equal, Greater, Less}
 pub use Rattle.bfd_session.specs.Step.{IsFit}
-pub use Rattle.bfd_line.specs.Secrets.{key_fault}
+pub use Rattle.bfd_script.specs.Secrets.{key_fault}
 pub use Rattle.bfd_script.specs.Report.{item_line, packets_sent_by}

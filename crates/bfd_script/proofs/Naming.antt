@@ -1,7 +1,7 @@
 -- One more session in a table, or other keys for one: the sessions that events name are there still.
 use Rattle.bfd_script.proofs.Common.{◌≡◌, ℕ, ◌+◌, ◌<◌, ◌==◌, Bool, true, false, ◌||◌, List, length, nat_le, refl, ◌∙◌, arith, nat_tests, or_right, or_parts, SessionConfig, discr_of, is_named, changed, has_discr, inserted, Reflector, has_reflector, reflector_discr, pooled, AreApart, AreNamed, IsReading}
-use Rattle.bfd_line.specs.declared.entries.Line.{Line}
-use Rattle.bfd_line.specs.declared.entries.Line.TheVariants as events
+use Rattle.bfd_script.specs.declared.line.entries.Line.{Line}
+use Rattle.bfd_script.specs.declared.line.entries.Line.TheVariants as events
 use Rattle.bfd_script.proofs.Numbered.{length_inserted}
 use Rattle.bfd_script.proofs.Pooling.{apart_inserted, apart_pooled}
 use Rattle.bfd_script.proofs.Elements.{each_to}

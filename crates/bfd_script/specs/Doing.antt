@@ -10,8 +10,8 @@ use Rattle.bfd_session.specs.declared.event.Answer.{Answer}
 use Rattle.bfd_session.specs.declared.event.Answer.TheVariants.{Dropped, Refused}
 use Rattle.bfd_session.specs.Arrivals.{Destination, Discarded, Reflected, Own, comes_to}
 use Rattle.bfd_session.specs.Rows.{table_of, place_of}
-use Rattle.bfd_line.specs.declared.entries.Line.{Line}
-use Rattle.bfd_line.specs.declared.entries.Line.TheVariants.{Rx, Tick, Cmd, Show}
+use Rattle.bfd_script.specs.declared.line.entries.Line.{Line}
+use Rattle.bfd_script.specs.declared.line.entries.Line.TheVariants.{Rx, Tick, Cmd, Show}
 
 -- an event of no session, which has this answer; an arrival that the reflector at this place of the pool answers; an own event
 -- of the session at this place, at this moment; a tick of every session

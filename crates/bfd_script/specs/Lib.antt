@@ -4,3 +4,17 @@ pub mod Doing
 pub mod Rows
 pub mod Sound
 pub mod Tables
+pub mod Complaints
+pub mod Fields
+pub mod Gives
+pub mod Values
+pub mod Spelling
+pub mod Words
+pub mod Pairs
+pub mod Seamless
+pub mod Trees
+pub mod Secrets
+pub mod Arrivals
+pub mod Verbs
+pub mod Entries
+pub mod Ranges

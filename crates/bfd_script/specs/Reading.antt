@@ -1,26 +1,26 @@
 -- A whole text: the script that it spells, or its first faulty line with that line's first fault.
 use Rattle.std.specs.Prelude.{ℕ, ◌+◌, ◌++◌, ◌||◌, Bool, true, not, List, [], ◌∷◌, length, nat_le, Option, Some, None, Result, Ok, Err, if◌then◌else◌}
-use Rattle.bfd_fields.specs.declared.fault.LineFault.{LineFault}
-use Rattle.bfd_fields.specs.declared.fault.LineFault.TheVariants.{SameDiscr, SameAddresses, NoSuchSession, MissingEnd, TooMany}
-use Rattle.bfd_fields.specs.declared.fault.BadLine.{BadLine}
+use Rattle.bfd_script.specs.declared.fields.fault.LineFault.{LineFault}
+use Rattle.bfd_script.specs.declared.fields.fault.LineFault.TheVariants.{SameDiscr, SameAddresses, NoSuchSession, MissingEnd, TooMany}
+use Rattle.bfd_script.specs.declared.fields.fault.BadLine.{BadLine}
 use Rattle.bfd_packet.specs.KeyChain.{KeyChain}
 use Rattle.bfd_packet.specs.declared.keys.Key.{Key}
 use Rattle.bfd_sbfd.specs.declared.reflecting.Reflector.{Reflector}
 use Rattle.bfd_session.specs.declared.event.SessionConfig.{SessionConfig}
 use Rattle.bfd_session.specs.Kinds.{discr_of}
-use Rattle.bfd_line.specs.declared.words.Place.{Place}
-use Rattle.bfd_line.specs.declared.words.Place.TheVariants as places
-use Rattle.bfd_line.specs.declared.words.Version.{Version}
-use Rattle.bfd_line.specs.declared.words.Version.TheVariants.{One}
-use Rattle.bfd_line.specs.declared.entries.Line.{Line}
-use Rattle.bfd_line.specs.declared.entries.Line.TheVariants as events
-use Rattle.bfd_line.specs.declared.entries.Entry.{Entry}
-use Rattle.bfd_line.specs.declared.entries.Entry.TheVariants as entries
-use Rattle.bfd_line.specs.Entries.{entry_in_line}
-use Rattle.bfd_fields.specs.Fields.{lines_of}
-use Rattle.bfd_fields.specs.Gives.{◌>>=◌}
+use Rattle.bfd_script.specs.declared.line.words.Place.{Place}
+use Rattle.bfd_script.specs.declared.line.words.Place.TheVariants as places
+use Rattle.bfd_script.specs.declared.line.words.Version.{Version}
+use Rattle.bfd_script.specs.declared.line.words.Version.TheVariants.{One}
+use Rattle.bfd_script.specs.declared.line.entries.Line.{Line}
+use Rattle.bfd_script.specs.declared.line.entries.Line.TheVariants as events
+use Rattle.bfd_script.specs.declared.line.entries.Entry.{Entry}
+use Rattle.bfd_script.specs.declared.line.entries.Entry.TheVariants as entries
+use Rattle.bfd_script.specs.Entries.{entry_in_line}
+use Rattle.bfd_script.specs.Fields.{lines_of}
+use Rattle.bfd_script.specs.Gives.{◌>>=◌}
 use Rattle.bfd_script.specs.Rows.{given, given_more, has_discr, has_keys, has_pair, has_place, has_reflector, inserted, keys_of, pooled}
-use Rattle.bfd_line.specs.Secrets.{key_fault}
+use Rattle.bfd_script.specs.Secrets.{key_fault}
 
 -- a script, as contracts see it
 pub record Lists : Type 0 where

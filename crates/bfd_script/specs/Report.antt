@@ -10,7 +10,7 @@ use Rattle.bfd_rules.specs.declared.outputs.Out.TheVariants.{Changed, Sent}
 use Rattle.bfd_session.specs.declared.event.Answer.{Answer}
 use Rattle.bfd_session.specs.declared.event.Answer.TheVariants.{Handled, Ticked, Dropped, Refused, Shown as Showing}
 use Rattle.bfd_session.specs.Alone.{Outcome}
-use Rattle.bfd_fields.specs.Spelling.{line, hex_field}
+use Rattle.bfd_script.specs.Spelling.{line, hex_field}
 
 -- an output of the event of this number: `N state DISCR OLD NEW DIAG`, or `N tx DISCR HEX`
 abbrev pub item_line : ℕ → Out → List ℕ

@@ -5,8 +5,8 @@ use Rattle.bfd_session.specs.Rows.{Ascends, AreFit, Differs}
 use Rattle.bfd_sbfd.specs.Reflect as pool
 use Rattle.bfd_sbfd.specs.declared.reflecting.Reflector.{Reflector}
 use Rattle.bfd_session.specs.declared.event.SessionConfig.{SessionConfig}
-use Rattle.bfd_line.specs.declared.entries.Line.{Line}
-use Rattle.bfd_line.specs.Ranges.{IsRow, IsReflector, IsEvent}
+use Rattle.bfd_script.specs.declared.line.entries.Line.{Line}
+use Rattle.bfd_script.specs.Ranges.{IsRow, IsReflector, IsEvent}
 use Rattle.bfd_script.specs.Reading.{Lists, is_named}
 use Rattle.bfd_script.specs.Rows.{has_discr}
 

@@ -9,7 +9,7 @@ use Rattle.bfd_session.specs.declared.event.SessionConfig.{SessionConfig}
 use Rattle.bfd_demux.specs.contracts.row.RowKindOrd.TheImpl as order
 use Rattle.bfd_demux.specs.declared.row.RowKind.{RowKind}
 use Rattle.bfd_script.specs.Rows.{by_discr, has_selector, pool_by_discr}
-use Rattle.bfd_line.specs.declared.entries.Line.{Line}
+use Rattle.bfd_script.specs.declared.line.entries.Line.{Line}
 use Rattle.bfd_script.specs.Sound.{AreApart, AreConfigs, AreEvents, AreNamed, ArePool}
 
 -- one of these kinds compares equal to this one

@@ -1,7 +1,7 @@
 // The reflectors of a table: unique by discriminator.
 ghost use Rattle.std.specs.Prelude.{◌≡◌, [], false, length, IfOk};
 ghost use Rattle.bfd_script.specs.Rows.{has_reflector, pooled};
-ghost use Rattle.bfd_line.specs.Ranges.{IsReflector};
+ghost use Rattle.bfd_script.specs.Ranges.{IsReflector};
 ghost use Rattle.bfd_script.specs.Sound.{ArePool};
 
 use bfd_sbfd::Reflector;

@@ -1,14 +1,16 @@
 // The whole text.
 ghost use Rattle.std.specs.Prelude.{IfOk, map};
-ghost use Rattle.bfd_line.specs.Entries.{valued, worded};
-ghost use Rattle.bfd_fields.specs.Gives.{◌>>=◌ as on_to, Gives, GivesScript};
+ghost use Rattle.bfd_script.specs.Entries.{valued, worded};
+ghost use Rattle.bfd_script.specs.Gives.{◌>>=◌ as on_to, Gives, GivesScript};
 ghost use Rattle.bfd_script.specs.Reading.{admitted, script_of, line_read};
 ghost use Rattle.bfd_script.specs.Sound.{IsScript};
 
+use crate::fields::{
+    BadLine, LineFault, ReadFault, ScriptFault, first_line, line_text, split_fields,
+};
+use crate::line::{Word, read_values, rx_entry, word_named};
 use crate::script::Script;
 use crate::state::Reading;
-use bfd_fields::{BadLine, LineFault, ReadFault, ScriptFault, first_line, line_text, split_fields};
-use bfd_line::{Word, read_values, rx_entry, word_named};
 use std::alloc::Global;
 
 /// Takes in one more line of these values. An `rx` line, which most lines are, goes to the others as it is read.

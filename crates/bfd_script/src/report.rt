@@ -4,11 +4,11 @@ ghost use Rattle.std.specs.Prelude.{◌≡◌, ◌≤◌, ◌+◌, ◌*◌, ◌+
 ghost use Rattle.hex.specs.Hex.{encode_lower};
 ghost use Rattle.std.specs.List.{flat_map};
 ghost use Rattle.bfd_script.specs.Report.{answer_line, event_lines, item_line};
-ghost use Rattle.bfd_fields.specs.Spelling.{hex_field, line};
+ghost use Rattle.bfd_script.specs.Spelling.{hex_field, line};
 ghost use Rattle.bfd_packet.specs.States.{state_name};
 
+use crate::fields::{BYTES, digits_of_run};
 use arrayvec::ArrayVec;
-use bfd_fields::{BYTES, digits_of_run};
 use bfd_packet::{State, Test};
 use bfd_rules::{Out, Refusal};
 use bfd_session::{Answer, Shown};

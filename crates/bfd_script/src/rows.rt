@@ -8,7 +8,7 @@ ghost use Rattle.std.specs.Ordering.{nat_cmp};
 ghost use Rattle.bfd_session.specs.Kinds.{discr_of};
 ghost use Rattle.bfd_session.specs.Rows.{Ascends, place_of as place_in};
 ghost use Rattle.bfd_script.specs.Rows.{by_discr, given, given_more, has_discr, keyed_more, keyed_with, keys_in, keys_of, one_more};
-ghost use Rattle.bfd_line.specs.Secrets.{key_fault};
+ghost use Rattle.bfd_script.specs.Secrets.{key_fault};
 ghost use Rattle.bfd_script.specs.Tables.{AreRows};
 
 use bfd_packet::{Key, Keys};

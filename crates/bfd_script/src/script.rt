@@ -1,5 +1,5 @@
 // A script.
-use bfd_line::Line;
+use crate::line::Line;
 use bfd_sbfd::Reflector;
 use bfd_session::SessionConfig;
 use std::marker::Model;

@@ -1,17 +1,17 @@
 // What is kept from line to line.
 ghost use Rattle.std.specs.Prelude.{◌≡◌, IfOk};
 ghost use Rattle.bfd_session.specs.Step.{IsFit};
-ghost use Rattle.bfd_fields.specs.Gives.{Gives, GivesScript};
+ghost use Rattle.bfd_script.specs.Gives.{Gives, GivesScript};
 ghost use Rattle.bfd_script.specs.Reading as reading;
 ghost use Rattle.bfd_script.specs.Reading.{admitted, text_ended, is_full, is_taken, start, with_config, with_event, with_key, with_keys, with_reflector};
-ghost use Rattle.bfd_line.specs.Ranges.{IsChain, IsEntry, IsEvent, IsKey, IsReflector, IsRow};
+ghost use Rattle.bfd_script.specs.Ranges.{IsChain, IsEntry, IsEvent, IsKey, IsReflector, IsRow};
 ghost use Rattle.bfd_script.specs.Sound.{IsScript};
 
+use crate::fields::{BadLine, LineFault, ReadFault, ScriptFault};
+use crate::line::{Entry, Line, Place, Version};
 use crate::pool::Pool;
 use crate::script::Script;
 use crate::table::Table;
-use bfd_fields::{BadLine, LineFault, ReadFault, ScriptFault};
-use bfd_line::{Entry, Line, Place, Version};
 use bfd_packet::{Key, Keys};
 use bfd_sbfd::Reflector;
 use bfd_session::SessionConfig;

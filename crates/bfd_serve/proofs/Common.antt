@@ -11,7 +11,7 @@ pub use Rattle.bfd_edge.specs.Tickers.{TickerTold, Ticks, after_next, one_given}
 pub use Rattle.bfd_engine.specs.Calls.{Act, IsCall, IsCause, IsDone, IsFailed, Rests, Turned, Turns, kept_at, met_word, met_word_of, mine, seen_at, seen_of, taken_at}
 pub use Rattle.bfd_engine.specs.Engines.{AllThere, IsOf, Knows, Shards, configs_at}
 pub use Rattle.bfd_engine.specs.Turned.{by, entry_of}
-pub use Rattle.bfd_line.specs.declared.entries.Line.{Line}
+pub use Rattle.bfd_script.specs.declared.line.entries.Line.{Line}
 pub use Rattle.bfd_packet.specs.declared.arrival.Arrival.{Arrival}
 pub use Rattle.bfd_packet.specs.declared.arrival.Datagram.{Datagram}
 pub use Rattle.bfd_serve.specs.Calls.{Call, Lacks, act_at, call_in, calls_of, datagram_in, datagrams, entries, given_by, on_shard, sends_of_acts, until, worker_acts}

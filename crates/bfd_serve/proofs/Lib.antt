@@ -11,3 +11,27 @@ pub mod Joins
 pub mod Splits
 pub mod Moves
 pub mod Summing
+mod SpellingCommon
+pub mod Visible
+pub mod Splitting
+pub mod Numerals
+pub mod Rereading
+pub mod RowsAgain
+pub mod LinesAgain
+pub mod Following
+pub mod ScriptAgain
+mod ServedTextCommon
+pub mod Starting
+pub mod Sizes
+pub mod Entries
+pub mod Shards
+mod RunCommon
+pub mod Shuts
+pub mod Closings
+pub mod Tables
+pub mod Dealing
+pub mod Counts
+pub mod Causes
+pub mod Entered
+pub mod Wholes
+pub mod Theirs

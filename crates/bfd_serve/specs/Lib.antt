@@ -5,3 +5,12 @@ pub mod Ticks
 pub mod Jobs
 pub mod Joins
 pub mod Serves
+pub mod Written
+pub mod Happening
+pub mod Served
+pub mod Causes
+pub mod Entered
+pub mod Finishes
+pub mod Linking
+pub mod Runs
+pub mod Wholes

@@ -3,8 +3,8 @@ use Rattle.std.specs.Prelude.{ℕ, zero, suc, ◌+◌, ◌*◌, Bool, leb, List,
 use Rattle.bfd_session.specs.declared.event.Event.TheVariants.{Command, Show as Showing}
 use Rattle.bfd_session.specs.declared.event.Answer.TheVariants.{Handled}
 use Rattle.bfd_shard.specs.declared.entry.ShardEvent.TheVariants.{Tick as TickEvent}
-use Rattle.bfd_line.specs.declared.entries.Line.{Line}
-use Rattle.bfd_line.specs.declared.entries.Line.TheVariants.{Rx, Tick, Cmd, Show}
+use Rattle.bfd_script.specs.declared.line.entries.Line.{Line}
+use Rattle.bfd_script.specs.declared.line.entries.Line.TheVariants.{Rx, Tick, Cmd, Show}
 use Rattle.bfd_engine.specs.Engines.{Shards}
 use Rattle.bfd_engine.specs.Calls.{Act, Turns, Rests, asking_by_discr}
 

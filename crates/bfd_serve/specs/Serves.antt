@@ -4,7 +4,7 @@ use Rattle.std.specs.List.{sum}
 use Rattle.bfd_packet.specs.declared.arrival.Arrival.{Arrival}
 use Rattle.bfd_packet.specs.declared.arrival.Datagram.{Datagram}
 use Rattle.bfd_shard.specs.declared.entry.Entry.{Entry}
-use Rattle.bfd_line.specs.declared.entries.Line.{Line}
+use Rattle.bfd_script.specs.declared.line.entries.Line.{Line}
 use Rattle.bfd_turn.specs.Lists.{numbers_of}
 use Rattle.bfd_edge.specs.Faults.{risen}
 use Rattle.bfd_edge.specs.Links.{LinkTold, more_traffic}

@@ -2,7 +2,7 @@
 use Rattle.std.specs.Prelude.{◌≡◌, ◌⊎◌, ℕ, ◌+◌, ◌<◌, ◌≤◌, Bool, true, false, List, [], ◌++◌, length, drop, Option, Some, None}
 use Rattle.bfd_packet.specs.declared.arrival.Datagram.{Datagram}
 use Rattle.bfd_shard.specs.declared.entry.Entry.{Entry}
-use Rattle.bfd_line.specs.declared.entries.Line.{Line}
+use Rattle.bfd_script.specs.declared.line.entries.Line.{Line}
 use Rattle.bfd_edge.specs.Faults.{risen}
 use Rattle.bfd_edge.specs.Links.{LinkTold}
 use Rattle.bfd_edge.specs.Tickers.{Ticks, TickerTold}

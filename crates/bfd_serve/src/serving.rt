@@ -14,7 +14,7 @@ use crate::passes::{join_all, split_all};
 use crate::threads::beside;
 use bfd_edge::{Gate, Link, Ticker};
 use bfd_engine::{Engine, EnginePass};
-use bfd_line::Line;
+use bfd_script::line::Line;
 use bfd_wheel::Timers;
 use std::alloc::{AllocError, Global};
 use std::sync::Wait;

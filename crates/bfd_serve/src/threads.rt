@@ -10,7 +10,7 @@ use crate::jobs::{Job, work};
 use crate::timing::timer;
 use bfd_edge::{Gate, Link, Ticker};
 use bfd_engine::{Engine, EnginePass};
-use bfd_line::Line;
+use bfd_script::line::Line;
 use bfd_wheel::Timers;
 use std::alloc::Global;
 use std::sync::Wait;

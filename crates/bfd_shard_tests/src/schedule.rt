@@ -1,7 +1,7 @@
 //! Lines of small schedules, beside what a model of the definition in another language wrote.
 ghost use Rattle.std.specs.Prelude.{◌≤◌};
 
-use bfd_schedule::pair_line;
+use bfd_pair::schedule::pair_line;
 use std::alloc::Global;
 
 /// Whether this is the line of so many events.

@@ -1,5 +1,4 @@
-//! Tests of the calls that read and write texts: the command line, scripts and their one spelling, a load, and the served text. One
-//! module has the tests of one crate, by its name.
+//! Tests of the calls that read and write texts: scripts and their one spelling, a load, and the served text.
 //!
 //! It stands on the crates that it tests and on what those stand on. Nothing stands on it, and it has no code but tests.
 #![tactic(auto)]
@@ -10,5 +9,3 @@ mod load;
 mod script;
 #[cfg(test)]
 mod served;
-#[cfg(test)]
-mod words;

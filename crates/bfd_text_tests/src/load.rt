@@ -2,7 +2,7 @@
 ghost use Rattle.std.specs.Prelude.{◌≤◌};
 
 use bfd_load::generate;
-use bfd_spelling::write;
+use bfd_serve::spelling::write;
 use std::alloc::{AllocError, Global};
 use std::test::Fail;
 

@@ -1,6 +1,6 @@
 //! The one spelling of scripts.
 use bfd_script::read;
-use bfd_spelling::write;
+use bfd_serve::spelling::write;
 use std::alloc::Global;
 
 /// Whether the text is a script, and this is its one spelling.

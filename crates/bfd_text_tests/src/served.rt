@@ -10,7 +10,7 @@ ghost use Rattle.bfd_session.specs.Step.{IsFit};
 use bfd_num::{Moment, Steps, Tick};
 use bfd_packet::{Addr, Arrival, Payload, Port};
 use bfd_rules::{Cmd, Config, Outs, Role};
-use bfd_served::served;
+use bfd_serve::served_text::served;
 use bfd_session::{Event, SessionConfig};
 use bfd_shard::{ShardEvent, ShardState};
 use bfd_wheel::HashedWheel;

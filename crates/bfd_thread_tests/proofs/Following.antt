@@ -4,9 +4,9 @@ use Rattle.std.proofs.Math.Seq.{drop-append_seam}
 use Rattle.bfd_engine.specs.Engines.{Shards, Knows, IsOf, AllThere}
 use Rattle.bfd_engine.specs.Calls.{seen_at}
 use Rattle.bfd_engine.specs.Reads.{HasRead}
-use Rattle.bfd_engine_use.specs.Calling.{HasGrown}
-use Rattle.bfd_engine_use.specs.Joining.{HasOpen}
-use Rattle.bfd_engine_use.proofs.Worked.{grown_turn}
+use Rattle.bfd_thread_tests.specs.Calling.{HasGrown}
+use Rattle.bfd_thread_tests.specs.Joining.{HasOpen}
+use Rattle.bfd_thread_tests.proofs.Worked.{grown_turn}
 
 -- a look at the history is a turn
 pub grown_read : (k l : Knows) (shard : ℕ) → HasRead k l shard → HasGrown k l

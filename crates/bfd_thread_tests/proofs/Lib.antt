@@ -1,2 +1,4 @@
 pub mod Rooms
 pub mod Following
+pub mod Worked
+pub mod Joins

@@ -1,1 +1,4 @@
 pub mod Following
+pub mod Ready
+pub mod Calling
+pub mod Joining

@@ -3,15 +3,15 @@ ghost use Rattle.std.specs.Prelude.{◌≡◌, ◌++◌, ◌∷◌, [], IfSome, 
 ghost use Rattle.std.specs.List.{All};
 ghost use Rattle.bfd_engine.specs.Calls.{seen_at};
 ghost use Rattle.bfd_engine.specs.Engines.{IsOf, AllThere};
-ghost use Rattle.bfd_engine_use.specs.Calling.{HasGrown};
+ghost use Rattle.bfd_thread_tests.specs.Calling.{HasGrown};
 ghost use Rattle.bfd_thread_tests.specs.Following.{AreItsChanges, IsClientTold};
-ghost use Rattle.bfd_engine_use.specs.Joining.{HasOpen};
-ghost use Rattle.bfd_engine_use.specs.Ready.{IsJobReady, number_of};
+ghost use Rattle.bfd_thread_tests.specs.Joining.{HasOpen};
+ghost use Rattle.bfd_thread_tests.specs.Ready.{IsJobReady, number_of};
 
 use crate::eight::calls;
+use crate::embedding::{Job, add_job, at_once, finish};
 use crate::engine::{configs_of, opened};
 use bfd_engine::{Engine, EnginePass};
-use bfd_engine_use::{Job, add_job, at_once, finish};
 use bfd_shard::Entry;
 use bfd_watch::{Change, Watch};
 use bfd_wheel::{PlainTimers, Timers};
@@ -67,7 +67,7 @@ fn take_all(alloc: Global, client: &mut Client, list: &[Entry]) -> Option<()>
 }
 
 /// A client that was told what came to the shard so far.
-#[tactic(auto, using(crate::proofs::Following::grown_read, bfd_engine_use::proofs::Worked::grown_same))]
+#[tactic(auto, using(crate::proofs::Following::grown_read, crate::proofs::Worked::grown_same))]
 fn start<W: Timers, R: Wait>(
     rt: &R,
     alloc: Global,
@@ -118,7 +118,7 @@ fn poll<W: Timers, R: Wait>(
 }
 
 /// So many polls.
-#[tactic(auto, using(bfd_engine_use::proofs::Worked::grown_same))]
+#[tactic(auto, using(crate::proofs::Worked::grown_same))]
 fn polls<W: Timers, R: Wait>(
     rt: &R,
     alloc: Global,

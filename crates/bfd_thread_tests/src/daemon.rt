@@ -1,8 +1,8 @@
 //! A daemon in small: a packet thread and a timer thread share an engine, which is closed when both have ended.
 
 use crate::eight::packet;
+use crate::embedding::{Call, Saw, add_job, at_once, finish};
 use crate::engine::opened;
-use bfd_engine_use::{Call, Saw, add_job, at_once, finish};
 use bfd_num::{Moment, Tick};
 use bfd_session::Answer;
 use bfd_shard::ShardState;

@@ -1,12 +1,12 @@
 //! Eight threads on three shards, beside the journals that they leave.
 ghost use Rattle.std.specs.Prelude.{◌≡◌, ◌<◌, [], IfSome, length, map};
 ghost use Rattle.std.specs.List.{All};
-ghost use Rattle.bfd_engine_use.specs.Joining.{HasOpen};
-ghost use Rattle.bfd_engine_use.specs.Ready.{IsJobReady, number_of};
+ghost use Rattle.bfd_thread_tests.specs.Joining.{HasOpen};
+ghost use Rattle.bfd_thread_tests.specs.Ready.{IsJobReady, number_of};
 
+use crate::embedding::{Call, Job, Saw, add_job, at_once, finish};
 use crate::engine::{Plain, fresh, opened, play};
 use bfd_engine::EnginePass;
-use bfd_engine_use::{Call, Job, Saw, add_job, at_once, finish};
 use bfd_num::{Moment, Steps, Tick, next_j};
 use bfd_packet::{Addr, Arrival, Payload, Port};
 use bfd_rules::{Cmd, Out, Outs};

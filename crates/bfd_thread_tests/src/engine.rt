@@ -6,7 +6,7 @@ ghost use Rattle.bfd_session.specs.Rows.{AreFit};
 ghost use Rattle.bfd_engine.specs.Engines.{IsOf, AllThere};
 ghost use Rattle.bfd_engine.specs.Opening.{IsNewPass};
 ghost use Rattle.bfd_session.specs.Tables.{IsSorted};
-ghost use Rattle.bfd_engine_use.specs.Joining.{HasOpen};
+ghost use Rattle.bfd_thread_tests.specs.Joining.{HasOpen};
 
 use crate::eight::packet;
 use bfd_demux::BuildFault;
@@ -61,7 +61,7 @@ fn configs(alloc: Global) -> Result<Vec<SessionConfig>, AllocError>
 }
 
 /// An engine of four sessions in three shards, whose journals take so many entries.
-#[tactic(auto, using(bfd_engine_use::proofs::Joins::open_new))]
+#[tactic(auto, using(crate::proofs::Joins::open_new))]
 pub(crate) fn opened(alloc: Global, limit: usize) -> Option<(Plain, EnginePass)>
     ensures pass { IfSome result (λ r. IsNewPass r.0 r.1) }
     ensures passes { IfSome result (λ r. HasOpen r.0 r.1 []) }

@@ -1,10 +1,11 @@
 //! Tests of a lock, of an engine, of a watch that follows a shard, and of a replay by workers.
 //!
-//! `turn` has the tests of `bfd_turn`, `watch` one of `bfd_watch`, and `workers` one of `bfd_workers`. Of an engine `engine` has calls
+//! [`embedding`] has the threads that share an engine, each with a pass of its own, as a daemon would: it is proved, and tests run it.
+//! `turn` has the tests of `bfd_turn`, `watch` one of `bfd_watch`, and `workers` one of `bfd_replay`. Of an engine `engine` has calls
 //! one after another, and the fixture; `eight` eight threads on three shards, `daemon` a packet thread and a timer thread, from the
 //! opening of the engine to its closing, and `clients` a client that follows a shard beside them. `bfdd` has the tests of `bfd_serve`.
 //!
-//! It stands on the crates that it tests and on what those stand on. Nothing stands on it, and it has no code but tests.
+//! It stands on the crates that it tests and on what those stand on. Nothing stands on it.
 #![tactic(auto)]
 
 #[cfg(test)]
@@ -13,6 +14,7 @@ mod clients;
 mod daemon;
 #[cfg(test)]
 mod eight;
+pub mod embedding;
 #[cfg(test)]
 mod engine;
 #[cfg(test)]

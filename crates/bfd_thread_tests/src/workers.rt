@@ -5,10 +5,10 @@ ghost use Rattle.bfd_script.specs.Sound.{IsScript};
 
 use bfd_edge::OpenGate;
 use bfd_load::generate;
+use bfd_replay::worker::{Outcome, replay};
 use bfd_script::{Script, read};
 use bfd_shard::ShardState;
 use bfd_wheel::HashedWheel;
-use bfd_workers::{Outcome, replay};
 use std::alloc::Global;
 use std::sync::Wait;
 use std::thread::Threads;

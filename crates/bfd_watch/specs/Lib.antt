@@ -2,3 +2,4 @@ pub mod Changes
 pub mod Watching
 pub mod Groups
 pub mod Watched
+pub mod Members

@@ -3,7 +3,7 @@ use Rattle.std.specs.Prelude.{ℕ, ◌+◌, Bool, true, false, List, [], ◌∷�
 use Rattle.std.specs.List.{flat_map}
 use Rattle.std.specs.Fmt.{decimal}
 use Rattle.bfd_session.specs.Alone.{Outcome}
-use Rattle.bfd_fields.specs.Spelling.{line}
+use Rattle.bfd_script.specs.Spelling.{line}
 use Rattle.bfd_packet.specs.States.{state_name}
 use Rattle.bfd_watch.specs.declared.change.Change.{Change}
 use Rattle.bfd_watch.specs.Changes.{changes_in, changes_from}

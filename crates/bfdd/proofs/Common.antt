@@ -2,16 +2,16 @@
 pub use Rattle.std.proofs.Common.{List, None, Ok, Option, Some, [], append-nil, arith, false, inl, inr, length, refl, subst, sym, true, ℕ, ◌∙◌, ◌≡◌, ◌≢◌, ◌≤◌, ◌⊎◌}
 pub use Rattle.std.specs.Prelude.{IfSome, min, ◌+◌, ◌-◌, ◌^◌}
 pub use Rattle.bfd_edge.specs.Faults.{Rose, risen}
-pub use Rattle.bfd_jobs.specs.Serving.{Comes, Edges, HasNoScript, HasServedScript, IsFaulty, IsOverlong, IsServed, IsServedToFinish, edges_of, status_of}
-pub use Rattle.bfd_jobs.specs.Text.{Wanted, complaint_line, most_bytes, wanted, wanted_of}
-pub use Rattle.bfd_jobs.specs.Words.{OfServing, is_reading, reads, serves}
-pub use Rattle.bfd_jobs.specs.declared.status.Status.{Status}
-pub use Rattle.bfd_jobs.specs.declared.status.Status.TheVariants.{BadLine, ClockFault, Done, JournalFull, LinkFault, Memory, NoMember, PortFault, ReadFault, TooLarge, Turns, Usage, WriteFault}
-pub use Rattle.bfd_words.specs.declared.job.Job.{Job}
+pub use Rattle.bfdd.specs.Serving.{Comes, Edges, HasNoScript, HasServedScript, IsFaulty, IsOverlong, IsServed, IsServedToFinish, edges_of, status_of}
+pub use Rattle.bfdd.specs.Text.{Wanted, complaint_line, most_bytes, wanted, wanted_of}
+pub use Rattle.bfdd.specs.Words.{OfServing, is_reading, reads, serves}
+pub use Rattle.bfdd.specs.declared.job.status.Status.{Status}
+pub use Rattle.bfdd.specs.declared.job.status.Status.TheVariants.{BadLine, ClockFault, Done, JournalFull, LinkFault, Memory, NoMember, PortFault, ReadFault, TooLarge, Turns, Usage, WriteFault}
+pub use Rattle.bfdd.specs.declared.words.job.Job.{Job}
 pub use Rattle.bfdd.specs.Status.{IsDecided, IsEndOf, IsWrittenBy, OnBadLine, UnlessWriting, WhereUnopened, WhereUnwritten}
 pub use Rattle.bfd_script.specs.Reading.{Lists, script_of}
-pub use Rattle.bfd_words.specs.declared.job.Job.TheVariants.{Load, Pair, Replay, Serve, Watch}
-pub use Rattle.bfd_jobs.specs.Telling.{Tells, TellsBytes}
+pub use Rattle.bfdd.specs.declared.words.job.Job.TheVariants.{Load, Pair, Replay, Serve, Watch}
+pub use Rattle.bfdd.specs.Tells.{Tells, TellsBytes}
 pub use Rattle.std.specs.Io.KnownBytes.{Appends}
-pub use Rattle.bfd_gather.specs.Written.{TookFront}
-pub use Rattle.bfd_gather.proofs.Written.{took_nothing}
+pub use Rattle.bfd_replay.specs.Written.{TookFront}
+pub use Rattle.bfd_replay.proofs.Written.{took_nothing}

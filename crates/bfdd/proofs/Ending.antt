@@ -1,8 +1,8 @@
 -- How a job may end.
 use Rattle.bfdd.proofs.Common.{◌≡◌, ◌≢◌, ◌⊎◌, ℕ, true, false, List, Option, Some, inl, inr, refl, sym, subst, Job, Status, Done, Usage, BadLine, ReadFault, WriteFault, TooLarge, Memory, NoMember, Comes, Edges, IsFaulty, IsOverlong, status_of, IsDecided, IsEndOf, WhereUnopened, Wanted, reads, serves, Lists, Replay, Serve, Load, Pair, Watch, Tells, TellsBytes}
-use Rattle.bfd_serving.specs.declared.finish.Finish.{Finish}
-use Rattle.bfd_serving.specs.declared.finish.Finish.TheVariants as finish
-use Rattle.bfd_jobs.proofs.Answering.{each_answer}
+use Rattle.bfd_serve.specs.declared.run.finish.Finish.{Finish}
+use Rattle.bfd_serve.specs.declared.run.finish.Finish.TheVariants as finish
+use Rattle.bfdd.proofs.Answering.{each_answer}
 
 -- what the bytes alone decide
 bytes_so : {job : Job} {left right : Option (List ℕ)} {w : Wanted} → TellsBytes job left right w → IsEndOf (Some job) w.status

@@ -3,3 +3,10 @@ pub mod Ending
 pub mod Served
 pub mod Wanting
 pub mod Writing
+pub mod Decimal
+pub mod Naming
+pub mod Words
+pub mod Answering
+pub mod ServedText
+pub mod Taking
+pub mod Telling

@@ -1,7 +1,7 @@
 -- The status that comes of what `serve` has to tell.
 use Rattle.bfdd.proofs.Common.{◌≡◌, ◌⊎◌, ◌≤◌, ℕ, true, List, length, Option, Some, None, Ok, inl, inr, refl, subst, arith, ◌+◌, ◌-◌, ◌^◌, min, IfSome, Rose, risen, Status, Memory, Comes, Edges, HasNoScript, HasServedScript, IsFaulty, IsServedToFinish, IsOverlong, IsServed, Wanted, most_bytes, OfServing, serves, Job, Lists, script_of, Serve, Tells}
 use Rattle.std.proofs.Math.Nat.{le-max_right}
-use Rattle.bfd_jobs.proofs.Served.{read_whole}
+use Rattle.bfdd.proofs.ServedText.{read_whole}
 
 -- a fact about a job, where it serves
 pub of_serving : (job : Job) (P : Job → Type 0) → (serves job ≡ true → P job) → OfServing (Some job) P

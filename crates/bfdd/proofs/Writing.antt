@@ -1,8 +1,8 @@
 -- What comes of writing an answer, clause by clause of a run.
 use Rattle.bfdd.proofs.Common.{◌≡◌, ◌≢◌, ◌⊎◌, ℕ, List, [], Option, inl, inr, refl, sym, ◌∙◌, subst, append-nil, Rose, Status, Done, Usage, BadLine, ReadFault, WriteFault, PortFault, LinkFault, TooLarge, JournalFull, Turns, ClockFault, Memory, NoMember, IsDecided, IsWrittenBy, OnBadLine, UnlessWriting, WhereUnwritten, Wanted, complaint_line, Appends, TookFront, took_nothing}
 use Rattle.std.proofs.KnownBytes.{Appends-nil}
-use Rattle.bfd_fields.specs.declared.fault.BadLine.{BadLine as FaultyLine}
-use Rattle.bfd_jobs.specs.Answers.{HasText, IsAnswer}
+use Rattle.bfd_script.specs.declared.fields.fault.BadLine.{BadLine as FaultyLine}
+use Rattle.bfdd.specs.Answers.{HasText, IsAnswer}
 use Rattle.bfdd.specs.Writing.{Writes, broken_off}
 
 -- by the statuses that have a text

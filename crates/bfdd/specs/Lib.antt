@@ -1,3 +1,16 @@
 pub mod Status
 pub mod Telling
 pub mod Writing
+pub mod Numbers
+pub mod Options
+pub mod Grammar
+pub mod Ranges
+pub mod Answers
+pub mod Hands
+pub mod Held
+pub mod Outside
+pub mod Serving
+pub mod Codes
+pub mod Tells
+pub mod Text
+pub mod Words

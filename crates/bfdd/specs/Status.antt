@@ -4,12 +4,12 @@ use Rattle.std.specs.Io.KnownBytes.{Appends}
 use Rattle.std.specs.declared.io.ErrorKind.{ErrorKind}
 use Rattle.std.specs.declared.io.ErrorKind.TheVariants.{OutOfMemory}
 use Rattle.bfd_edge.specs.Faults.{Rose}
-use Rattle.bfd_fields.specs.declared.fault.BadLine.{BadLine as FaultyLine}
-use Rattle.bfd_words.specs.declared.job.Job.{Job}
-use Rattle.bfd_jobs.specs.declared.status.Status.{Status}
-use Rattle.bfd_jobs.specs.declared.status.Status.TheVariants.{Done, Usage, BadLine, ReadFault, WriteFault, PortFault, LinkFault, TooLarge, JournalFull, Turns, ClockFault, Memory, NoMember}
-use Rattle.bfd_gather.specs.Written.{TookFront}
-use Rattle.bfd_jobs.specs.Words.{is_reading, is_serving, is_watching}
+use Rattle.bfd_script.specs.declared.fields.fault.BadLine.{BadLine as FaultyLine}
+use Rattle.bfdd.specs.declared.words.job.Job.{Job}
+use Rattle.bfdd.specs.declared.job.status.Status.{Status}
+use Rattle.bfdd.specs.declared.job.status.Status.TheVariants.{Done, Usage, BadLine, ReadFault, WriteFault, PortFault, LinkFault, TooLarge, JournalFull, Turns, ClockFault, Memory, NoMember}
+use Rattle.bfd_replay.specs.Written.{TookFront}
+use Rattle.bfdd.specs.Words.{is_reading, is_serving, is_watching}
 
 -- the status where the words can't be had
 abbrev pub status_without_words : ErrorKind → Status

@@ -1,11 +1,11 @@
 -- What a run has told, whether or not its source tells what it had.
 use Rattle.std.specs.Prelude.{◌≡◌, ◌⊎◌, ℕ, List, Option, Some}
-use Rattle.bfd_gather.specs.Written.{TookFront}
-use Rattle.bfd_jobs.specs.declared.status.Status.{Status}
-use Rattle.bfd_jobs.specs.Serving.{Edges}
-use Rattle.bfd_jobs.specs.Telling.{Tells}
-use Rattle.bfd_jobs.specs.Text.{Wanted}
-use Rattle.bfd_words.specs.declared.job.Job.{Job}
+use Rattle.bfd_replay.specs.Written.{TookFront}
+use Rattle.bfdd.specs.declared.job.status.Status.{Status}
+use Rattle.bfdd.specs.Serving.{Edges}
+use Rattle.bfdd.specs.Tells.{Tells}
+use Rattle.bfdd.specs.Text.{Wanted}
+use Rattle.bfdd.specs.declared.words.job.Job.{Job}
 use Rattle.bfdd.specs.Status.{IsDecided, IsWrittenBy}
 
 -- a status, and what a sink took, where something was told

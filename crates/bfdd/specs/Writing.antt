@@ -2,10 +2,10 @@
 use Rattle.std.specs.Prelude.{◌≡◌, ◌≢◌, ◌⊎◌, ℕ, List, [], Option}
 use Rattle.std.specs.Io.KnownBytes.{Appends}
 use Rattle.bfd_edge.specs.Faults.{Rose}
-use Rattle.bfd_jobs.specs.declared.status.Status.{Status}
-use Rattle.bfd_jobs.specs.declared.status.Status.TheVariants.{Done, WriteFault, Memory}
-use Rattle.bfd_gather.specs.Written.{TookFront}
-use Rattle.bfd_jobs.specs.Text.{Wanted}
+use Rattle.bfdd.specs.declared.job.status.Status.{Status}
+use Rattle.bfdd.specs.declared.job.status.Status.TheVariants.{Done, WriteFault, Memory}
+use Rattle.bfd_replay.specs.Written.{TookFront}
+use Rattle.bfdd.specs.Text.{Wanted}
 
 -- the status where the sink failed: a faulty line that wasn't told whole is still one
 abbrev pub broken_off : Status → Status

@@ -4,21 +4,23 @@
 //! program's name to [`run`], and ends with the status's code. It prints nothing itself. All that the program promises stands on
 //! `run`, over any source, any sink, any ports and any ticker.
 //!
-//! Layers, lowest first: `output` (an answer's text to a sink, and what comes of that), `running` ([`run`] itself).
+//! Layers, lowest first: `words` (the grammar of the command line), `job` (what each word has to write), `output` (an answer's text to a
+//! sink, and what comes of that), `running` ([`run`] itself).
 //!
-//! It stands on `bfd_words` for the words, on `bfd_jobs` for what each word has to write, on `bfd_alone` for a report that is made while
-//! it is written, on `bfd_workers` for one of several shards, on `bfd_gather` for a text that is there, and on `bfd_edge` and
-//! `bfd_net` for the outside.
+//! It stands on `bfd_replay`, `bfd_serve`, `bfd_watch`, `bfd_pair` and `bfd_load` for what each word does, and on `bfd_edge` and `bfd_net`
+//! for the outside.
 #![tactic(auto)]
 
 ghost use Rattle.std.specs.Prelude.{◌≡◌, ◌⊎◌, IfErr};
 ghost use Rattle.bfdd.specs.Status.{status_without_words};
 
+mod job;
 mod output;
 mod running;
+mod words;
 
+pub use crate::job::Status;
 use bfd_edge::{OpenGate, StdSink, StdSource};
-pub use bfd_jobs::Status;
 use bfd_net::{ClockTicker, UdpPorts};
 pub use running::run;
 use std::env;
@@ -80,3 +82,5 @@ mod row_tests;
 mod serve_tests;
 #[cfg(test)]
 mod tests;
+#[cfg(test)]
+mod words_tests;

@@ -1,18 +1,18 @@
 // What a run writes.
 ghost use Rattle.std.specs.Prelude.{◌≡◌, OnOk, IsErrOf};
 ghost use Rattle.std.specs.Io.KnownBytes.{Appends};
-ghost use Rattle.bfd_gather.specs.Written.{TookFront};
+ghost use Rattle.bfd_replay.specs.Written.{TookFront};
 ghost use Rattle.bfd_edge.specs.Faults.{Rose};
-ghost use Rattle.bfd_jobs.specs.Held.{HasScript, held_text};
+ghost use Rattle.bfdd.specs.Held.{HasScript, held_text};
 ghost use Rattle.bfdd.specs.Writing.{Writes, broken_off};
 
-use bfd_alone::report_to;
+use crate::job::{Answer, Status, Text};
+use crate::words::Form;
 use bfd_edge::{Fault, Sink};
-use bfd_gather::write_all;
-use bfd_jobs::{Answer, Status, Text};
 use bfd_levels::Levels;
+use bfd_replay::report::write_all;
+use bfd_replay::stream::report_to;
 use bfd_wheel::HashedWheel;
-use bfd_words::Form;
 use std::alloc::Global;
 use std::thread::Threads;
 

@@ -2,7 +2,7 @@
 //! outside of memory. `tests/cases` and `tests/lines` have the same rows, and more, for the program that was built.
 use crate::Status;
 use crate::tests::{Case, calm, ended};
-use bfd_fields::LineFault;
+use bfd_script::fields::LineFault;
 use std::alloc::Global;
 use std::sync::Wait;
 use std::test::Fail;

@@ -1,21 +1,21 @@
 // The top call.
 ghost use Rattle.std.specs.Prelude.{◌≡◌, ◌≢◌, ◌+◌, ◌⊎◌, ℕ, IfSome, None, Some, true, false, map, string_bytes};
 ghost use Rattle.std.specs.Io.KnownBytes.{Appends, IsAtEnd};
-ghost use Rattle.bfd_gather.specs.Written.{TookFront};
+ghost use Rattle.bfd_replay.specs.Written.{TookFront};
 ghost use Rattle.bfd_edge.specs.Faults.{Rose};
-ghost use Rattle.bfd_jobs.specs.Outside.{ConsumesAtMost};
-ghost use Rattle.bfd_jobs.specs.Serving.{IsServedToFinish, edges_of};
-ghost use Rattle.bfd_jobs.specs.Text.{most_bytes, complaint_line, wanted};
-ghost use Rattle.bfd_jobs.specs.Words.{OfServing, is_reading, is_serving};
-ghost use Rattle.bfd_serving.specs.Linking.{AreShut};
-ghost use Rattle.bfd_words.specs.Grammar.{job_of};
+ghost use Rattle.bfdd.specs.Outside.{ConsumesAtMost};
+ghost use Rattle.bfdd.specs.Serving.{IsServedToFinish, edges_of};
+ghost use Rattle.bfdd.specs.Text.{most_bytes, complaint_line, wanted};
+ghost use Rattle.bfdd.specs.Words.{OfServing, is_reading, is_serving};
+ghost use Rattle.bfd_serve.specs.Linking.{AreShut};
+ghost use Rattle.bfdd.specs.Grammar.{job_of};
 ghost use Rattle.bfdd.specs.Status.{IsDecided, IsEndOf, OnBadLine, UnlessWriting, WhereUnopened, WhereUnwritten};
 ghost use Rattle.bfdd.specs.Telling.{IsBrokenOff, IsTold};
 
+use crate::job::{Status, answer_to_job};
 use crate::output::write_answer;
+use crate::words::job_of;
 use bfd_edge::{Fault, Gate, Ports, Sink, Source, Ticker};
-use bfd_jobs::{Status, answer_to_job};
-use bfd_words::job_of;
 use std::alloc::Global;
 use std::sync::Wait;
 use std::thread::Threads;

@@ -1,7 +1,7 @@
 //! Runs of `serve` over links and a ticker of memory: the text where one order alone is possible, and each status.
 use crate::Status;
 use crate::tests::{Case, Hears, calm, ended};
-use bfd_fields::LineFault;
+use bfd_script::fields::LineFault;
 use std::alloc::Global;
 use std::sync::Wait;
 use std::thread::Threads;

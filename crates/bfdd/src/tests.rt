@@ -6,9 +6,9 @@ ghost use Rattle.bfd_edge.specs.MemoryPorts.{AllNew};
 
 use crate::{Status, run};
 use bfd_edge::{Gate, Heard, MemLink, MemPorts, MemSink, MemSource, MemTicker, OpenGate, Ticker};
-use bfd_fields::LineFault;
 use bfd_num::{Moment, Tick};
 use bfd_packet::{Addr, Arrival, Payload, Port, SOURCE_PORT};
+use bfd_script::fields::LineFault;
 use std::alloc::{AllocError, Global};
 use std::sync::Wait;
 use std::test::Fail;

@@ -2,7 +2,7 @@
 use Rattle.std.proofs.Common.{◌≡◌, ◌≢◌, refl}
 use Rattle.std.specs.declared.io.ErrorKind.{ErrorKind}
 use Rattle.std.specs.declared.io.ErrorKind.TheVariants.{OutOfMemory}
-use Rattle.bfd_jobs.specs.declared.status.Status.TheVariants.{Usage}
+use Rattle.bfdd.specs.declared.job.status.Status.TheVariants.{Usage}
 use Rattle.bfdd.specs.Status.{status_without_words}
 use Rattle.bfdd.proofs.status_without_words.Goals as goal
 

@@ -1,6 +1,6 @@
 -- One tick more has its events, and at the end all have.
 use Rattle.std.proofs.Common.{◌≡◌, ◌+◌, ◌-◌, ◌++◌, ◌∙◌, [], ◌∷◌, ap, append_assoc, arith, rules}
-use Rattle.bfd_line.specs.declared.entries.Line.TheVariants.{Tick}
+use Rattle.bfd_script.specs.declared.line.entries.Line.TheVariants.{Tick}
 use Rattle.bfd_load.specs.Load as load
 use Rattle.bfd_load.proofs.Each.{all_of, gathered_more}
 use Rattle.bfd_load.proofs.generating.events.Goals as goal

@@ -1,5 +1,5 @@
 use Rattle.bfd_script.proofs.Common.{◌≡◌, ◌+◌, ◌≤◌, length, told_from, script_of}
-use Rattle.bfd_fields.specs.Fields.{lines_of}
+use Rattle.bfd_script.specs.Fields.{lines_of}
 use Rattle.bfd_script.proofs.reading.read.Given as goal
 
 abbrev pub invariant-loop-rest : goal.invariant-loop-rest

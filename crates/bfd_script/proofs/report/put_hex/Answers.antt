@@ -1,5 +1,5 @@
 use Rattle.bfd_script.proofs.Common.{arith, nat_tests}
-use Rattle.bfd_fields.proofs.Nibbles.{encode_more, some_hex}
+use Rattle.bfd_script.proofs.Nibbles.{encode_more, some_hex}
 use Rattle.bfd_script.proofs.report.put_hex.Goals as goal
 
 -- the digits of one run more

@@ -11,7 +11,7 @@ use denote.Struct.Field.{row_field}
 use denote.Struct.Tuple.{type_at, TupleAt}
 use Rattle.std.proofs.Crossing as heap
 use Rattle.bfd_engine.proofs.pass.EnginePass.TheSendSync as pass
-use Rattle.bfd_line.proofs.entries.Line.TheSendSync as line
+use Rattle.bfd_script.proofs.line.entries.Line.TheSendSync as line
 use Rattle.bfd_serve.proofs.threads.beside.Goals as goal
 
 -- a closure that lends and owns eight captures, and is only called

@@ -12,7 +12,7 @@ use denote.Struct.Field.{row_field}
 use denote.Struct.Tuple.{type_at, TupleAt}
 use Rattle.std.proofs.Crossing as heap
 use Rattle.bfd_engine.proofs.Crossing.{engine_sync}
-use Rattle.bfd_engine_use.proofs.threads.Job.TheSendSync as job
+use Rattle.bfd_thread_tests.proofs.embedding.threads.Job.TheSendSync as job
 use Rattle.bfd_thread_tests.proofs.clients.beside.Goals as goal
 
 -- a closure that lends four captures, and is only called

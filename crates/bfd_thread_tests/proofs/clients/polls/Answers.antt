@@ -1,5 +1,5 @@
 -- One poll more.
-use Rattle.bfd_engine_use.proofs.Worked.{grown_then}
+use Rattle.bfd_thread_tests.proofs.Worked.{grown_then}
 use Rattle.bfd_thread_tests.proofs.clients.polls.Goals as goal
 
 pub returns-in_err-poll-clause-grown : goal.returns-in_err-poll-clause-grown

@@ -1,7 +1,7 @@
 -- After each poll the client was told what was seen.
 use Rattle.bfd_engine.specs.Engines.{IsOf, AllThere}
 use Rattle.bfd_engine.specs.Calls.{seen_at}
-use Rattle.bfd_engine_use.specs.Calling.{HasGrown}
+use Rattle.bfd_thread_tests.specs.Calling.{HasGrown}
 use Rattle.bfd_thread_tests.specs.Following.{IsClientTold}
 use Rattle.bfd_thread_tests.proofs.clients.polls.Given as goal
 

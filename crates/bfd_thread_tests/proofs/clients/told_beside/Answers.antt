@@ -1,6 +1,6 @@
 -- The jobs are those that came back, and the first pass is open after the last poll.
 use Rattle.std.proofs.Common.{map}
-use Rattle.bfd_engine_use.specs.Ready.{number_of}
+use Rattle.bfd_thread_tests.specs.Ready.{number_of}
 use Rattle.bfd_shard.proofs.Lists.{whole_back}
 use Rattle.bfd_thread_tests.proofs.Following.{open_grown}
 use Rattle.bfd_thread_tests.proofs.clients.told_beside.Goals as goal

@@ -1,8 +1,8 @@
 -- The jobs so far.
 use Rattle.std.proofs.Common.{◌≤◌, map}
 use Rattle.std.specs.List.{All}
-use Rattle.bfd_engine_use.specs.Joining.{HasOpen}
-use Rattle.bfd_engine_use.specs.Ready.{IsJobReady, number_of}
+use Rattle.bfd_thread_tests.specs.Joining.{HasOpen}
+use Rattle.bfd_thread_tests.specs.Ready.{IsJobReady, number_of}
 use Rattle.bfd_thread_tests.proofs.eight.jobs.Given as goal
 
 abbrev pub invariant-loop-number : goal.invariant-loop-number

@@ -34,8 +34,8 @@ use Rattle.bfd_levels.specs.contracts.by_count.ByCountTimers.TheImpl.{ghosts}
 use Rattle.bfd_levels.proofs.by_count.ByCount.TheSendSync as timers
 use Rattle.bfd_shard.proofs.sessions.Sessions.TheSendSync as sessions
 use Rattle.bfd_session.proofs.event.Answer.TheSendSync as answer
-use Rattle.bfd_replay.specs.contracts.instance.Instance as World
-use Rattle.bfd_replay.specs.contracts.instance.Instance.TheInside as world
+use Rattle.bfd_instance.specs.contracts.instance.Instance as World
+use Rattle.bfd_instance.specs.contracts.instance.Instance.TheInside as world
 use Rattle.bfd_c.specs.Owning.{kept_owns}
 use Rattle.bfd_c.specs.contracts.engine.Engine as Held
 use Rattle.bfd_c.specs.contracts.engine.Engine.TheInside as inside

@@ -1,3 +1,0 @@
-mod Common
-pub mod Routing
-pub mod Events

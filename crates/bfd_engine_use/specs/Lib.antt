@@ -1,3 +1,0 @@
-pub mod Ready
-pub mod Calling
-pub mod Joining

@@ -1,6 +1,0 @@
-use Rattle.bfd_fields.proofs.Common.{arith}
-use Rattle.bfd_fields.proofs.Nibbles.{run_decoded}
-use Rattle.bfd_fields.proofs.digits.bytes_of_run.Goals as goal
-
-pub returns : goal.returns
-returns c = run_decoded c.args.run.now c.requires (λ k. (c.type_inv.run k).fits) (omega arith)

@@ -1,5 +1,0 @@
-use Rattle.bfd_fields.proofs.Nibbles.{run_encoded}
-use Rattle.bfd_fields.proofs.digits.digits_of_run.Goals as goal
-
-pub returns : goal.returns
-returns c = run_encoded c.args.run.now c.requires (λ k. (c.type_inv.run k).fits)

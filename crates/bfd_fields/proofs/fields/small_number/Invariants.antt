@@ -1,9 +1,0 @@
-use Rattle.bfd_fields.proofs.Common.{◌≡◌, length, is_ascii_digit, list_all, digits_value, digits_value_after}
-use Rattle.bfd_fields.proofs.fields.small_number.Given as goal
-
--- the digits so far, and then those that are left, write the number
-abbrev pub invariant-loop-rest : goal.invariant-loop-rest
-invariant-loop-rest l = (digits_value_after 10 l.n l.rest ≡ digits_value 10 l.field) × (list_all is_ascii_digit l.rest ≡ list_all is_ascii_digit l.field)
-
-abbrev pub decreases-loop-rest : goal.decreases-loop-rest
-decreases-loop-rest l = length l.rest

@@ -1,6 +1,0 @@
-use Rattle.bfd_fields.proofs.Common.{arith, refl}
-use Rattle.bfd_fields.proofs.Octets.{part_3}
-use Rattle.bfd_fields.proofs.values.part_of_three.Goals as goal
-
-pub returns-then-n-lt256-clause-part : goal.returns-then-n-lt256-clause-part
-returns-then-n-lt256-clause-part c = part_3 c.args.field.now (omega arith) (omega arith) (omega arith) (omega arith) (omega arith) (omega arith) (omega arith) (omega arith) refl c.three_digits-n.ensures (omega arith)

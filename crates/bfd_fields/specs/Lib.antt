@@ -1,5 +1,0 @@
-pub mod Complaints
-pub mod Fields
-pub mod Gives
-pub mod Values
-pub mod Spelling

@@ -1,0 +1,7 @@
+mod Common
+pub mod Worlds
+pub mod Comings
+pub mod SameConfigs
+pub mod Stages
+pub mod Telling
+pub mod Joining

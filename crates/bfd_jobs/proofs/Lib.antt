@@ -1,4 +1,0 @@
-pub mod Answering
-pub mod Served
-pub mod Taking
-pub mod Telling

@@ -1,9 +1,0 @@
-pub mod Answers
-pub mod Hands
-pub mod Held
-pub mod Outside
-pub mod Serving
-pub mod Status
-pub mod Telling
-pub mod Text
-pub mod Words

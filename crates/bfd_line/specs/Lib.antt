@@ -1,9 +1,0 @@
-pub mod Words
-pub mod Pairs
-pub mod Seamless
-pub mod Trees
-pub mod Secrets
-pub mod Arrivals
-pub mod Verbs
-pub mod Entries
-pub mod Ranges

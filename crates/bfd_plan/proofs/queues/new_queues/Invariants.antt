@@ -1,8 +1,0 @@
-use Rattle.bfd_plan.proofs.Common.{◌≡◌, ℕ, [], length, get_or}
-use Rattle.bfd_plan.proofs.queues.new_queues.Given as goal
-
-abbrev pub invariant-loop : goal.invariant-loop
-invariant-loop l = record {
-  long : length l.queues.items ≡ l.counter;
-  none : (r : ℕ) → get_or l.queues.items r [] ≡ [];
-}

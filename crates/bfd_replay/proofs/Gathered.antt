@@ -1,0 +1,111 @@
+-- A script on shards is the script on the whole table.
+use Rattle.bfd_replay.proofs.WorkerCommon.{◌≡◌, inl, inr, ◌<◌, ◌≤◌, ◌+◌, ◌*◌, ◌/◌, ◌%◌, ◌==◌, ◌∷◌, Bool, true, false, ℕ, zero, suc, [], List, length, map, get_or, refl, sym, ap, subst, arith, Some, None, Option, add_comm, slice_index_or, sum_by, if◌then◌else◌, length-map, slice_get-get_or, slice_get_within, eqb-true, cases_lt, SessionConfig, started, Shard, CanHappen, IsShard, Shards, configs_at, Numbered, Piece, Happening, Apart, Among, AreParts, in_shard, numbered, queue, told_apart, AreQueues, IsMet, events_of_table, happening, happenings, AreMet, one_up, sum_to, ups, left_is, world_is, Lists, AreStates, AreTold, totals, later, moved, runs, queue_events, runs_share, Reflector, Running}
+use Rattle.std.specs.List.{AllByRecursion, cons_option}
+use Rattle.bfd_session.specs.declared.event.Event.{Event}
+use Rattle.bfd_session.specs.Rows.{Ascends}
+use Rattle.bfd_session.proofs.Starting.{started_configs}
+use Rattle.bfd_shard.specs.declared.entry.ShardEvent.TheVariants.{Own, Tick}
+use Rattle.bfd_shard.specs.Dealing.{history_of, share}
+use Rattle.bfd_shard.proofs.Sharing.{few_share}
+use Rattle.bfd_script.specs.declared.line.entries.Line.{Line}
+use Rattle.bfd_engine.proofs.Reaching.{dealt_event}
+use Rattle.bfd_replay.specs.Happenings as gather
+use Rattle.bfd_shard.proofs.Sharing.{share_map}
+use Rattle.bfd_replay.specs.Replayed.{HaveReplayed}
+use Rattle.bfd_replay.proofs.Soles.{events_entries}
+use Rattle.bfd_replay.proofs.Summing.{sum_same, ups_are as counted, ups_shared}
+
+pub room_enough : (engine : Shards) (s : ℕ) {room : ℕ} {configs : List SessionConfig} → engine.configs ≡ configs → room ≡ 5 * length configs + 5 → 5 * length (configs_at engine s) + 5 ≤ room
+room_enough engine s is enough = omega (arith, few_share (length engine.locks) s engine.configs, ap length is, enough)
+
+-- the events of a queue may happen to its shard
+own_met : (b : Bool) (engine : Shards) {n : ℕ} (s number : ℕ) {k : ℕ} (m : ℕ) {event : Event} (rest : List Numbered) → (k % n == s) ≡ b → n ≡ length engine.locks → 0 < n → CanHappen engine.configs (Own k m event)
+    → AreMet engine s rest → AreMet engine s (cons_option (numbered number (if b then Some (Own (k / n) m event) else None)) rest)
+own_met true engine {n} s number {k} m {event} rest is locks some can met = (rw (← eqb-true (k % n) s is) (dealt_event engine k n _ locks some can), met)
+own_met false engine s number m rest is locks some can met = met
+
+met_in : (engine : Shards) {n : ℕ} (s number : ℕ) (hs : List Happening) → n ≡ length engine.locks → 0 < n → AllByRecursion (IsMet engine.configs) hs → AreMet engine s (queue n s number hs)
+met_in engine s number [] locks some met = tt
+met_in engine s number (Apart o ∷ hs) locks some met = met_in engine s (number + 1) hs locks some met.1
+met_in engine {n} s number (Among (Own k m event) ∷ hs) locks some met =
+    own_met (k % n == s) engine s number m (queue n s (number + 1) hs) refl locks some met.0 (met_in engine s (number + 1) hs locks some met.1)
+met_in engine s number (Among (Tick t) ∷ hs) locks some met = (tt, met_in engine s (number + 1) hs locks some met.1)
+
+short_one : (o : Option Numbered) (xs : List Numbered) {n : ℕ} → length xs ≤ n → length (cons_option o xs) ≤ suc n
+short_one None xs h = omega (arith, h)
+short_one (Some x) xs h = omega (arith, h)
+
+short_queue : (n s number : ℕ) (hs : List Happening) → length (queue n s number hs) ≤ length hs
+short_queue n s number [] = omega arith
+short_queue n s number (h ∷ hs) = short_one (numbered number (in_shard n s h)) (queue n s (number + 1) hs) (short_queue n s (number + 1) hs)
+
+past : {A : Type 0} (xs : List (List A)) (s : ℕ) → length xs ≤ s → slice_index_or xs s [] ≡ []
+past [] s h = refl
+past (x ∷ xs) zero h = absurd (omega (arith, h))
+past (x ∷ xs) (suc s) h = past xs s (omega (arith, h))
+
+pub short_queues : {shards : ℕ} {hs : List Happening} {queues : List (List Numbered)} (s : ℕ) → AreQueues shards hs queues → length (slice_index_or queues s []) ≤ length hs
+short_queues {shards} {hs} {queues} s are = elim (cases_lt s shards) [
+  | inl inside ↦ omega (arith, ap length (are.each s inside), short_queue shards s 1 hs)
+  | inr beyond ↦ omega (arith, ap length (past queues s (omega (arith, are.long, beyond))))
+]
+
+pub met_queues : (engine : Shards) {shards : ℕ} {hs : List Happening} {queues : List (List Numbered)} → shards ≡ length engine.locks → 0 < shards → AreQueues shards hs queues → AllByRecursion (IsMet engine.configs) hs
+    → (s : ℕ) → s < length engine.locks → AreMet engine s (slice_index_or queues s [])
+met_queues engine {hs} locks some are met s inside =
+    subst (AreMet engine s) (sym (are.each s (omega (arith, inside, locks)))) (met_in engine s 1 hs locks some met)
+
+-- the parts are those of the script's events
+pub are_parts : {engine : Shards} {shards workers : ℕ} {hs : List Happening} {configs : List SessionConfig} {queues : List (List Numbered)} {all : List (List (List Piece))} (parts : List (List Piece)) {apart : List Piece}
+    → 0 < shards → shards ≡ length engine.locks → engine.configs ≡ configs → Ascends configs → AreQueues shards hs queues → AreTold engine queues workers all → length parts ≡ shards + 1
+    → ((s : ℕ) → s < shards → slice_index_or parts s [] ≡ slice_index_or (slice_index_or all (s % length all) []) s []) → slice_index_or parts shards [] ≡ apart → apart ≡ told_apart 1 hs
+    → AreParts shards 1 0 hs (map started configs) parts
+are_parts {shards} {configs} parts some locks is ascends are told_are long each last apart_is = record {
+  some = some;
+  long = long;
+  each = λ s h. cc (each s h, told_are.each s (omega (arith, h, locks)), are.each s h, share_map started shards s configs);
+  others = cc;
+  ascends = subst Ascends (sym (started_configs configs)) ascends;
+}
+
+-- the states are those of the script
+pub have_replayed : {engine : Shards} (script : Lists) {shards workers : ℕ} {queues : List (List Numbered)} {states : List Shard} → shards ≡ length engine.locks → engine.configs ≡ script.configs
+    → AreQueues shards (happenings script.configs script.pool script.events) queues → AreStates engine queues workers states → HaveReplayed script shards workers states
+have_replayed script {shards} {workers} {states} locks is are all = record {
+  long = cc;
+  each = λ s state e. let one = all.each s state e in record {
+    configs = cc;
+    journal = cc (are.each s (omega (arith, slice_get_within states s state e, all.long, locks)), queue_events shards s 1 (happenings script.configs script.pool script.events), add_comm (s % workers) 1);
+  };
+}
+
+-- how many sessions are Up
+pub ups_are : {script : Lists} (shards : ℕ) {workers up : ℕ} {states : List Shard} (d : Shard) → 0 < shards → HaveReplayed script shards workers states
+    → ((k : ℕ) (e : Shard) → k < length states → IsShard (get_or states k e)) → up ≡ sum_to (λ k. sum_by one_up (get_or states k d).sessions) (length states) → up ≡ (totals script).ups
+ups_are zero d some have kept is = absurd (omega (arith, some))
+ups_are {script} (suc n) {workers} {states} d some have kept is = cc (
+  sum_same (λ k. sum_by one_up (get_or states k d).sessions) (λ k. ups (share (suc n) k (runs (events_of_table script) script.configs))) (suc n) (λ k h.
+      (let inside : k < length states = omega (arith, h, have.long) in
+      let state = get_or states k d in
+      let one = have.each k state (slice_get-get_or states k d inside) in
+      cc (counted state.sessions, (kept k d inside).whole, events_entries (1 + k % workers) (history_of (suc n) k (events_of_table script)), runs_share _ k (events_of_table script) script.configs h))),
+  ups_shared n (runs (events_of_table script) script.configs),
+  left_is script,
+)
+
+-- each event of a script gives one outcome
+outcomes_long : (last : ℕ) (hs : List Happening) (ss : List Running) → length (gather.happening_outcomes last hs ss) ≡ length hs
+outcomes_long last [] ss = refl
+outcomes_long last (Apart o ∷ hs) ss = ap suc (outcomes_long last hs ss)
+outcomes_long last (Among e ∷ hs) ss = ap suc (outcomes_long (later last e) hs (moved last e ss))
+
+pub events_are : (script : Lists) → length script.events ≡ (totals script).events
+events_are script =
+    cc (length-map script.events (happening script.configs script.pool), outcomes_long 0 (happenings script.configs script.pool script.events) (map started script.configs), world_is script)
+
+pub happenings_long : (configs : List SessionConfig) (pool : List Reflector) (lines : List Line) → length (happenings configs pool lines) ≡ length lines
+happenings_long configs pool lines = length-map lines (happening configs pool)
+
+-- a shard of no session, as what stands where none is
+pub none : Shard
+none = record { sessions = []; last = 0; journal = []; limit = 0; room = 0 }

@@ -1,0 +1,9 @@
+-- The sessions so far are counted.
+use Rattle.bfd_replay.proofs.WorkerCommon.{◌≡◌, ◌≤◌, take, sum_by, one_up}
+use Rattle.bfd_replay.proofs.worker.counting.up_in.Given as goal
+
+abbrev pub invariant-loop-session : goal.invariant-loop-session
+invariant-loop-session l = record {
+  count : l.count ≡ sum_by one_up (take l.session-index l.sessions);
+  few : l.count ≤ l.session-index;
+}

@@ -1,5 +1,0 @@
--- The counter is the blank's own.
-use Rattle.bfd_replay.proofs.world.happen.Given as goal
-
-abbrev pub ghosts-enact : goal.ghosts-enact
-ghosts-enact g a = record { name = a.blank.name; parts = a.blank.parts }

@@ -1,0 +1,98 @@
+//! What was told so far.
+ghost use Rattle.std.specs.Prelude.{◌≡◌, ◌≤◌, ◌<◌, ◌+◌, ◌++◌, [], OnOk, sum_by};
+ghost use Rattle.std.specs.Io.KnownBytes.{Appends};
+ghost use Rattle.bfd_edge.specs.Faults.{HasCause};
+ghost use Rattle.bfd_script.specs.Report.{done_line, dropped_by, event_lines, packets_sent_by};
+ghost use Rattle.bfd_replay.specs.Written.{TookFront, TookUpTo};
+
+use crate::report::{dropped, give_on, sent, write_last};
+use bfd_edge::{Fault, Sink};
+use bfd_rules::Outs;
+use bfd_script::lines;
+use bfd_session::Answer;
+use std::alloc::{AllocError, Global};
+use std::marker::Model;
+
+/// The lines that are not written yet, and how many events were told, with how many packets that were sent and were dropped in
+/// them. An event puts out at most five outputs for each of 65,536 sessions and five more, so that the counts fit.
+#[derive(Drop)]
+pub(crate) struct Told {
+    text: Vec<u8>,
+    events: u64,
+    txs: u64,
+    drops: u64,
+}
+
+impl Model for Told {
+    ghost use Rattle.std.specs.Prelude.{◌≤◌, ◌*◌};
+    ghost use Rattle.bfd_replay.specs.Telling.{Telling};
+
+    ghost Value = { Telling };
+
+    ghost view = { λ t. record { text = t.text.items; events = t.events; txs = t.txs; drops = t.drops } };
+
+    ghost invariant = { λ t. (t.txs ≤ 327685 * t.events) × (t.drops ≤ t.events) };
+}
+
+impl Told {
+    /// Nothing was told.
+    pub(crate) fn new(alloc: Global) -> Told
+        ensures { result ≡ record { text = []; events = 0; txs = 0; drops = 0 } }
+    {
+        Told {
+            text: Vec::new(alloc),
+            events: 0,
+            txs: 0,
+            drops: 0,
+        }
+    }
+
+    /// Tells what the next event gave. The one refusal is want of memory.
+    pub(crate) fn tell(&mut self, outs: &Outs, answer: &Answer) -> Result<(), AllocError>
+        requires few { self.old.events < 200000 }
+        requires room { outs.now.room ≤ 327685 }
+        ensures text { OnOk result (self.new.text ≡ self.old.text
+            ++ event_lines (self.old.events + 1) (record { items = outs.now.items; answer = answer.now })) }
+        ensures events { OnOk result (self.new.events ≡ self.old.events + 1) }
+        ensures txs { OnOk result (self.new.txs ≡ self.old.txs + sum_by packets_sent_by outs.now.items) }
+        ensures drops { OnOk result (self.new.drops ≡ self.old.drops + dropped_by answer.now) }
+    {
+        let items = outs.items();
+        lines(self.events + 1, items, answer, &mut self.text)?;
+        self.events += 1;
+        self.txs += sent(items);
+        self.drops += dropped(answer);
+        Ok(())
+    }
+
+    /// Writes the text where it is long, and begins it anew.
+    pub(crate) fn give_on<K: Sink>(&mut self, sink: &mut K) -> Result<(), Fault>
+        ensures text { OnOk result (TookUpTo (K.taken sink.old) (K.taken sink.new) self.old.text self.new.text) }
+        ensures events { self.new.events ≡ self.old.events }
+        ensures txs { self.new.txs ≡ self.old.txs }
+        ensures drops { self.new.drops ≡ self.old.drops }
+        ensures front { TookFront (K.taken sink.old) (K.taken sink.new) self.old.text }
+        ensures cause { HasCause (K.faults sink.old) (K.faults sink.new) result }
+        ensures calm { OnOk result (K.faults sink.new ≡ K.faults sink.old) }
+    {
+        give_on(&mut self.text, sink)
+    }
+
+    /// Writes what is left of the text, and the last line of the report behind it.
+    pub(crate) fn close<K: Sink>(self, alloc: Global, sink: &mut K) -> Result<(), Fault>
+        ensures whole { OnOk result (Appends (K.taken sink.old) (K.taken sink.new)
+            (self.text ++ done_line self.events self.txs self.drops)) }
+        ensures front { TookFront (K.taken sink.old) (K.taken sink.new)
+            (self.text ++ done_line self.events self.txs self.drops) }
+        ensures cause { HasCause (K.faults sink.old) (K.faults sink.new) result }
+        ensures calm { OnOk result (K.faults sink.new ≡ K.faults sink.old) }
+    {
+        let Told {
+            text,
+            events,
+            txs,
+            drops,
+        } = self;
+        write_last(alloc, text, events, txs, drops, sink)
+    }
+}

@@ -1,3 +1,0 @@
-pub mod Schedule
-pub mod Line
-pub mod Inside

@@ -1,0 +1,12 @@
+-- With what is left, the part is the shard's share.
+use Rattle.bfd_serve.proofs.RunCommon.{◌≡◌, ◌≤◌, ◌+◌, ◌-◌, ◌++◌, length, drop, share}
+use Rattle.bfd_serve.proofs.run.copying.dealt_to.Given as goal
+
+abbrev pub invariant-loop-at : goal.invariant-loop-at
+invariant-loop-at l = record {
+  whole : l.part.items ++ share l.shards 0 (drop l.at l.configs) ≡ share l.shards l.shard l.configs;
+  few : l.at ≤ length l.configs + l.shards;
+}
+
+abbrev pub decreases-loop-at : goal.decreases-loop-at
+decreases-loop-at l = length l.configs - l.at

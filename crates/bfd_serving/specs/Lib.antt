@@ -1,6 +1,0 @@
-pub mod Causes
-pub mod Entered
-pub mod Finishes
-pub mod Linking
-pub mod Runs
-pub mod Wholes

@@ -1,5 +1,0 @@
-use Rattle.bfd_spelling.proofs.Common.{◌≡◌, take, string_bytes, pool_text}
-use Rattle.bfd_spelling.proofs.table.pool_text.Given as goal
-
-abbrev pub invariant-loop-reflector : goal.invariant-loop-reflector
-invariant-loop-reflector l = string_bytes l.text ≡ pool_text (take l.reflector-index l.pool)

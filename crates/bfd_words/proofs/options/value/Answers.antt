@@ -1,6 +1,0 @@
-use Rattle.std.proofs.Common.{string_bytes}
-use Rattle.bfd_words.proofs.Naming.{value_of-end}
-use Rattle.bfd_words.proofs.options.value.Goals as goal
-
-pub returns : goal.returns
-returns c = value_of-end (λ word. string_bytes word) _ _ _ _ c.in_default.len_below c.loop-rest.invariant

@@ -1,9 +1,0 @@
--- The sessions so far are counted.
-use Rattle.bfd_workers.proofs.Common.{◌≡◌, ◌≤◌, take, sum_by, one_up}
-use Rattle.bfd_workers.proofs.counting.up_in.Given as goal
-
-abbrev pub invariant-loop-session : goal.invariant-loop-session
-invariant-loop-session l = record {
-  count : l.count ≡ sum_by one_up (take l.session-index l.sessions);
-  few : l.count ≤ l.session-index;
-}
