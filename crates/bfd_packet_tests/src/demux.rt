@@ -355,7 +355,7 @@ fn selects_among_65536_initiators(rt: HostRuntime) -> Result<(), Fail> {
         Ok(Target::Session(65_535)),
         Err(Test::YourUnknown),
     ];
-    assert!(rt; targets.as_slice() == &want);
+    assert!(rt; targets.as_slice() == want.as_slice());
     Ok(())
 }
 
