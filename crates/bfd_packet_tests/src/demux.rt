@@ -1,4 +1,5 @@
-ghost use Rattle.std.specs.Prelude.{◌≡◌, ◌<◌};
+ghost use Rattle.std.specs.Prelude.{◌≡◌, ◌<◌, ◌≤◌, ◌+◌, false};
+ghost use Rattle.bfd_demux.specs.Selection.{is_by_addresses};
 
 use bfd_demux::{AddFault, BuildFault, Demux, Row, RowKind, Target};
 use bfd_num::Steps;
@@ -292,6 +293,69 @@ fn selects_each_kind(rt: HostRuntime) -> Result<(), Fail> {
         (Port::Multi, TREE, 0xc3, 77, 0, Err(Test::Multipoint)),
     ];
     assert!(rt; are_so(rt.alloc(), &table, &cases)?);
+    Ok(())
+}
+
+// The selection. Where it looks up no addresses, it takes at most 17 steps, whatever the table's length.
+fn selected<L: Ledger>(
+    table: &Demux,
+    arrival: &Arrival,
+    steps: &mut Steps<L>,
+) -> Result<Target, Test>
+    ensures { is_by_addresses arrival.now.port arrival.now ≡ false → steps.new ≤ steps.old + 17 }
+{
+    table.screen(arrival, steps)
+}
+
+// What the packets of initiators' peers with these Your Discriminators are for.
+fn answered<L: Ledger>(
+    alloc: Global,
+    table: &Demux,
+    yours: &[u32],
+    blank: Blank,
+) -> Result<Vec<Result<Target, Test>>, AllocError>
+    requires name { blank.name ≡ L.name }
+    requires parts { blank.parts ≡ L.parts }
+    requires some { 0 < blank.parts }
+{
+    let mut steps = Steps::<L>::new(blank);
+    let mut targets = Vec::new(alloc);
+    for your in yours {
+        let came = arrival(
+            Port::Answer,
+            1,
+            REMOTE,
+            LOCAL,
+            &packet(0xc0, 7, *your),
+            alloc,
+        )?;
+        targets.push(selected(table, &came, &mut steps))?;
+    }
+    Ok(targets)
+}
+
+#[test]
+fn selects_among_65536_initiators(rt: HostRuntime) -> Result<(), Fail> {
+    let mut rows = Vec::with_capacity(rt.alloc(), 65_536)?;
+    for discr in 1..65_537 {
+        rows.push(seek(discr))?;
+    }
+    let Ok(table) = Demux::build(rt.alloc(), &rows) else {
+        return Err(Fail::from("no table"));
+    };
+    let targets = answered::<Brand>(
+        rt.alloc(),
+        &table,
+        &[1, 40_001, 65_536, 65_537],
+        Blank::new(1),
+    )?;
+    let want = [
+        Ok(Target::Session(0)),
+        Ok(Target::Session(40_000)),
+        Ok(Target::Session(65_535)),
+        Err(Test::YourUnknown),
+    ];
+    assert!(rt; targets.as_slice() == want.as_slice());
     Ok(())
 }
 
