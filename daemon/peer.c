@@ -1,9 +1,10 @@
 /* bfdd-peer: BFD sessions of this host without a routing daemon, on the library libbfdd.
  *
- *     words or a table -> sessions -> engine -> libbfdd, and sockets for its packets
+ *     words or a table -> sessions -> libbfdd, and sockets for its packets
  *
  * Each change of a session's state is a line on standard output, and may run a command. */
 #define _GNU_SOURCE
+#include "endpoint.h"
 #include "front.h"
 #include "view.h"
 #include "words.h"
@@ -54,16 +55,11 @@ static size_t count_entries;
 static bool json;
 static const char *command;
 
-static void fail(const char *what, const char *cause) {
-    say(LOG_ERROR, "%s: %s", what, cause);
-    exit(1);
-}
-
 /* Options -------------------------------------------------------------------------------------------------------------- */
 
 static bool read_ms(const char *text, uint32_t *us) {
     uint64_t number;
-    if (!front_number(text, 10, 60000, &number)) return false;
+    if (!read_number(text, 10, 60000, &number)) return false;
     *us = (uint32_t)number * 1000;
     return true;
 }
@@ -99,7 +95,7 @@ static bool take_option(int option, const char *value) {
     case 'j': return json = true;
     case 'c': return (command = value);
     case 'n':
-        if (!front_number(value, 1, 255, &number)) return false;
+        if (!read_number(value, 1, 255, &number)) return false;
         given.wanted.mult = (uint8_t)number;
         return true;
     default:
@@ -238,8 +234,7 @@ static void run_command(void) {
     posix_spawnattr_destroy(&attributes);
 }
 
-static bool report_change(void *context, const struct session *s, const struct session_change *change) {
-    (void)context;
+static bool report_change(const struct session *s, const struct session_change *change) {
     if (!change) return true;
     view_change(stdout, json, s, change);
     if (!command) return true;
@@ -253,7 +248,7 @@ static void take_key(uint32_t number, uint64_t now) {
     char typed[TYPED];
     (void)number;
     if (read(STDIN_FILENO, typed, sizeof typed) > 0) front_view(now);
-    else loop_leave(STDIN_FILENO);
+    else loop_await(STDIN_FILENO, LOOP_KEY, 0, 0, take_key);
 }
 
 int main(int count, char **words) {
@@ -262,14 +257,14 @@ int main(int count, char **words) {
                                           {"mult", required_argument, NULL, 'n'}, {"passive", no_argument, NULL, 'p'},
                                           {"auth", required_argument, NULL, 'a'}, {"json", no_argument, NULL, 'j'},
                                           {"on-change", required_argument, NULL, 'c'}, FRONT_OPTIONS};
-    log_set_level(LOG_WARNING);
+    log_greatest = LOG_WARNING;
     setvbuf(stdout, NULL, _IOLBF, 0);
     signal(SIGCHLD, SIG_IGN), signal(SIGTTIN, SIG_IGN);
     front_read(count, words, known, take_option, usage);
     if (optind + 1 == count) take_table(words[optind]);
     else if (optind + 2 != count || !take_words(words[optind], words[optind + 1])) front_fault(usage);
-    struct sessions *sessions = front_open(report_change, 0, stdout, json);
-    for (size_t i = 0; i < count_entries; i++) sessions_add(sessions, OWNER, &entries[i].wanted, &entries[i].key, clock_now());
+    front_open(report_change, 0, stdout, json);
+    for (size_t i = 0; i < count_entries; i++) sessions_add(OWNER, &entries[i].wanted, &entries[i].key, clock_now());
     if (isatty(STDIN_FILENO)) loop_await(STDIN_FILENO, LOOP_KEY, 0, EPOLLIN, take_key);
     front_run(NULL);
     front_view(clock_now());
