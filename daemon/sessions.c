@@ -35,11 +35,11 @@ static struct session **bucket_of_discr(uint32_t discr) { return &tables[BY_DISC
 
 static struct session **bucket_of_peer(const bfdd_address *peer) {
     uint32_t sum = 2166136261u;
-    for (size_t i = 0; i < (peer->family == 4 ? 4 : 16); i++) sum = (sum ^ peer->bytes[i]) * 16777619u;
+    for (size_t i = 0; i < sizeof peer->bytes; i++) sum = (sum ^ peer->bytes[i]) * 16777619u;
     return &tables[BY_PEER][sum % BUCKETS];
 }
 
-static struct session *find(uint32_t discr) {
+struct session *sessions_find(uint32_t discr) {
     struct session *s = *bucket_of_discr(discr);
     while (s && s->wanted.discr != discr) s = s->next[BY_DISCR];
     return s;
@@ -70,9 +70,7 @@ static void for_each(session_act *act, uint64_t now) {
 
 static bool is_multihop(const struct session *s) { return (s->wanted.flags & DP_MULTIHOP) != 0; }
 
-static bool is_same_address(const bfdd_address *a, const bfdd_address *b) {
-    return a->family == b->family && memcmp(a->bytes, b->bytes, a->family == 4 ? 4 : 16) == 0;
-}
+static bool is_same_address(const bfdd_address *a, const bfdd_address *b) { return memcmp(a, b, sizeof *a) == 0; }
 
 static uint32_t get32(const uint8_t *at) { return (uint32_t)at[0] << 24 | (uint32_t)at[1] << 16 | (uint32_t)at[2] << 8 | at[3]; }
 
@@ -83,7 +81,7 @@ static struct session *find_for(const struct arrivals *arrivals, size_t i) {
     struct session *any = NULL;
     if (arrivals->packets[i].length < 24) return NULL;
     uint32_t discr = get32(arrivals->packets[i].payload + 8);
-    struct session *s = discr ? find(discr) : *bucket_of_peer(&packet->src);
+    struct session *s = discr ? sessions_find(discr) : *bucket_of_peer(&packet->src);
     for (; s; s = discr ? NULL : s->next[BY_PEER]) {
         bool is_exact = is_multihop(s) || s->path.ifindex == arrivals->ifindex[i];
         if (!s->is_open || is_multihop(s) != (packet->port == BFDD_PORT_MULTI) || s->path.device != arrivals->device) continue;
@@ -108,13 +106,7 @@ const char *session_name(const struct session *s) {
 static void tell(struct session *s, const struct session_change *change, uint64_t now) {
     s->told_at = now;
     s->is_told = teller(s, change);
-    if (s->is_told) dp_write_state(s->told, &s->state);
-}
-
-static bool has_news(const struct session *s) {
-    uint8_t bytes[DP_STATE_LENGTH];
-    dp_write_state(bytes, &s->state);
-    return memcmp(bytes, s->told, sizeof bytes) != 0;
+    if (s->is_told) s->told = s->state;
 }
 
 /* Why a state changed. An expiry may be found by any event. */
@@ -150,7 +142,7 @@ static void take_outputs(enum event event, uint64_t now) {
     size_t count = 0;
     while (bfdd_outputs(&engine, outs, BFDD_MANY, &count) == BFDD_DONE) {
         for (size_t i = 0; i < count; i++) {
-            struct session *s = find(outs[i].discr);
+            struct session *s = sessions_find(outs[i].discr);
             if (!s) continue; /* never: who removes a session reads its outputs first */
             if (outs[i].kind == BFDD_CHANGED) {
                 changed(s, &outs[i], event, now);
@@ -212,7 +204,7 @@ static void received(struct session *s, const bfdd_arrival *arrival, const bfdd_
     record_packet(&s->record, arrival);
     if (is_last) take_outputs(PACKET, now);
     if (is_taken) s->heard = now;
-    if (s->state.state == BFDD_UP && has_news(s)) tell(s, NULL, now);
+    if (s->state.state == BFDD_UP && memcmp(&s->told, &s->state, sizeof s->told) != 0) tell(s, NULL, now);
 }
 
 static void receive(struct arrivals *arrivals) {
@@ -276,8 +268,8 @@ static void add_to_engine(struct session *s, uint64_t now) {
 static void open_session(struct session *s, uint64_t now) {
     bool has_source = memcmp(s->wanted.source, no_address, sizeof no_address) != 0;
     s->local.family = s->remote.family;
-    memcpy(s->local.bytes, s->wanted.source, sizeof s->local.bytes);
-    if (!sockets_find(s->remote.family, is_multihop(s), s->wanted.ifindex, &s->path)) return refuse(s, strerror(errno));
+    memcpy(s->local.bytes, s->wanted.source, s->local.family == 4 ? 4 : 16);
+    if (!sockets_find(is_multihop(s), s->wanted.ifindex, &s->path)) return refuse(s, strerror(errno));
     if (has_source || sockets_source(&s->remote, &s->path, &s->local)) add_to_engine(s, now);
 }
 
@@ -341,7 +333,7 @@ static void add_new(uint32_t owner, const struct dp_session *wanted, const struc
 
 void sessions_add(uint32_t owner, const struct dp_session *given, const struct session_key *key, uint64_t now) {
     struct dp_session wanted = *given;
-    struct session *s = find(wanted.discr);
+    struct session *s = sessions_find(wanted.discr);
     const char *fault = fault_of(&wanted);
     if (wanted.ifindex == 0 && wanted.ifname[0]) wanted.ifindex = if_nametoindex(wanted.ifname);
     if (fault) return say(LOG_ERROR, "session %" PRIu32 " %s: %s", wanted.discr, s ? "is left as it is" : "refused", fault);
@@ -360,7 +352,7 @@ void sessions_add(uint32_t owner, const struct dp_session *given, const struct s
 }
 
 void sessions_remove(uint32_t discr, uint64_t now) {
-    struct session *s = find(discr);
+    struct session *s = sessions_find(discr);
     if (s) close_session(s, now);
     else say(LOG_DEBUG, "no session has the discriminator %" PRIu32, discr);
 }
@@ -413,10 +405,6 @@ uint64_t sessions_pass(uint64_t now) {
     return is_due && due * 1000 < next_chores ? due * 1000 : next_chores;
 }
 
-/* Questions ------------------------------------------------------------------------------------------------------------ */
-
-const struct session *sessions_find(uint32_t discr) { return find(discr); }
-
 void sessions_view(session_viewer *view, FILE *file, uint64_t now) {
     for (size_t i = 0; i < BUCKETS; i++) {
         for (struct session *s = tables[BY_DISCR][i]; s; s = s->next[BY_DISCR]) {
@@ -438,7 +426,7 @@ void sessions_open(session_teller *tell_owner, uint64_t keep_for) {
     teller = tell_owner;
     keep = keep_for;
     if (bfdd_open(&engine, (const uint8_t *)none, sizeof none - 1, &complaint) != BFDD_DONE) fail("the sessions", "no memory");
-    if (!sockets_open(receive)) exit(1);
+    sockets_open(receive);
 }
 
 /* All say AdminDown; then the engine is closed at once, since a removal takes time by the number of sessions. */

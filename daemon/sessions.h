@@ -23,7 +23,7 @@ struct session {
     bool is_open;    /* the engine has it */
     bool is_refused; /* that it couldn't be opened was said */
     bool is_told;    /* its owner has an account of it; false at first, when the owner takes it as Down */
-    uint8_t told[DP_STATE_LENGTH];
+    struct dp_state told;
     uint64_t told_at;
     uint64_t begun;  /* when it was added */
     uint64_t starts; /* when its hold time has passed */
@@ -79,7 +79,7 @@ void sessions_close(uint64_t now);
 uint64_t sessions_pass(uint64_t now);
 
 /* NULL where no session has the discriminator. */
-const struct session *sessions_find(uint32_t discr);
+struct session *sessions_find(uint32_t discr);
 
 void sessions_view(session_viewer *view, FILE *file, uint64_t now);
 

@@ -1,8 +1,9 @@
 /* The UDP sockets of BFD: control packets over a single hop (port 3784) and over several (4784), IPv4 and IPv6, in and out.
  *
- * Packets are received and sent many at a time, without an allocation. One socket of each family and port receives on every
- * interface, and one of each family sends; the kernel gives a packet's interface, address, TTL and time beside it. An interface
- * in a VRF has sockets of its own, which are bound to a device: over a single hop to the interface, over several to the VRF. */
+ * Packets are received and sent many at a time, without an allocation. One socket of each port receives on every interface, and
+ * one sends; IPv4 addresses are mapped ones there (RFC 4291 section 2.5.5.2), so the system has to know IPv6, if only that. The
+ * kernel gives a packet's interface, address, TTL and time beside it. An interface in a VRF has sockets of its own, which are
+ * bound to a device: over a single hop to the interface, over several to the VRF. */
 #ifndef BFDD_SOCKETS_H
 #define BFDD_SOCKETS_H
 
@@ -18,19 +19,18 @@ struct arrivals {
 
 typedef void arrivals_taker(struct arrivals *arrivals);
 
-/* The sockets of a session. */
+/* What a session sends by. */
 struct path {
     uint32_t ifindex; /* 0: none */
-    uint32_t device;  /* that they are bound to; 0: none */
-    uint32_t sender;  /* the number of the one that sends */
+    uint32_t device;  /* that its sockets are bound to; 0: none */
+    uint32_t sender;  /* the number of the socket */
 };
 
-/* Opens the sockets that are bound to no device; the loop hands over from now on what comes to any. A family that the system
- * doesn't have is left out. False after an error line. */
-bool sockets_open(arrivals_taker *take);
+/* Opens the sockets that are bound to no device, or ends the program; the loop hands over from now on what comes to any. */
+void sockets_open(arrivals_taker *take);
 
-/* Finds the sockets of a session of IPv4 or IPv6 with this interface, and opens those for a VRF. False with errno. */
-bool sockets_find(uint32_t version, bool is_multihop, uint32_t ifindex, struct path *path);
+/* Finds the sockets of a session with this interface, and opens those for a VRF. False with errno. */
+bool sockets_find(bool is_multihop, uint32_t ifindex, struct path *path);
 
 /* Queues a packet. The queue is sent when it is full, and by sockets_flush. */
 void sockets_send(const bfdd_output *out, const struct path *path);
