@@ -2,78 +2,80 @@
 #define _GNU_SOURCE
 #include "control.h"
 
-#include "log.h"
 #include "loop.h"
+#include "words.h"
 
 #include <errno.h>
 #include <string.h>
 #include <unistd.h>
 
-enum { FRR_QUEUE = 8192, NEARLY_FULL = FRR_QUEUE - DP_SESSION_LENGTH };
+enum { LINKS = 256, FRR_QUEUE = 8192, NEARLY_FULL = FRR_QUEUE - DP_SESSION_LENGTH, LONGEST_SENT = DP_COUNTERS_LENGTH };
 static const uint64_t NEVER = UINT64_MAX, PAUSE = 1000000;
 
-/* A link's place in `links` is its number for the loop, and one more than that is the owner of its sessions. */
-static struct link links[LINKS];
-static bool has_sessions[LINKS];
-static uint32_t interest[LINKS]; /* the events that are awaited of each */
-static size_t top;               /* no link is open at this place or above */
+/* A connection. Its place is its number for the loop, and one more than that is the owner of its sessions. */
+static struct link {
+    int fd; /* -1: closed */
+    bool is_connecting, has_sessions;
+    size_t from, to, rest; /* where its unread bytes are, and how many wait to be sent */
+    uint8_t in[DP_LONGEST + 1], out[LONGEST_SENT];
+} links[LINKS];
+static size_t open_links;
 static struct endpoint peer;
-static struct sessions *sessions;
 static int listener = -1;
-static uint64_t connect_at = NEVER;
+static uint64_t connect_at = UINT64_MAX;
 static size_t received; /* bytes of sessions since the last connection was opened */
 static bool is_refused; /* the last connection failed, which was said */
 
-/* The events that a link waits for: none is read while there is no room for an answer. */
-static uint32_t events_of(const struct link *link) {
-    bool has_room = sizeof link->out - link->out_count >= LINK_REPLY;
-    if (link->connecting) return EPOLLOUT;
-    return (has_room ? EPOLLIN : 0u) | (link->out_count > 0 ? EPOLLOUT : 0u);
+static uint32_t place_of(const struct link *link) { return (uint32_t)(link - links); }
+
+static void link_event(uint32_t place, uint64_t now);
+
+static void await(struct link *link) {
+    loop_await(link->fd, LOOP_LINK, place_of(link), link->is_connecting || link->rest ? EPOLLOUT : EPOLLIN, link_event);
 }
 
-static void link_event(uint32_t number, uint64_t now);
-
-/* The loop awaits a new link's events. */
-static void await_link(size_t place) {
-    if (place >= top) top = place + 1;
-    interest[place] = events_of(&links[place]);
-    loop_await(links[place].fd, LOOP_LINK, (uint32_t)place, interest[place], link_event);
+static void close_link(struct link *link) {
+    close(link->fd);
+    link->fd = -1;
+    open_links--;
 }
 
-static void set_interest(size_t place) {
-    uint32_t events = events_of(&links[place]);
-    if (interest[place] != events) loop_change(links[place].fd, LOOP_LINK, (uint32_t)place, events);
-    interest[place] = events;
+static void drop(struct link *link, enum log_level level, const char *cause, uint64_t now) {
+    say(level, "connection %u to FRR ended: %s", place_of(link) + 1, cause);
+    close_link(link);
+    sessions_lost(place_of(link) + 1, now);
+    if (listener < 0 && open_links == 0) connect_at = now + PAUSE;
 }
 
-static size_t count_open(void) {
-    size_t count = 0;
-    for (size_t i = 0; i < top; i++) count += links[i].fd >= 0;
-    return count;
+/* Sends a message. False, and nothing is sent, while a part of another waits. A connection that has ended is seen when it is read. */
+static bool send_to(struct link *link, const uint8_t *bytes, size_t length) {
+    if (link->fd < 0 || link->is_connecting || link->rest) return false;
+    ssize_t sent = send(link->fd, bytes, length, MSG_NOSIGNAL);
+    if (sent < 0) sent = 0;
+    link->rest = length - (size_t)sent;
+    memcpy(link->out, bytes + sent, link->rest);
+    if (link->rest) await(link);
+    return true;
 }
 
-/* A closed link's place, LINKS where there is none. */
-static size_t find_closed(void) {
-    size_t place = 0;
-    while (place < LINKS && links[place].fd >= 0) place++;
-    return place;
-}
-
-static void drop(size_t place, enum log_level level, const char *cause, uint64_t now) {
-    say(level, "connection %zu to FRR ended: %s", place + 1, cause);
-    link_close(&links[place]);
-    sessions_lost(sessions, (uint32_t)place + 1, now);
-    if (listener < 0 && count_open() == 0) connect_at = now + PAUSE;
+/* Sends what waits. False when the connection has ended. */
+static bool send_rest(struct link *link) {
+    ssize_t sent = send(link->fd, link->out, link->rest, MSG_NOSIGNAL);
+    if (sent < 0) return errno == EAGAIN || errno == EINTR;
+    link->rest -= (size_t)sent;
+    memmove(link->out, link->out + sent, link->rest);
+    if (link->rest == 0) await(link);
+    return true;
 }
 
 /* A connection is there: it begins with a question, behind whose answer all has come that FRR had to add at once. */
-static void begin(size_t place, uint64_t now) {
+static void begin(struct link *link, uint64_t now) {
     uint8_t bytes[DP_ECHO_LENGTH];
     struct dp_echo echo = {.data_plane_time = now};
-    say(LOG_INFO, "connection %zu to FRR is open", place + 1);
-    is_refused = false;
-    has_sessions[place] = false;
-    link_put(&links[place], bytes, dp_write_echo(bytes, DP_ECHO_REQUEST, 0, &echo));
+    say(LOG_INFO, "connection %u to FRR is open", place_of(link) + 1);
+    is_refused = link->is_connecting = false;
+    await(link);
+    send_to(link, bytes, dp_write_echo(bytes, DP_ECHO_REQUEST, 0, &echo));
 }
 
 static void refuse(const char *cause, uint64_t now) {
@@ -82,118 +84,130 @@ static void refuse(const char *cause, uint64_t now) {
     connect_at = now + PAUSE;
 }
 
+/* A connection of this socket, or NULL, and the socket is closed, where there are too many. */
+static struct link *take_link(int fd) {
+    struct link *link = links;
+    while (link < links + LINKS && link->fd >= 0) link++;
+    if (link == links + LINKS) return say(LOG_ERROR, "no more than %d connections to FRR are opened", LINKS), close(fd), NULL;
+    open_links++;
+    link->fd = fd;
+    link->is_connecting = link->has_sessions = false;
+    link->from = link->to = link->rest = 0;
+    return link;
+}
+
 static void open_link(uint64_t now) {
-    size_t place = find_closed();
+    int fd = socket(peer.address.ss_family, SOCK_STREAM | SOCK_NONBLOCK | SOCK_CLOEXEC, 0);
     connect_at = NEVER;
     received = 0;
-    if (place == LINKS) return say(LOG_ERROR, "no more than %d connections to FRR are opened", LINKS);
-    if (!link_connect(&links[place], &peer)) return refuse(strerror(errno), now);
-    if (!links[place].connecting) begin(place, now);
-    await_link(place);
+    if (fd < 0) return refuse(strerror(errno), now);
+    struct link *link = take_link(fd);
+    if (!link) return;
+    if (connect(fd, (const struct sockaddr *)&peer.address, peer.length) == 0) return begin(link, now);
+    link->is_connecting = errno == EINPROGRESS;
+    if (link->is_connecting) return await(link);
+    refuse(strerror(errno), now);
+    close_link(link);
 }
 
 static void accept_link(uint32_t number, uint64_t now) {
     (void)number;
     int fd = accept4(listener, NULL, NULL, SOCK_NONBLOCK | SOCK_CLOEXEC);
-    size_t place = find_closed();
     if (fd < 0) return say(LOG_WARNING, "accept: %s", strerror(errno));
-    if (place == LINKS) {
-        close(fd);
-        return;
-    }
-    link_begin(&links[place], fd);
-    begin(place, now);
-    await_link(place);
+    struct link *link = take_link(fd);
+    if (link) begin(link, now);
 }
 
-/* An echo reply came: all is there that FRR had for this connection. One that brought nothing isn't needed beside another. */
-static void answered(size_t place, uint64_t now) {
-    if (!has_sessions[place] && listener < 0 && count_open() > 1) drop(place, LOG_INFO, "no session was left for it", now);
-}
-
-static void carry_out(size_t place, const struct dp_message *message, uint64_t now) {
-    uint8_t bytes[LINK_REPLY];
-    uint32_t owner = (uint32_t)place + 1;
-    const struct session *s;
+static void answer_counters(struct link *link, uint16_t id, uint32_t discr) {
+    uint8_t bytes[DP_COUNTERS_LENGTH];
+    const struct session *s = sessions_find(discr);
     struct dp_counters counters = {0};
-    struct dp_echo echo;
+    if (s) counters = (struct dp_counters){s->bytes_in, s->packets_in, s->bytes_out, s->packets_out};
+    send_to(link, bytes, dp_write_counters(bytes, id, discr, &counters));
+}
+
+static void carry_out(struct link *link, const struct dp_message *message, uint64_t now) {
+    uint8_t bytes[DP_ECHO_LENGTH];
+    struct dp_echo echo = {now, message->body.echo.control_time};
     switch (message->type) {
-    case DP_ECHO_REQUEST:
-        echo = (struct dp_echo){now, message->body.echo.control_time};
-        link_put(&links[place], bytes, dp_write_echo(bytes, DP_ECHO_REPLY, message->id, &echo));
+    case DP_ECHO_REQUEST: send_to(link, bytes, dp_write_echo(bytes, DP_ECHO_REPLY, message->id, &echo)); break;
+    case DP_ECHO_REPLY: /* all is there that FRR had for this connection: one that brought nothing isn't needed beside another */
+        if (!link->has_sessions && listener < 0 && open_links > 1) drop(link, LOG_INFO, "no session was left for it", now);
         break;
-    case DP_ECHO_REPLY: answered(place, now); break;
     case DP_ADD_SESSION:
-        has_sessions[place] = true;
+        link->has_sessions = true;
         received += message->length;
-        sessions_add(sessions, owner, &message->body.session, NULL, now);
+        sessions_add(place_of(link) + 1, &message->body.session, NULL, now);
         break;
     case DP_DELETE_SESSION:
         received += message->length;
-        sessions_remove(sessions, message->body.session.discr, now);
+        sessions_remove(message->body.session.discr, now);
         break;
-    case DP_REQUEST_COUNTERS:
-        if ((s = sessions_find(sessions, message->body.discr)))
-            counters = (struct dp_counters){s->count.bytes_in, s->count.packets_in, s->count.bytes_out, s->count.packets_out};
-        link_put(&links[place], bytes, dp_write_counters(bytes, message->id, message->body.discr, &counters));
-        break;
-    default: break;
+    default: answer_counters(link, message->id, message->body.discr);
     }
 }
 
-/* Carries out the messages that have come, while there is room for their answers. */
-static void carry_out_all(size_t place, uint64_t now) {
-    struct link *link = &links[place];
-    struct dp_message message;
-    enum link_next next = LINK_NONE;
-    while (link->fd >= 0 && (next = link_next(link, &message)) == LINK_MESSAGE) carry_out(place, &message, now);
-    if (link->fd >= 0 && next == LINK_BROKEN) drop(place, LOG_WARNING, "its messages can't be read", now);
+/* Carries out the messages that have come, while their answers are taken. */
+static void carry_out_all(struct link *link, uint64_t now) {
+    while (link->fd >= 0 && !link->rest) {
+        struct dp_message message;
+        size_t used;
+        enum dp_reading reading = dp_read(link->in + link->from, link->to - link->from, &message, &used);
+        link->from += used;
+        if (reading == DP_PARTIAL) break;
+        if (reading == DP_READ) carry_out(link, &message, now);
+        else if (reading == DP_LOST) drop(link, LOG_ERROR, "a message has a length below its header's", now);
+        else if (reading == DP_UNKNOWN_VERSION) say(LOG_WARNING, "skipped a message of version %d", message.version);
+        else if (reading == DP_UNKNOWN_TYPE) say(LOG_WARNING, "skipped a message of type %d", message.type);
+        else say(LOG_WARNING, "skipped a message of type %d and length %d", message.type, message.length);
+    }
     if (received >= NEARLY_FULL && listener < 0 && connect_at == NEVER) connect_at = now;
 }
 
-bool control_open(const struct endpoint *endpoint, bool listens, struct sessions *served) {
-    for (size_t i = 0; i < LINKS; i++) links[i].fd = -1;
-    peer = *endpoint;
-    sessions = served;
-    connect_at = listens ? NEVER : 0;
-    if (!listens) return true;
-    listener = endpoint_listen(endpoint);
-    if (listener >= 0) loop_await(listener, LOOP_LISTENER, 0, EPOLLIN, accept_link);
-    return listener >= 0;
-}
-
-bool control_tell(void *context, const struct session *s, const struct session_change *change) {
-    uint8_t bytes[DP_STATE_LENGTH];
-    (void)context, (void)change;
-    if (s->owner == NO_OWNER || links[s->owner - 1].fd < 0) return false;
-    return link_put(&links[s->owner - 1], bytes, dp_write_state(bytes, &s->state));
+/* Reads what has come. False when the connection has ended. */
+static bool read_from(struct link *link) {
+    memmove(link->in, link->in + link->from, link->to - link->from);
+    link->to -= link->from;
+    link->from = 0;
+    ssize_t got = recv(link->fd, link->in + link->to, sizeof link->in - link->to, 0);
+    if (got > 0) link->to += (size_t)got;
+    return got > 0 || (got < 0 && (errno == EAGAIN || errno == EINTR));
 }
 
 static void link_event(uint32_t place, uint64_t now) {
     struct link *link = &links[place];
+    int cause = 0;
+    socklen_t length = sizeof cause;
     if (link->fd < 0) return; /* it was closed since */
-    if (link->connecting) {
-        if (link_connected(link)) return begin(place, now);
-        int cause = errno;
-        link_close(link);
+    if (link->is_connecting) {
+        if (getsockopt(link->fd, SOL_SOCKET, SO_ERROR, &cause, &length) == 0 && cause == 0) return begin(link, now);
+        close_link(link);
         return refuse(strerror(cause), now);
     }
-    bool goes_on = link_read(link);
-    carry_out_all(place, now);
-    if (!goes_on && link->fd >= 0) drop(place, LOG_WARNING, "closed by FRR", now);
+    bool goes_on = link->rest ? send_rest(link) : read_from(link);
+    cause = errno;
+    carry_out_all(link, now);
+    if (!goes_on && link->fd >= 0) drop(link, LOG_WARNING, link->rest ? strerror(cause) : "closed by FRR", now);
+}
+
+void control_open(const struct endpoint *endpoint, bool listens) {
+    for (size_t i = 0; i < LINKS; i++) links[i].fd = -1;
+    peer = *endpoint;
+    if (!listens) {
+        connect_at = 0;
+        return;
+    }
+    listener = endpoint_listen(endpoint);
+    loop_await(listener, LOOP_LISTENER, 0, EPOLLIN, accept_link);
+}
+
+bool control_tell(const struct session *s, const struct session_change *change) {
+    uint8_t bytes[DP_STATE_LENGTH];
+    (void)change;
+    return s->owner != NO_OWNER && send_to(&links[s->owner - 1], bytes, dp_write_state(bytes, &s->state));
 }
 
 uint64_t control_round(uint64_t now) {
     if (connect_at <= now) open_link(now);
-    while (top > 0 && links[top - 1].fd < 0) top--;
-    for (size_t i = 0; i < top; i++) {
-        if (links[i].fd < 0 || links[i].connecting) continue;
-        if (!link_flush(&links[i])) {
-            drop(i, LOG_WARNING, strerror(errno), now);
-            continue;
-        }
-        if (links[i].in_to > links[i].in_from) carry_out_all(i, now);
-        if (links[i].fd >= 0) set_interest(i);
-    }
     return connect_at;
 }

@@ -1,6 +1,6 @@
 /* bfdd-dplane: a data plane for FRR's bfdd, on the library libbfdd.
  *
- *     FRR's bfdd <- link <- control -> sessions -> engine -> libbfdd, and sockets for its packets
+ *     FRR's bfdd <- control -> sessions -> libbfdd, and sockets for its packets
  *
  * There is one thread: see loop.h. Nothing is allocated for a packet. */
 #define _GNU_SOURCE
@@ -33,7 +33,7 @@ static uint64_t keep; /* seconds */
 
 static bool take_option(int option, const char *value) {
     if (option == 'l') return listens = true;
-    return front_number(value, 0, LONGEST_KEEP, &keep);
+    return read_number(value, 0, LONGEST_KEEP, &keep);
 }
 
 /* Says to systemd that the program is ready, where it asks for that. */
@@ -55,8 +55,8 @@ int main(int count, char **words) {
     struct endpoint endpoint;
     front_read(count, words, known, take_option, usage);
     if (optind + 1 != count || !endpoint_parse(words[optind], &endpoint)) front_fault(usage);
-    struct sessions *sessions = front_open(control_tell, keep * 1000000, stderr, false);
-    if (!control_open(&endpoint, listens, sessions)) return 1;
+    front_open(control_tell, keep * 1000000, stderr, false);
+    control_open(&endpoint, listens);
     notify_ready();
     front_run(control_round);
     front_close();

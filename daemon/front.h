@@ -2,12 +2,10 @@
 #ifndef BFDD_FRONT_H
 #define BFDD_FRONT_H
 
-#include "log.h"
 #include "loop.h"
 #include "sessions.h"
 
 #include <getopt.h>
-#include <stdio.h>
 
 /* The last of the options that a front knows, and their lines of its usage. */
 #define FRONT_OPTIONS \
@@ -26,14 +24,10 @@ typedef bool front_option(int option, const char *value);
 void front_read(int count, char **words, const struct option *known, front_option *take, const char *usage);
 
 /* Writes the usage to standard error and ends the program. */
-void front_fault(const char *usage);
+_Noreturn void front_fault(const char *usage);
 
-/* Reads a decimal number of this range. */
-bool front_number(const char *text, uint64_t least, uint64_t greatest, uint64_t *number);
-
-/* Opens the sockets and an empty set of sessions, as sessions_new does. SIGUSR1 views them to `views`, as JSON or as text. It ends
- * the program where that fails. */
-struct sessions *front_open(session_teller *tell, uint64_t keep, FILE *views, bool json);
+/* Begins without a session, as sessions_open does. SIGUSR1 views them to `views`, as JSON or as text. */
+void front_open(session_teller *tell, uint64_t keep, FILE *views, bool json);
 
 /* Views the sessions, as by SIGUSR1. */
 void front_view(uint64_t now);
@@ -41,7 +35,7 @@ void front_view(uint64_t now);
 /* Runs until SIGTERM or SIGINT, with this in each round too, if it isn't NULL. */
 void front_run(loop_round *also);
 
-/* Removes the sessions, which send AdminDown. */
+/* Ends the sessions, which send AdminDown. */
 void front_close(void);
 
 #endif

@@ -1,9 +1,10 @@
 /* bfdd-peer: BFD sessions of this host without a routing daemon, on the library libbfdd.
  *
- *     words or a table -> sessions -> engine -> libbfdd, and sockets for its packets
+ *     words or a table -> sessions -> libbfdd, and sockets for its packets
  *
  * Each change of a session's state is a line on standard output, and may run a command. */
 #define _GNU_SOURCE
+#include "endpoint.h"
 #include "front.h"
 #include "view.h"
 #include "words.h"
@@ -14,7 +15,6 @@
 #include <inttypes.h>
 #include <net/if.h>
 #include <signal.h>
-#include <spawn.h>
 #include <stdlib.h>
 #include <string.h>
 #include <sys/random.h>
@@ -43,79 +43,52 @@ static const char usage[] =
     "SIGUSR1, or Enter at a terminal, writes a line for each session. See bfdd-peer(1).\n";
 
 /* A session that is to be run. */
-struct entry {
+static struct entry {
     struct dp_session wanted;
     struct session_key key;
-};
-
-static struct entry given = {.wanted = {.tx = 300000, .rx = 300000, .mult = 3}}; /* as the options have it */
-static struct entry *entries;
+} given = {.wanted = {.tx = 300000, .rx = 300000, .mult = 3}}, *entries; /* as the options have it; and all */
 static size_t count_entries;
 static bool json;
 static const char *command;
 
-static void fail(const char *what, const char *cause) {
-    say(LOG_ERROR, "%s: %s", what, cause);
-    exit(1);
-}
-
-/* Options -------------------------------------------------------------------------------------------------------------- */
-
-static bool read_ms(const char *text, uint32_t *us) {
-    uint64_t number;
-    if (!front_number(text, 10, 60000, &number)) return false;
-    *us = (uint32_t)number * 1000;
-    return true;
-}
-
-/* The key that a file has, but for a line's end behind it. */
-static bool read_key(const char *path, struct session_key *key) {
+/* Reads TYPE:ID:KEYFILE. A line's end behind the key isn't part of it. */
+static bool read_auth(const char *text, struct session_key *key) {
     uint8_t bytes[sizeof key->bytes + 2];
-    FILE *file = fopen(path, "re");
-    if (!file) fail(path, strerror(errno));
+    int end = 0;
+    if (sscanf(text, "%1" SCNu32 ":%3" SCNu32 ":%n", &key->type, &key->id, &end) != 2 || end == 0) return false;
+    if (key->type < 1 || key->type > 5 || key->id > 255) return false;
+    FILE *file = fopen(text + end, "re");
+    if (!file) fail(text + end, strerror(errno));
     key->length = (uint32_t)fread(bytes, 1, sizeof bytes, file);
     fclose(file);
     if (key->length > 0 && bytes[key->length - 1] == '\n') key->length--;
     if (key->length < 1 || key->length > (key->type < 4 ? 16 : 20)) return false;
-    memcpy(key->bytes, bytes, key->length);
-    return true;
-}
-
-/* Reads TYPE:ID:KEYFILE. */
-static bool read_auth(const char *text, struct session_key *key) {
-    int end = 0;
-    if (sscanf(text, "%1" SCNu32 ":%3" SCNu32 ":%n", &key->type, &key->id, &end) != 2 || end == 0) return false;
-    return key->type >= 1 && key->type <= 5 && key->id <= 255 && read_key(text + end, key);
+    return memcpy(key->bytes, bytes, key->length);
 }
 
 static bool take_option(int option, const char *value) {
+    struct dp_session *s = &given.wanted;
     uint64_t number = 0;
     switch (option) {
-    case 'm': given.wanted.flags |= DP_MULTIHOP; return true;
-    case 'p': given.wanted.flags |= DP_PASSIVE; return true;
-    case 't': return read_ms(value, &given.wanted.tx);
-    case 'r': return read_ms(value, &given.wanted.rx);
+    case 'm': return s->flags |= DP_MULTIHOP;
+    case 'p': return s->flags |= DP_PASSIVE;
+    case 't': return read_number(value, 10, 60000, &number) && (s->tx = (uint32_t)number * 1000);
+    case 'r': return read_number(value, 10, 60000, &number) && (s->rx = (uint32_t)number * 1000);
+    case 'n': return read_number(value, 1, 255, &number) && (s->mult = (uint8_t)number);
     case 'a': return read_auth(value, &given.key);
     case 'j': return json = true;
     case 'c': return (command = value);
-    case 'n':
-        if (!front_number(value, 1, 255, &number)) return false;
-        given.wanted.mult = (uint8_t)number;
-        return true;
     default:
-        given.wanted.ifindex = if_nametoindex(value);
-        if (given.wanted.ifindex == 0) fail(value, "no such interface");
-        snprintf(given.wanted.ifname, sizeof given.wanted.ifname, "%s", value);
-        return true;
+        if ((s->ifindex = if_nametoindex(value)) == 0) fail(value, "no such interface");
+        return snprintf(s->ifname, sizeof s->ifname, "%s", value) > 0;
     }
 }
 
 /* Sessions ------------------------------------------------------------------------------------------------------------- */
 
 static void add_entry(const struct entry *entry) {
-    struct entry *more = realloc(entries, (count_entries + 1) * sizeof *entries);
-    if (!more) fail("the sessions", strerror(ENOMEM));
-    entries = more;
+    entries = realloc(entries, (count_entries + 1) * sizeof *entries);
+    if (!entries) fail("the sessions", strerror(ENOMEM));
     entries[count_entries++] = *entry;
 }
 
@@ -127,11 +100,9 @@ static bool take_words(const char *local, const char *remote) {
     if (inet_pton(family, local, s->source) != 1 || inet_pton(family, remote, s->destination) != 1) return false;
     if (s->destination[0] == 0xfe && (s->destination[1] & 0xc0) == 0x80 && family == AF_INET6 && s->ifindex == 0)
         fail(remote, "a link-local address needs --interface");
-    while (s->discr == 0) {
+    while (s->discr == 0)
         if (getrandom(&s->discr, sizeof s->discr, 0) != sizeof s->discr) fail("getrandom", strerror(errno));
-    }
-    add_entry(&given);
-    return true;
+    return add_entry(&given), true;
 }
 
 static size_t read_hex(const char *text, uint8_t *bytes, size_t room) {
@@ -140,111 +111,76 @@ static size_t read_hex(const char *text, uint8_t *bytes, size_t room) {
     return count;
 }
 
-/* An address of a packet file. Whether it is one of IPv6. */
-static bool read_address(const char *text, uint8_t bytes[16]) {
-    if (inet_pton(AF_INET, text, bytes) == 1) return false;
-    return read_hex(text, bytes, 16) == 16;
+/* The flag of an address of a packet file, which is written in hexadecimal where it is one of IPv6. */
+static uint32_t read_address(const char *text, uint8_t bytes[16]) {
+    return inet_pton(AF_INET, text, bytes) == 1 || read_hex(text, bytes, 16) < 16 ? 0 : DP_IPV6;
 }
 
-/* The session of a line `p2p`, which the engine has found to be one. */
-static void take_p2p(const char *line) {
+/* A line of a table, which the engine has found to be one. */
+static void take_line(const char *line) {
     struct entry entry = {0};
     struct dp_session *s = &entry.wanted;
-    char hops[8], local[WORD], remote[WORD], mode[8];
-    uint32_t mult, echo;
-    sscanf(line, "p2p %" SCNu32 " %7s %" SCNu32 " %47s %47s %7s %" SCNu32 " %" SCNu32 " %" SCNu32 " %" SCNu32, &s->discr, hops,
-           &s->ifindex, local, remote, mode, &s->tx, &s->rx, &mult, &echo);
-    read_address(local, s->source);
-    s->flags = (read_address(remote, s->destination) ? DP_IPV6 : 0u) | (*hops == 'm' ? DP_MULTIHOP : 0u) | (echo ? DP_ECHO : 0u)
-               | (*mode == 'p' ? DP_PASSIVE : 0u);
-    s->mult = (uint8_t)mult;
-    if (s->ifindex && !if_indextoname(s->ifindex, s->ifname)) fail(line, "no interface has this number");
-    add_entry(&entry);
-}
-
-/* The key of a line `auth`, for a session of an earlier line. */
-static void take_auth(const char *line) {
     struct session_key key = {0};
-    uint32_t discr;
-    char secret[WORD];
-    sscanf(line, "auth %" SCNu32 " %" SCNu32 " %" SCNu32 " %47s", &discr, &key.type, &key.id, secret);
-    key.length = (uint32_t)read_hex(secret, key.bytes, sizeof key.bytes);
-    for (size_t i = 0; i < count_entries; i++) {
-        if (entries[i].wanted.discr == discr) entries[i].key = key;
+    char hops[8], local[WORD], remote[WORD], mode[8], secret[WORD];
+    uint32_t mult, echo, discr;
+    if (sscanf(line, "p2p %" SCNu32 " %7s %" SCNu32 " %47s %47s %7s %" SCNu32 " %" SCNu32 " %" SCNu32 " %" SCNu32, &s->discr, hops,
+               &s->ifindex, local, remote, mode, &s->tx, &s->rx, &mult, &echo) == 10) {
+        read_address(local, s->source);
+        s->flags = read_address(remote, s->destination) | (*hops == 'm' ? DP_MULTIHOP : 0u) | (echo ? DP_ECHO : 0u) | (*mode == 'p' ? DP_PASSIVE : 0u);
+        s->mult = (uint8_t)mult;
+        if (s->ifindex && !if_indextoname(s->ifindex, s->ifname)) fail(line, "no interface has this number");
+        add_entry(&entry);
+    } else if (sscanf(line, "auth %" SCNu32 " %" SCNu32 " %" SCNu32 " %47s", &discr, &key.type, &key.id, secret) == 4) {
+        key.length = (uint32_t)read_hex(secret, key.bytes, sizeof key.bytes);
+        for (size_t i = 0; i < count_entries; i++)
+            if (entries[i].wanted.discr == discr) entries[i].key = key;
+    } else if (strncmp(line, "bfd ", 4) != 0 && strcmp(line, "run") != 0 && strcmp(line, "end") != 0) {
+        fail(line, "only point-to-point sessions with one key are run");
     }
 }
 
-/* Ends the program with status 2 where the proved reader finds the text to be no table. */
-static void check_table(const char *path, const char *text, size_t length) {
-    bfdd_handle handle = BFDD_HANDLE_INIT;
-    bfdd_complaint complaint = {0};
-    uint32_t code = bfdd_open(&handle, (const uint8_t *)text, length, &complaint);
-    bfdd_close(&handle);
-    if (code == BFDD_DONE) return;
-    if (code == BFDD_TEXT)
-        say(LOG_ERROR, "%s: line %" PRIu64 " has fault %" PRIu32 " of a packet file", path, complaint.line, complaint.fault);
-    else say(LOG_ERROR, "%s: %s", path, code == BFDD_EVENTS ? "a table has no events" : "no memory");
-    exit(2);
-}
-
+/* The sessions of a table; where the proved reader finds the text to be none, the program ends with status 2. */
 static void take_table(const char *path) {
     FILE *file = fopen(path, "re");
     char *text = NULL, *rest = NULL;
     size_t room = 0;
     ssize_t length = file ? getdelim(&text, &room, 0, file) : -1;
+    bfdd_handle handle = BFDD_HANDLE_INIT;
+    bfdd_complaint complaint = {0};
     if (length < 0) fail(path, file ? "it is empty" : strerror(errno));
     fclose(file);
-    check_table(path, text, (size_t)length);
-    for (char *line = strtok_r(text, "\n", &rest); line; line = strtok_r(NULL, "\n", &rest)) {
-        if (strncmp(line, "p2p ", 4) == 0) take_p2p(line);
-        else if (strncmp(line, "auth ", 5) == 0) take_auth(line);
-        else if (strncmp(line, "bfd ", 4) != 0 && strcmp(line, "run") != 0 && strcmp(line, "end") != 0)
-            fail(line, "only point-to-point sessions with one key are run");
-    }
+    uint32_t code = bfdd_open(&handle, (const uint8_t *)text, (size_t)length, &complaint);
+    bfdd_close(&handle);
+    if (code == BFDD_TEXT) say(LOG_ERROR, "%s: line %" PRIu64 ": %s", path, complaint.line, bfdd_name(BFDD_NAME_FAULT, complaint.fault));
+    else if (code != BFDD_DONE) say(LOG_ERROR, "%s: %s", path, code == BFDD_EVENTS ? "a table has no events" : "no memory");
+    if (code != BFDD_DONE) exit(2);
+    for (char *line = strtok_r(text, "\n", &rest); line; line = strtok_r(NULL, "\n", &rest)) take_line(line);
     free(text);
 }
 
 /* Changes -------------------------------------------------------------------------------------------------------------- */
 
-static void put_variables(const struct session *s, const struct session_change *change) {
-    char text[MOMENT_TEXT > ADDRESS_TEXT ? MOMENT_TEXT : ADDRESS_TEXT];
-    setenv("BFDD_TIME", moment_text(change->moment, text), 1);
-    setenv("BFDD_LOCAL", address_text(&s->local, text), 1);
-    setenv("BFDD_PEER", address_text(&s->remote, text), 1);
-    setenv("BFDD_INTERFACE", s->wanted.ifname, 1);
-    setenv("BFDD_WAS", state_text(change->was), 1);
-    setenv("BFDD_STATE", state_text(change->state), 1);
-    setenv("BFDD_DIAGNOSTIC", diagnostic_text(change->diagnostic), 1);
-    setenv("BFDD_CAUSE", change->cause, 1);
+/* Runs the command in a process whose end isn't waited for, with nothing to read, and what it writes on standard error. */
+static void run_command(const struct session *s, const struct session_change *change) {
+    char time[MOMENT_TEXT], local[ADDRESS_TEXT], remote[ADDRESS_TEXT];
+    const char *const variables[][2] = {
+        {"BFDD_TIME", moment_text(change->moment, time)}, {"BFDD_LOCAL", address_text(&s->local, local)},
+        {"BFDD_PEER", address_text(&s->remote, remote)}, {"BFDD_INTERFACE", s->wanted.ifname}, {"BFDD_WAS", state_text(change->was)},
+        {"BFDD_STATE", state_text(change->state)}, {"BFDD_DIAGNOSTIC", diagnostic_text(change->diagnostic)}, {"BFDD_CAUSE", change->cause}};
+    sigset_t none;
+    pid_t child = fork();
+    if (child < 0) say(LOG_ERROR, "%s: %s", command, strerror(errno));
+    if (child != 0) return;
+    for (size_t i = 0; i < sizeof variables / sizeof *variables; i++) setenv(variables[i][0], variables[i][1], 1);
+    sigemptyset(&none), sigprocmask(SIG_SETMASK, &none, NULL), signal(SIGCHLD, SIG_DFL);
+    dup2(open("/dev/null", O_RDONLY), 0), dup2(2, 1);
+    execl("/bin/sh", "sh", "-c", command, (char *)NULL);
+    _exit(127);
 }
 
-/* Runs the command, whose end isn't waited for, with nothing to read, and what it writes on standard error. */
-static void run_command(void) {
-    char *words[] = {"sh", "-c", (char *)(uintptr_t)command, NULL};
-    posix_spawn_file_actions_t files;
-    posix_spawnattr_t attributes;
-    sigset_t none, child;
-    sigemptyset(&none), sigemptyset(&child), sigaddset(&child, SIGCHLD);
-    posix_spawn_file_actions_init(&files);
-    posix_spawn_file_actions_addopen(&files, 0, "/dev/null", O_RDONLY, 0);
-    posix_spawn_file_actions_adddup2(&files, 2, 1);
-    posix_spawnattr_init(&attributes);
-    posix_spawnattr_setsigmask(&attributes, &none);
-    posix_spawnattr_setsigdefault(&attributes, &child);
-    posix_spawnattr_setflags(&attributes, POSIX_SPAWN_SETSIGMASK | POSIX_SPAWN_SETSIGDEF);
-    int cause = posix_spawn(&(pid_t){0}, "/bin/sh", &files, &attributes, words, environ);
-    if (cause) say(LOG_ERROR, "%s: %s", command, strerror(cause));
-    posix_spawn_file_actions_destroy(&files);
-    posix_spawnattr_destroy(&attributes);
-}
-
-static bool report_change(void *context, const struct session *s, const struct session_change *change) {
-    (void)context;
-    if (!change) return true;
-    view_change(stdout, json, s, change);
-    if (!command) return true;
-    put_variables(s, change);
-    run_command();
+static bool report_change(const struct session *s, const struct session_change *change) {
+    if (change) view_change(stdout, json, s, change);
+    if (change && command) run_command(s, change);
     return true;
 }
 
@@ -253,7 +189,7 @@ static void take_key(uint32_t number, uint64_t now) {
     char typed[TYPED];
     (void)number;
     if (read(STDIN_FILENO, typed, sizeof typed) > 0) front_view(now);
-    else loop_leave(STDIN_FILENO);
+    else loop_await(STDIN_FILENO, LOOP_KEY, 0, 0, take_key);
 }
 
 int main(int count, char **words) {
@@ -262,14 +198,14 @@ int main(int count, char **words) {
                                           {"mult", required_argument, NULL, 'n'}, {"passive", no_argument, NULL, 'p'},
                                           {"auth", required_argument, NULL, 'a'}, {"json", no_argument, NULL, 'j'},
                                           {"on-change", required_argument, NULL, 'c'}, FRONT_OPTIONS};
-    log_set_level(LOG_WARNING);
+    log_greatest = LOG_WARNING;
     setvbuf(stdout, NULL, _IOLBF, 0);
     signal(SIGCHLD, SIG_IGN), signal(SIGTTIN, SIG_IGN);
     front_read(count, words, known, take_option, usage);
     if (optind + 1 == count) take_table(words[optind]);
     else if (optind + 2 != count || !take_words(words[optind], words[optind + 1])) front_fault(usage);
-    struct sessions *sessions = front_open(report_change, 0, stdout, json);
-    for (size_t i = 0; i < count_entries; i++) sessions_add(sessions, OWNER, &entries[i].wanted, &entries[i].key, clock_now());
+    front_open(report_change, 0, stdout, json);
+    for (size_t i = 0; i < count_entries; i++) sessions_add(OWNER, &entries[i].wanted, &entries[i].key, clock_now());
     if (isatty(STDIN_FILENO)) loop_await(STDIN_FILENO, LOOP_KEY, 0, EPOLLIN, take_key);
     front_run(NULL);
     front_view(clock_now());

@@ -9,36 +9,16 @@
 #include <stddef.h>
 #include <stdint.h>
 
-enum dp_type {
-    DP_ECHO_REQUEST = 0,
-    DP_ECHO_REPLY = 1,
-    DP_ADD_SESSION = 2, /* new, or changed */
-    DP_DELETE_SESSION = 3,
-    DP_STATE_CHANGE = 4,
-    DP_REQUEST_COUNTERS = 5,
-    DP_COUNTERS = 6
-};
+/* An addition is also the change of a session that is there. */
+enum dp_type { DP_ECHO_REQUEST, DP_ECHO_REPLY, DP_ADD_SESSION, DP_DELETE_SESSION, DP_STATE_CHANGE, DP_REQUEST_COUNTERS, DP_COUNTERS };
 
-/* Lengths of whole messages, the header included. */
+/* Lengths of whole messages, the header included; DP_LONGEST is of what another version may have. */
 enum dp_length {
-    DP_HEADER_LENGTH = 8,
-    DP_ECHO_LENGTH = 24,
-    DP_SESSION_LENGTH = 140,
-    DP_STATE_LENGTH = 36,
-    DP_REQUEST_LENGTH = 12,
-    DP_COUNTERS_LENGTH = 80,
-    DP_LONGEST = 65535 /* of a message that another version may have */
+    DP_HEADER_LENGTH = 8, DP_ECHO_LENGTH = 24, DP_SESSION_LENGTH = 140, DP_STATE_LENGTH = 36, DP_REQUEST_LENGTH = 12,
+    DP_COUNTERS_LENGTH = 80, DP_LONGEST = 65535
 };
 
-enum dp_session_flag {
-    DP_MULTIHOP = 1,
-    DP_DEMAND = 2,
-    DP_C_BIT = 4,
-    DP_ECHO = 8,
-    DP_IPV6 = 16,
-    DP_PASSIVE = 32,
-    DP_SHUTDOWN = 64
-};
+enum dp_session_flag { DP_MULTIHOP = 1, DP_DEMAND = 2, DP_C_BIT = 4, DP_ECHO = 8, DP_IPV6 = 16, DP_PASSIVE = 32, DP_SHUTDOWN = 64 };
 
 /* The peer's flags in a change of state. */
 enum dp_peer_flag { DP_PEER_C = 1, DP_PEER_DEMAND = 2, DP_PEER_MULTIPOINT = 4 };
@@ -48,28 +28,17 @@ struct dp_echo {
     uint64_t data_plane_time, control_time;
 };
 
-/* Intervals in microseconds. An IPv4 address has the first four bytes. */
+/* Intervals in microseconds. An IPv4 address has the first four bytes; a source of zeros isn't given, nor is the ifindex 0. */
 struct dp_session {
-    uint32_t flags; /* enum dp_session_flag */
-    uint8_t source[16]; /* zeros: not given */
-    uint8_t destination[16];
-    uint32_t discr;
-    uint32_t tx, rx;
-    uint32_t echo_tx, echo_rx;
-    uint32_t hold_ms;
-    uint8_t least_ttl;
-    uint8_t mult;
-    uint32_t ifindex; /* 0: none */
+    uint32_t flags, discr, tx, rx, echo_tx, echo_rx, hold_ms, ifindex;
+    uint8_t source[16], destination[16], least_ttl, mult;
     char ifname[65];
 };
 
 struct dp_state {
-    uint32_t discr, peer_discr;
-    uint32_t peer_flags; /* enum dp_peer_flag */
-    uint32_t peer_tx, peer_rx, peer_echo_rx;
-    uint8_t state; /* the own one */
-    uint8_t diagnostic;
-    uint8_t peer_mult;
+    uint32_t discr, peer_discr, peer_flags, peer_tx, peer_rx, peer_echo_rx;
+    uint8_t state, diagnostic, peer_mult; /* the own state; the others are the peer's */
+    uint8_t zero;                         /* so that every byte counts where two are compared */
 };
 
 struct dp_counters {

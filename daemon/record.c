@@ -2,20 +2,28 @@
 #define _GNU_SOURCE
 #include "record.h"
 
-#include "log.h"
 #include "words.h"
 
 #include <errno.h>
 #include <fcntl.h>
 #include <inttypes.h>
 #include <string.h>
+#include <sys/resource.h>
+#include <sys/stat.h>
 #include <unistd.h>
 
 enum { MOST_EVENTS = 200000, MOST_PAYLOAD = 256, PATH = 512 };
 
 static const char *folder;
 
-void record_in(const char *path) { folder = path; }
+void record_in(const char *path) {
+    struct rlimit files; /* each record is an open file */
+    if (getrlimit(RLIMIT_NOFILE, &files) == 0) files.rlim_cur = files.rlim_max, setrlimit(RLIMIT_NOFILE, &files);
+    if (mkdir(path, 0777) != 0 && errno != EEXIST) fail(path, strerror(errno));
+    folder = path;
+}
+
+bool record_is_on(void) { return folder != NULL; }
 
 /* A new file that this user alone may read, since it has the session's key. */
 static FILE *create(const char *path) {
@@ -27,9 +35,8 @@ static FILE *create(const char *path) {
 }
 
 static void put_bytes(FILE *file, const uint8_t *bytes, size_t length) {
-    static const char digits[] = "0123456789abcdef";
     if (length == 0) fputc('-', file);
-    for (size_t i = 0; i < length; i++) fputc(digits[bytes[i] >> 4], file), fputc(digits[bytes[i] & 15], file);
+    for (size_t i = 0; i < length; i++) fputc("0123456789abcdef"[bytes[i] >> 4], file), fputc("0123456789abcdef"[bytes[i] & 15], file);
 }
 
 static void put_address(FILE *file, const bfdd_address *address) {
@@ -54,27 +61,33 @@ static void put_table(FILE *file, const bfdd_session *s) {
 }
 
 /* The path of a session's record: the time of day without its hyphens and colons, and the discriminator. */
-static bool name_file(char path[PATH], const char *moment, uint32_t discr) {
+static bool name_file(char path[PATH], uint64_t now, uint32_t discr) {
+    char text[MOMENT_TEXT];
     int length = snprintf(path, PATH, "%s/", folder);
     if (length < 0 || length + MOMENT_TEXT + 30 > PATH) return say(LOG_ERROR, "%s: too long a path", folder), false;
-    for (; *moment; moment++) {
-        if (*moment != '-' && *moment != ':') path[length++] = *moment;
-    }
+    for (const char *at = moment_text(now, text); *at; at++)
+        if (*at != '-' && *at != ':') path[length++] = *at;
     snprintf(path + length, (size_t)(PATH - length), "-%" PRIu32 ".script", discr);
     return true;
 }
 
-void record_begin(struct record *record, const bfdd_session *session, uint64_t base) {
-    char moment[MOMENT_TEXT], path[PATH];
+void record_begin(struct record *record, const bfdd_session *session, uint64_t now) {
+    char text[MOMENT_TEXT], path[PATH];
     *record = (struct record){0};
-    if (!folder || !name_file(path, moment_text(base, moment), session->discr)) return;
-    if (!(record->file = create(path))) return;
+    if (!folder || !name_file(path, now, session->discr) || bfdd_open_session(&record->alone, session) != BFDD_DONE) return;
+    if (!(record->file = create(path))) return bfdd_close(&record->alone);
     put_table(record->file, session);
     strcat(path, ".start");
     FILE *start = create(path);
     if (!start) return;
-    fprintf(start, "start %s\n", moment);
+    fprintf(start, "start %s\n", moment_text(0, text));
     fclose(start);
+}
+
+static void drop(struct record *record) {
+    if (record->file) fclose(record->file);
+    record->file = NULL;
+    bfdd_close(&record->alone);
 }
 
 /* Whether there is room for one more event. Where there is none, the record ends. */
@@ -82,49 +95,46 @@ static bool has_room(struct record *record) {
     if (!record->file) return false;
     if (record->events++ < MOST_EVENTS) return true;
     record_end(record);
-    say(LOG_WARNING, "a session's record ends with its event %d, the most that a packet file has", MOST_EVENTS);
-    return false;
+    return say(LOG_WARNING, "a session's record ends with its event %d, the most that a packet file has", MOST_EVENTS), false;
 }
 
-void record_packet(struct record *record, const bfdd_packet *packet, const uint8_t *payload, size_t length) {
+void record_packet(struct record *record, const bfdd_arrival *arrival) {
+    const bfdd_packet *packet = &arrival->packet;
     if (!has_room(record)) return;
-    fprintf(record->file, "rx %" PRIu64 " %s %" PRIu32 " ", packet->moment, packet->port == BFDD_PORT_MULTI ? "multi" : "single",
-            packet->iface);
+    bfdd_receive(&record->alone, packet, arrival->payload, arrival->length);
+    fprintf(record->file, "rx %" PRIu64 " %s %" PRIu32 " ", packet->moment, packet->port == BFDD_PORT_MULTI ? "multi" : "single", packet->iface);
     put_address(record->file, &packet->src);
     put_address(record->file, &packet->dst);
     fprintf(record->file, "%u ", packet->ttl);
-    put_bytes(record->file, payload, length < MOST_PAYLOAD ? length : MOST_PAYLOAD);
+    put_bytes(record->file, arrival->payload, arrival->length < MOST_PAYLOAD ? arrival->length : MOST_PAYLOAD);
     fputc('\n', record->file);
 }
 
 void record_tick(struct record *record, uint64_t ms) {
-    if (has_room(record)) fprintf(record->file, "tick %" PRIu64 "\n", ms);
+    uint64_t due = 0;
+    if (!record->file || bfdd_due(&record->alone, &due) != BFDD_DONE || due > ms || !has_room(record)) return;
+    bfdd_tick(&record->alone, ms);
+    fprintf(record->file, "tick %" PRIu64 "\n", ms);
 }
 
 void record_command(struct record *record, uint64_t moment, uint32_t discr, uint32_t verb, uint64_t value) {
     static const char *const verbs[] = {"", "disable", "enable", "reset", "path", "tx", "rx", "mult", "demand", "echo", "key"};
     if (!has_room(record)) return;
-    fprintf(record->file, "cmd %" PRIu64 " %" PRIu32 " %s", moment, discr, verbs[verb]);
+    if (verb == 0) bfdd_show(&record->alone, moment, discr);
+    else bfdd_command(&record->alone, moment, discr, verb, value);
+    fprintf(record->file, verb ? "cmd %" PRIu64 " %" PRIu32 " %s" : "show %" PRIu64 " %" PRIu32 "%s", moment, discr, verbs[verb]);
     if (verb >= BFDD_PATH) fprintf(record->file, " %" PRIu64, value);
     fputc('\n', record->file);
 }
 
-void record_show(struct record *record, uint64_t moment, uint32_t discr) {
-    if (has_room(record)) fprintf(record->file, "show %" PRIu64 " %" PRIu32 "\n", moment, discr);
-}
-
 void record_flush(struct record *record) {
-    if (record->file && fflush(record->file) != 0) {
-        say(LOG_ERROR, "a record can't be written, and ends: %s", strerror(errno));
-        fclose(record->file);
-        record->file = NULL;
-    }
+    if (!record->file || fflush(record->file) == 0) return;
+    say(LOG_ERROR, "a record can't be written, and ends: %s", strerror(errno));
+    drop(record);
 }
 
 void record_end(struct record *record) {
-    if (!record->file) return;
-    fputs("end\n", record->file);
+    if (record->file) fputs("end\n", record->file);
     record_flush(record);
-    if (record->file) fclose(record->file);
-    record->file = NULL;
+    drop(record);
 }

@@ -1,135 +1,95 @@
 /* The sessions: see sessions.h.
  *
- * A session is in two hash tables, by its discriminator and by its peer's address, and in a heap by the moment at which its
- * engine needs the next tick. It is open once it has an own address, its hold time has passed and its engine is there. A
- * value that its owner changed is given to the engine by a command; while a Poll Sequence makes the engine refuse it, it is
- * tried again after each event of the session. */
+ * All are in one engine of libbfdd, which selects a packet's session by its discriminator, or by its addresses and interface. The
+ * selection here comes first, for what the engine doesn't know: the least TTL over several hops, sessions of any interface, and
+ * VRFs. A value that its owner changed is given to the engine by a command; while a Poll Sequence makes the engine refuse it, it
+ * is tried again after each packet of the session and each second. */
 #include "sessions.h"
 
-#include "log.h"
 #include "words.h"
 
+#include <errno.h>
 #include <inttypes.h>
 #include <net/if.h>
-#include <stdio.h>
 #include <stdlib.h>
 #include <string.h>
 #include <sys/random.h>
 
-enum { BUCKETS = 4096, CHANGEABLE = 4, NAME = 160, CAUSE = 160, CHANGE = 480 };
-static const uint64_t NEVER = UINT64_MAX, SECOND = 1000000, TELL_AGAIN = 5000000;
-static const uint32_t least_interval = 10000, greatest_interval = 60000000;
+enum { BUCKETS = 4096, CHANGEABLE = 4, NAME = 160, CAUSE = 160, CHANGE = 480, LEAST_INTERVAL = 10000, GREATEST_INTERVAL = 60000000 };
+static const uint64_t SECOND = 1000000, TELL_AGAIN = 5000000;
 static const uint32_t changeable[CHANGEABLE] = {BFDD_TX, BFDD_RX, BFDD_MULT, BFDD_DEMAND};
 static const uint8_t no_address[16];
 
 /* What the event was that an output came of. */
 enum event { PACKET, TICK, SHOWN, SHUT, ENABLED, ENDED };
 
-struct sessions {
-    session_teller *tell;
-    void *context;
-    uint64_t keep, next_chores;
-    struct session *by_discr[BUCKETS], *by_peer[BUCKETS];
-    struct session **heap;
-    size_t count, room;
-};
+static bfdd_handle engine = BFDD_HANDLE_INIT;
+static uint64_t ticked; /* the engine's last tick, milliseconds */
+static uint64_t next_chores, keep;
+static session_teller *teller;
+static struct session *tables[TABLES][BUCKETS];
 
 /* Finding -------------------------------------------------------------------------------------------------------------- */
 
-static size_t discr_bucket(uint32_t discr) { return (discr * 2654435769u) >> 20; }
+static struct session **bucket_of_discr(uint32_t discr) { return &tables[BY_DISCR][(discr * 2654435769u) >> 20]; }
 
-static size_t peer_bucket(const bfdd_address *peer) {
+static struct session **bucket_of_peer(const bfdd_address *peer) {
     uint32_t sum = 2166136261u;
-    for (size_t i = 0; i < (peer->family == 4 ? 4 : 16); i++) sum = (sum ^ peer->bytes[i]) * 16777619u;
-    return sum % BUCKETS;
+    for (size_t i = 0; i < sizeof peer->bytes; i++) sum = (sum ^ peer->bytes[i]) * 16777619u;
+    return &tables[BY_PEER][sum % BUCKETS];
 }
 
-static bool is_same_address(const bfdd_address *a, const bfdd_address *b) {
-    return a->family == b->family && memcmp(a->bytes, b->bytes, a->family == 4 ? 4 : 16) == 0;
+struct session *sessions_find(uint32_t discr) {
+    struct session *s = *bucket_of_discr(discr);
+    while (s && s->wanted.discr != discr) s = s->next[BY_DISCR];
+    return s;
+}
+
+/* Puts a session into both tables, or takes it out of them. */
+static void enter(struct session *s, bool is_in) {
+    struct session **buckets[TABLES] = {bucket_of_discr(s->wanted.discr), bucket_of_peer(&s->remote)};
+    for (int table = 0; table < TABLES; table++) {
+        struct session **at = buckets[table];
+        while (!is_in && *at != s) at = &(*at)->next[table];
+        if (is_in) s->next[table] = *at;
+        *at = is_in ? s : s->next[table];
+    }
+}
+
+typedef void session_act(struct session *s, uint64_t now);
+
+/* Does this to each session, which it may close. */
+static void for_each(session_act *act, uint64_t now) {
+    for (size_t i = 0; i < BUCKETS; i++) {
+        for (struct session *s = tables[BY_DISCR][i], *next; s; s = next) {
+            next = s->next[BY_DISCR];
+            act(s, now);
+        }
+    }
 }
 
 static bool is_multihop(const struct session *s) { return (s->wanted.flags & DP_MULTIHOP) != 0; }
 
-static struct session *find(const struct sessions *all, uint32_t discr) {
-    struct session *s = all->by_discr[discr_bucket(discr)];
-    while (s && s->wanted.discr != discr) s = s->next_discr;
-    return s;
-}
+static bool is_same_address(const bfdd_address *a, const bfdd_address *b) { return memcmp(a, b, sizeof *a) == 0; }
 
-static bool is_on_interface(const struct session *s, uint32_t ifindex) {
-    return is_multihop(s) || s->wanted.ifindex == 0 || s->wanted.ifindex == ifindex;
-}
+static uint32_t get32(const uint8_t *at) { return (uint32_t)at[0] << 24 | (uint32_t)at[1] << 16 | (uint32_t)at[2] << 8 | at[3]; }
 
 /* The session that a packet is for, by its Your Discriminator, or where that is 0 by addresses and interface. The engine
  * selects once more: a fault here can only lose a packet. */
-static struct session *find_for(const struct sessions *all, const struct arrival *arrival) {
-    const bfdd_packet *packet = &arrival->packet;
-    const uint8_t *your = arrival->payload + 8;
-    if (arrival->length < 24) return NULL;
-    uint32_t discr = (uint32_t)your[0] << 24 | (uint32_t)your[1] << 16 | (uint32_t)your[2] << 8 | your[3];
-    struct session *s = discr ? find(all, discr) : all->by_peer[peer_bucket(&packet->src)];
-    for (; s; s = discr ? NULL : s->next_peer) {
-        bool fits = s->is_open && is_multihop(s) == (packet->port == BFDD_PORT_MULTI) && is_on_interface(s, arrival->ifindex);
-        if (fits && (discr || (is_same_address(&s->remote, &packet->src) && is_same_address(&s->local, &packet->dst)))) return s;
+static struct session *find_for(const struct arrivals *arrivals, size_t i) {
+    const bfdd_packet *packet = &arrivals->packets[i].packet;
+    struct session *any = NULL;
+    if (arrivals->packets[i].length < 24) return NULL;
+    uint32_t discr = get32(arrivals->packets[i].payload + 8);
+    struct session *s = discr ? sessions_find(discr) : *bucket_of_peer(&packet->src);
+    for (; s; s = discr ? NULL : s->next[BY_PEER]) {
+        bool is_exact = is_multihop(s) || s->path.ifindex == arrivals->ifindex[i];
+        if (!s->is_open || is_multihop(s) != (packet->port == BFDD_PORT_MULTI) || s->path.device != arrivals->device) continue;
+        if (!discr && !(is_same_address(&s->remote, &packet->src) && is_same_address(&s->local, &packet->dst))) continue;
+        if (is_exact) return s;
+        if (s->path.ifindex == 0) any = s;
     }
-    return NULL;
-}
-
-static void enter_tables(struct sessions *all, struct session *s) {
-    struct session **discr = &all->by_discr[discr_bucket(s->wanted.discr)], **peer = &all->by_peer[peer_bucket(&s->remote)];
-    s->next_discr = *discr;
-    *discr = s;
-    s->next_peer = *peer;
-    *peer = s;
-}
-
-static void leave_tables(struct sessions *all, struct session *s) {
-    struct session **discr = &all->by_discr[discr_bucket(s->wanted.discr)], **peer = &all->by_peer[peer_bucket(&s->remote)];
-    while (*discr != s) discr = &(*discr)->next_discr;
-    *discr = s->next_discr;
-    while (*peer != s) peer = &(*peer)->next_peer;
-    *peer = s->next_peer;
-}
-
-/* The heap ------------------------------------------------------------------------------------------------------------- */
-
-static void heap_put(struct sessions *all, size_t place, struct session *s) {
-    all->heap[place] = s;
-    s->place = place;
-}
-
-/* Moves a session whose due moment has changed to its place. */
-static void heap_settle(struct sessions *all, struct session *s) {
-    size_t place = s->place;
-    for (; place > 0 && all->heap[(place - 1) / 2]->due > s->due; place = (place - 1) / 2)
-        heap_put(all, place, all->heap[(place - 1) / 2]);
-    for (size_t child = 2 * place + 1; child < all->count; child = 2 * place + 1) {
-        if (child + 1 < all->count && all->heap[child + 1]->due < all->heap[child]->due) child++;
-        if (all->heap[child]->due >= s->due) break;
-        heap_put(all, place, all->heap[child]);
-        place = child;
-    }
-    heap_put(all, place, s);
-}
-
-static bool heap_add(struct sessions *all, struct session *s) {
-    if (all->count == all->room) {
-        size_t room = all->room ? 2 * all->room : 64;
-        struct session **heap = realloc(all->heap, room * sizeof *heap);
-        if (!heap) return false;
-        all->heap = heap;
-        all->room = room;
-    }
-    heap_put(all, all->count++, s);
-    heap_settle(all, s);
-    return true;
-}
-
-static void heap_remove(struct sessions *all, struct session *s) {
-    struct session *last = all->heap[--all->count];
-    if (last == s) return;
-    heap_put(all, s->place, last);
-    heap_settle(all, last);
+    return any;
 }
 
 /* Telling -------------------------------------------------------------------------------------------------------------- */
@@ -143,16 +103,10 @@ const char *session_name(const struct session *s) {
 }
 
 /* Tells the owner the state and the peer's values. Where there is no room, the next second tries again. */
-static void tell(struct sessions *all, struct session *s, const struct session_change *change, uint64_t now) {
+static void tell(struct session *s, const struct session_change *change, uint64_t now) {
     s->told_at = now;
-    s->is_told = all->tell(all->context, s, change);
-    if (s->is_told) dp_write_state(s->told, &s->state);
-}
-
-static bool has_news(const struct session *s) {
-    uint8_t bytes[DP_STATE_LENGTH];
-    dp_write_state(bytes, &s->state);
-    return memcmp(bytes, s->told, sizeof bytes) != 0;
+    s->is_told = teller(s, change);
+    if (s->is_told) s->told = s->state;
 }
 
 /* Why a state changed. An expiry may be found by any event. */
@@ -167,61 +121,59 @@ static const char *cause_of(const struct session *s, const bfdd_output *out, enu
     return text;
 }
 
-static void changed(struct sessions *all, struct session *s, const bfdd_output *out, enum event event, uint64_t now) {
+static void changed(struct session *s, const bfdd_output *out, enum event event, uint64_t now) {
     char cause[CAUSE], line[CHANGE];
     struct session_change change = {now, out->was, out->state, out->diag, cause_of(s, out, event, now, cause), line};
     snprintf(line, sizeof line, "%s: %s to %s, diagnostic %u (%s): %s", session_name(s), state_text(out->was), state_text(out->state),
              out->diag, diagnostic_text(out->diag), change.cause);
     say(LOG_INFO, "%s", line);
-    if (out->was == BFDD_UP) s->count.up_for += now - s->since;
-    if (out->state == BFDD_UP) s->count.ups++;
+    if (out->was == BFDD_UP) s->up_for += now - s->since;
+    if (out->state == BFDD_UP) s->ups++;
     s->state.state = out->state;
     s->since = now;
-    tell(all, s, &change, now);
+    tell(s, &change, now);
 }
 
 /* Events --------------------------------------------------------------------------------------------------------------- */
 
-static void take_outputs(struct sessions *all, struct session *s, enum event event, uint64_t now) {
-    bfdd_output out = {0};
-    while (engine_next(&s->engine, &out)) {
-        if (out.kind == BFDD_CHANGED) {
-            changed(all, s, &out, event, now);
-            continue;
+/* Passes on what an event gave, which goes to the session that its discriminator names. */
+static void take_outputs(enum event event, uint64_t now) {
+    static bfdd_output outs[BFDD_MANY];
+    size_t count = 0;
+    while (bfdd_outputs(&engine, outs, BFDD_MANY, &count) == BFDD_DONE) {
+        for (size_t i = 0; i < count; i++) {
+            struct session *s = sessions_find(outs[i].discr);
+            if (!s) continue; /* never: who removes a session reads its outputs first */
+            if (outs[i].kind == BFDD_CHANGED) {
+                changed(s, &outs[i], event, now);
+                continue;
+            }
+            s->packets_out++;
+            s->bytes_out += outs[i].len;
+            sockets_send(&outs[i], &s->path);
         }
-        s->count.packets_out++;
-        s->count.bytes_out += out.len;
-        sockets_send(&out, s->wanted.ifindex);
     }
 }
 
 /* Gives a command. False where the engine refuses it for a cause that passes. */
-static bool command(struct sessions *all, struct session *s, uint32_t verb, uint32_t value, enum event event, uint64_t now) {
+static bool command(struct session *s, uint32_t verb, uint32_t value, enum event event, uint64_t now) {
     bfdd_answered answer = {0};
-    if (!engine_command(&s->engine, verb, value, now, &answer)) return false;
-    take_outputs(all, s, event, now);
+    if (bfdd_command(&engine, now, s->wanted.discr, verb, value) != BFDD_DONE) return false;
+    record_command(&s->record, now, s->wanted.discr, verb, value);
+    bfdd_answer(&engine, &answer);
+    take_outputs(event, now);
     return answer.kind != BFDD_REFUSED || answer.code == BFDD_WRONG_STATE;
 }
 
 /* Gives the engine what the owner has changed, until a Poll Sequence makes it refuse. */
-static void give_changes(struct sessions *all, struct session *s, uint64_t now) {
+static void give_changes(struct session *s, uint64_t now) {
     const uint32_t values[CHANGEABLE] = {s->wanted.tx, s->wanted.rx, s->wanted.mult, (s->wanted.flags & DP_DEMAND) != 0};
-    for (size_t i = 0; i < CHANGEABLE; i++) {
-        if (s->given[i] != values[i] && command(all, s, changeable[i], values[i], TICK, now)) s->given[i] = values[i];
-    }
     bool is_shut = s->state.state == BFDD_ADMIN_DOWN, wants_shut = (s->wanted.flags & DP_SHUTDOWN) != 0;
-    if (is_shut != wants_shut) command(all, s, wants_shut ? BFDD_DISABLE : BFDD_ENABLE, 0, wants_shut ? SHUT : ENABLED, now);
+    if (!s->is_open) return;
+    for (size_t i = 0; i < CHANGEABLE; i++)
+        if (s->given[i] != values[i] && command(s, changeable[i], values[i], TICK, now)) s->given[i] = values[i];
+    if (is_shut != wants_shut) command(s, wants_shut ? BFDD_DISABLE : BFDD_ENABLE, 0, wants_shut ? SHUT : ENABLED, now);
 }
-
-/* After an event of an open session: its outputs, what its owner has changed meanwhile, and its next tick. */
-static void finish(struct sessions *all, struct session *s, enum event event, uint64_t now) {
-    take_outputs(all, s, event, now);
-    give_changes(all, s, now);
-    s->due = engine_due(&s->engine);
-    heap_settle(all, s);
-}
-
-static uint32_t get32(const uint8_t *at) { return (uint32_t)at[0] << 24 | (uint32_t)at[1] << 16 | (uint32_t)at[2] << 8 | at[3]; }
 
 /* Keeps what the owner is told of the peer, from a control packet that the engine has taken (RFC 5880 section 4.1). */
 static void keep_peer(struct session *s, const uint8_t *payload, size_t length) {
@@ -234,70 +186,110 @@ static void keep_peer(struct session *s, const uint8_t *payload, size_t length) 
     s->state.peer_tx = get32(payload + 12);
     s->state.peer_rx = get32(payload + 16);
     s->state.peer_echo_rx = get32(payload + 20);
-    s->count.packets_in++;
-    s->count.bytes_in += length;
+    s->packets_in++;
+    s->bytes_in += length;
 }
 
-static void say_dropped(const struct arrival *arrival, const char *cause) {
+static void say_dropped(const bfdd_arrival *arrival, const char *cause) {
     char from[ADDRESS_TEXT];
     say(LOG_DEBUG, "a packet from %s was dropped: %s", address_text(&arrival->packet.src, from), cause);
 }
 
-void sessions_receive(struct sessions *all, const struct arrival *arrival) {
-    struct session *s = find_for(all, arrival);
+/* A packet was handed in. Of several only the last one may have left outputs. */
+static void received(struct session *s, const bfdd_arrival *arrival, const bfdd_answered *answer, bool is_last) {
     uint64_t now = arrival->packet.moment;
-    bfdd_answered answer = {0};
-    if (!s) return say_dropped(arrival, "no session");
-    if (is_multihop(s) && arrival->packet.ttl < s->wanted.least_ttl) return say_dropped(arrival, "TTL below the least one");
-    if (!engine_receive(&s->engine, arrival->packet, arrival->payload, arrival->length, &answer))
-        return say_dropped(arrival, "not received by the engine");
-    bool is_taken = answer.kind == BFDD_HANDLED;
+    bool is_taken = answer->kind == BFDD_HANDLED;
     if (is_taken) keep_peer(s, arrival->payload, arrival->length);
-    else say_dropped(arrival, answer.name);
-    finish(all, s, PACKET, now);
+    else say_dropped(arrival, answer->name);
+    record_packet(&s->record, arrival);
+    if (is_last) take_outputs(PACKET, now);
     if (is_taken) s->heard = now;
-    if (s->state.state == BFDD_UP && has_news(s)) tell(all, s, NULL, now);
+    if (s->state.state == BFDD_UP && memcmp(&s->told, &s->state, sizeof s->told) != 0) tell(s, NULL, now);
+}
+
+static void receive(struct arrivals *arrivals) {
+    static bfdd_answered answers[BFDD_MANY];
+    struct session *whose[BFDD_MANY];
+    bfdd_arrival *packets = arrivals->packets;
+    size_t count = 0, handled = 0;
+    for (size_t i = 0; i < arrivals->count; i++) {
+        struct session *s = find_for(arrivals, i);
+        bool is_far = s && is_multihop(s) && packets[i].packet.ttl < s->wanted.least_ttl;
+        if (!s || is_far) {
+            say_dropped(&packets[i], s ? "TTL below the least one" : "no session");
+            continue;
+        }
+        packets[count] = packets[i];
+        packets[count].packet.iface = (uint16_t)s->path.ifindex;
+        if (packets[count].packet.moment < ticked * 1000) packets[count].packet.moment = ticked * 1000; /* as the engine has it */
+        whose[count++] = s;
+    }
+    for (size_t at = 0; at < count; at += handled) {
+        uint32_t code = bfdd_packets(&engine, packets + at, count - at, answers, count - at, &handled);
+        for (size_t i = 0; i < handled; i++) received(whose[at + i], &packets[at + i], &answers[i], i + 1 == handled);
+        for (size_t i = 0; i < handled; i++) give_changes(whose[at + i], clock_now());
+        if (code != BFDD_DONE) say_dropped(&packets[at + handled++], "not received by the engine");
+    }
 }
 
 /* Opening and closing -------------------------------------------------------------------------------------------------- */
 
-static void open_engine(struct session *s, uint64_t now) {
+/* Says why a session can't be opened, which is tried again each second. */
+static void refuse(struct session *s, const char *cause) {
+    say(s->is_refused ? LOG_DEBUG : LOG_ERROR, "%s can't begin: %s; tried again each second", session_name(s), cause);
+    s->is_refused = true;
+}
+
+/* Gives the session to the engine. A session's interface is a number of 16 bits there: two whose addresses are the same, and whose
+ * interfaces differ by a multiple of 65,536, can't be had at once. */
+static void add_to_engine(struct session *s, uint64_t now) {
     bfdd_session config = {.kind = is_multihop(s) ? BFDD_MULTIHOP : BFDD_SINGLE_HOP, .discr = s->wanted.discr, .other = 1,
-                           .local = s->local, .remote = s->remote, .active = (s->wanted.flags & DP_PASSIVE) == 0,
-                           .tx = s->wanted.tx, .rx = s->wanted.rx, .mult = s->wanted.mult, .auth = s->key.type,
-                           .key_id = s->key.id, .key_len = s->key.type ? s->key.length : 1};
+                           .iface = (uint16_t)s->path.ifindex, .local = s->local, .remote = s->remote,
+                           .active = (s->wanted.flags & DP_PASSIVE) == 0, .tx = s->wanted.tx, .rx = s->wanted.rx,
+                           .mult = s->wanted.mult, .auth = s->key.type, .key_id = s->key.id, .key_len = s->key.type ? s->key.length : 1};
+    char interface[IF_NAMESIZE];
     memcpy(config.key, s->key.bytes, sizeof config.key);
     if (getrandom(&config.seed, sizeof config.seed, 0) != sizeof config.seed) config.seed = (uint32_t)now;
-    uint32_t code = engine_open(&s->engine, &config, now);
-    s->is_open = code == BFDD_DONE;
-    if (!s->is_open) return say(LOG_ERROR, "%s wasn't opened: code %" PRIu32, session_name(s), code);
+    uint32_t code = bfdd_add(&engine, &config);
+    if (code == BFDD_TAKEN_ADDRESSES) return refuse(s, "another session has its addresses");
+    if (code != BFDD_DONE) return refuse(s, bfdd_name(BFDD_NAME_CODE, code));
+    s->is_open = true;
     s->active = config.active;
     s->since = now;
     s->state = (struct dp_state){.discr = s->wanted.discr, .state = BFDD_DOWN};
-    const uint32_t given[CHANGEABLE] = {config.tx, config.rx, config.mult, 0};
-    memcpy(s->given, given, sizeof given);
-    say(LOG_INFO, "%s begins", session_name(s));
+    memcpy(s->given, (const uint32_t[CHANGEABLE]){config.tx, config.rx, config.mult, 0}, sizeof s->given);
+    record_begin(&s->record, &config, now);
+    const char *device = s->path.device ? if_indextoname(s->path.device, interface) : NULL;
+    say(LOG_INFO, "%s begins%s%s", session_name(s), device ? ", in a VRF, by sockets bound to " : "", device ? device : "");
+    give_changes(s, now);
 }
 
 /* Opens a session whose hold time has passed. Where the system has no route to the peer, the next second tries again. */
-static void open_session(struct sessions *all, struct session *s, uint64_t now) {
+static void open_session(struct session *s, uint64_t now) {
     bool has_source = memcmp(s->wanted.source, no_address, sizeof no_address) != 0;
-    s->due = NEVER;
     s->local.family = s->remote.family;
-    memcpy(s->local.bytes, s->wanted.source, sizeof s->local.bytes);
-    if (has_source || sockets_source(&s->remote, s->wanted.ifindex, &s->local)) open_engine(s, now);
-    if (s->is_open) finish(all, s, ENABLED, now);
-    else heap_settle(all, s);
+    memcpy(s->local.bytes, s->wanted.source, s->local.family == 4 ? 4 : 16);
+    if (!sockets_find(is_multihop(s), s->wanted.ifindex, &s->path)) return refuse(s, strerror(errno));
+    if (has_source || sockets_source(&s->remote, &s->path, &s->local)) add_to_engine(s, now);
 }
 
-/* Removes a session, which sends AdminDown once. */
-static void close_session(struct sessions *all, struct session *s, uint64_t now) {
+static void remove_from_engine(struct session *s) {
+    if (s->is_open) bfdd_remove(&engine, s->wanted.discr);
+    s->is_open = false;
+    record_end(&s->record);
+}
+
+/* A session ends, and sends AdminDown once. */
+static void end_session(struct session *s, uint64_t now) {
     s->owner = NO_OWNER; /* FRR has ended it, and is told no more */
-    if (s->is_open) command(all, s, BFDD_DISABLE, 0, ENDED, now);
+    if (s->is_open) command(s, BFDD_DISABLE, 0, ENDED, now);
     say(LOG_INFO, "%s ends", session_name(s));
-    engine_close(&s->engine);
-    leave_tables(all, s);
-    heap_remove(all, s);
+}
+
+static void close_session(struct session *s, uint64_t now) {
+    end_session(s, now);
+    remove_from_engine(s);
+    enter(s, false);
     free(s);
 }
 
@@ -307,10 +299,9 @@ static void close_session(struct sessions *all, struct session *s, uint64_t now)
 static const char *fault_of(const struct dp_session *wanted) {
     if (wanted->discr == 0) return "its discriminator is 0";
     if (memcmp(wanted->destination, no_address, sizeof no_address) == 0) return "it has no destination";
-    if (wanted->tx < least_interval || wanted->tx > greatest_interval) return "Desired Min TX is below 10 ms or above 60 s";
-    if (wanted->rx < least_interval || wanted->rx > greatest_interval) return "Required Min RX is below 10 ms or above 60 s";
-    if (wanted->mult == 0) return "Detect Mult is 0";
-    return NULL;
+    if (wanted->tx < LEAST_INTERVAL || wanted->tx > GREATEST_INTERVAL) return "Desired Min TX is below 10 ms or above 60 s";
+    if (wanted->rx < LEAST_INTERVAL || wanted->rx > GREATEST_INTERVAL) return "Required Min RX is below 10 ms or above 60 s";
+    return wanted->mult == 0 ? "Detect Mult is 0" : NULL;
 }
 
 /* Whether both are one session to the peer, so that commands make the one of the other. */
@@ -320,152 +311,133 @@ static bool is_same_session(const struct dp_session *a, const struct dp_session 
            && !memcmp(a->destination, b->destination, 16);
 }
 
-/* The session that already has this one's addresses and interface, and isn't it. */
-static struct session *find_rival(const struct sessions *all, const struct session *s) {
-    struct session *it = all->by_peer[peer_bucket(&s->remote)];
-    while (it && (it == s || !is_same_session(&it->wanted, &s->wanted))) it = it->next_peer;
-    return it;
-}
-
-/* Packets of an interface in a VRF reach sockets that are bound to none where the system allows it. */
-static void warn_of_vrf(const struct session *s) {
-    if (!sockets_reach(s->wanted.ifindex))
-        say(LOG_WARNING, "%s: its interface is in a VRF, so nothing is received while net.ipv4.udp_l3mdev_accept is 0", session_name(s));
-}
-
-static void add_new(struct sessions *all, uint32_t owner, const struct dp_session *wanted, const struct session_key *key, uint64_t now) {
-    struct session *s = all->count < MOST_SESSIONS ? calloc(1, sizeof *s) : NULL, *rival;
-    if (!s) return say(LOG_ERROR, "session %" PRIu32 " refused: no memory, or too many", wanted->discr);
+static void add_new(uint32_t owner, const struct dp_session *wanted, const struct session_key *key, uint64_t now) {
+    struct session *s = calloc(1, sizeof *s), *rival;
+    if (!s) return say(LOG_ERROR, "session %" PRIu32 " refused: no memory", wanted->discr);
     s->wanted = *wanted;
     if (key) s->key = *key;
     s->owner = owner;
-    s->ends = NEVER;
+    s->ends = UINT64_MAX;
     s->begun = now;
-    s->starts = s->due = now + (uint64_t)wanted->hold_ms * 1000;
+    s->starts = now + (uint64_t)wanted->hold_ms * 1000;
+    if (s->starts < next_chores) next_chores = s->starts;
     s->remote.family = (wanted->flags & DP_IPV6) ? 6 : 4;
     memcpy(s->remote.bytes, wanted->destination, s->remote.family == 4 ? 4 : 16);
     s->state = (struct dp_state){.discr = wanted->discr, .state = BFDD_DOWN};
-    if (!heap_add(all, s)) return free(s), say(LOG_ERROR, "session %" PRIu32 " refused: no memory", wanted->discr);
-    enter_tables(all, s);
-    if ((rival = find_rival(all, s))) close_session(all, rival, now);
-    warn_of_vrf(s);
+    for (rival = *bucket_of_peer(&s->remote); rival && !is_same_session(&rival->wanted, wanted);) rival = rival->next[BY_PEER];
+    if (rival) close_session(rival, now); /* FRR has it under another discriminator now */
+    enter(s, true);
     if (wanted->flags & DP_ECHO) say(LOG_WARNING, "%s: echo packets aren't sent here; control packets alone watch it", session_name(s));
-    if (s->starts <= now) open_session(all, s, now);
+    if (s->starts <= now) open_session(s, now);
 }
 
-void sessions_add(struct sessions *all, uint32_t owner, const struct dp_session *given, const struct session_key *key, uint64_t now) {
+void sessions_add(uint32_t owner, const struct dp_session *given, const struct session_key *key, uint64_t now) {
     struct dp_session wanted = *given;
-    struct session *s = find(all, wanted.discr);
+    struct session *s = sessions_find(wanted.discr);
     const char *fault = fault_of(&wanted);
     if (wanted.ifindex == 0 && wanted.ifname[0]) wanted.ifindex = if_nametoindex(wanted.ifname);
     if (fault) return say(LOG_ERROR, "session %" PRIu32 " %s: %s", wanted.discr, s ? "is left as it is" : "refused", fault);
     if (s && !is_same_session(&s->wanted, &wanted)) {
-        close_session(all, s, now);
+        close_session(s, now);
         s = NULL;
     }
-    if (!s) return add_new(all, owner, &wanted, key, now);
+    if (!s) return add_new(owner, &wanted, key, now);
     bool is_taken = s->owner != owner;
     s->wanted = wanted;
     s->owner = owner;
-    s->ends = NEVER;
+    s->ends = UINT64_MAX;
     say(LOG_DEBUG, "%s was given its values again", session_name(s));
-    if (s->is_open) finish(all, s, TICK, now);
-    if (is_taken && s->state.state == BFDD_UP) tell(all, s, NULL, now);
+    give_changes(s, now);
+    if (is_taken && s->state.state == BFDD_UP) tell(s, NULL, now);
 }
 
-void sessions_remove(struct sessions *all, uint32_t discr, uint64_t now) {
-    struct session *s = find(all, discr);
-    if (s) close_session(all, s, now);
+void sessions_remove(uint32_t discr, uint64_t now) {
+    struct session *s = sessions_find(discr);
+    if (s) close_session(s, now);
     else say(LOG_DEBUG, "no session has the discriminator %" PRIu32, discr);
 }
 
-typedef void session_act(struct sessions *all, struct session *s, uint64_t now);
-
-/* Does this to each session, which it may close. The heap's order may change meanwhile, a hash table's doesn't. */
-static void for_each(struct sessions *all, session_act *act, uint64_t now) {
-    for (size_t i = 0; i < BUCKETS; i++) {
-        for (struct session *s = all->by_discr[i], *next; s; s = next) {
-            next = s->next_discr;
-            act(all, s, now);
-        }
-    }
+static void close_ended(struct session *s, uint64_t now) {
+    if (s->ends <= now) close_session(s, now);
 }
 
-static void close_ended(struct sessions *all, struct session *s, uint64_t now) {
-    if (s->owner == NO_OWNER && s->ends <= now) close_session(all, s, now);
-}
-
-void sessions_lost(struct sessions *all, uint32_t owner, uint64_t now) {
-    for (size_t i = 0; i < all->count; i++) {
-        struct session *s = all->heap[i];
-        if (s->owner != owner) continue;
-        s->owner = NO_OWNER;
-        s->ends = now + all->keep;
-    }
-    for_each(all, close_ended, now);
+void sessions_lost(uint32_t owner, uint64_t now) {
+    for (size_t i = 0; i < BUCKETS; i++)
+        for (struct session *s = tables[BY_DISCR][i]; s; s = s->next[BY_DISCR])
+            if (s->owner == owner) s->owner = NO_OWNER, s->ends = now + keep;
+    for_each(close_ended, now);
 }
 
 /* Time ----------------------------------------------------------------------------------------------------------------- */
 
 /* What a second may have changed for a session: a route to its peer, its mode, room to tell its owner. FRR sets a session Down on
  * its own side when one of several users leaves it, so Up is told again every few seconds. */
-static void second(struct sessions *all, struct session *s, uint64_t now) {
+static void second(struct session *s, uint64_t now) {
     bool is_up = s->state.state == BFDD_UP, is_active = (s->wanted.flags & DP_PASSIVE) == 0;
-    if (!s->is_open && s->starts <= now) return open_session(all, s, now);
-    if (!s->is_open) return;
-    if (s->state.state == BFDD_DOWN && is_active != (s->active == 1)) {
-        open_engine(s, now);
-        if (s->is_open) finish(all, s, TICK, now);
+    if (s->is_open && s->state.state == BFDD_DOWN && is_active != (s->active == 1)) remove_from_engine(s);
+    if (!s->is_open && s->starts <= now) return open_session(s, now);
+    give_changes(s, now);
+    record_flush(&s->record);
+    if (s->told_at && (!s->is_told || (is_up && now - s->told_at >= TELL_AGAIN))) tell(s, NULL, now);
+}
+
+static void record_one(struct session *s, uint64_t now) {
+    (void)now;
+    record_tick(&s->record, ticked);
+}
+
+static void tick(uint64_t now) {
+    if (bfdd_tick(&engine, now / 1000) != BFDD_DONE) return;
+    ticked = now / 1000;
+    if (record_is_on()) for_each(record_one, now);
+    take_outputs(TICK, now);
+}
+
+uint64_t sessions_pass(uint64_t now) {
+    uint64_t due = 0;
+    if (bfdd_due(&engine, &due) == BFDD_DONE && due <= now / 1000) tick(now);
+    if (next_chores <= now) {
+        for_each(close_ended, now);
+        next_chores = now + SECOND;
+        for_each(second, now);
     }
-    record_flush(&s->engine.record);
-    if (s->told_at && (!s->is_told || (is_up && now - s->told_at >= TELL_AGAIN))) tell(all, s, NULL, now);
+    bool is_due = bfdd_due(&engine, &due) == BFDD_DONE;
+    return is_due && due * 1000 < next_chores ? due * 1000 : next_chores;
 }
 
-static void chores(struct sessions *all, uint64_t now) {
-    for_each(all, close_ended, now);
-    for_each(all, second, now);
-    all->next_chores = now + SECOND;
-}
-
-static void tick_one(struct sessions *all, struct session *s, uint64_t now) {
-    if (!s->is_open) return open_session(all, s, now);
-    engine_tick(&s->engine, now);
-    finish(all, s, TICK, now);
-}
-
-void sessions_tick(struct sessions *all, uint64_t now) {
-    while (all->count > 0 && all->heap[0]->due <= now) tick_one(all, all->heap[0], now);
-    if (all->next_chores <= now) chores(all, now);
-}
-
-uint64_t sessions_due(const struct sessions *all) {
-    uint64_t due = all->count > 0 ? all->heap[0]->due : NEVER;
-    return due < all->next_chores ? due : all->next_chores;
-}
-
-/* Questions ------------------------------------------------------------------------------------------------------------ */
-
-const struct session *sessions_find(const struct sessions *all, uint32_t discr) { return find(all, discr); }
-
-void sessions_view(struct sessions *all, session_viewer *view, void *context, uint64_t now) {
+void sessions_view(session_viewer *view, FILE *file, uint64_t now) {
     for (size_t i = 0; i < BUCKETS; i++) {
-        for (struct session *s = all->by_discr[i]; s; s = s->next_discr) {
+        for (struct session *s = tables[BY_DISCR][i]; s; s = s->next[BY_DISCR]) {
             bfdd_answered shown = {0};
-            bool is_shown = s->is_open && engine_show(&s->engine, now, &shown);
-            if (s->is_open) finish(all, s, SHOWN, now);
-            view(context, s, is_shown ? &shown : NULL, now);
+            bool is_shown = s->is_open && bfdd_show(&engine, now, s->wanted.discr) == BFDD_DONE;
+            if (is_shown) {
+                record_command(&s->record, now, s->wanted.discr, 0, 0);
+                bfdd_answer(&engine, &shown);
+                take_outputs(SHOWN, now);
+            }
+            view(file, s, is_shown ? &shown : NULL, now);
         }
     }
 }
 
-struct sessions *sessions_new(session_teller *tell, void *context, uint64_t keep) {
-    struct sessions *all = calloc(1, sizeof *all);
-    if (all) *all = (struct sessions){.tell = tell, .context = context, .keep = keep};
-    return all;
+void sessions_open(session_teller *tell_owner, uint64_t keep_for) {
+    static const char none[] = "bfd 1\nrun\nend\n";
+    bfdd_complaint complaint = {0};
+    teller = tell_owner;
+    keep = keep_for;
+    if (bfdd_open(&engine, (const uint8_t *)none, sizeof none - 1, &complaint) != BFDD_DONE) fail("the sessions", "no memory");
+    sockets_open(receive);
 }
 
-void sessions_free(struct sessions *all, uint64_t now) {
-    for_each(all, close_session, now);
-    free(all->heap);
-    free(all);
+/* All say AdminDown; then the engine is closed at once, since a removal takes time by the number of sessions. */
+void sessions_close(uint64_t now) {
+    for_each(end_session, now);
+    bfdd_close(&engine);
+    for (size_t i = 0; i < BUCKETS; i++) {
+        for (struct session *s; (s = tables[BY_DISCR][i]);) {
+            record_end(&s->record);
+            enter(s, false);
+            free(s);
+        }
+    }
 }

@@ -1,15 +1,15 @@
-/* The sessions: each is an engine's, found by its discriminator.
+/* The sessions, all on one engine: each is found by its discriminator.
  *
  * The owner gives additions, removals, packets and the time, and asks when the next tick is due. What the sessions send goes
- * to the UDP sockets; changes of state go to the teller. Moments are microseconds of clock_now. */
+ * to the UDP sockets; changes of state go to the teller. Moments are microseconds of clock_now, and the engine's too. */
 #ifndef BFDD_SESSIONS_H
 #define BFDD_SESSIONS_H
 
-#include "engine.h"
 #include "protocol.h"
+#include "record.h"
 #include "sockets.h"
 
-enum { MOST_SESSIONS = 65536, NO_OWNER = 0 };
+enum { NO_OWNER = 0, BY_DISCR = 0, BY_PEER, TABLES };
 
 /* What FRR's protocol doesn't carry: the Auth Type (RFC 5880 section 4.1), 0 for none, and its key. */
 struct session_key {
@@ -17,36 +17,31 @@ struct session_key {
     uint8_t bytes[20];
 };
 
-struct session_count {
-    uint64_t bytes_in, packets_in, bytes_out, packets_out; /* control packets that were taken and sent */
-    uint32_t ups;    /* how often it came Up */
-    uint64_t up_for; /* how long it was Up, but for the time since it last came Up */
-};
-
 /* A session, whose fields are for sessions.c to write. */
 struct session {
-    struct session *next_discr, *next_peer;
-    size_t place; /* in the heap */
-    uint64_t due;
-    struct engine engine;
-    bool is_open;
+    struct session *next[TABLES];
+    bool is_open;    /* the engine has it */
+    bool is_refused; /* that it couldn't be opened was said */
+    bool is_told;    /* its owner has an account of it; false at first, when the owner takes it as Down */
+    struct dp_state told;
+    uint64_t told_at;
     uint64_t begun;  /* when it was added */
     uint64_t starts; /* when its hold time has passed */
     uint64_t ends;   /* when it is removed, unless a connection takes it: UINT64_MAX while it has one */
     uint32_t owner;
     struct dp_session wanted;
     struct session_key key;
+    struct path path;
     bfdd_address local, remote;
     uint32_t given[4];     /* what the engine has of the values that commands change */
-    uint32_t active;       /* 1, or 0 for passive: as the engine was opened */
+    uint32_t active;       /* 1, or 0 for passive: as the engine was given it */
     struct dp_state state; /* the own state and what the peer last sent */
     uint8_t peer_state;
-    uint64_t since; /* when the own state was last changed, or the session opened */
-    uint64_t heard; /* when the last packet came that the engine took; 0: none did */
-    uint64_t told_at;
-    uint8_t told[DP_STATE_LENGTH];
-    bool is_told; /* its owner has an account of it; false at first, when the owner takes it as Down */
-    struct session_count count;
+    uint64_t since;                                        /* when the own state was last changed, or the session opened */
+    uint64_t heard;                                        /* when the last packet came that the engine took; 0: none did */
+    uint64_t bytes_in, packets_in, bytes_out, packets_out; /* control packets that were taken and sent */
+    uint64_t ups, up_for; /* how often it came Up, and how long it was Up, but for the time since it last came Up */
+    struct record record;
 };
 
 struct session_change {
@@ -58,39 +53,35 @@ struct session_change {
 
 /* Tells the owner of this session its state, or a value of its peer's that is new: then there is no change, NULL. False where
  * the owner has no room for that now; then it is tried again in a second. */
-typedef bool session_teller(void *context, const struct session *s, const struct session_change *change);
+typedef bool session_teller(const struct session *s, const struct session_change *change);
 
 /* Is given a session, and what it shows: NULL where it hasn't begun. */
-typedef void session_viewer(void *context, const struct session *s, const bfdd_answered *shown, uint64_t now);
+typedef void session_viewer(FILE *file, const struct session *s, const bfdd_answered *shown, uint64_t now);
 
-struct sessions;
-
-/* `keep` is for how long sessions go on without a connection. NULL when out of memory. */
-struct sessions *sessions_new(session_teller *tell, void *context, uint64_t keep);
+/* Begins without a session, with the sockets. `keep` is for how long sessions go on without a connection. It ends the program
+ * where that fails. */
+void sessions_open(session_teller *tell, uint64_t keep);
 
 /* Adds a session, or changes the one of the same discriminator to these values. What is refused is reported in a line. A key
  * counts for a new session alone; NULL is none. */
-void sessions_add(struct sessions *all, uint32_t owner, const struct dp_session *wanted, const struct session_key *key, uint64_t now);
+void sessions_add(uint32_t owner, const struct dp_session *wanted, const struct session_key *key, uint64_t now);
 
 /* Removes the session of this discriminator, which sends AdminDown first. */
-void sessions_remove(struct sessions *all, uint32_t discr, uint64_t now);
+void sessions_remove(uint32_t discr, uint64_t now);
 
 /* The connection of this owner was lost. */
-void sessions_lost(struct sessions *all, uint32_t owner, uint64_t now);
+void sessions_lost(uint32_t owner, uint64_t now);
 
-/* Removes all, each of which sends AdminDown first, and frees `all`. */
-void sessions_free(struct sessions *all, uint64_t now);
+/* Ends all, each of which sends AdminDown first. */
+void sessions_close(uint64_t now);
 
-void sessions_receive(struct sessions *all, const struct arrival *arrival);
-void sessions_tick(struct sessions *all, uint64_t now);
-
-/* The moment at which the next tick is due. */
-uint64_t sessions_due(const struct sessions *all);
+/* Lets time pass up to now. The moment at which that is to be done next. */
+uint64_t sessions_pass(uint64_t now);
 
 /* NULL where no session has the discriminator. */
-const struct session *sessions_find(const struct sessions *all, uint32_t discr);
+struct session *sessions_find(uint32_t discr);
 
-void sessions_view(struct sessions *all, session_viewer *view, void *context, uint64_t now);
+void sessions_view(session_viewer *view, FILE *file, uint64_t now);
 
 /* A session as a line names it, as "session 7 to 10.0.0.2 on eth0", until the next call. */
 const char *session_name(const struct session *s);

@@ -2,8 +2,7 @@
 #define _GNU_SOURCE
 #include "view.h"
 
-#include "link.h"
-#include "log.h"
+#include "endpoint.h"
 #include "loop.h"
 #include "words.h"
 
@@ -18,89 +17,74 @@ static double seconds(uint64_t us) { return (double)us / 1000000; }
 static double ms(uint64_t us) { return (double)us / 1000; }
 
 /* How long a session was Up until now. */
-static uint64_t up_for(const struct session *s, uint64_t now) {
-    return s->count.up_for + (s->state.state == BFDD_UP ? now - s->since : 0);
+static double seconds_up(const struct session *s, uint64_t now) {
+    return seconds(s->up_for + (s->state.state == BFDD_UP ? now - s->since : 0));
 }
 
-void view_text(void *file, const struct session *s, const bfdd_answered *shown, uint64_t now) {
+void view_text(FILE *file, const struct session *s, const bfdd_answered *shown, uint64_t now) {
     char since[MOMENT_TEXT];
-    fprintf(file, "%s: ", session_name(s));
     if (!shown) {
-        fprintf(file, "not begun\n");
+        fprintf(file, "%s: not begun\n", session_name(s));
         return;
     }
-    fprintf(file, "%s, peer %s, diagnostic %u (%s), since %s; sends every %g ms, ", state_text(shown->state),
-            state_text(shown->remote_state), shown->diag, diagnostic_text(shown->diag), moment_text(s->since, since), ms(shown->used_tx));
-    fprintf(file, "takes every %g ms, Detection Time %g ms; ", ms(shown->used_rx), ms(shown->detect));
+    fprintf(file, "%s: %s, peer %s, diagnostic %u (%s), since %s; sends every %g ms, takes every %g ms, Detection Time %g ms; ",
+            session_name(s), state_text(shown->state), state_text(shown->remote_state), shown->diag, diagnostic_text(shown->diag),
+            moment_text(s->since, since), ms(shown->used_tx), ms(shown->used_rx), ms(shown->detect));
     if (s->heard)
         fprintf(file, "peer's tx %g ms, rx %g ms, Detect Mult %u, diagnostic %u (%s), heard %.3f s ago; ", ms(s->state.peer_tx),
                 ms(s->state.peer_rx), s->state.peer_mult, s->state.diagnostic, diagnostic_text(s->state.diagnostic),
                 seconds(now - s->heard));
-    fprintf(file, "packets %" PRIu64 " in %" PRIu64 " out; Up %" PRIu32 " times, %.3f of %.3f s\n", s->count.packets_in,
-            s->count.packets_out, s->count.ups, seconds(up_for(s, now)), seconds(now - s->begun));
+    fprintf(file, "packets %" PRIu64 " in %" PRIu64 " out; Up %" PRIu64 " times, %.3f of %.3f s\n", s->packets_in, s->packets_out,
+            s->ups, seconds_up(s, now), seconds(now - s->begun));
 }
 
 /* Writes a text as JSON has it, and a comma. */
 static void put_string(FILE *file, const char *name, const char *text) {
     fprintf(file, "\"%s\":\"", name);
-    for (; *text; text++) {
-        if ((unsigned char)*text < ' ' || *text == '"' || *text == '\\') fprintf(file, "\\u%04x", (unsigned char)*text);
-        else fputc(*text, file);
-    }
+    for (; *text; text++) fprintf(file, (unsigned char)*text < ' ' || *text == '"' || *text == '\\' ? "\\u%04x" : "%c", (unsigned char)*text);
     fputs("\",", file);
-}
-
-static void put_number(FILE *file, const char *name, uint64_t number) { fprintf(file, "\"%s\":%" PRIu64 ",", name, number); }
-
-static void put_diagnostic(FILE *file, const char *name, unsigned diagnostic) {
-    put_number(file, name, diagnostic);
-    fprintf(file, "\"%s-text\":\"%s\",", name, diagnostic_text(diagnostic));
 }
 
 /* Which session it is. */
 static void put_names(FILE *file, const struct session *s) {
     char text[ADDRESS_TEXT];
-    put_number(file, "id", s->wanted.discr);
-    if (s->is_open) put_string(file, "local", address_text(&s->local, text));
-    put_string(file, "peer", address_text(&s->remote, text));
+    fprintf(file, "\"id\":%" PRIu32 ",", s->wanted.discr);
+    if (s->is_open) fprintf(file, "\"local\":\"%s\",", address_text(&s->local, text));
+    fprintf(file, "\"peer\":\"%s\",\"multihop\":%s,", address_text(&s->remote, text), s->wanted.flags & DP_MULTIHOP ? "true" : "false");
     put_string(file, "interface", s->wanted.ifname);
-    fprintf(file, "\"multihop\":%s,", s->wanted.flags & DP_MULTIHOP ? "true" : "false");
+}
+
+static void put_diagnostic(FILE *file, const char *name, uint32_t diagnostic) {
+    fprintf(file, "\"%s\":%" PRIu32 ",\"%s-text\":\"%s\",", name, diagnostic, name, diagnostic_text(diagnostic));
+}
+
+static void put_shown(FILE *file, const struct session *s, const bfdd_answered *shown) {
+    char text[MOMENT_TEXT];
+    fprintf(file, "\"state\":\"%s\",\"since\":\"%s\",", state_text(shown->state), moment_text(s->since, text));
+    put_diagnostic(file, "diagnostic", shown->diag);
+    fprintf(file, "\"advertised-transmit-interval\":%" PRIu32 ",\"transmit-interval\":%" PRIu32 ",\"receive-interval\":%" PRIu32 ",",
+            shown->adv_tx, shown->used_tx, shown->used_rx);
+    fprintf(file, "\"detection-time\":%" PRIu64 ",\"detect-multiplier\":%u,\"poll\":%u,", shown->detect, s->wanted.mult, shown->poll);
+    fprintf(file, "\"remote-state\":\"%s\",\"remote-id\":%" PRIu32 ",", state_text(shown->remote_state), shown->remote_discr);
 }
 
 /* What the peer last said of itself. */
 static void put_peer(FILE *file, const struct session *s) {
     char text[MOMENT_TEXT];
-    put_string(file, "heard", moment_text(s->heard, text));
+    fprintf(file, "\"heard\":\"%s\",", moment_text(s->heard, text));
     put_diagnostic(file, "remote-diagnostic", s->state.diagnostic);
-    put_number(file, "remote-transmit-interval", s->state.peer_tx);
-    put_number(file, "remote-receive-interval", s->state.peer_rx);
-    put_number(file, "remote-detect-multiplier", s->state.peer_mult);
+    fprintf(file, "\"remote-transmit-interval\":%" PRIu32 ",\"remote-receive-interval\":%" PRIu32 ",\"remote-detect-multiplier\":%u,",
+            s->state.peer_tx, s->state.peer_rx, s->state.peer_mult);
 }
 
-void view_json(void *file, const struct session *s, const bfdd_answered *shown, uint64_t now) {
-    char text[MOMENT_TEXT];
+void view_json(FILE *file, const struct session *s, const bfdd_answered *shown, uint64_t now) {
     fputc('{', file);
     put_names(file, s);
-    if (shown) {
-        put_string(file, "state", state_text(shown->state));
-        put_string(file, "since", moment_text(s->since, text));
-        put_diagnostic(file, "diagnostic", shown->diag);
-        put_number(file, "advertised-transmit-interval", shown->adv_tx);
-        put_number(file, "transmit-interval", shown->used_tx);
-        put_number(file, "receive-interval", shown->used_rx);
-        put_number(file, "detection-time", shown->detect);
-        put_number(file, "detect-multiplier", s->wanted.mult);
-        put_number(file, "poll", shown->poll);
-        put_string(file, "remote-state", state_text(shown->remote_state));
-        put_number(file, "remote-id", shown->remote_discr);
-        if (s->heard) put_peer(file, s);
-    }
-    put_number(file, "bytes-in", s->count.bytes_in);
-    put_number(file, "packets-in", s->count.packets_in);
-    put_number(file, "bytes-out", s->count.bytes_out);
-    put_number(file, "packets-out", s->count.packets_out);
-    put_number(file, "ups", s->count.ups);
-    fprintf(file, "\"seconds-up\":%.6f,\"seconds\":%.6f}\n", seconds(up_for(s, now)), seconds(now - s->begun));
+    if (shown) put_shown(file, s, shown);
+    if (shown && s->heard) put_peer(file, s);
+    fprintf(file, "\"bytes-in\":%" PRIu64 ",\"packets-in\":%" PRIu64 ",\"bytes-out\":%" PRIu64 ",\"packets-out\":%" PRIu64 ",", s->bytes_in,
+            s->packets_in, s->bytes_out, s->packets_out);
+    fprintf(file, "\"ups\":%" PRIu64 ",\"seconds-up\":%.6f,\"seconds\":%.6f}\n", s->ups, seconds_up(s, now), seconds(now - s->begun));
 }
 
 void view_change(FILE *file, bool json, const struct session *s, const struct session_change *change) {
@@ -110,21 +94,18 @@ void view_change(FILE *file, bool json, const struct session *s, const struct se
         fprintf(file, "%s %s\n", moment, change->line);
         return;
     }
-    fputc('{', file);
-    put_string(file, "time", moment);
+    fprintf(file, "{\"time\":\"%s\",", moment);
     put_names(file, s);
-    put_string(file, "was", state_text(change->was));
-    put_string(file, "state", state_text(change->state));
-    put_string(file, "cause", change->cause);
-    put_string(file, "diagnostic-text", diagnostic_text(change->diagnostic));
-    fprintf(file, "\"diagnostic\":%u}\n", change->diagnostic);
+    fprintf(file, "\"was\":\"%s\",\"state\":\"%s\",\"cause\":\"%s\",", state_text(change->was), state_text(change->state), change->cause);
+    fprintf(file, "\"diagnostic-text\":\"%s\",\"diagnostic\":%u}\n", diagnostic_text(change->diagnostic), change->diagnostic);
 }
 
 /* The socket at which whoever connects is answered, one after another, and what of the answer isn't sent yet. */
 static int listener, asker;
-static struct sessions *viewed;
 static char *answer;
 static size_t length, sent;
+
+static void accept_asker(uint32_t number, uint64_t now);
 
 /* Sends what the asker takes, and closes when all is sent or the asker has gone; then the next one is awaited. */
 static void answer_asker(uint32_t number, uint64_t now) {
@@ -134,7 +115,7 @@ static void answer_asker(uint32_t number, uint64_t now) {
     if (sent < length && (took > 0 || errno == EAGAIN || errno == EINTR)) return;
     close(asker);
     free(answer);
-    loop_change(listener, LOOP_VIEW, 0, EPOLLIN);
+    loop_await(listener, LOOP_VIEW, 0, EPOLLIN, accept_asker);
 }
 
 static void accept_asker(uint32_t number, uint64_t now) {
@@ -145,18 +126,16 @@ static void accept_asker(uint32_t number, uint64_t now) {
         if (asker >= 0) close(asker);
         return say(LOG_WARNING, "a question wasn't answered: %s", strerror(errno));
     }
-    sessions_view(viewed, view_json, file, now);
+    sessions_view(view_json, file, now);
     fclose(file);
     sent = 0;
-    loop_change(listener, LOOP_VIEW, 0, 0);
+    loop_await(listener, LOOP_VIEW, 0, 0, accept_asker);
     loop_await(asker, LOOP_ASKER, 0, EPOLLOUT, answer_asker);
 }
 
-bool view_listen(const char *path, struct sessions *sessions) {
+void view_listen(const char *path) {
     struct endpoint endpoint;
-    viewed = sessions;
-    if (!endpoint_unix(path, &endpoint)) return say(LOG_ERROR, "%s: no path of a socket", path), false;
+    if (!endpoint_unix(path, &endpoint)) fail(path, "no path of a socket");
     listener = endpoint_listen(&endpoint);
-    if (listener >= 0) loop_await(listener, LOOP_VIEW, 0, EPOLLIN, accept_asker);
-    return listener >= 0;
+    loop_await(listener, LOOP_VIEW, 0, EPOLLIN, accept_asker);
 }

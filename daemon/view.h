@@ -4,16 +4,12 @@
 
 #include "sessions.h"
 
-#include <stdio.h>
-
-/* Viewers of sessions. Each writes one line to the FILE that is its context. */
+/* Each writes one line. */
 session_viewer view_text, view_json;
-
-/* Writes a change as one line. */
 void view_change(FILE *file, bool json, const struct session *s, const struct session_change *change);
 
-/* Listens on a unix socket at this path: whoever connects gets a line of JSON for each of the sessions. False after an error
- * line. */
-bool view_listen(const char *path, struct sessions *sessions);
+/* Listens on a unix socket at this path: whoever connects gets a line of JSON for each of the sessions. It ends the program where
+ * that fails. */
+void view_listen(const char *path);
 
 #endif

@@ -1,10 +1,38 @@
-/* Clocks and text: see words.h. */
+/* Lines, clocks and text: see words.h. */
 #define _GNU_SOURCE
 #include "words.h"
 
 #include <arpa/inet.h>
+#include <errno.h>
+#include <stdarg.h>
 #include <stdio.h>
+#include <stdlib.h>
+#include <string.h>
 #include <time.h>
+
+static const char *const names[] = {"report", "error", "warning", "info", "debug"};
+enum log_level log_greatest = LOG_INFO;
+
+bool log_level_named(const char *name, enum log_level *level) {
+    for (unsigned i = LOG_ERROR; i < sizeof names / sizeof *names; i++)
+        if (strcmp(name, names[i]) == 0) return *level = (enum log_level)i, true;
+    return false;
+}
+
+void say(enum log_level level, const char *format, ...) {
+    char line[1024];
+    va_list values;
+    if (level > log_greatest) return;
+    va_start(values, format);
+    vsnprintf(line, sizeof line, format, values);
+    va_end(values);
+    fprintf(stderr, "%s: %s: %s\n", program_invocation_short_name, names[level], line);
+}
+
+void fail(const char *what, const char *cause) {
+    say(LOG_ERROR, "%s: %s", what, cause);
+    exit(1);
+}
 
 static uint64_t read_clock(clockid_t clock) {
     struct timespec t;
@@ -12,21 +40,14 @@ static uint64_t read_clock(clockid_t clock) {
     return (uint64_t)t.tv_sec * 1000000 + (uint64_t)t.tv_nsec / 1000;
 }
 
-uint64_t clock_now(void) { return read_clock(CLOCK_MONOTONIC); }
+uint64_t clock_now(void) {
+    static uint64_t start;
+    uint64_t now = read_clock(CLOCK_MONOTONIC);
+    if (start == 0) start = now - 1;
+    return now - start;
+}
 
 uint64_t clock_wall(void) { return read_clock(CLOCK_REALTIME); }
-
-const char *state_text(unsigned state) {
-    static const char *const states[] = {"AdminDown", "Down", "Init", "Up"};
-    return states[state & 3];
-}
-
-const char *diagnostic_text(unsigned diagnostic) {
-    static const char *const texts[] = {"No Diagnostic", "Control Detection Time Expired", "Echo Function Failed",
-                                        "Neighbor Signaled Session Down", "Forwarding Plane Reset", "Path Down",
-                                        "Concatenated Path Down", "Administratively Down", "Reverse Concatenated Path Down"};
-    return diagnostic < sizeof texts / sizeof *texts ? texts[diagnostic] : "Reserved";
-}
 
 const char *address_text(const bfdd_address *address, char text[ADDRESS_TEXT]) {
     return inet_ntop(address->family == 4 ? AF_INET : AF_INET6, address->bytes, text, ADDRESS_TEXT);
