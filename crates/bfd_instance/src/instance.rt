@@ -111,14 +111,15 @@ impl<W: Timers> Instance<W> {
     pub fn happen(&mut self, line: Line) -> Answer
         ensures { turn_giving self.new.world self.new.items result ≡ world.happens line self.old.world }
     {
-        self.happen_naming(line).0
+        self.happen_placing(line).0
     }
 
-    /// The same, with the discriminator of the session to which the event came; 0 where it came to none, to a reflector, or as a tick
+    /// The same, with the place of the session to which the event came; none where it came to no session, to a reflector, or as a tick
     /// to all.
-    pub fn happen_naming(&mut self, line: Line) -> (Answer, u32)
+    pub fn happen_placing(&mut self, line: Line) -> (Answer, Option<u32>)
         ensures turn { turn_giving self.new.world self.new.items result.0 ≡ world.happens line self.old.world }
-        ensures reached { result.1 ≡ world.discr_reached line self.old.world }
+        ensures reached { result.1 ≡ world.place_reached line self.old.world }
+        ensures within { IfSome result.1 (λ place. place < length self.old.world.sessions) }
     {
         self.outs.clear();
         happen(&self.table, &mut self.sessions, line, &mut self.outs)

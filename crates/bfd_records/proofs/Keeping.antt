@@ -15,14 +15,14 @@ use Rattle.bfd_session.specs.Kinds.{Running, configs_of}
 use Rattle.bfd_session.specs.Rows.{place_of}
 use Rattle.bfd_session.specs.Step.{started}
 use Rattle.bfd_session.proofs.Changes.{map_inserted, map_removed}
-use Rattle.bfd_instance.specs.World.{World, discr_reached, happens}
+use Rattle.bfd_instance.specs.World.{World, happens, place_reached}
 use Rattle.bfd_instance.proofs.SameConfigs.{happens_keeps}
 use Rattle.bfd_records.specs.declared.records.Came.{Came}
 use Rattle.bfd_records.specs.declared.records.Came.TheVariants.{Nothing, Echoed, Control}
 use Rattle.bfd_records.specs.declared.records.Kind.{Kind}
 use Rattle.bfd_records.specs.declared.records.Kind.TheVariants as kinds
 use Rattle.bfd_records.specs.declared.records.Record.{Record}
-use Rattle.bfd_records.specs.Records.{all_given, blank, came_with, changed_at, changed_of, entered, fresh, gave, giver, session_kind, kinds_in, kinds_of, moment_at, recorded, answered_with}
+use Rattle.bfd_records.specs.Records.{all_given, blank, came_with, changed_at, entered, fresh, gave, giver, session_kind, kinds_in, kinds_of, moment_at, recorded, answered_with}
 
 -- what changes a record, and not its kind
 abbrev KeepsKind : (ℕ → Record → Record) → Type 0
@@ -66,7 +66,7 @@ answered_keeps (Control diag) (Showing shown) moment r = refl
 pub given_keeps : (w : World) (rs : List Record) (outs : List Out) → kinds_in (all_given w rs outs) ≡ kinds_in rs
 given_keeps w rs [] = refl
 given_keeps w rs (out ∷ outs) =
-    given_keeps w (changed_of (giver out) (gave out) w rs) outs ∙ change_keeps (place_of (giver out) (configs_of w.sessions)) (gave out) w rs (gave_keeps out)
+    given_keeps w (changed_at (place_of (giver out) (configs_of w.sessions)) (gave out) w rs) outs ∙ change_keeps (place_of (giver out) (configs_of w.sessions)) (gave out) w rs (gave_keeps out)
 
 -- the kinds of sessions are those of their configurations
 of_configs : (ss : List Running) → kinds_of ss ≡ map session_kind (configs_of ss)
@@ -81,8 +81,8 @@ pub event_keeps : (line : Line) (w : World) (rs : List Record) → kinds_in rs �
     → kinds_in (recorded line w rs) ≡ kinds_of (happens line w).world.sessions
 event_keeps line w rs same =
     let after : World = (happens line w).world in let answer : Answer = (happens line w).outcome.answer in
-    given_keeps after (changed_of (discr_reached line w) (answered_with (came_with line) answer) after rs) (happens line w).outcome.items
-    ∙ change_keeps (place_of (discr_reached line w) (configs_of after.sessions)) (answered_with (came_with line) answer) after rs (answered_keeps (came_with line) answer)
+    given_keeps after (changed_at (place_reached line w) (answered_with (came_with line) answer) after rs) (happens line w).outcome.items
+    ∙ change_keeps (place_reached line w) (answered_with (came_with line) answer) after rs (answered_keeps (came_with line) answer)
     ∙ same ∙ sym (kinds_stay line w)
 
 -- so there are as many records as sessions

@@ -20,7 +20,7 @@ use Rattle.bfd_session.specs.Kinds.{Running, configs_of, discr_of}
 use Rattle.bfd_session.specs.Rows.{place_of}
 use Rattle.bfd_script.specs.declared.line.entries.Line.{Line}
 use Rattle.bfd_script.specs.declared.line.entries.Line.TheVariants.{Rx}
-use Rattle.bfd_instance.specs.World.{World, discr_reached, happens}
+use Rattle.bfd_instance.specs.World.{World, happens, place_reached}
 use Rattle.bfd_records.specs.declared.records.Came.{Came}
 use Rattle.bfd_records.specs.declared.records.Came.TheVariants.{Nothing, Echoed, Control}
 use Rattle.bfd_records.specs.declared.records.Kind.{Kind}
@@ -135,10 +135,6 @@ changed_at None change w rs = rs
 changed_at (Some place) change w rs =
     slice_set rs place (change (moment_at w place) (slice_index_or rs place (blank kinds.Pair)))
 
--- that of the session with a discriminator
-abbrev pub changed_of : ℕ → (ℕ → Record → Record) → World → List Record → List Record
-changed_of discr change w rs = changed_at (place_of discr (configs_of w.sessions)) change w rs
-
 -- whose an output is
 abbrev pub giver : Out → ℕ
 giver (Sent discr datagram) = discr
@@ -147,13 +143,13 @@ giver (Changed discr was state diag) = discr
 -- each output is told of the session that it names
 abbrev pub all_given : World → List Record → List Out → List Record
 all_given w rs [] = rs
-all_given w rs (out ∷ outs) = all_given w (changed_of (giver out) (gave out) w rs) outs
+all_given w rs (out ∷ outs) = all_given w (changed_at (place_of (giver out) (configs_of w.sessions)) (gave out) w rs) outs
 
 -- the records after an event: first what came is told of the session to which it came, then its outputs
 abbrev pub recorded : Line → World → List Record → List Record
 recorded line w rs =
     let after : World = (happens line w).world in
-    all_given after (changed_of (discr_reached line w) (answered_with (came_with line) (happens line w).outcome.answer) after rs) (happens line w).outcome.items
+    all_given after (changed_at (place_reached line w) (answered_with (came_with line) (happens line w).outcome.answer) after rs) (happens line w).outcome.items
 
 -- the records with one of a session more, at its place, and without that of a discriminator
 abbrev pub records_with : SessionConfig → World → List Record → List Record

@@ -47,6 +47,19 @@ fn all_fresh(alloc: Global, configs: &Vec<SessionConfig>) -> Result<Vec<Record>,
     configs.iter().map(|config| fresh(config)).collect(alloc)
 }
 
+/// The discriminator of the session at a place, or 0.
+fn discr_at<W: Timers>(instance: &Instance<W>, place: Option<u32>) -> u32
+    ensures { result ≡ world.discr_at place instance.now.world }
+{
+    let Some(place) = place else {
+        return 0;
+    };
+    match instance.sessions().get(place as usize) {
+        Some(session) => session.discr(),
+        None => 0,
+    }
+}
+
 impl<W: Timers> Recorded<W> {
     /// The world at the start of a script with this table. Fails only when out of memory.
     pub fn open(
@@ -63,19 +76,18 @@ impl<W: Timers> Recorded<W> {
         Ok(Recorded { instance, records })
     }
 
-    /// One event, with the discriminator of the session to which it came, as `Instance::happen_naming` has them. What it was answered and
-    /// what it gave are told of the sessions that they name. Takes no memory.
+    /// One event, with the discriminator of the session to which it came; 0 where it came to none, to a reflector, or as a tick to all.
+    /// What it was answered and what it gave are told of the sessions that they name. Takes no memory.
     pub fn happen_naming(&mut self, line: Line) -> (Answer, u32)
         ensures turn { turn_giving self.new.world self.new.items result.0 ≡ world.happens line self.old.world }
         ensures reached { result.1 ≡ world.discr_reached line self.old.world }
         ensures records { self.new.records ≡ keeping.recorded line self.old.world self.old.records }
     {
         let came = came_with(&line);
-        let (answer, discr) = self.instance.happen_naming(line);
-        let place = self.instance.place_of(discr);
+        let (answer, place) = self.instance.happen_placing(line);
         note_came(&self.instance, place, came, &answer, &mut self.records);
         note_all(&self.instance, &mut self.records);
-        (answer, discr)
+        (answer, discr_at(&self.instance, place))
     }
 
     /// One session more, as `Instance::add` has it, with a record in which nothing has happened. Where a fault keeps it from being added,
