@@ -39,7 +39,8 @@ const FULL: u32 = 9;
 
 pub(crate) const NOT_FOUND: u32 = 10;
 
-/// Sessions and reflectors with what is kept of each session, the outputs of the last event, of which so many were read, its answer, and the session to which it came.
+/// Sessions and reflectors with what is kept of each session, the outputs of the last event, of which so many were read, its answer, and
+/// the session to which it came.
 #[derive(Drop)]
 pub struct Engine {
     world: World<ByCount>,

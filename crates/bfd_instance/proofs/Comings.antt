@@ -62,5 +62,5 @@ taken (Reflected p) cs pool arrival moment place event h = absurd (by (reflect p
     by (Ok datagram) e = cc
 
 -- its session is there
-pub within : (ss : List Running) {place : ℕ} {event : Event} → IsTaken (configs_of ss) place event → place < length ss
-within ss {place} t = omega (arith, slice_get_within (configs_of ss) place t.config t.there, length-map ss (λ (s : Running). s.config))
+pub within : (ss : List Running) (place : ℕ) (event : Event) → IsTaken (configs_of ss) place event → place < length ss
+within ss place event t = omega (arith, slice_get_within (configs_of ss) place t.config t.there, length-map ss (λ (s : Running). s.config))

@@ -44,4 +44,5 @@ returns-in-Own-clause-reached g c =
 pub returns-in-Own-clause-within : goal.returns-in-Own-clause-within
 returns-in-Own-clause-within g c =
     let t = c.args.table.now in
-    within c.args.sessions.now.sessions (rw (← c.requires.configs) ((taken (comes_to (table_of t.configs t.pool) c.args.arrival) t.configs t.pool c.args.arrival c.args.moment c.in-Own.place c.in-Own.event c.in-Own.ensures).1))
+    within c.args.sessions.now.sessions c.in-Own.place c.in-Own.event
+    (rw (← c.requires.configs) ((taken (comes_to (table_of t.configs t.pool) c.args.arrival) t.configs t.pool c.args.arrival c.args.moment c.in-Own.place c.in-Own.event c.in-Own.ensures).1))
