@@ -343,15 +343,15 @@ func (e *Engine) Next() Output {
 // A Look is what is seen of a session: what it shows, the peer's values, moments in microseconds, and counts. Dropped goes by the code
 // of an Answer.
 type Look struct {
-	Discr, RemoteDiscr                             uint32
-	State, RemoteState                             State
-	Diag, Poll                                     uint8
+	Discr, RemoteDiscr                              uint32
+	State, RemoteState                              State
+	Diag, Poll                                      uint8
 	AdvTx, UsedTx, UsedRx, PeerTx, PeerRx, PeerEcho uint32
-	PeerMult, PeerDiag                             uint8
-	PeerDemand                                     bool
-	Detect, DetectEnd, Heard, Changed              uint64
-	Received, Sent, Ups, Downs                     uint64
-	Dropped                                        [25]uint64
+	PeerMult, PeerDiag                              uint8
+	PeerDemand                                      bool
+	Detect, DetectEnd, Heard, Changed               uint64
+	Received, Sent, Ups, Downs                      uint64
+	Dropped                                         [25]uint64
 }
 
 // Look sees a session as it stands after the last event. Nothing is settled, and the outputs stay.

@@ -139,13 +139,13 @@ abbrev pub session_discr : Option Running → ℕ
 session_discr None = 0
 session_discr (Some s) = discr_of s.config
 
-abbrev pub discr_at : Option ℕ → World → ℕ
-discr_at None w = 0
-discr_at (Some place) w = session_discr (slice_get w.sessions place)
+abbrev pub discr_of_place : Option ℕ → World → ℕ
+discr_of_place None w = 0
+discr_of_place (Some place) w = session_discr (slice_get w.sessions place)
 
 -- that of the session to which a line came
 abbrev pub discr_reached : Line → World → ℕ
-discr_reached line w = discr_at (place_reached line w) (happens line w).world
+discr_reached line w = discr_of_place (place_reached line w) (happens line w).world
 
 -- what the lines give, one after another
 abbrev pub outcomes : List Line → World → List Outcome

@@ -1,6 +1,6 @@
 -- Each record stays of its session's kind.
 use Rattle.std.proofs.Common.{◌≡◌, ◌∙◌, ◌∷◌, ℕ, zero, suc, List, [], Option, None, Some, length, map, refl, sym, ap}
-use Rattle.std.specs.Prelude.{slice_index_or, slice_set}
+use Rattle.std.specs.Prelude.{slice_get, slice_index_or, slice_set}
 use Rattle.std.specs.List.{insert, remove}
 use Rattle.std.proofs.lemmas.List.{length-map}
 use Rattle.bfd_packet.specs.declared.control.State.{State}
@@ -15,14 +15,14 @@ use Rattle.bfd_session.specs.Kinds.{Running, configs_of}
 use Rattle.bfd_session.specs.Rows.{place_of}
 use Rattle.bfd_session.specs.Step.{started}
 use Rattle.bfd_session.proofs.Changes.{map_inserted, map_removed}
-use Rattle.bfd_instance.specs.World.{World, happens, place_reached}
+use Rattle.bfd_instance.specs.World.{Turn, World, happens, turn_giving}
 use Rattle.bfd_instance.proofs.SameConfigs.{happens_keeps}
 use Rattle.bfd_records.specs.declared.records.Came.{Came}
 use Rattle.bfd_records.specs.declared.records.Came.TheVariants.{Nothing, Echoed, Control}
 use Rattle.bfd_records.specs.declared.records.Kind.{Kind}
 use Rattle.bfd_records.specs.declared.records.Kind.TheVariants as kinds
 use Rattle.bfd_records.specs.declared.records.Record.{Record}
-use Rattle.bfd_records.specs.Records.{all_given, blank, came_with, changed_at, entered, fresh, gave, giver, session_kind, kinds_in, kinds_of, moment_at, recorded, answered_with}
+use Rattle.bfd_records.specs.Records.{all_given, blank, changed_at, entered, fresh, gave, giver, session_kind, kinds_in, kinds_of, moment_at, answered_with}
 
 -- what changes a record, and not its kind
 abbrev KeepsKind : (ℕ → Record → Record) → Type 0
@@ -76,14 +76,13 @@ of_configs (s ∷ ss) = ap (λ ks. session_kind s.config ∷ ks) (of_configs ss)
 pub kinds_stay : (line : Line) (w : World) → kinds_of (happens line w).world.sessions ≡ kinds_of w.sessions
 kinds_stay line w = of_configs (happens line w).world.sessions ∙ ap (map session_kind) (happens_keeps line w) ∙ sym (of_configs w.sessions)
 
--- an event leaves the kinds
-pub event_keeps : (line : Line) (w : World) (rs : List Record) → kinds_in rs ≡ kinds_of w.sessions
-    → kinds_in (recorded line w rs) ≡ kinds_of (happens line w).world.sessions
-event_keeps line w rs same =
-    let after : World = (happens line w).world in let answer : Answer = (happens line w).outcome.answer in
-    given_keeps after (changed_at (place_reached line w) (answered_with (came_with line) answer) after rs) (happens line w).outcome.items
-    ∙ change_keeps (place_reached line w) (answered_with (came_with line) answer) after rs (answered_keeps (came_with line) answer)
-    ∙ same ∙ sym (kinds_stay line w)
+-- what came is noted
+pub came_keeps : (line : Line) (w after : World) (items : List Out) (answer : Answer) (place : Option ℕ) (came : Came) (rs noted : List Record)
+    → turn_giving after items answer ≡ happens line w → kinds_in rs ≡ kinds_of w.sessions → noted ≡ changed_at place (answered_with came answer) after rs
+    → kinds_in noted ≡ kinds_of after.sessions
+came_keeps line w after items answer place came rs noted turn same e =
+    ap kinds_in e ∙ change_keeps place (answered_with came answer) after rs (answered_keeps came answer) ∙ same
+    ∙ sym (ap (λ (t : Turn). kinds_of t.world.sessions) turn ∙ kinds_stay line w)
 
 -- so there are as many records as sessions
 pub as_many : (rs : List Record) (ss : List Running) → kinds_in rs ≡ kinds_of ss → length rs ≡ length ss
@@ -103,3 +102,11 @@ one_out rs ss place same =
 pub fresh_kinds : (cs : List SessionConfig) → kinds_in (map fresh cs) ≡ kinds_of (map started cs)
 fresh_kinds [] = refl
 fresh_kinds (c ∷ cs) = ap (λ ks. session_kind c ∷ ks) (fresh_kinds cs)
+
+-- a session's record is of its kind
+pub kind_there : (rs : List Record) (ss : List Running) (place : ℕ) (r : Record) (s : Running) → kinds_in rs ≡ kinds_of ss
+    → slice_get rs place ≡ Some r → slice_get ss place ≡ Some s → r.kind ≡ session_kind s.config
+kind_there [] ss place r s same kept there = absurd (cc)
+kind_there (q ∷ rs) [] place r s same kept there = absurd (cc)
+kind_there (q ∷ rs) (t ∷ ss) zero r s same kept there = cc
+kind_there (q ∷ rs) (t ∷ ss) (suc place) r s same kept there = kind_there rs ss place r s (cc) kept there

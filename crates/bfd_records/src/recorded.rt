@@ -48,8 +48,8 @@ fn all_fresh(alloc: Global, configs: &Vec<SessionConfig>) -> Result<Vec<Record>,
 }
 
 /// The discriminator of the session at a place, or 0.
-fn discr_at<W: Timers>(instance: &Instance<W>, place: Option<u32>) -> u32
-    ensures { result ≡ world.discr_at place instance.now.world }
+fn discr_of_place<W: Timers>(instance: &Instance<W>, place: Option<u32>) -> u32
+    ensures { result ≡ world.discr_of_place place instance.now.world }
 {
     let Some(place) = place else {
         return 0;
@@ -87,7 +87,7 @@ impl<W: Timers> Recorded<W> {
         let (answer, place) = self.instance.happen_placing(line);
         note_came(&self.instance, place, came, &answer, &mut self.records);
         note_all(&self.instance, &mut self.records);
-        (answer, discr_at(&self.instance, place))
+        (answer, discr_of_place(&self.instance, place))
     }
 
     /// One session more, as `Instance::add` has it, with a record in which nothing has happened. Where a fault keeps it from being added,

@@ -1,5 +1,5 @@
 -- What an arrival comes to is a turn of the world.
-use Rattle.bfd_instance.proofs.Common.{◌∙◌, ap, sym, carried_out, configs_of, reached, world_of, table_of}
+use Rattle.bfd_instance.proofs.Common.{◌∙◌, ap, sym, carried_out, reached, world_of, table_of}
 use Rattle.bfd_session.specs.Arrivals.{comes_to}
 use Rattle.bfd_instance.proofs.Comings.{answered, discarded, none_answered, none_discarded, taken, within}
 use Rattle.bfd_instance.proofs.world.arrive.Goals as goal
