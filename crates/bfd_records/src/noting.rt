@@ -28,7 +28,7 @@ pub(crate) fn note_came<W: Timers>(
     records: &mut Vec<Record>,
 )
     requires { IfSome place (λ place. place < length records.old.items) }
-    ensures records { records.new.items ≡ keeping.changed_at place (keeping.answered_with came answer.now) instance.now.world records.old.items }
+    ensures { records.new.items ≡ keeping.changed_at place (keeping.answered_with came answer.now) instance.now.world records.old.items }
 {
     let Some(place) = place else {
         return;
@@ -54,7 +54,7 @@ fn note_given<W: Timers>(
     records: &mut Vec<Record>,
 )
     requires { IfSome place (λ place. place < length records.old.items) }
-    ensures records { records.new.items ≡ keeping.changed_at place (keeping.gave out.now) instance.now.world records.old.items }
+    ensures { records.new.items ≡ keeping.changed_at place (keeping.gave out.now) instance.now.world records.old.items }
 {
     let Some(place) = place else {
         return;

@@ -1,12 +1,13 @@
 //! An instance that keeps a record of each session.
-ghost use Rattle.std.specs.Prelude.{◌≡◌, ◌⊎◌, None, Some, IfOk, MatchResult, OnErr, OnOk, false, map};
+ghost use Rattle.std.specs.Prelude.{◌≡◌, ◌⊎◌, ◌<◌, None, Some, IfOk, MatchResult, OnErr, OnOk, false, length, map};
+ghost use Rattle.std.specs.List.{remove};
 ghost use Rattle.bfd_lanes.specs.Places.{least};
 ghost use Rattle.bfd_session.specs.Due.{due as due_tick};
 ghost use Rattle.bfd_session.specs.Step.{IsFit};
 ghost use Rattle.bfd_instance.specs.Stage.{IsTable};
 ghost use Rattle.bfd_instance.specs.World.{turn_giving};
 ghost use Rattle.bfd_instance.specs.World as world;
-ghost use Rattle.bfd_records.specs.Looks.{look_of};
+ghost use Rattle.bfd_records.specs.Looks.{look_in, look_of};
 ghost use Rattle.bfd_records.specs.Records as keeping;
 
 use crate::looking::{Look, seen};
@@ -45,6 +46,14 @@ fn all_fresh(alloc: Global, configs: &Vec<SessionConfig>) -> Result<Vec<Record>,
     ensures { IfOk result (λ list. list.items ≡ map keeping.fresh configs.now.items) }
 {
     configs.iter().map(|config| fresh(config)).collect(alloc)
+}
+
+/// The record at a place leaves.
+fn take_out(records: &mut Vec<Record>, place: u32)
+    requires { place < length records.old.items }
+    ensures { records.new.items ≡ remove records.old.items place }
+{
+    records.remove(place as usize);
 }
 
 /// The discriminator of the session at a place, or 0.
@@ -125,7 +134,7 @@ impl<W: Timers> Recorded<W> {
     {
         match self.instance.place_of(discr) {
             Some(place) => {
-                self.records.remove(place as usize);
+                take_out(&mut self.records, place);
                 self.instance.remove(discr)
             }
             None => false,
@@ -157,14 +166,24 @@ impl<W: Timers> Recorded<W> {
         self.instance.remove_reflector(discr)
     }
 
+    /// A look at the session at a place, if there is one.
+    #[tactic(auto, using(crate::proofs::Keeping::kind_there))]
+    fn look_at_place(&self, place: u32) -> Option<Look>
+        ensures { result ≡ look_in (Some place) self.now.world self.now.records }
+    {
+        let session = self.instance.sessions().get(place as usize)?;
+        let kept = self.records.get(place as usize)?;
+        Some(seen(session, kept))
+    }
+
     /// A look at the session of this discriminator, if there is one. It settles nothing, and what the last event gave stays.
     pub fn look(&self, discr: u32) -> Option<Look>
         ensures { result ≡ look_of discr self.now.world self.now.records }
     {
-        let place = self.instance.place_of(discr)?;
-        let session = self.instance.sessions().get(place as usize)?;
-        let kept = self.records.get(place as usize)?;
-        Some(seen(session, kept))
+        match self.instance.place_of(discr) {
+            Some(place) => self.look_at_place(place),
+            None => None,
+        }
     }
 
     /// The outputs of the last event.
