@@ -26,7 +26,7 @@ found_from (suc p) n c [] within o = absurd (omega (arith, within))
 found_from (suc p) n c (d ∷ cs) within o = rw o.0 (found_from p (n + 1) c cs (omega (arith, within)) o.1 ∙ ap Some (omega arith))
 
 found : (p : ℕ) (c : SessionConfig) (cs : List SessionConfig) → p ≤ length cs → Others (discr_of c) cs → place_of (discr_of c) (insert cs p c) ≡ Some p
-found p c cs within o = position_from-zero (λ (d : SessionConfig). discr_of c == discr_of d) (insert cs p c) ∙ found_from p 0 c cs within o
+found p c cs within o = position_from-zero (λ (d : SessionConfig). discr_of c == discr_of d) (insert cs p c) ∙ found_from p 0 c cs within o ∙ ap Some (omega arith)
 
 pub undone : (c : SessionConfig) (w : World) → session_fault c w ≡ None → world_without (discr_of c) (world_with c w) ≡ w
 undone c w clear =

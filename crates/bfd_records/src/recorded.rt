@@ -167,7 +167,6 @@ impl<W: Timers> Recorded<W> {
     }
 
     /// A look at the session at a place, if there is one.
-    #[tactic(auto, using(crate::proofs::Keeping::kind_there))]
     fn look_at_place(&self, place: u32) -> Option<Look>
         ensures { result ≡ look_in (Some place) self.now.world self.now.records }
     {
