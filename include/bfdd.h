@@ -247,6 +247,37 @@ typedef struct {
 /* What the last event was answered; after bfdd_packets the last packet that was handled. BFDD_CLOSED. */
 uint32_t bfdd_answer(bfdd_handle *handle, bfdd_answered *answer);
 
+/* A look at a session. What there is none of is 0. The peer's values are those of its last control packet that the session took, and before
+ * that those of a new session; of a head, which hears nothing, they stay so. */
+typedef struct {
+    uint32_t discr;
+    uint8_t state, diag, remote_state; /* these and those down to `detect` are as in an answer of bfdd_show */
+    uint8_t poll;
+    uint32_t remote_discr;
+    uint32_t adv_tx;
+    uint32_t used_tx;
+    uint32_t used_rx;
+    uint64_t detect;
+    uint32_t peer_tx;     /* the peer's Desired Min TX Interval, */
+    uint32_t peer_rx;     /* its Required Min RX Interval, */
+    uint32_t peer_echo;   /* its Required Min Echo RX Interval, */
+    uint8_t peer_mult;    /* its Detect Mult, */
+    uint8_t peer_diag;    /* its diagnostic, */
+    uint8_t peer_demand;  /* and 1 where its demand mode is on */
+    uint64_t detect_end;  /* when the Detection Time ends, if it runs */
+    uint64_t heard;       /* the moment of the last control packet that the session took */
+    uint64_t changed;     /* the moment of the last change of its state */
+    uint64_t received;    /* packets that came to it since it was made, echo packets and those that it dropped too */
+    uint64_t sent;        /* packets that it sent, echo packets too */
+    uint64_t ups;         /* changes of its state to Up */
+    uint64_t downs;       /* changes of its state to Down */
+    uint64_t dropped[25]; /* packets that came to it and were discarded, by enum bfdd_drop */
+} bfdd_session_state;
+
+/* A look at the session of this discriminator, as it stands after the last event. It is no event: nothing is settled, and the outputs
+ * and the answer stay. Counts stand still at the greatest number. BFDD_CLOSED, BFDD_NOT_FOUND. */
+uint32_t bfdd_state(bfdd_handle *handle, uint32_t discr, bfdd_session_state *state);
+
 enum bfdd_output_kind { BFDD_CHANGED = 1, BFDD_SENT = 2 };
 
 /* An output: a change of a session's state, or a packet to send. What its kind doesn't use is 0. */

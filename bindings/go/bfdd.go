@@ -340,6 +340,38 @@ func (e *Engine) Next() Output {
 	}
 }
 
+// A Look is what is seen of a session: what it shows, the peer's values, moments in microseconds, and counts. Dropped goes by the code
+// of an Answer.
+type Look struct {
+	Discr, RemoteDiscr                              uint32
+	State, RemoteState                              State
+	Diag, Poll                                      uint8
+	AdvTx, UsedTx, UsedRx, PeerTx, PeerRx, PeerEcho uint32
+	PeerMult, PeerDiag                              uint8
+	PeerDemand                                      bool
+	Detect, DetectEnd, Heard, Changed               uint64
+	Received, Sent, Ups, Downs                      uint64
+	Dropped                                         [25]uint64
+}
+
+// Look sees a session as it stands after the last event. Nothing is settled, and the outputs stay.
+func (e *Engine) Look(discr uint32) (Look, error) {
+	var from C.bfdd_session_state
+	code := C.bfdd_state(&e.handle, C.uint32_t(discr), &from)
+	look := Look{
+		Discr: uint32(from.discr), RemoteDiscr: uint32(from.remote_discr), State: State(from.state), RemoteState: State(from.remote_state),
+		Diag: uint8(from.diag), Poll: uint8(from.poll), AdvTx: uint32(from.adv_tx), UsedTx: uint32(from.used_tx),
+		UsedRx: uint32(from.used_rx), PeerTx: uint32(from.peer_tx), PeerRx: uint32(from.peer_rx), PeerEcho: uint32(from.peer_echo),
+		PeerMult: uint8(from.peer_mult), PeerDiag: uint8(from.peer_diag), PeerDemand: from.peer_demand == 1,
+		Detect: uint64(from.detect), DetectEnd: uint64(from.detect_end), Heard: uint64(from.heard), Changed: uint64(from.changed),
+		Received: uint64(from.received), Sent: uint64(from.sent), Ups: uint64(from.ups), Downs: uint64(from.downs),
+	}
+	for at := range from.dropped {
+		look.Dropped[at] = uint64(from.dropped[at])
+	}
+	return look, failure(code)
+}
+
 // Due is the least tick that is needed next, in milliseconds, or false where none is before the next event.
 func (e *Engine) Due() (uint64, bool) {
 	var ms C.uint64_t

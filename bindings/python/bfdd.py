@@ -46,6 +46,17 @@ class Answered(Structure):
                 ("adv_tx", c_uint32), ("used_tx", c_uint32), ("used_rx", c_uint32), ("detect", c_uint64)]
 
 
+class Session_state(Structure):  # named as the header's struct
+    _fields_ = [("discr", c_uint32)] \
+        + [(name, c_uint8) for name in ("state", "diag", "remote_state", "poll")] \
+        + [(name, c_uint32) for name in ("remote_discr", "adv_tx", "used_tx", "used_rx")] \
+        + [("detect", c_uint64)] \
+        + [(name, c_uint32) for name in ("peer_tx", "peer_rx", "peer_echo")] \
+        + [(name, c_uint8) for name in ("peer_mult", "peer_diag", "peer_demand")] \
+        + [(name, c_uint64) for name in ("detect_end", "heard", "changed", "received", "sent", "ups", "downs")] \
+        + [("dropped", c_uint64 * 25)]
+
+
 class Output(Structure):
     _fields_ = [("kind", c_uint32), ("discr", c_uint32), ("was", c_uint8), ("state", c_uint8), ("diag", c_uint8),
                 ("ttl", c_uint8), ("iface", c_uint32), ("sport", c_uint16), ("dport", c_uint16), ("src", Address),
@@ -71,6 +82,7 @@ def load(path):
             ("receive", handle, POINTER(Packet), c_char_p, c_size_t), ("tick", handle, c_uint64),
             ("command", handle, c_uint64, c_uint32, c_uint32, c_uint64), ("show", handle, c_uint64, c_uint32),
             ("answer", handle, POINTER(Answered)), ("next", handle, POINTER(Output)), ("due", handle, POINTER(c_uint64)),
+            ("state", handle, c_uint32, POINTER(Session_state)),
             ("packets", handle, POINTER(Arrival), c_size_t, POINTER(Answered), c_size_t, POINTER(c_size_t)),
             ("outputs", handle, POINTER(Output), c_size_t, POINTER(c_size_t)),
             ("find_name", c_uint32, c_uint32, POINTER(Text)), ("version",)]:
@@ -145,6 +157,12 @@ class Engine:
         answered = Answered()
         self.call("answer", byref(answered))
         return answered
+
+    def state(self, discr):
+        """A look at the session of this discriminator."""
+        state = Session_state()
+        self.call("state", discr, byref(state))
+        return state
 
     def due(self):
         """The tick that is needed next, or None."""

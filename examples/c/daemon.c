@@ -9,7 +9,8 @@
  *
  * What the engine leaves to a daemon (docs/EMBEDDING.md): each session sends from a port of its own. Packets over several hops whose
  * TTL is below LEAST_TTL are discarded. A line `DISCR VERB VALUE` of standard input is a command, which waits until the Poll Sequence
- * of the one before has ended. By SIGHUP the table is read anew, with other keys say, after each session has said AdminDown. */
+ * of the one before has ended. `DISCR add IFACE REMOTE` adds a session over a single hop, and `DISCR remove` takes one away. By SIGHUP
+ * the table is read anew, with other keys say, after each session has said AdminDown. */
 #define _GNU_SOURCE
 #include <arpa/inet.h>
 #include <bfdd.h>
@@ -29,11 +30,12 @@ enum { SBFD = 3, PORTS = 4, LINES = PORTS, PLACES = 64, SOURCES = 1 << 15 };
 static const struct { uint16_t udp; uint32_t port; } ports[PORTS] = {
     {3784, BFDD_PORT_SINGLE}, {4784, BFDD_PORT_MULTI}, {3785, BFDD_PORT_ECHO}, {7784, BFDD_PORT_SBFD}};
 static const char *const states[] = {"AdminDown", "Down", "Init", "Up"};
-static const char *const verbs[] = {"disable", "enable", "reset", "path", "tx", "rx", "mult", "demand", "echo", "key"};
+static const char *const verbs[] = {"disable", "enable", "reset", "path", "tx", "rx", "mult", "demand", "echo", "key", "add", "remove"};
+enum { ADD = 11, REMOVE = 12 };
 static struct pollfd sockets[PLACES]; /* of the ports, of standard input, and of initiators, whose answers come to their own port */
 static nfds_t places = LINES + 1;
 static struct { uint32_t discr; int fd; } sources[SOURCES]; /* a session and its socket; twice as many places as there are ports */
-static struct { uint32_t discr, verb; uint64_t value; } command; /* the one that waits; without one the verb is 0 */
+static struct { uint32_t discr, verb; uint64_t value; struct in_addr remote; } command; /* the one that waits; without one the verb is 0 */
 static int lines = STDIN_FILENO; /* -1 once it has ended */
 static struct in_addr local;
 static unsigned least_ttl;
@@ -184,26 +186,42 @@ static void receive(bfdd_handle *engine, nfds_t place) {
 
 /* The next command of standard input. */
 static void read_command(void) {
-    char line[100], verb[10];
+    char line[100], verb[10], remote[16] = "";
     if (!fgets(line, sizeof line, stdin)) lines = -1;
-    else if (sscanf(line, "%" SCNu32 " %9s %" SCNu64, &command.discr, verb, &command.value) >= 2)
+    else if (sscanf(line, "%" SCNu32 " %9s %" SCNu64 " %15s", &command.discr, verb, &command.value, remote) >= 2)
         for (uint32_t i = 0; i < sizeof verbs / sizeof *verbs; i++)
             if (!strcmp(verb, verbs[i])) command.verb = i + 1;
+    inet_aton(remote, &command.remote);
+}
+
+/* A session more, by the command that waits. The next tick sends its first packet. */
+static uint32_t add_session(bfdd_handle *engine) {
+    bfdd_session session = {.kind = BFDD_SINGLE_HOP, .discr = command.discr, .iface = (uint32_t)command.value, .local = {4}, .remote = {4},
+                            .active = 1, .tx = 100000, .rx = 100000, .mult = 3, .seed = command.discr};
+    memcpy(session.local.bytes, &local, 4), memcpy(session.remote.bytes, &command.remote, 4);
+    return bfdd_add(engine, &session);
+}
+
+/* A session less. Its peer is told AdminDown before. */
+static uint32_t remove_session(bfdd_handle *engine, uint64_t moment) {
+    bfdd_command(engine, moment, command.discr, BFDD_DISABLE, 0);
+    take_outputs(engine, moment);
+    return bfdd_remove(engine, command.discr);
 }
 
 /* Gives the command that waits; but not while the session has a Poll Sequence, which a packet will end. */
 static void give_command(bfdd_handle *engine) {
+    bfdd_session_state state = {0};
     bfdd_answered answer = {0};
     uint64_t moment = now();
-    bfdd_show(engine, moment, command.discr);
+    if (bfdd_state(engine, command.discr, &state) == BFDD_DONE && state.poll) return;
+    uint32_t code = BFDD_DONE;
+    if (command.verb == ADD) code = add_session(engine);
+    else if (command.verb == REMOVE) code = remove_session(engine, moment);
+    else if (bfdd_command(engine, moment, command.discr, command.verb, command.value) == BFDD_DONE) bfdd_answer(engine, &answer);
     take_outputs(engine, moment);
-    bfdd_answer(engine, &answer);
-    if (answer.kind == BFDD_SHOWN && answer.poll) return;
-    bfdd_command(engine, moment, command.discr, command.verb, command.value);
-    take_outputs(engine, moment);
-    bfdd_answer(engine, &answer);
     printf("%" PRIu64 " command %" PRIu32 " %s %s\n", moment, command.discr, verbs[command.verb - 1],
-           answer.kind == BFDD_REFUSED ? answer.name : "done");
+           answer.kind == BFDD_REFUSED ? answer.name : code != BFDD_DONE ? bfdd_name(BFDD_NAME_CODE, code) : "done");
     command.verb = 0;
 }
 

@@ -8,6 +8,7 @@ use Rattle.bfd_demux.specs.declared.fault.AddFault.TheVariants.{TooMany, ZeroDis
 use Rattle.bfd_demux.specs.declared.row.Row.{Row}
 use Rattle.bfd_demux.specs.Rows.{add_fault, same_addresses, same_discr}
 use Rattle.bfd_instance.specs.World.{World}
+use Rattle.bfd_records.specs.declared.records.Record.{Record}
 use Rattle.bfd_c.specs.Engines.{Instance}
 use Rattle.bfd_c.specs.Joining.{add_code, unless}
 
@@ -22,11 +23,11 @@ no_memory_by false false false false e = cc
 pub no_memory : (row : Row) (rows : List Row) → add_fault row rows ≡ Some Memory → ⊥
 no_memory row rows e = no_memory_by (nat_le 65536 (length rows)) (row.discr == 0) (list_any (same_discr row) rows) (list_any (same_addresses row) rows) e
 
-pub memory_last : (found : Option AddFault) (fault : AddFault) (w : World) (e : Instance) → ((fault ≡ Memory) × (found ≡ None)) ⊎ (found ≡ Some fault) → (found ≡ Some Memory → ⊥)
-    → add_code fault ≡ 2 → (unless found w e).1 ≡ 0
-memory_last found fault w e (inl h) not_memory two = rw h.1 refl
-memory_last found TooMany w e (inr h) not_memory two = (let other : 9 ≡ 2 = two in absurd (omega (arith, other)))
-memory_last found ZeroDiscr w e (inr h) not_memory two = (let other : 3 ≡ 2 = two in absurd (omega (arith, other)))
-memory_last found SameDiscr w e (inr h) not_memory two = (let other : 7 ≡ 2 = two in absurd (omega (arith, other)))
-memory_last found SameAddresses w e (inr h) not_memory two = (let other : 8 ≡ 2 = two in absurd (omega (arith, other)))
-memory_last found Memory w e (inr h) not_memory two = absurd (not_memory h)
+pub memory_last : (found : Option AddFault) (fault : AddFault) (w : World) (rs : List Record) (e : Instance) → ((fault ≡ Memory) × (found ≡ None)) ⊎ (found ≡ Some fault) → (found ≡ Some Memory → ⊥)
+    → add_code fault ≡ 2 → (unless found w rs e).1 ≡ 0
+memory_last found fault w rs e (inl h) not_memory two = rw h.1 refl
+memory_last found TooMany w rs e (inr h) not_memory two = (let other : 9 ≡ 2 = two in absurd (omega (arith, other)))
+memory_last found ZeroDiscr w rs e (inr h) not_memory two = (let other : 3 ≡ 2 = two in absurd (omega (arith, other)))
+memory_last found SameDiscr w rs e (inr h) not_memory two = (let other : 7 ≡ 2 = two in absurd (omega (arith, other)))
+memory_last found SameAddresses w rs e (inr h) not_memory two = (let other : 8 ≡ 2 = two in absurd (omega (arith, other)))
+memory_last found Memory w rs e (inr h) not_memory two = absurd (not_memory h)

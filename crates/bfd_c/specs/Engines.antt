@@ -14,18 +14,21 @@ use Rattle.bfd_script.specs.declared.line.entries.Line.{Line}
 use Rattle.bfd_script.specs.declared.fields.fault.BadLine.{BadLine}
 use Rattle.bfd_script.specs.Reading.{Lists}
 use Rattle.bfd_instance.specs.World.{World, discr_reached, happens, opened}
+use Rattle.bfd_records.specs.declared.records.Record.{Record}
+use Rattle.bfd_records.specs.Records.{fresh, recorded}
 
 -- an engine: its sessions and reflectors with the greatest tick so far, the outputs of the last event that are left to be read,
--- what it was answered, and the discriminator of the session to which it came, or 0
+-- what it was answered, the discriminator of the session to which it came, or 0, and what is kept of each session
 pub record Instance : Type 0 where
   pub world : World
   pub left : List Out
   pub answer : Answer
   pub discr : ℕ
+  pub records : List Record
 
 -- the engine of a table, before the first event
 abbrev pub new_instance : List SessionConfig → List Reflector → Instance
-new_instance configs pool = record { world = opened configs pool; left = []; answer = Handled; discr = 0 }
+new_instance configs pool = record { world = opened configs pool; left = []; answer = Handled; discr = 0; records = map fresh configs }
 
 -- the engine after an event
 abbrev pub instance_after : Line → Instance → Instance
@@ -34,6 +37,7 @@ instance_after line e = record {
   left = (happens line e.world).outcome.items;
   answer = (happens line e.world).outcome.answer;
   discr = discr_reached line e.world;
+  records = recorded line e.world e.records;
 }
 
 -- an event that was asked for, or values of which one is outside its range; and the code

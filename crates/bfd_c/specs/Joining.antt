@@ -1,12 +1,14 @@
 -- What a handle holds once a session or a reflector came or went, and the code: 7 where the discriminator stands already, 8 where the
 -- selecting addresses do, 9 where there are 65,536, and 10 where none has the discriminator.
-use Rattle.std.specs.Prelude.{ℕ, ◌==◌, ◌&&◌, nat_le, nat_lt, Option, None, Some, if◌then◌else◌}
+use Rattle.std.specs.Prelude.{ℕ, ◌==◌, ◌&&◌, nat_le, nat_lt, Option, None, Some, List, if◌then◌else◌}
 use Rattle.bfd_rules.specs.Sound.{is_interval}
 use Rattle.bfd_demux.specs.declared.fault.AddFault.{AddFault}
 use Rattle.bfd_demux.specs.declared.fault.AddFault.TheVariants.{TooMany, ZeroDiscr, SameDiscr, SameAddresses, Memory}
 use Rattle.bfd_sbfd.specs.declared.reflecting.Reflector.{Reflector}
 use Rattle.bfd_session.specs.declared.event.SessionConfig.{SessionConfig}
 use Rattle.bfd_instance.specs.World.{World, session_fault, knows_reflector, knows_session, reflector_fault, world_with_reflector, world_with, world_without_reflector, world_without}
+use Rattle.bfd_records.specs.declared.records.Record.{Record}
+use Rattle.bfd_records.specs.Records.{records_with, records_without}
 use Rattle.bfd_c.specs.Engines.{Instance}
 
 -- the code of what keeps a session or a reflector out
@@ -17,19 +19,19 @@ add_code SameDiscr = 7
 add_code SameAddresses = 8
 add_code Memory = 2
 
--- an engine whose world becomes this one, unless a fault keeps it
-abbrev pub unless : Option AddFault → World → Instance → Instance × ℕ
-unless None w e = (record e { world = w }, 0)
-unless (Some fault) w e = (e, add_code fault)
+-- an engine whose world and records become these, unless a fault keeps it
+abbrev pub unless : Option AddFault → World → List Record → Instance → Instance × ℕ
+unless None w rs e = (record e { world = w; records = rs }, 0)
+unless (Some fault) w rs e = (e, add_code fault)
 
 -- an engine with one session more; without, a value is outside its range
 abbrev pub session_added : Option SessionConfig → Instance → Instance × ℕ
 session_added None e = (e, 3)
-session_added (Some config) e = unless (session_fault config e.world) (world_with config e.world) e
+session_added (Some config) e = unless (session_fault config e.world) (world_with config e.world) (records_with config e.world e.records) e
 
 -- without the session of this discriminator
 abbrev pub session_removed : ℕ → Instance → Instance × ℕ
-session_removed discr e = if knows_session discr e.world then (record e { world = world_without discr e.world }, 0) else (e, 10)
+session_removed discr e = if knows_session discr e.world then (record e { world = world_without discr e.world; records = records_without discr e.world e.records }, 0) else (e, 10)
 
 -- the reflector of these values: its discriminator, its Required Min RX Interval, and 1 where it is Up
 abbrev pub reflector_from_c : ℕ → ℕ → ℕ → Option Reflector
@@ -39,7 +41,7 @@ reflector_from_c discr rx up =
 -- the same with one reflector more, and without one
 abbrev pub reflector_added : Option Reflector → Instance → Instance × ℕ
 reflector_added None e = (e, 3)
-reflector_added (Some reflector) e = unless (reflector_fault reflector e.world) (world_with_reflector reflector e.world) e
+reflector_added (Some reflector) e = unless (reflector_fault reflector e.world) (world_with_reflector reflector e.world) e.records e
 
 abbrev pub reflector_removed : ℕ → Instance → Instance × ℕ
 reflector_removed discr e = if knows_reflector discr e.world then (record e { world = world_without_reflector discr e.world }, 0) else (e, 10)

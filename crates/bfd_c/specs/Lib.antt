@@ -8,6 +8,7 @@ pub mod Reading
 pub mod Opening
 pub mod Singles
 pub mod Joining
+pub mod Looking
 pub mod Names
 pub mod Many
 pub mod Version

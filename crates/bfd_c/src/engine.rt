@@ -3,12 +3,13 @@ ghost use Rattle.std.specs.Prelude.{◌≡◌, ◌≢◌, IfOk, Some, drop};
 ghost use Rattle.std.specs.Option.{option_copied};
 ghost use Rattle.bfd_session.specs.Step.{IsFit};
 ghost use Rattle.bfd_instance.specs.Stage.{IsTable};
+ghost use Rattle.bfd_records.specs.Looks.{look_of};
 ghost use Rattle.bfd_c.specs.Engines.{instance_after, asked, first_of, soonest, new_instance};
 ghost use Rattle.bfd_c.specs.Joining as joining;
 
 use bfd_demux::AddFault;
-use bfd_instance::Instance as World;
 use bfd_levels::ByCount;
+use bfd_records::{Look, Recorded as World};
 use bfd_rules::Out;
 use bfd_sbfd::Reflector;
 use bfd_script::line::Line;
@@ -36,9 +37,10 @@ const TAKEN_ADDRESSES: u32 = 8;
 
 const FULL: u32 = 9;
 
-const NOT_FOUND: u32 = 10;
+pub(crate) const NOT_FOUND: u32 = 10;
 
-/// Sessions and reflectors, the outputs of the last event, of which so many were read, its answer, and the session to which it came.
+/// Sessions and reflectors with what is kept of each session, the outputs of the last event, of which so many were read, its answer, and
+/// the session to which it came.
 #[derive(Drop)]
 pub struct Engine {
     world: World<ByCount>,
@@ -53,7 +55,13 @@ impl Model for Engine {
 
     ghost Value = { Instance };
 
-    ghost view = { λ e. record { world = e.world.world; left = drop e.read e.world.items; answer = e.answer; discr = e.discr } };
+    ghost view = { λ e. record {
+      world = e.world.world;
+      left = drop e.read e.world.items;
+      answer = e.answer;
+      discr = e.discr;
+      records = e.world.records;
+    } };
 }
 
 /// How many outputs were read, once one more was, if one was left.
@@ -163,6 +171,13 @@ impl Engine {
             return DONE;
         }
         NOT_FOUND
+    }
+
+    /// A look at the session of this discriminator, if there is one.
+    pub(crate) fn look(&self, discr: u32) -> Option<Look>
+        ensures { result ≡ look_of discr self.now.world self.now.records }
+    {
+        self.world.look(discr)
     }
 
     /// The least tick that a session needs next.

@@ -1,5 +1,7 @@
 -- What an arrival comes to is what the world says of it.
-use Rattle.bfd_instance.proofs.Common.{◌≡◌, ℕ, List, [], ◌∷◌, Option, Some, Result, Ok, Err, refl, Out, Reflector, SessionConfig, Running, Event, World, carried_out, reached, reflected, turned, world_of, arriving, Happens, slice_get}
+use Rattle.bfd_instance.proofs.Common.{◌≡◌, ℕ, List, [], ◌∷◌, Option, None, Some, Result, Ok, Err, refl, Out, Reflector, SessionConfig, Running, Event, carried_out, reached, reflected, turned, world_of, arriving, Happens, slice_get, ◌<◌, arith, configs_of, length}
+use Rattle.std.proofs.lemmas.List.{length-map}
+use Rattle.std.proofs.lemmas.Option.{slice_get_within}
 use Rattle.bfd_packet.specs.declared.arrival.Arrival.{Arrival}
 use Rattle.bfd_packet.specs.declared.arrival.Datagram.{Datagram}
 use Rattle.bfd_packet.specs.declared.discard.Test.{Test}
@@ -11,17 +13,17 @@ use Rattle.bfd_session.specs.Arrivals.{Destination, Discarded, Reflected, Own}
 use Rattle.bfd_session.specs.Reaching.{IsComing, IsTaken, answered_as}
 
 -- neither is an event of a session
-pub none_discarded : (d : Destination) (cs : List SessionConfig) (pool : List Reflector) (arrival : Arrival) (moment : ℕ) (test : Test) (w : World)
-    → IsComing cs pool arrival d (coming.Discarded test) → 0 ≡ reached (arriving moment arrival d) w
-none_discarded (Discarded t) cs pool arrival moment test w h = refl
-none_discarded (Own place event) cs pool arrival moment test w h = absurd (let e = h.0 in cc)
-none_discarded (Reflected place) cs pool arrival moment test w h = refl
+pub none_discarded : (d : Destination) (cs : List SessionConfig) (pool : List Reflector) (arrival : Arrival) (moment : ℕ) (test : Test)
+    → IsComing cs pool arrival d (coming.Discarded test) → None ≡ reached (arriving moment arrival d)
+none_discarded (Discarded t) cs pool arrival moment test h = refl
+none_discarded (Own place event) cs pool arrival moment test h = absurd (let e = h.0 in cc)
+none_discarded (Reflected place) cs pool arrival moment test h = refl
 
-pub none_answered : (d : Destination) (cs : List SessionConfig) (pool : List Reflector) (arrival : Arrival) (moment : ℕ) (out : Out) (w : World)
-    → IsComing cs pool arrival d (coming.Answered out) → 0 ≡ reached (arriving moment arrival d) w
-none_answered (Discarded t) cs pool arrival moment out w h = refl
-none_answered (Own place event) cs pool arrival moment out w h = absurd (let e = h.0 in cc)
-none_answered (Reflected place) cs pool arrival moment out w h = refl
+pub none_answered : (d : Destination) (cs : List SessionConfig) (pool : List Reflector) (arrival : Arrival) (moment : ℕ) (out : Out)
+    → IsComing cs pool arrival d (coming.Answered out) → None ≡ reached (arriving moment arrival d)
+none_answered (Discarded t) cs pool arrival moment out h = refl
+none_answered (Own place event) cs pool arrival moment out h = absurd (let e = h.0 in cc)
+none_answered (Reflected place) cs pool arrival moment out h = refl
 
 pub discarded : (d : Destination) (cs : List SessionConfig) (pool : List Reflector) (arrival : Arrival) (moment : ℕ) (test : Test) (ss : List Running) (last : ℕ)
     → IsComing cs pool arrival d (coming.Discarded test) → turned ss pool last [] (Dropped test) ≡ carried_out (arriving moment arrival d) (world_of ss pool last)
@@ -58,3 +60,7 @@ taken (Reflected p) cs pool arrival moment place event h = absurd (by (reflect p
     by : (r : Result Datagram Test) → coming.Own place event ≡ answered_as (fields_of arrival.payload).your r → ⊥
     by (Err t) e = cc
     by (Ok datagram) e = cc
+
+-- its session is there
+pub within : (ss : List Running) (place : ℕ) (event : Event) → IsTaken (configs_of ss) place event → place < length ss
+within ss place event t = omega (arith, slice_get_within (configs_of ss) place t.config t.there, length-map ss (λ (s : Running). s.config))

@@ -16,10 +16,10 @@ use Rattle.bfd_instance.specs.Stage.{IsStage}
 use Rattle.bfd_instance.specs.World.{without_at, world_with, world_without}
 
 -- each has another discriminator
-abbrev Others : ℕ → List SessionConfig → Type 0
+abbrev pub Others : ℕ → List SessionConfig → Type 0
 Others discr cs = AllByRecursion (λ c. (discr == discr_of c) ≡ false) cs
 
-others : (discr : ℕ) (cs : List SessionConfig) (rows : List Row) → list_any (λ row. discr == row.discr) (rows_of cs ++ rows) ≡ false → Others discr cs
+pub others : (discr : ℕ) (cs : List SessionConfig) (rows : List Row) → list_any (λ row. discr == row.discr) (rows_of cs ++ rows) ≡ false → Others discr cs
 others discr [] rows e = tt
 others discr (c ∷ cs) rows e = by (discr == discr_of c) refl e (others discr cs rows)
   where

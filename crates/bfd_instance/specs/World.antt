@@ -123,21 +123,29 @@ carried_out (Passes t) w = ticks t w
 abbrev pub happens : Line → World → Turn
 happens line w = carried_out (doing (configs_of w.sessions) w.pool line) w
 
--- the discriminator of a session, if there is one
+-- the place of the session to which an event came; none where it came to no session, to a reflector, or as a tick to all
+abbrev pub reached : Doing → Option ℕ
+reached (Rests answer) = None
+reached (Reflects place arrival) = None
+reached (Happens place moment event) = Some place
+reached (Passes t) = None
+
+-- the same of a line of a script
+abbrev pub place_reached : Line → World → Option ℕ
+place_reached line w = reached (doing (configs_of w.sessions) w.pool line)
+
+-- the discriminator of the session at a place, or 0
 abbrev pub session_discr : Option Running → ℕ
 session_discr None = 0
 session_discr (Some s) = discr_of s.config
 
--- that of the session to which an event came; 0 where it came to none, to a reflector, or as a tick to all
-abbrev pub reached : Doing → World → ℕ
-reached (Rests answer) w = 0
-reached (Reflects place arrival) w = 0
-reached (Happens place moment event) w = session_discr (slice_get w.sessions place)
-reached (Passes t) w = 0
+abbrev pub discr_of_place : Option ℕ → World → ℕ
+discr_of_place None w = 0
+discr_of_place (Some place) w = session_discr (slice_get w.sessions place)
 
--- the same of a line of a script
+-- that of the session to which a line came
 abbrev pub discr_reached : Line → World → ℕ
-discr_reached line w = reached (doing (configs_of w.sessions) w.pool line) w
+discr_reached line w = discr_of_place (place_reached line w) (happens line w).world
 
 -- what the lines give, one after another
 abbrev pub outcomes : List Line → World → List Outcome

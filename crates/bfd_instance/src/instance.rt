@@ -1,7 +1,10 @@
 //! A world of sessions on its way.
-ghost use Rattle.std.specs.Prelude.{◌≡◌, ◌⊎◌, ◌<◌, ◌≤◌, ◌+◌, ◌*◌, ◌++◌, ◌∷◌, None, Some, IfOk, MatchResult, OnErr, OnOk, drop, false, length, map, take};
+ghost use Rattle.std.specs.Prelude.{◌≡◌, ◌⊎◌, ◌<◌, ◌≤◌, ◌+◌, ◌*◌, ◌++◌, ◌∷◌, None, Some, IfOk, IfSome, MatchResult, OnErr, OnOk, drop, false, length, map, take};
 ghost use Rattle.bfd_lanes.specs.Places.{least};
 ghost use Rattle.bfd_session.specs.Due.{due as due_tick};
+ghost use Rattle.bfd_session.specs.Changes.{place_for};
+ghost use Rattle.bfd_session.specs.Kinds.{configs_of, discr_of};
+ghost use Rattle.bfd_session.specs.Rows.{place_of as place_in};
 ghost use Rattle.bfd_session.specs.Step.{IsFit, started};
 ghost use Rattle.bfd_session.specs.Tables.{members};
 ghost use Rattle.bfd_instance.specs.Stage.{IsTable};
@@ -11,6 +14,7 @@ ghost use Rattle.bfd_instance.specs.World as world;
 use crate::room::make_room;
 use crate::world::happen;
 use bfd_demux::{AddFault, Demux};
+use bfd_num::Tick;
 use bfd_rules::{Out, Outs};
 use bfd_sbfd::Reflector;
 use bfd_script::line::Line;
@@ -107,24 +111,27 @@ impl<W: Timers> Instance<W> {
     pub fn happen(&mut self, line: Line) -> Answer
         ensures { turn_giving self.new.world self.new.items result ≡ world.happens line self.old.world }
     {
-        self.happen_naming(line).0
+        self.happen_placing(line).0
     }
 
-    /// The same, with the discriminator of the session to which the event came; 0 where it came to none, to a reflector, or as a tick
+    /// The same, with the place of the session to which the event came; none where it came to no session, to a reflector, or as a tick
     /// to all.
-    pub fn happen_naming(&mut self, line: Line) -> (Answer, u32)
+    pub fn happen_placing(&mut self, line: Line) -> (Answer, Option<u32>)
         ensures turn { turn_giving self.new.world self.new.items result.0 ≡ world.happens line self.old.world }
-        ensures reached { result.1 ≡ world.discr_reached line self.old.world }
+        ensures reached { result.1 ≡ world.place_reached line self.old.world }
+        ensures within { IfSome result.1 (λ place. place < length self.old.world.sessions) }
     {
         self.outs.clear();
         happen(&self.table, &mut self.sessions, line, &mut self.outs)
     }
 
-    /// One session more, of this configuration, which is within its ranges: it starts at the last tick. Nothing else changes, the
-    /// outputs of the last event neither. A fault says why it isn't added, and then nothing has changed; `Memory` comes only when
+    /// One session more, of this configuration, which is within its ranges: it starts at the last tick. Answers its place. Nothing else
+    /// changes, the outputs of the last event neither. A fault says why it isn't added, and then nothing has changed; `Memory` comes only when
     /// out of memory, and where no other fault is. Takes time linear in the sessions and reflectors.
-    pub fn add(&mut self, alloc: Global, config: SessionConfig) -> Result<(), AddFault>
+    pub fn add(&mut self, alloc: Global, config: SessionConfig) -> Result<u32, AddFault>
         requires { IsFit config }
+        ensures place { IfOk result (λ place. place ≡ place_for (discr_of config) (configs_of self.old.world.sessions)) }
+        ensures within { IfOk result (λ place. place ≤ length self.old.world.sessions) }
         ensures world { OnOk result (self.new.world ≡ world.world_with config self.old.world) }
         ensures items { OnOk result (self.new.items ≡ self.old.items) }
         ensures fault { MatchResult result
@@ -136,7 +143,7 @@ impl<W: Timers> Instance<W> {
         let discr = config.discr();
         let place = self.table.add(&config)?;
         match seat(alloc, &mut self.sessions, &mut self.outs, place, config) {
-            Ok(()) => Ok(()),
+            Ok(()) => Ok(place),
             Err(AllocError) => {
                 self.table.remove(discr);
                 Err(AddFault::Memory)
@@ -191,6 +198,22 @@ impl<W: Timers> Instance<W> {
         ensures { result.now ≡ self.now.items }
     {
         self.outs.items()
+    }
+
+    /// The place of the session with this discriminator, if there is one.
+    pub fn place_of(&self, discr: u32) -> Option<u32>
+        ensures value { result ≡ place_in discr (configs_of self.now.world.sessions) }
+        ensures within { IfSome result (λ place. place < length self.now.world.sessions) }
+    {
+        let _ = &self.sessions;
+        self.table.place_of(discr)
+    }
+
+    /// The greatest tick so far, or 0.
+    pub fn last(&self) -> Tick
+        ensures { result ≡ self.now.world.last }
+    {
+        self.sessions.last()
     }
 
     /// The least tick, in milliseconds, that a session needs next, or None where none needs one: no tick below it does anything.

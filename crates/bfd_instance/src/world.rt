@@ -1,5 +1,5 @@
 //! The events of a world.
-ghost use Rattle.std.specs.Prelude.{◌≡◌, ◌<◌, ◌≤◌, ◌+◌, ◌*◌, List, [], length, slice_get};
+ghost use Rattle.std.specs.Prelude.{◌≡◌, ◌<◌, ◌≤◌, ◌+◌, ◌*◌, IfSome, List, [], length};
 ghost use Rattle.bfd_session.specs.declared.event.SessionConfig.{SessionConfig};
 ghost use Rattle.bfd_session.specs.Arrivals.{comes_to};
 ghost use Rattle.bfd_session.specs.Kinds.{configs_of};
@@ -43,24 +43,14 @@ fn enact<W: Timers, L: Ledger>(
     sessions.apply(event, outs, &mut Steps::<L>::new(blank))
 }
 
-/// The discriminator of the session at a place, or 0.
-fn discr_at<W: Timers>(sessions: &Sessions<W>, place: u32) -> u32
-    ensures { result ≡ world.session_discr (slice_get sessions.now.sessions place) }
-{
-    match sessions.sessions().get(place as usize) {
-        Some(session) => session.discr(),
-        None => 0,
-    }
-}
-
-/// An arrival. The number is the discriminator of the session to which it came, or 0.
+/// An arrival, and the place of the session to which it came, if to one.
 fn arrive<W: Timers>(
     table: &Table,
     sessions: &mut Sessions<W>,
     moment: Moment,
     arrival: Arrival,
     outs: &mut Outs,
-) -> (Answer, u32)
+) -> (Answer, Option<u32>)
     requires configs { table.now.configs ≡ configs_of sessions.old.sessions }
     requires room { 5 ≤ outs.old.spare }
     requires empty { outs.old.items ≡ [] }
@@ -68,30 +58,29 @@ fn arrive<W: Timers>(
         ≡ world.carried_out (arriving moment arrival (comes_to (table_of table.now.configs table.now.pool) arrival))
         (world.world_of sessions.old.sessions table.now.pool sessions.old.last) }
     ensures reached { result.1
-        ≡ world.reached (arriving moment arrival (comes_to (table_of table.now.configs table.now.pool) arrival))
-        (world.world_of sessions.old.sessions table.now.pool sessions.old.last) }
+        ≡ world.reached (arriving moment arrival (comes_to (table_of table.now.configs table.now.pool) arrival)) }
+    ensures within { IfSome result.1 (λ place. place < length sessions.old.sessions) }
     ensures room { outs.new.room ≡ outs.old.room }
 {
     match table.comes_to_uncounted(arrival) {
-        Coming::Discarded(test) => (Answer::Dropped(test), 0),
+        Coming::Discarded(test) => (Answer::Dropped(test), None),
         Coming::Answered(out) => {
             outs.push(out);
-            (Answer::Handled, 0)
+            (Answer::Handled, None)
         }
         Coming::Own(place, event) => {
-            let discr = discr_at(sessions, place);
             let own = ShardEvent::Own {
                 place,
                 moment,
                 event,
             };
             let answer = enact::<W, Brand>(sessions, &own, outs, Blank::new(1));
-            (answer, discr)
+            (answer, Some(place))
         }
     }
 }
 
-/// A command or a question to the session with this discriminator. The number is that of the session to which it came, or 0.
+/// A command or a question to the session with this discriminator, and its place, if there is one.
 fn ask<W: Timers>(
     table: &Table,
     sessions: &mut Sessions<W>,
@@ -99,7 +88,7 @@ fn ask<W: Timers>(
     discr: u32,
     event: Event,
     outs: &mut Outs,
-) -> (Answer, u32)
+) -> (Answer, Option<u32>)
     requires free { (config : SessionConfig) → CanTake config event }
     requires configs { table.now.configs ≡ configs_of sessions.old.sessions }
     requires room { 5 ≤ outs.old.spare }
@@ -107,46 +96,46 @@ fn ask<W: Timers>(
     ensures turn { turned sessions.new.sessions table.now.pool sessions.new.last outs.new.items result.0
         ≡ world.carried_out (asking moment event (place_in discr table.now.configs))
         (world.world_of sessions.old.sessions table.now.pool sessions.old.last) }
-    ensures reached { result.1 ≡ world.reached (asking moment event (place_in discr table.now.configs))
-        (world.world_of sessions.old.sessions table.now.pool sessions.old.last) }
+    ensures reached { result.1 ≡ world.reached (asking moment event (place_in discr table.now.configs)) }
+    ensures within { IfSome result.1 (λ place. place < length sessions.old.sessions) }
     ensures room { outs.new.room ≡ outs.old.room }
 {
     match table.place_of(discr) {
         Some(place) => {
-            let reached = discr_at(sessions, place);
             let own = ShardEvent::Own {
                 place,
                 moment,
                 event,
             };
             let answer = enact::<W, Brand>(sessions, &own, outs, Blank::new(1));
-            (answer, reached)
+            (answer, Some(place))
         }
-        None => (Answer::Refused(Refusal::UnknownSession), 0),
+        None => (Answer::Refused(Refusal::UnknownSession), None),
     }
 }
 
-/// One line of a script. The number is the discriminator of the session to which it came; 0 where it came to none, to a reflector,
-/// or as a tick to all.
+/// One line of a script, and the place of the session to which it came; none where it came to no session, to a reflector, or as a tick
+/// to all.
 pub fn happen<W: Timers>(
     table: &Table,
     sessions: &mut Sessions<W>,
     line: Line,
     outs: &mut Outs,
-) -> (Answer, u32)
+) -> (Answer, Option<u32>)
     requires configs { table.now.configs ≡ configs_of sessions.old.sessions }
     requires room { 5 * length sessions.old.sessions + 5 ≤ outs.old.spare }
     requires empty { outs.old.items ≡ [] }
     ensures turn { turned sessions.new.sessions table.now.pool sessions.new.last outs.new.items result.0
         ≡ world.happens line (world.world_of sessions.old.sessions table.now.pool sessions.old.last) }
-    ensures reached { result.1 ≡ world.discr_reached line (world.world_of sessions.old.sessions table.now.pool sessions.old.last) }
+    ensures reached { result.1 ≡ world.place_reached line (world.world_of sessions.old.sessions table.now.pool sessions.old.last) }
+    ensures within { IfSome result.1 (λ place. place < length sessions.old.sessions) }
     ensures room { outs.new.room ≡ outs.old.room }
 {
     match line {
         Line::Rx { moment, arrival } => arrive(table, sessions, moment, arrival, outs),
         Line::Tick(t) => {
             let answer = enact::<W, Brand>(sessions, &ShardEvent::Tick(t), outs, Blank::new(1));
-            (answer, 0)
+            (answer, None)
         }
         Line::Cmd { moment, discr, cmd } => {
             ask(table, sessions, moment, discr, Event::Command(cmd), outs)

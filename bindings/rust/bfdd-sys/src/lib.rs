@@ -96,6 +96,12 @@ structs! {
         adv_tx: u32, used_tx: u32, used_rx: u32, detect: u64,
     }
 
+    bfdd_session_state: 304 {
+        discr: u32, state: u8, diag: u8, remote_state: u8, poll: u8, remote_discr: u32, adv_tx: u32, used_tx: u32, used_rx: u32,
+        detect: u64, peer_tx: u32, peer_rx: u32, peer_echo: u32, peer_mult: u8, peer_diag: u8, peer_demand: u8, detect_end: u64,
+        heard: u64, changed: u64, received: u64, sent: u64, ups: u64, downs: u64, dropped: [u64; 25],
+    }
+
     bfdd_output: 116 {
         kind: u32, discr: u32, was: u8, state: u8, diag: u8, ttl: u8, iface: u32, sport: u16, dport: u16, src: bfdd_address,
         dst: bfdd_address, len: u32, bytes: [u8; 52],
@@ -131,6 +137,7 @@ extern "C" {
     pub fn bfdd_answer(handle: *mut bfdd_handle, answer: *mut bfdd_answered) -> u32;
     pub fn bfdd_next(handle: *mut bfdd_handle, output: *mut bfdd_output) -> u32;
     pub fn bfdd_due(handle: *mut bfdd_handle, ms: *mut u64) -> u32;
+    pub fn bfdd_state(handle: *mut bfdd_handle, discr: u32, state: *mut bfdd_session_state) -> u32;
     pub fn bfdd_packets(
         handle: *mut bfdd_handle,
         arrivals: *const bfdd_arrival,

@@ -31,6 +31,9 @@
 //! # Ok::<(), bfdd::Error>(())
 //! ```
 
+/// A look at a session, by [`Engine::look`]: the fields of the header's struct.
+pub use bfdd_sys::bfdd_session_state as Look;
+
 use bfdd_sys as sys;
 use std::ffi::CStr;
 use std::fmt;
@@ -458,6 +461,12 @@ impl Engine {
     /// The outputs of the last event that are left, in the order in which they came. What isn't read before the next event is gone.
     pub fn outputs(&mut self) -> Outputs<'_> {
         Outputs { engine: self }
+    }
+
+    /// A look at a session, as it stands after the last event. Nothing is settled, and the outputs stay.
+    pub fn look(&mut self, discr: u32) -> Result<Look, Error> {
+        let mut state = Look::default();
+        done(unsafe { sys::bfdd_state(&mut self.handle, discr, &mut state) }).map(|()| state)
     }
 
     /// The least tick that is needed next, in milliseconds; none before the next event, if so.

@@ -3,10 +3,11 @@ use Rattle.bfd_c.proofs.Common.{sym, ◌∙◌}
 use Rattle.bfd_session.specs.Kinds.{configs_of}
 use Rattle.bfd_session.specs.Rows.{row_of, table_of}
 use Rattle.bfd_instance.specs.World.{session_fault, world_with}
+use Rattle.bfd_records.specs.Records.{records_with}
 use Rattle.bfd_c.proofs.Faults.{memory_last, no_memory}
 use Rattle.bfd_c.proofs.engine.Engine.add.Goals as goal
 
 pub returns-clause-memory : goal.returns-clause-memory
 returns-clause-memory c = λ two. rw (← c.self.view_is)
-    (memory_last (session_fault c.args.config c.self.inside.world.world) c.in-Err.fault (world_with c.args.config c.self.inside.world.world) _
+    (memory_last (session_fault c.args.config c.self.inside.world.world) c.in-Err.fault (world_with c.args.config c.self.inside.world.world) (records_with c.args.config c.self.inside.world.world c.self.inside.world.records) _
     c.in-Err.ensures.fault (no_memory (row_of c.args.config) (table_of (configs_of c.self.inside.world.world.sessions) c.self.inside.world.world.pool)) (sym c.add_code.ensures ∙ two))

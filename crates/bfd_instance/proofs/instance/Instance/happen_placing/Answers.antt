@@ -1,7 +1,7 @@
 -- The event leaves a stage.
 use Rattle.bfd_instance.proofs.Common.{◌∙◌, ap}
 use Rattle.bfd_instance.proofs.Stages.{stage_kept}
-use Rattle.bfd_instance.proofs.instance.Instance.happen_naming.Goals as goal
+use Rattle.bfd_instance.proofs.instance.Instance.happen_placing.Goals as goal
 
 pub invariant_of-self : goal.invariant_of-self
 invariant_of-self g c =
