@@ -9,6 +9,8 @@ ghost use Rattle.bfd_c.specs.Joining as joining;
 use bfd_demux::AddFault;
 use bfd_instance::Instance as World;
 use bfd_levels::ByCount;
+use bfd_num::{Moment, Tick};
+use bfd_packet::Arrival;
 use bfd_rules::Out;
 use bfd_sbfd::Reflector;
 use bfd_script::line::Line;
@@ -104,6 +106,25 @@ impl Engine {
         let (answer, discr) = self.world.happen_naming(line);
         self.answer = answer;
         self.discr = discr;
+        self.read = 0;
+    }
+
+    /// A packet.
+    pub(crate) fn hear(&mut self, moment: Moment, arrival: Arrival)
+        ensures { self.new ≡ instance_after (Rx moment arrival) self.old }
+    {
+        let (answer, discr) = self.world.hear(moment, arrival);
+        self.answer = answer;
+        self.discr = discr;
+        self.read = 0;
+    }
+
+    /// A tick.
+    pub(crate) fn tick(&mut self, t: Tick)
+        ensures { self.new ≡ instance_after (TickLine t) self.old }
+    {
+        self.answer = self.world.tick(t);
+        self.discr = 0;
         self.read = 0;
     }
 

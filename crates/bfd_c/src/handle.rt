@@ -57,6 +57,7 @@ impl Handle {
 }
 
 impl Drop for Handle {
+    #[inline]
     fn drop(self) {
         drop(self.into_engine());
     }

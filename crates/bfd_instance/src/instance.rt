@@ -9,16 +9,19 @@ ghost use Rattle.bfd_instance.specs.World.{turn_giving};
 ghost use Rattle.bfd_instance.specs.World as world;
 
 use crate::room::make_room;
-use crate::world::happen;
+use crate::world::{arrive, enact, happen};
 use bfd_demux::{AddFault, Demux};
+use bfd_num::{Moment, Tick};
+use bfd_packet::Arrival;
 use bfd_rules::{Out, Outs};
 use bfd_sbfd::Reflector;
 use bfd_script::line::Line;
 use bfd_session::{Answer, Roster, Session, SessionConfig, Table, table_of};
-use bfd_shard::Sessions;
+use bfd_shard::{Sessions, ShardEvent};
 use bfd_wheel::Timers;
 use std::alloc::{AllocError, Global};
-use std::marker::Model;
+use std::marker::{Brand, Model};
+use std::sync::ledger::Blank;
 
 /// The sessions and the reflectors of a table, each by ascending discriminator, with the sessions' timers, the last tick, and the
 /// outputs of the last event.
@@ -118,6 +121,23 @@ impl<W: Timers> Instance<W> {
     {
         self.outs.clear();
         happen(&self.table, &mut self.sessions, line, &mut self.outs)
+    }
+
+    /// `happen_naming` of a packet.
+    pub fn hear(&mut self, moment: Moment, arrival: Arrival) -> (Answer, u32)
+        ensures turn { turn_giving self.new.world self.new.items result.0 ≡ world.happens (Rx moment arrival) self.old.world }
+        ensures reached { result.1 ≡ world.discr_reached (Rx moment arrival) self.old.world }
+    {
+        self.outs.clear();
+        arrive(&self.table, &mut self.sessions, moment, arrival, &mut self.outs)
+    }
+
+    /// `happen` of a tick.
+    pub fn tick(&mut self, t: Tick) -> Answer
+        ensures { turn_giving self.new.world self.new.items result ≡ world.happens (TickLine t) self.old.world }
+    {
+        self.outs.clear();
+        enact::<W, Brand>(&mut self.sessions, &ShardEvent::Tick(t), &mut self.outs, Blank::new(1))
     }
 
     /// One session more, of this configuration, which is within its ranges: it starts at the last tick. Nothing else changes, the

@@ -16,7 +16,7 @@ use bfd_num::{Moment, Steps};
 use bfd_packet::Arrival;
 use bfd_rules::{Outs, Refusal};
 use bfd_script::line::Line;
-use bfd_session::{Answer, Coming, Event, Table};
+use bfd_session::{Answer, Event, Reached, Table};
 use bfd_shard::{Sessions, ShardEvent};
 use bfd_wheel::Timers;
 use std::marker::Brand;
@@ -24,7 +24,7 @@ use std::sync::ledger::{Blank, Ledger};
 
 /// An event of the sessions, with a counter of steps of its own.
 #[tactic(auto, using(crate::proofs::Worlds::applied))]
-fn enact<W: Timers, L: Ledger>(
+pub fn enact<W: Timers, L: Ledger>(
     sessions: &mut Sessions<W>,
     event: &ShardEvent,
     outs: &mut Outs,
@@ -53,8 +53,34 @@ fn discr_at<W: Timers>(sessions: &Sessions<W>, place: u32) -> u32
     }
 }
 
+/// An own event of the session at a place, and the session's discriminator.
+fn own<W: Timers>(
+    sessions: &mut Sessions<W>,
+    place: u32,
+    moment: Moment,
+    event: Event,
+    outs: &mut Outs,
+) -> (Answer, u32)
+    requires taken { IsTaken (configs_of sessions.old.sessions) place event }
+    requires room { 5 ≤ outs.old.spare }
+    requires empty { outs.old.items ≡ [] }
+    ensures turn { (pool : List Reflector) → turned sessions.new.sessions pool sessions.new.last outs.new.items result.0
+        ≡ world.own place moment event (world.world_of sessions.old.sessions pool sessions.old.last) }
+    ensures reached { result.1 ≡ world.session_discr (slice_get sessions.old.sessions place) }
+    ensures room { outs.new.room ≡ outs.old.room }
+{
+    let discr = discr_at(sessions, place);
+    let own = ShardEvent::Own {
+        place,
+        moment,
+        event,
+    };
+    let answer = enact::<W, Brand>(sessions, &own, outs, Blank::new(1));
+    (answer, discr)
+}
+
 /// An arrival. The number is the discriminator of the session to which it came, or 0.
-fn arrive<W: Timers>(
+pub fn arrive<W: Timers>(
     table: &Table,
     sessions: &mut Sessions<W>,
     moment: Moment,
@@ -72,21 +98,15 @@ fn arrive<W: Timers>(
         (world.world_of sessions.old.sessions table.now.pool sessions.old.last) }
     ensures room { outs.new.room ≡ outs.old.room }
 {
-    match table.comes_to_uncounted(arrival) {
-        Coming::Discarded(test) => (Answer::Dropped(test), 0),
-        Coming::Answered(out) => {
+    match table.reach_uncounted(&arrival) {
+        Reached::Discarded(test) => (Answer::Dropped(test), 0),
+        Reached::Answered(out) => {
             outs.push(out);
             (Answer::Handled, 0)
         }
-        Coming::Own(place, event) => {
-            let discr = discr_at(sessions, place);
-            let own = ShardEvent::Own {
-                place,
-                moment,
-                event,
-            };
-            let answer = enact::<W, Brand>(sessions, &own, outs, Blank::new(1));
-            (answer, discr)
+        Reached::Packet(place) => own(sessions, place, moment, Event::Packet(arrival), outs),
+        Reached::Returned(place, sequence) => {
+            own(sessions, place, moment, Event::Returned(sequence), outs)
         }
     }
 }
@@ -112,16 +132,7 @@ fn ask<W: Timers>(
     ensures room { outs.new.room ≡ outs.old.room }
 {
     match table.place_of(discr) {
-        Some(place) => {
-            let reached = discr_at(sessions, place);
-            let own = ShardEvent::Own {
-                place,
-                moment,
-                event,
-            };
-            let answer = enact::<W, Brand>(sessions, &own, outs, Blank::new(1));
-            (answer, reached)
-        }
+        Some(place) => own(sessions, place, moment, event, outs),
         None => (Answer::Refused(Refusal::UnknownSession), 0),
     }
 }
