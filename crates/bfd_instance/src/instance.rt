@@ -9,7 +9,7 @@ ghost use Rattle.bfd_instance.specs.World.{turn_giving};
 ghost use Rattle.bfd_instance.specs.World as world;
 
 use crate::room::make_room;
-use crate::world::{arrive, enact, happen};
+use crate::world::{arrive, happen, pass};
 use bfd_demux::{AddFault, Demux};
 use bfd_num::{Moment, Tick};
 use bfd_packet::Arrival;
@@ -17,7 +17,7 @@ use bfd_rules::{Out, Outs};
 use bfd_sbfd::Reflector;
 use bfd_script::line::Line;
 use bfd_session::{Answer, Roster, Session, SessionConfig, Table, table_of};
-use bfd_shard::{Sessions, ShardEvent};
+use bfd_shard::Sessions;
 use bfd_wheel::Timers;
 use std::alloc::{AllocError, Global};
 use std::marker::{Brand, Model};
@@ -137,7 +137,7 @@ impl<W: Timers> Instance<W> {
         ensures { turn_giving self.new.world self.new.items result ≡ world.happens (TickLine t) self.old.world }
     {
         self.outs.clear();
-        enact::<W, Brand>(&mut self.sessions, &ShardEvent::Tick(t), &mut self.outs, Blank::new(1))
+        pass::<W, Brand>(&mut self.sessions, t, &mut self.outs, Blank::new(1))
     }
 
     /// One session more, of this configuration, which is within its ranges: it starts at the last tick. Nothing else changes, the

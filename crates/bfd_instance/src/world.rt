@@ -12,7 +12,7 @@ ghost use Rattle.bfd_instance.specs.Stage.{event_turn};
 ghost use Rattle.bfd_instance.specs.World.{turned};
 ghost use Rattle.bfd_instance.specs.World as world;
 
-use bfd_num::{Moment, Steps};
+use bfd_num::{Moment, Steps, Tick};
 use bfd_packet::Arrival;
 use bfd_rules::{Outs, Refusal};
 use bfd_script::line::Line;
@@ -22,25 +22,24 @@ use bfd_wheel::Timers;
 use std::marker::Brand;
 use std::sync::ledger::{Blank, Ledger};
 
-/// An event of the sessions, with a counter of steps of its own.
-#[tactic(auto, using(crate::proofs::Worlds::applied))]
-pub fn enact<W: Timers, L: Ledger>(
+/// A tick of the sessions, with a counter of steps of its own.
+#[tactic(auto, using(crate::proofs::Worlds::ticks_applied))]
+pub fn pass<W: Timers, L: Ledger>(
     sessions: &mut Sessions<W>,
-    event: &ShardEvent,
+    t: Tick,
     outs: &mut Outs,
     blank: Blank,
 ) -> Answer
-    requires can { CanHappen (configs_of sessions.old.sessions) event.now }
-    requires room { room_for sessions.old.sessions event.now ≤ outs.old.spare }
+    requires room { 5 * length sessions.old.sessions ≤ outs.old.spare }
     requires empty { outs.old.items ≡ [] }
     requires name { blank.name ≡ L.name }
     requires parts { blank.parts ≡ L.parts }
     requires some { 0 < blank.parts }
     ensures turn { (pool : List Reflector) → turned sessions.new.sessions pool sessions.new.last outs.new.items result
-        ≡ event_turn event.now (world.world_of sessions.old.sessions pool sessions.old.last) }
+        ≡ world.ticks t (world.world_of sessions.old.sessions pool sessions.old.last) }
     ensures room { outs.new.room ≡ outs.old.room }
 {
-    sessions.apply(event, outs, &mut Steps::<L>::new(blank))
+    sessions.apply(&ShardEvent::Tick(t), outs, &mut Steps::<L>::new(blank))
 }
 
 /// The discriminator of the session at a place, or 0.
@@ -54,28 +53,28 @@ fn discr_at<W: Timers>(sessions: &Sessions<W>, place: u32) -> u32
 }
 
 /// An own event of the session at a place, and the session's discriminator.
-fn own<W: Timers>(
+#[tactic(auto, using(crate::proofs::Worlds::own_applied))]
+fn own<W: Timers, L: Ledger>(
     sessions: &mut Sessions<W>,
     place: u32,
     moment: Moment,
-    event: Event,
+    event: &Event,
     outs: &mut Outs,
+    blank: Blank,
 ) -> (Answer, u32)
-    requires taken { IsTaken (configs_of sessions.old.sessions) place event }
+    requires taken { IsTaken (configs_of sessions.old.sessions) place event.now }
     requires room { 5 ≤ outs.old.spare }
     requires empty { outs.old.items ≡ [] }
+    requires name { blank.name ≡ L.name }
+    requires parts { blank.parts ≡ L.parts }
+    requires some { 0 < blank.parts }
     ensures turn { (pool : List Reflector) → turned sessions.new.sessions pool sessions.new.last outs.new.items result.0
-        ≡ world.own place moment event (world.world_of sessions.old.sessions pool sessions.old.last) }
+        ≡ world.own place moment event.now (world.world_of sessions.old.sessions pool sessions.old.last) }
     ensures reached { result.1 ≡ world.session_discr (slice_get sessions.old.sessions place) }
     ensures room { outs.new.room ≡ outs.old.room }
 {
     let discr = discr_at(sessions, place);
-    let own = ShardEvent::Own {
-        place,
-        moment,
-        event,
-    };
-    let answer = enact::<W, Brand>(sessions, &own, outs, Blank::new(1));
+    let answer = sessions.apply_own(place, moment, event, outs, &mut Steps::<L>::new(blank));
     (answer, discr)
 }
 
@@ -98,15 +97,22 @@ pub fn arrive<W: Timers>(
         (world.world_of sessions.old.sessions table.now.pool sessions.old.last) }
     ensures room { outs.new.room ≡ outs.old.room }
 {
-    match table.reach_uncounted(&arrival) {
+    let packet = Event::Packet(arrival);
+    let Event::Packet(arrival) = &packet else {
+        unreachable!();
+    };
+    match table.reach_uncounted(arrival) {
         Reached::Discarded(test) => (Answer::Dropped(test), 0),
         Reached::Answered(out) => {
             outs.push(out);
             (Answer::Handled, 0)
         }
-        Reached::Packet(place) => own(sessions, place, moment, Event::Packet(arrival), outs),
+        Reached::Packet(place) => {
+            own::<W, Brand>(sessions, place, moment, &packet, outs, Blank::new(1))
+        }
         Reached::Returned(place, sequence) => {
-            own(sessions, place, moment, Event::Returned(sequence), outs)
+            let returned = Event::Returned(sequence);
+            own::<W, Brand>(sessions, place, moment, &returned, outs, Blank::new(1))
         }
     }
 }
@@ -132,7 +138,7 @@ fn ask<W: Timers>(
     ensures room { outs.new.room ≡ outs.old.room }
 {
     match table.place_of(discr) {
-        Some(place) => own(sessions, place, moment, event, outs),
+        Some(place) => own::<W, Brand>(sessions, place, moment, &event, outs, Blank::new(1)),
         None => (Answer::Refused(Refusal::UnknownSession), 0),
     }
 }
@@ -156,7 +162,7 @@ pub fn happen<W: Timers>(
     match line {
         Line::Rx { moment, arrival } => arrive(table, sessions, moment, arrival, outs),
         Line::Tick(t) => {
-            let answer = enact::<W, Brand>(sessions, &ShardEvent::Tick(t), outs, Blank::new(1));
+            let answer = pass::<W, Brand>(sessions, t, outs, Blank::new(1));
             (answer, 0)
         }
         Line::Cmd { moment, discr, cmd } => {
