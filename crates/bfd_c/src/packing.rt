@@ -11,15 +11,6 @@ pub(crate) fn packed_name(from: &[u8]) -> [u8; 16]
     bytes
 }
 
-/// Four bytes, and zeros behind them.
-pub(crate) fn packed_four(from: [u8; 4]) -> [u8; 16]
-    ensures { result ≡ from ++ replicate 12 0 }
-{
-    let mut bytes = [0; 16];
-    bytes[..4].copy_from_slice(&from);
-    bytes
-}
-
 /// The bytes of a packet, and zeros behind them.
 pub(crate) fn packed_wire(from: &[u8]) -> [u8; 52]
     requires { length from.now ≤ 52 }

@@ -3,7 +3,6 @@ ghost use Rattle.std.specs.Prelude.{◌≡◌, ◌≢◌, None, IfOk, IfSome, On
 ghost use Rattle.bfd_script.specs.Values.{IsAddress};
 ghost use Rattle.bfd_c.specs.Wire.{addr_of, address_for_c, arrival_from_c, port_by_number};
 
-use crate::packing::packed_four;
 use bfd_packet::{Addr, Arrival, Bits128, Payload, Port};
 use std::alloc::{AllocError, Global};
 
@@ -46,15 +45,19 @@ pub(crate) fn read_address(address: &Address) -> Option<Addr>
     }
 }
 
-/// The address for C.
+/// The address for C. (Not put in place, where its bytes would be moved one by one.)
+#[inline(never)]
 pub(crate) fn told_address(addr: Addr) -> Address
     ensures { result ≡ address_for_c addr }
 {
     match addr {
-        Addr::V4(n) => Address {
-            family: 4,
-            bytes: packed_four(n.to_be_bytes()),
-        },
+        Addr::V4(n) => {
+            let [a, b, c, d] = n.to_be_bytes();
+            Address {
+                family: 4,
+                bytes: [a, b, c, d, 0, 0, 0, 0, 0, 0, 0, 0, 0, 0, 0, 0],
+            }
+        }
         Addr::V6(n) => Address {
             family: 6,
             bytes: n.number().to_be_bytes(),

@@ -2,13 +2,12 @@
 ghost use Rattle.std.specs.Prelude.{◌≡◌, ◌<◌, ◌≤◌, ◌+◌, ◌*◌, List, [], length, slice_get};
 ghost use Rattle.bfd_session.specs.declared.event.SessionConfig.{SessionConfig};
 ghost use Rattle.bfd_session.specs.Arrivals.{comes_to};
+ghost use Rattle.bfd_session.specs.Reaching.{IsTaken};
 ghost use Rattle.bfd_session.specs.Kinds.{configs_of};
 ghost use Rattle.bfd_session.specs.Rows.{table_of, place_of as place_in};
 ghost use Rattle.bfd_session.specs.Step.{CanTake};
 ghost use Rattle.bfd_sbfd.specs.declared.reflecting.Reflector.{Reflector};
-ghost use Rattle.bfd_shard.specs.Shard.{CanHappen, room_for};
 ghost use Rattle.bfd_script.specs.Doing.{arriving, asking};
-ghost use Rattle.bfd_instance.specs.Stage.{event_turn};
 ghost use Rattle.bfd_instance.specs.World.{turned};
 ghost use Rattle.bfd_instance.specs.World as world;
 
@@ -98,10 +97,10 @@ pub fn arrive<W: Timers>(
     ensures room { outs.new.room ≡ outs.old.room }
 {
     let packet = Event::Packet(arrival);
-    let Event::Packet(arrival) = &packet else {
+    let Event::Packet(heard) = &packet else {
         unreachable!();
     };
-    match table.reach_uncounted(arrival) {
+    match table.reach_uncounted(heard) {
         Reached::Discarded(test) => (Answer::Dropped(test), 0),
         Reached::Answered(out) => {
             outs.push(out);

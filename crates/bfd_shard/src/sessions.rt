@@ -81,7 +81,7 @@ fn act_own<W: Timers, L: Ledger>(
 }
 
 /// An event of the sessions: answers the last tick after it, and the event's answer.
-#[tactic(auto, using(bfd_session::proofs::Standing::takes_at, std::proofs::lemmas::Option::slice_get_within), unfolding(crate::specs::History::moved, crate::specs::History::outcome_of))]
+#[tactic(auto, unfolding(crate::specs::History::moved, crate::specs::History::outcome_of))]
 fn act<W: Timers, L: Ledger>(
     sessions: &mut Vec<Session>,
     timers: &mut W,
