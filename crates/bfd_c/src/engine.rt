@@ -5,7 +5,7 @@ ghost use Rattle.bfd_session.specs.Step.{IsFit};
 ghost use Rattle.bfd_instance.specs.Stage.{IsTable};
 ghost use Rattle.bfd_c.specs.Engines.{instance_after, asked, first_of, soonest, new_instance};
 ghost use Rattle.bfd_c.specs.Joining as joining;
-ghost use Rattle.bfd_script.specs.declared.line.entries.Line.TheVariants as line;
+ghost use Rattle.bfd_script.specs.declared.line.entries.Line.TheVariants as lines;
 
 use bfd_demux::AddFault;
 use bfd_instance::Instance as World;
@@ -112,7 +112,7 @@ impl Engine {
 
     /// A packet.
     pub(crate) fn hear(&mut self, moment: Moment, arrival: Arrival)
-        ensures { self.new ≡ instance_after (line.Rx moment arrival) self.old }
+        ensures { self.new ≡ instance_after (lines.Rx moment arrival) self.old }
     {
         let (answer, discr) = self.world.hear(moment, arrival);
         self.answer = answer;
@@ -122,7 +122,7 @@ impl Engine {
 
     /// A tick.
     pub(crate) fn tick(&mut self, t: Tick)
-        ensures { self.new ≡ instance_after (line.Tick t) self.old }
+        ensures { self.new ≡ instance_after (lines.Tick t) self.old }
     {
         self.answer = self.world.tick(t);
         self.discr = 0;

@@ -7,7 +7,7 @@ ghost use Rattle.bfd_session.specs.Tables.{members};
 ghost use Rattle.bfd_instance.specs.Stage.{IsTable};
 ghost use Rattle.bfd_instance.specs.World.{turn_giving};
 ghost use Rattle.bfd_instance.specs.World as world;
-ghost use Rattle.bfd_script.specs.declared.line.entries.Line.TheVariants as line;
+ghost use Rattle.bfd_script.specs.declared.line.entries.Line.TheVariants as lines;
 
 use crate::room::make_room;
 use crate::world::{arrive, happen, pass};
@@ -127,8 +127,8 @@ impl<W: Timers> Instance<W> {
 
     /// A packet that came in: `happen_naming` of its line.
     pub fn hear(&mut self, moment: Moment, arrival: Arrival) -> (Answer, u32)
-        ensures turn { turn_giving self.new.world self.new.items result.0 ≡ world.happens (line.Rx moment arrival) self.old.world }
-        ensures reached { result.1 ≡ world.discr_reached (line.Rx moment arrival) self.old.world }
+        ensures turn { turn_giving self.new.world self.new.items result.0 ≡ world.happens (lines.Rx moment arrival) self.old.world }
+        ensures reached { result.1 ≡ world.discr_reached (lines.Rx moment arrival) self.old.world }
     {
         self.outs.clear();
         arrive(&self.table, &mut self.sessions, moment, arrival, &mut self.outs)
@@ -136,7 +136,7 @@ impl<W: Timers> Instance<W> {
 
     /// A tick: `happen` of its line.
     pub fn tick(&mut self, t: Tick) -> Answer
-        ensures { turn_giving self.new.world self.new.items result ≡ world.happens (line.Tick t) self.old.world }
+        ensures { turn_giving self.new.world self.new.items result ≡ world.happens (lines.Tick t) self.old.world }
     {
         self.outs.clear();
         pass::<W, Brand>(&mut self.sessions, t, &mut self.outs, Blank::new(1))
