@@ -3,23 +3,13 @@ ghost use Rattle.std.specs.Prelude.{◌≡◌, ◌≢◌, None, Some, Ok, Err, I
 ghost use Rattle.bfd_c.specs.Engines.{asked, called};
 ghost use Rattle.bfd_c.specs.Lines.{cmd_of, command_line, packet_line, show_line, tick_line};
 
-use crate::engine::{CLOSED, Engine, MEMORY};
+use crate::engine::{CLOSED, DONE, Engine, MEMORY, RANGE};
 use crate::handle::Handle;
 use crate::wire::{Packet, arrival};
 use bfd_num::{Moment, Tick};
 use bfd_rules::Cmd;
 use bfd_script::line::Line;
 use std::alloc::{AllocError, Global};
-
-/// A tick.
-fn tick(t: u64) -> Option<Line>
-    ensures { result ≡ tick_line t }
-{
-    match Tick::new(t) {
-        Some(t) => Some(Line::Tick(t)),
-        None => None,
-    }
-}
 
 /// A question.
 fn show(moment: u64, discr: u32) -> Option<Line>
@@ -66,20 +56,6 @@ fn command(moment: u64, discr: u32, verb: u32, value: u64) -> Option<Line>
     }
 }
 
-/// A packet. It's refused for want of memory alone, and only where its values are in their ranges.
-fn packet(alloc: Global, packet: &Packet, payload: &[u8]) -> Result<Option<Line>, AllocError>
-    ensures value { IfOk result (λ line. line ≡ packet_line packet.now payload.now) }
-    ensures fits { OnErr result (packet_line packet.now payload.now ≢ None) }
-{
-    let Some(moment) = Moment::new(packet.moment) else {
-        return Ok(None);
-    };
-    match arrival(alloc, packet, payload)? {
-        Some(arrival) => Ok(Some(Line::Rx { moment, arrival })),
-        None => Ok(None),
-    }
-}
-
 /// An event that was asked for, or none where a value is outside its range.
 fn call(alloc: Global, handle: &mut Handle, line: Option<Line>) -> u32
     ensures { (handle.new.kept.held, result) ≡ called line handle.old.kept.held }
@@ -95,14 +71,34 @@ fn call(alloc: Global, handle: &mut Handle, line: Option<Line>) -> u32
     }
 }
 
+/// A tick for an open engine.
+fn pass(engine: &mut Engine, ms: u64) -> u32
+    ensures { (engine.new, result) ≡ asked (tick_line ms) engine.old }
+{
+    match Tick::new(ms) {
+        Some(t) => {
+            engine.tick(t);
+            DONE
+        }
+        None => RANGE,
+    }
+}
+
 /// A packet for an open engine.
 pub(crate) fn hear(alloc: Global, engine: &mut Engine, values: &Packet, payload: &[u8]) -> u32
     ensures done { result ≢ 2 → (engine.new, result) ≡ asked (packet_line values.now payload.now) engine.old }
     ensures memory { result ≡ 2 → engine.new ≡ engine.old }
     ensures fits { result ≡ 2 → packet_line values.now payload.now ≢ None }
 {
-    match packet(alloc, values, payload) {
-        Ok(line) => engine.ask(line),
+    let Some(moment) = Moment::new(values.moment) else {
+        return RANGE;
+    };
+    match arrival(alloc, values, payload) {
+        Ok(Some(arrival)) => {
+            engine.hear(moment, arrival);
+            DONE
+        }
+        Ok(None) => RANGE,
         Err(AllocError) => MEMORY,
     }
 }
@@ -143,7 +139,15 @@ pub extern "C" fn bfdd_receive(
 pub extern "C" fn bfdd_tick(alloc: Global, handle: &mut Handle, ms: u64) -> u32
     ensures { (handle.new.kept.held, result) ≡ called (tick_line ms) handle.old.kept.held }
 {
-    call(alloc, handle, tick(ms))
+    match handle.take(alloc) {
+        Some(engine) => {
+            let mut engine = engine;
+            let code = pass(&mut engine, ms);
+            *handle = Handle::hold(engine);
+            code
+        }
+        None => CLOSED,
+    }
 }
 
 /// A command to the session of this discriminator, at this moment in microseconds: 1 disable, 2 enable, 3 reset, 4 path, 5 tx,

@@ -6,10 +6,13 @@ ghost use Rattle.bfd_instance.specs.Stage.{IsTable};
 ghost use Rattle.bfd_records.specs.Looks.{look_of};
 ghost use Rattle.bfd_c.specs.Engines.{instance_after, asked, first_of, soonest, new_instance};
 ghost use Rattle.bfd_c.specs.Joining as joining;
+ghost use Rattle.bfd_script.specs.declared.line.entries.Line.TheVariants as lines;
 
 use bfd_demux::AddFault;
 use bfd_levels::ByCount;
 use bfd_records::{Look, Recorded as World};
+use bfd_num::{Moment, Tick};
+use bfd_packet::Arrival;
 use bfd_rules::Out;
 use bfd_sbfd::Reflector;
 use bfd_script::line::Line;
@@ -112,6 +115,25 @@ impl Engine {
         let (answer, discr) = self.world.happen_naming(line);
         self.answer = answer;
         self.discr = discr;
+        self.read = 0;
+    }
+
+    /// A packet.
+    pub(crate) fn hear(&mut self, moment: Moment, arrival: Arrival)
+        ensures { self.new ≡ instance_after (lines.Rx moment arrival) self.old }
+    {
+        let (answer, discr) = self.world.hear(moment, arrival);
+        self.answer = answer;
+        self.discr = discr;
+        self.read = 0;
+    }
+
+    /// A tick.
+    pub(crate) fn tick(&mut self, t: Tick)
+        ensures { self.new ≡ instance_after (lines.Tick t) self.old }
+    {
+        self.answer = self.world.tick(t);
+        self.discr = 0;
         self.read = 0;
     }
 

@@ -56,8 +56,17 @@ impl Handle {
     }
 }
 
+/// Frees an engine. (Apart from a handle's drop, so that each call has no more than the look whether there is one.)
+#[cold]
+#[inline(never)]
+fn free(engine: Box<Engine>) {
+    drop(engine);
+}
+
 impl Drop for Handle {
     fn drop(self) {
-        drop(self.into_engine());
+        if let Some(engine) = self.into_engine() {
+            free(engine);
+        }
     }
 }

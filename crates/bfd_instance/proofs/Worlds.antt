@@ -4,7 +4,6 @@ use Rattle.bfd_shard.specs.declared.entry.ShardEvent.{ShardEvent}
 use Rattle.bfd_shard.specs.declared.entry.ShardEvent.TheVariants.{Own, Tick}
 use Rattle.bfd_shard.specs.History.{later, own_moved, own_outcome}
 unfoldable use Rattle.bfd_shard.specs.History.{moved, outcome_of}
-use Rattle.bfd_instance.specs.Stage.{event_turn}
 use Rattle.bfd_instance.specs.World.{Turn}
 
 -- an event of the sessions, by the history of a shard
@@ -24,14 +23,26 @@ pub ticks_is : (t : ℕ) (w : World) → ticks t w ≡ moved_turn (Tick t) w
 unfolding ticks moved outcome_of
 ticks_is t w = refl
 
-turn_is : (event : ShardEvent) (w : World) → event_turn event w ≡ moved_turn event w
-turn_is (Own place moment event) w = own_is place moment event w
-turn_is (Tick t) w = ticks_is t w
-
 -- what a call did to the sessions is a turn of their world
-pub applied : (event : ShardEvent) (ss ss2 : List Running) (last last2 : ℕ) (none items : List Out) (answer : Answer) → none ≡ [] → ss2 ≡ moved last event ss → last2 ≡ later last event
-    → items ≡ none ++ (outcome_of last event ss).items → answer ≡ (outcome_of last event ss).answer
-    → (pool : List Reflector) → turned ss2 pool last2 items answer ≡ event_turn event (world_of ss pool last)
-applied event ss ss2 last last2 none items answer empty made early told said pool =
+applied : (event : ShardEvent) (ss ss2 : List Running) (last last2 : ℕ) (none items : List Out) (answer : Answer) (pool : List Reflector) {turn : Turn}
+    → turn ≡ moved_turn event (world_of ss pool last) → none ≡ [] → ss2 ≡ moved last event ss → last2 ≡ later last event
+    → items ≡ none ++ (outcome_of last event ss).items → answer ≡ (outcome_of last event ss).answer → turned ss2 pool last2 items answer ≡ turn
+applied event ss ss2 last last2 none items answer pool is empty made early told said =
     let items_are : items ≡ (outcome_of last event ss).items = told ∙ ap (λ xs. xs ++ (outcome_of last event ss).items) empty in
-    rw made (rw early (rw items_are (rw said (sym (turn_is event (world_of ss pool last))))))
+    rw made (rw early (rw items_are (rw said (sym is))))
+
+-- an own event
+pub own_applied : (place moment : ℕ) (event : Event) (ss ss2 : List Running) (last last2 : ℕ) (none items : List Out) (answer : Answer) → none ≡ []
+    → ss2 ≡ moved last (Own place moment event) ss → last2 ≡ last
+    → items ≡ none ++ (outcome_of last (Own place moment event) ss).items → answer ≡ (outcome_of last (Own place moment event) ss).answer
+    → (pool : List Reflector) → turned ss2 pool last2 items answer ≡ own place moment event (world_of ss pool last)
+own_applied place moment event ss ss2 last last2 none items answer empty made early told said pool =
+    applied (Own place moment event) ss ss2 last last2 none items answer pool (own_is place moment event (world_of ss pool last)) empty made early told said
+
+-- a tick
+pub ticks_applied : (t : ℕ) (ss ss2 : List Running) (last last2 : ℕ) (none items : List Out) (answer : Answer) → none ≡ []
+    → ss2 ≡ moved last (Tick t) ss → last2 ≡ later last (Tick t)
+    → items ≡ none ++ (outcome_of last (Tick t) ss).items → answer ≡ (outcome_of last (Tick t) ss).answer
+    → (pool : List Reflector) → turned ss2 pool last2 items answer ≡ ticks t (world_of ss pool last)
+ticks_applied t ss ss2 last last2 none items answer empty made early told said pool =
+    applied (Tick t) ss ss2 last last2 none items answer pool (ticks_is t (world_of ss pool last)) empty made early told said

@@ -6,10 +6,8 @@ use Rattle.bfd_sbfd.specs.declared.reflecting.Reflector.{Reflector}
 use Rattle.bfd_session.specs.declared.event.SessionConfig.{SessionConfig}
 use Rattle.bfd_session.specs.Kinds.{Running, configs_of}
 use Rattle.bfd_session.specs.Tables.{Members}
-use Rattle.bfd_shard.specs.declared.entry.ShardEvent.{ShardEvent}
-use Rattle.bfd_shard.specs.declared.entry.ShardEvent.TheVariants.{Own, Tick}
 use Rattle.bfd_script.specs.Sound.{AreConfigs, ArePool, AreApart}
-use Rattle.bfd_instance.specs.World.{World, Turn, own, ticks}
+use Rattle.bfd_instance.specs.World.{World}
 
 -- the world, and the outputs of the last event
 pub record Stage : Type 0 where
@@ -27,8 +25,3 @@ pub record IsTable (sessions : List SessionConfig) (reflectors : List Reflector)
 pub record IsStage (sessions : List Running) (table : Members) (outs : Outputs) : Type 0 where
   pub configs : table.configs ≡ configs_of sessions
   pub room_for_all : 5 * length sessions + 5 ≤ outs.room
-
--- an event of the sessions, as a turn of their world
-abbrev pub event_turn : ShardEvent → World → Turn
-event_turn (Own place moment event) w = own place moment event w
-event_turn (Tick t) w = ticks t w

@@ -10,11 +10,13 @@ ghost use Rattle.bfd_session.specs.Tables.{members};
 ghost use Rattle.bfd_instance.specs.Stage.{IsTable};
 ghost use Rattle.bfd_instance.specs.World.{turn_giving};
 ghost use Rattle.bfd_instance.specs.World as world;
+ghost use Rattle.bfd_script.specs.declared.line.entries.Line.TheVariants as lines;
 
 use crate::room::make_room;
-use crate::world::happen;
+use crate::world::{arrive, happen, pass};
 use bfd_demux::{AddFault, Demux};
-use bfd_num::Tick;
+use bfd_num::{Moment, Tick};
+use bfd_packet::Arrival;
 use bfd_rules::{Out, Outs};
 use bfd_sbfd::Reflector;
 use bfd_script::line::Line;
@@ -22,7 +24,8 @@ use bfd_session::{Answer, Roster, Session, SessionConfig, Table, table_of};
 use bfd_shard::Sessions;
 use bfd_wheel::Timers;
 use std::alloc::{AllocError, Global};
-use std::marker::Model;
+use std::marker::{Brand, Model};
+use std::sync::ledger::Blank;
 
 /// The sessions and the reflectors of a table, each by ascending discriminator, with the sessions' timers, the last tick, and the
 /// outputs of the last event.
@@ -121,8 +124,33 @@ impl<W: Timers> Instance<W> {
         ensures reached { result.1 ≡ world.place_reached line self.old.world }
         ensures within { IfSome result.1 (λ place. place < length self.old.world.sessions) }
     {
+        let outs = &mut self.outs;
+        outs.clear();
+        happen(&self.table, &mut self.sessions, line, outs)
+    }
+
+    /// A packet that came in: `happen_placing` of its line.
+    pub fn hear(&mut self, moment: Moment, arrival: Arrival) -> (Answer, Option<u32>)
+        ensures turn { turn_giving self.new.world self.new.items result.0 ≡ world.happens (lines.Rx moment arrival) self.old.world }
+        ensures reached { result.1 ≡ world.place_reached (lines.Rx moment arrival) self.old.world }
+        ensures within { IfSome result.1 (λ place. place < length self.old.world.sessions) }
+    {
         self.outs.clear();
-        happen(&self.table, &mut self.sessions, line, &mut self.outs)
+        arrive(
+            &self.table,
+            &mut self.sessions,
+            moment,
+            arrival,
+            &mut self.outs,
+        )
+    }
+
+    /// A tick: `happen` of its line.
+    pub fn tick(&mut self, t: Tick) -> Answer
+        ensures { turn_giving self.new.world self.new.items result ≡ world.happens (lines.Tick t) self.old.world }
+    {
+        self.outs.clear();
+        pass::<W, Brand>(&mut self.sessions, t, &mut self.outs, Blank::new(1))
     }
 
     /// One session more, of this configuration, which is within its ranges: it starts at the last tick. Answers its place. Nothing else

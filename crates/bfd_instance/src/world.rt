@@ -2,49 +2,70 @@
 ghost use Rattle.std.specs.Prelude.{◌≡◌, ◌<◌, ◌≤◌, ◌+◌, ◌*◌, IfSome, List, [], length};
 ghost use Rattle.bfd_session.specs.declared.event.SessionConfig.{SessionConfig};
 ghost use Rattle.bfd_session.specs.Arrivals.{comes_to};
+ghost use Rattle.bfd_session.specs.Reaching.{IsTaken};
 ghost use Rattle.bfd_session.specs.Kinds.{configs_of};
 ghost use Rattle.bfd_session.specs.Rows.{table_of, place_of as place_in};
 ghost use Rattle.bfd_session.specs.Step.{CanTake};
 ghost use Rattle.bfd_sbfd.specs.declared.reflecting.Reflector.{Reflector};
-ghost use Rattle.bfd_shard.specs.Shard.{CanHappen, room_for};
 ghost use Rattle.bfd_script.specs.Doing.{arriving, asking};
-ghost use Rattle.bfd_instance.specs.Stage.{event_turn};
 ghost use Rattle.bfd_instance.specs.World.{turned};
 ghost use Rattle.bfd_instance.specs.World as world;
 
-use bfd_num::{Moment, Steps};
+use bfd_num::{Moment, Steps, Tick};
 use bfd_packet::Arrival;
 use bfd_rules::{Outs, Refusal};
 use bfd_script::line::Line;
-use bfd_session::{Answer, Coming, Event, Table};
+use bfd_session::{Answer, Event, Reached, Table};
 use bfd_shard::{Sessions, ShardEvent};
 use bfd_wheel::Timers;
 use std::marker::Brand;
 use std::sync::ledger::{Blank, Ledger};
 
-/// An event of the sessions, with a counter of steps of its own.
-#[tactic(auto, using(crate::proofs::Worlds::applied))]
-fn enact<W: Timers, L: Ledger>(
+/// A tick of the sessions, with a counter of steps of its own.
+#[tactic(auto, using(crate::proofs::Worlds::ticks_applied))]
+pub fn pass<W: Timers, L: Ledger>(
     sessions: &mut Sessions<W>,
-    event: &ShardEvent,
+    t: Tick,
     outs: &mut Outs,
     blank: Blank,
 ) -> Answer
-    requires can { CanHappen (configs_of sessions.old.sessions) event.now }
-    requires room { room_for sessions.old.sessions event.now ≤ outs.old.spare }
+    requires room { 5 * length sessions.old.sessions ≤ outs.old.spare }
     requires empty { outs.old.items ≡ [] }
     requires name { blank.name ≡ L.name }
     requires parts { blank.parts ≡ L.parts }
     requires some { 0 < blank.parts }
     ensures turn { (pool : List Reflector) → turned sessions.new.sessions pool sessions.new.last outs.new.items result
-        ≡ event_turn event.now (world.world_of sessions.old.sessions pool sessions.old.last) }
+        ≡ world.ticks t (world.world_of sessions.old.sessions pool sessions.old.last) }
     ensures room { outs.new.room ≡ outs.old.room }
 {
-    sessions.apply(event, outs, &mut Steps::<L>::new(blank))
+    sessions.apply(&ShardEvent::Tick(t), outs, &mut Steps::<L>::new(blank))
+}
+
+/// An own event of the session at a place, with a counter of steps of its own.
+#[tactic(auto, using(crate::proofs::Worlds::own_applied))]
+fn own<W: Timers, L: Ledger>(
+    sessions: &mut Sessions<W>,
+    place: u32,
+    moment: Moment,
+    event: &Event,
+    outs: &mut Outs,
+    blank: Blank,
+) -> Answer
+    requires taken { IsTaken (configs_of sessions.old.sessions) place event.now }
+    requires room { 5 ≤ outs.old.spare }
+    requires empty { outs.old.items ≡ [] }
+    requires name { blank.name ≡ L.name }
+    requires parts { blank.parts ≡ L.parts }
+    requires some { 0 < blank.parts }
+    ensures turn { (pool : List Reflector) → turned sessions.new.sessions pool sessions.new.last outs.new.items result
+        ≡ world.own place moment event.now (world.world_of sessions.old.sessions pool sessions.old.last) }
+    ensures room { outs.new.room ≡ outs.old.room }
+{
+    sessions.apply_own(place, moment, event, outs, &mut Steps::<L>::new(blank))
 }
 
 /// An arrival, and the place of the session to which it came, if to one.
-fn arrive<W: Timers>(
+pub fn arrive<W: Timers>(
     table: &Table,
     sessions: &mut Sessions<W>,
     moment: Moment,
@@ -62,19 +83,20 @@ fn arrive<W: Timers>(
     ensures within { IfSome result.1 (λ place. place < length sessions.old.sessions) }
     ensures room { outs.new.room ≡ outs.old.room }
 {
-    match table.comes_to_uncounted(arrival) {
-        Coming::Discarded(test) => (Answer::Dropped(test), None),
-        Coming::Answered(out) => {
+    match table.reach_uncounted(&arrival) {
+        Reached::Discarded(test) => (Answer::Dropped(test), None),
+        Reached::Answered(out) => {
             outs.push(out);
             (Answer::Handled, None)
         }
-        Coming::Own(place, event) => {
-            let own = ShardEvent::Own {
-                place,
-                moment,
-                event,
-            };
-            let answer = enact::<W, Brand>(sessions, &own, outs, Blank::new(1));
+        Reached::Packet(place) => {
+            let packet = Event::Packet(arrival);
+            let answer = own::<W, Brand>(sessions, place, moment, &packet, outs, Blank::new(1));
+            (answer, Some(place))
+        }
+        Reached::Returned(place, sequence) => {
+            let returned = Event::Returned(sequence);
+            let answer = own::<W, Brand>(sessions, place, moment, &returned, outs, Blank::new(1));
             (answer, Some(place))
         }
     }
@@ -102,12 +124,7 @@ fn ask<W: Timers>(
 {
     match table.place_of(discr) {
         Some(place) => {
-            let own = ShardEvent::Own {
-                place,
-                moment,
-                event,
-            };
-            let answer = enact::<W, Brand>(sessions, &own, outs, Blank::new(1));
+            let answer = own::<W, Brand>(sessions, place, moment, &event, outs, Blank::new(1));
             (answer, Some(place))
         }
         None => (Answer::Refused(Refusal::UnknownSession), None),
@@ -134,7 +151,7 @@ pub fn happen<W: Timers>(
     match line {
         Line::Rx { moment, arrival } => arrive(table, sessions, moment, arrival, outs),
         Line::Tick(t) => {
-            let answer = enact::<W, Brand>(sessions, &ShardEvent::Tick(t), outs, Blank::new(1));
+            let answer = pass::<W, Brand>(sessions, t, outs, Blank::new(1));
             (answer, None)
         }
         Line::Cmd { moment, discr, cmd } => {

@@ -1,10 +1,10 @@
 -- A session or a reflector more or less: the order, and the rows.
-use Rattle.bfd_session.proofs.Common.{◌≡◌, ◌<◌, ◌≤◌, ◌==◌, ◌++◌, ◌+◌, ◌-◌, ◌&&◌, ◌||◌, ℕ, zero, suc, Bool, true, false, cond, not, List, [], ◌∷◌, length, map, take, get_or, refl, sym, ap, subst, ◌∙◌, arith, Option, None, Some, if◌then◌else◌, nat_lt, unwrap_or, AllByRecursion, filter, position, position_from, eq-eqb, ne_eqb, nat_tests, Row, SessionConfig, discr_of, Ascends, row_of, rows_of, row_of_reflector, table_of, Reflector}
+use Rattle.bfd_session.proofs.Common.{◌≡◌, ◌<◌, ◌≤◌, ◌==◌, ◌++◌, ◌+◌, ◌-◌, ◌||◌, ℕ, zero, suc, Bool, true, false, cond, not, List, [], ◌∷◌, length, map, get_or, refl, sym, ap, subst, ◌∙◌, arith, None, Some, if◌then◌else◌, nat_lt, unwrap_or, AllByRecursion, filter, position, position_from, ne_eqb, nat_tests, Row, SessionConfig, discr_of, Ascends, row_of, rows_of, row_of_reflector, table_of, Reflector}
 use Rattle.std.specs.List.{insert, remove, list_any}
 use Rattle.std.specs.List.Sorted.{IsPartitionedBy, IsPartitionPoint}
 use Rattle.std.proofs.lemmas.Bool.{eqb-true}
-use Rattle.std.proofs.lemmas.List.{length-map, map-append, take-map, drop-map}
-use Rattle.std.proofs.lemmas.List.Edits.{length-insert, length-remove, get_or-insert_at, insert-append_left, insert-append_right, remove-append_left, remove-append_right}
+use Rattle.std.proofs.lemmas.List.{length-map}
+use Rattle.std.proofs.lemmas.List.Edits.{length-insert, length-remove, insert-append_left, insert-append_right, remove-append_left, remove-append_right}
 use Rattle.std.proofs.lemmas.Iterator.Adapters.{position_from-zero}
 use Rattle.std.proofs.lemmas.List.Folds.{list_any_at}
 use Rattle.bfd_packet.proofs.Turned.{number_turned}

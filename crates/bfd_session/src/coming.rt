@@ -13,3 +13,16 @@ pub enum Coming {
     /// It is an own event of the session at this place.
     Own(u32, Event),
 }
+
+/// What an arrival comes to, where the arrival itself stays with its owner.
+#[derive(Drop)]
+pub enum Reached {
+    /// As a `Coming` that is discarded.
+    Discarded(Test),
+    /// As a `Coming` that is answered.
+    Answered(Out),
+    /// The arrival is a packet for the session at this place.
+    Packet(u32),
+    /// It is an echo packet of the session at this place, which came back with this sequence number.
+    Returned(u32, u32),
+}

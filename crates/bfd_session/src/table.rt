@@ -9,7 +9,7 @@ ghost use Rattle.bfd_sbfd.specs.Reflect as reflecting;
 ghost use Rattle.bfd_session.specs.Arrivals as arrivals;
 ghost use Rattle.bfd_session.specs.Changes.{place_for, pool_place_for, with_session, without_session, with_pooled, without_pooled};
 ghost use Rattle.bfd_session.specs.Kinds.{discr_of};
-ghost use Rattle.bfd_session.specs.Reaching.{IsComing, IsNamed, IsTaken, Reaches, answered_as};
+ghost use Rattle.bfd_session.specs.Reaching.{IsComing, IsNamed, IsTaken, Reaches, answered_as, coming_of};
 ghost use Rattle.bfd_session.specs.Rows as rows;
 ghost use Rattle.bfd_session.specs.Rows.{Ascends};
 ghost use Rattle.bfd_session.specs.Step.{CanTake};
@@ -19,7 +19,7 @@ ghost use Rattle.bfd_session.specs.declared.event.SessionConfig.{SessionConfig a
 ghost use Rattle.bfd_demux.specs.Selection.{first_header_failing, first_table_failing, target_of, fields_on};
 ghost use Rattle.std.specs.Result.{result_err};
 
-use crate::{Coming, Event, SessionConfig, row_of, row_of_reflector, table_of};
+use crate::{Coming, Event, Reached, SessionConfig, row_of, row_of_reflector, table_of};
 use bfd_demux::{AddFault, BuildFault, Demux, Target};
 use bfd_ghost::GhostList;
 use bfd_num::Steps;
@@ -219,34 +219,48 @@ impl Table {
     }
 
     // What the reflector at this place makes of a packet that names it.
-    fn answered(&self, place: u32, arrival: &Arrival, fields: &Option<Control>) -> Coming
+    fn answered(&self, place: u32, arrival: &Arrival, fields: &Option<Control>) -> Reached
         requires named { IsNamed self.now.pool place arrival.now }
         requires fields { fields.now ≡ Some (fields_of arrival.now.payload) }
-        ensures { result ≡ answered_as (fields_of arrival.now.payload).your (reflecting.reflect self.now.pool arrival.now) }
+        ensures { coming_of arrival.now result
+            ≡ answered_as (fields_of arrival.now.payload).your (reflecting.reflect self.now.pool arrival.now) }
     {
         let Some(packet) = fields else {
             unreachable!();
         };
         let reflector = &self.pool[place as usize];
         match reflect_by(reflector, packet, arrival) {
-            Ok(datagram) => Coming::Answered(Out::Sent {
+            Ok(datagram) => Reached::Answered(Out::Sent {
                 discr: packet.your,
                 datagram,
             }),
-            Err(test) => Coming::Discarded(test),
+            Err(test) => Reached::Discarded(test),
         }
     }
 
     // What a selected arrival comes to.
-    fn direct(&self, target: Target, arrival: Arrival, fields: Option<Control>) -> Coming
-        requires reaches { Reaches self.now.configs self.now.pool arrival target }
-        requires fields { fields ≡ fields_on arrival.port arrival }
-        ensures { IsComing self.now.configs self.now.pool arrival (arrivals.coming_to (Some target) arrival) result }
+    fn direct(&self, target: Target, arrival: &Arrival, fields: &Option<Control>) -> Reached
+        requires reaches { Reaches self.now.configs self.now.pool arrival.now target }
+        requires fields { fields.now ≡ fields_on arrival.now.port arrival.now }
+        ensures { IsComing self.now.configs self.now.pool arrival.now
+            (arrivals.coming_to (Some target) arrival.now) (coming_of arrival.now result) }
     {
         match target {
-            Target::Session(place) => Coming::Own(place, Event::Packet(arrival)),
-            Target::Echo(place, sequence) => Coming::Own(place, Event::Returned(sequence)),
-            Target::Reflector(place) => self.answered(place, &arrival, &fields),
+            Target::Session(place) => Reached::Packet(place),
+            Target::Echo(place, sequence) => Reached::Returned(place, sequence),
+            Target::Reflector(place) => self.answered(place, arrival, fields),
+        }
+    }
+
+    /// What the arrival comes to, as `comes_to` says it.
+    pub fn reach<L: Ledger>(&self, arrival: &Arrival, steps: &mut Steps<L>) -> Reached
+        ensures coming { IsComing self.now.configs self.now.pool arrival.now
+            (arrivals.comes_to (rows.table_of self.now.configs self.now.pool) arrival.now) (coming_of arrival.now result) }
+        ensures cost { steps.new ≤ steps.old + 34 }
+    {
+        match self.demux.screen_fields(arrival, steps) {
+            Ok((target, fields)) => self.direct(target, arrival, &fields),
+            Err(test) => Reached::Discarded(test),
         }
     }
 
@@ -259,10 +273,8 @@ impl Table {
             (arrivals.comes_to (rows.table_of self.now.configs self.now.pool) arrival) result }
         ensures cost { steps.new ≤ steps.old + 34 }
     {
-        match self.demux.screen_fields(&arrival, steps) {
-            Ok((target, fields)) => self.direct(target, arrival, fields),
-            Err(test) => Coming::Discarded(test),
-        }
+        let reached = self.reach(&arrival, steps);
+        coming(reached, arrival)
     }
 
     /// The same, with a counter of steps of its own.
@@ -270,7 +282,16 @@ impl Table {
         ensures { IsComing self.now.configs self.now.pool arrival
             (arrivals.comes_to (rows.table_of self.now.configs self.now.pool) arrival) result }
     {
-        coming::<Brand>(self, arrival, Blank::new(1))
+        let reached = self.reach_uncounted(&arrival);
+        coming(reached, arrival)
+    }
+
+    /// `reach` with a counter of steps of its own.
+    pub fn reach_uncounted(&self, arrival: &Arrival) -> Reached
+        ensures { IsComing self.now.configs self.now.pool arrival.now
+            (arrivals.comes_to (rows.table_of self.now.configs self.now.pool) arrival.now) (coming_of arrival.now result) }
+    {
+        reached::<Brand>(self, arrival, Blank::new(1))
     }
 }
 
@@ -350,13 +371,25 @@ impl Table {
     }
 }
 
-// What an arrival comes to, with this counter.
-fn coming<L: Ledger>(table: &Table, arrival: Arrival, blank: Blank) -> Coming
+// What an arrival comes to that reaches this.
+fn coming(reached: Reached, arrival: Arrival) -> Coming
+    ensures { result ≡ coming_of arrival reached }
+{
+    match reached {
+        Reached::Discarded(test) => Coming::Discarded(test),
+        Reached::Answered(out) => Coming::Answered(out),
+        Reached::Packet(place) => Coming::Own(place, Event::Packet(arrival)),
+        Reached::Returned(place, sequence) => Coming::Own(place, Event::Returned(sequence)),
+    }
+}
+
+// What an arrival reaches, with this counter.
+fn reached<L: Ledger>(table: &Table, arrival: &Arrival, blank: Blank) -> Reached
     requires name { blank.name ≡ L.name }
     requires parts { blank.parts ≡ L.parts }
     requires some { 0 < blank.parts }
-    ensures { IsComing table.now.configs table.now.pool arrival
-        (arrivals.comes_to (rows.table_of table.now.configs table.now.pool) arrival) result }
+    ensures { IsComing table.now.configs table.now.pool arrival.now
+        (arrivals.comes_to (rows.table_of table.now.configs table.now.pool) arrival.now) (coming_of arrival.now result) }
 {
-    table.comes_to(arrival, &mut Steps::<L>::new(blank))
+    table.reach(arrival, &mut Steps::<L>::new(blank))
 }

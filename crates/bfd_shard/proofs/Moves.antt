@@ -31,7 +31,7 @@ pub all_out : (P : Running → Type 0) (ss : List Running) (k : ℕ) → AllByRe
 all_out P ss k all = rw add-one (all_but P ss k all)
 
 -- the session of a configuration stands at its place
-stands_of : (ss : List Running) (k : ℕ) {c : SessionConfig} (event : Event) → slice_get (configs_of ss) k ≡ Some c → CanTake c event → Stands ss k event
+pub stands_of : (ss : List Running) (k : ℕ) {c : SessionConfig} (event : Event) → slice_get (configs_of ss) k ≡ Some c → CanTake c event → Stands ss k event
 stands_of [] zero event e t = cc
 stands_of [] (suc k) event e t = cc
 stands_of (x ∷ ss) zero {c} event e t = record { session = x; there = refl; takes = rw (ap (λ o. unwrap_or o c) e) t }

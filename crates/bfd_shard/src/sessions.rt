@@ -13,14 +13,15 @@ ghost use Rattle.bfd_shard.specs.History.{later, moved, outcome_of};
 ghost use Rattle.bfd_shard.specs.Inside.{MayCome};
 ghost use Rattle.bfd_shard.specs.Sessions.{HasForgotten};
 ghost use Rattle.bfd_shard.specs.Shard.{CanHappen, IsOver, IsOwn, room_for};
-ghost use Rattle.bfd_session.specs.Reaching.{IsTaken};
+ghost use Rattle.bfd_shard.specs.declared.entry.ShardEvent.TheVariants.{Own};
+ghost use Rattle.bfd_session.specs.Reaching.{IsTaken, Stands};
 
 use crate::entry::ShardEvent;
 use crate::own::step_at;
 use crate::start::{sessions_of, share_of, time_all, timers_of};
 use crate::ticking::tick_all;
 use bfd_lanes::Ids;
-use bfd_num::{Steps, Tick};
+use bfd_num::{Moment, Steps, Tick};
 use bfd_rules::Outs;
 use bfd_session::{Answer, Event, Session, SessionConfig, tick_laws};
 use bfd_wheel::Timers;
@@ -49,8 +50,38 @@ impl<W: Timers> Model for Sessions<W> {
     ghost invariant = { λ s. IsTimed s.sessions.items s.last (W.dues s.timers) s.ids };
 }
 
-/// An event of the sessions: answers the last tick after it, and the event's answer.
+/// An own event of the session at a place.
 #[tactic(auto, using(bfd_session::proofs::Standing::takes_at, std::proofs::lemmas::Option::slice_get_within), unfolding(crate::specs::History::moved, crate::specs::History::outcome_of))]
+fn act_own<W: Timers, L: Ledger>(
+    sessions: &mut Vec<Session>,
+    timers: &mut W,
+    last: u64,
+    place: u32,
+    moment: Moment,
+    event: &Event,
+    outs: &mut Outs,
+    steps: &mut Steps<L>,
+) -> Answer
+    requires last { last ≤ greatest_tick }
+    requires stands { Stands sessions.old.items place event.now }
+    requires dues { W.dues timers.old ≡ map due_tick sessions.old.items }
+    requires sound { AllByRecursion IsSound sessions.old.items }
+    requires room { 5 ≤ outs.old.spare }
+    ensures sessions { sessions.new.items ≡ moved last (Own place moment event.now) sessions.old.items }
+    ensures items { outs.new.items
+        ≡ outs.old.items ++ (outcome_of last (Own place moment event.now) sessions.old.items).items }
+    ensures answer { result ≡ (outcome_of last (Own place moment event.now) sessions.old.items).answer }
+    ensures dues { W.dues timers.new ≡ map due_tick sessions.new.items }
+    ensures sound { AllByRecursion IsSound sessions.new.items }
+    ensures spare { outs.old.spare ≤ outs.new.spare + 5 }
+    ensures room { outs.new.room ≡ outs.old.room }
+    ensures cost { steps.new ≤ steps.old + 2 }
+{
+    step_at(sessions, timers, last, place, moment.get(), event, outs, steps)
+}
+
+/// An event of the sessions: answers the last tick after it, and the event's answer.
+#[tactic(auto, unfolding(crate::specs::History::moved, crate::specs::History::outcome_of))]
 fn act<W: Timers, L: Ledger>(
     sessions: &mut Vec<Session>,
     timers: &mut W,
@@ -86,15 +117,8 @@ fn act<W: Timers, L: Ledger>(
             moment,
             event,
         } => {
-            let answer = step_at(
-                sessions,
-                timers,
-                last,
-                *place,
-                moment.get(),
-                event,
-                outs,
-                steps,
+            let answer = act_own(
+                sessions, timers, last, *place, *moment, event, outs, steps,
             );
             (last, answer)
         }
@@ -284,6 +308,39 @@ impl<W: Timers> Sessions<W> {
         );
         self.last = last;
         answer
+    }
+
+    /// An own event of the session at `place`, as `apply` does it.
+    pub fn apply_own<L: Ledger>(
+        &mut self,
+        place: u32,
+        moment: Moment,
+        event: &Event,
+        outs: &mut Outs,
+        steps: &mut Steps<L>,
+    ) -> Answer
+        requires taken { IsTaken (configs_of self.old.sessions) place event.now }
+        requires room { 5 ≤ outs.old.spare }
+        ensures last { self.new.last ≡ self.old.last }
+        ensures sessions { self.new.sessions ≡ moved self.old.last (Own place moment event.now) self.old.sessions }
+        ensures items { outs.new.items
+            ≡ outs.old.items ++ (outcome_of self.old.last (Own place moment event.now) self.old.sessions).items }
+        ensures answer { result ≡ (outcome_of self.old.last (Own place moment event.now) self.old.sessions).answer }
+        ensures sound { AllByRecursion IsSound self.new.sessions }
+        ensures spare { outs.old.spare ≤ outs.new.spare + 5 }
+        ensures room { outs.new.room ≡ outs.old.room }
+        ensures cost { steps.new ≤ steps.old + 2 }
+    {
+        act_own(
+            &mut self.sessions,
+            &mut self.timers,
+            self.last,
+            place,
+            moment,
+            event,
+            outs,
+            steps,
+        )
     }
 
     /// The least tick that a session needs next, or None where none needs one. It may lie at or below the last tick; the next tick

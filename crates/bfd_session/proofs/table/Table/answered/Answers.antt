@@ -1,10 +1,9 @@
 -- The reflector at the place is the one that is named.
-use Rattle.bfd_session.proofs.Common.{◌≡◌, ◌∙◌, ℕ, List, Option, Some, None, Result, Ok, Err, get_or, ap, sym, refl, rules, Arrival, Control, Reflector, Test, fields_of}
+use Rattle.bfd_session.proofs.Common.{◌≡◌, ◌∙◌, ℕ, List, Some, Result, get_or, ap, sym, refl, rules, Arrival, Control, Reflector, Test, fields_of}
 use Rattle.std.proofs.lemmas.Option.{get_or_from_slice_get}
 use Rattle.bfd_packet.specs.declared.arrival.Datagram.{Datagram}
 use Rattle.bfd_sbfd.specs.Reflect.{named_in, reflect}
-use Rattle.bfd_session.specs.declared.coming.Coming.TheVariants as coming
-use Rattle.bfd_session.specs.Reaching.{IsNamed, answered_as}
+use Rattle.bfd_session.specs.Reaching.{IsNamed}
 use Rattle.bfd_session.specs.Tables.{Members}
 use Rattle.bfd_session.proofs.table.Table.answered.Goals as goal
 
