@@ -96,17 +96,14 @@ pub fn arrive<W: Timers>(
         (world.world_of sessions.old.sessions table.now.pool sessions.old.last) }
     ensures room { outs.new.room ≡ outs.old.room }
 {
-    let packet = Event::Packet(arrival);
-    let Event::Packet(heard) = &packet else {
-        unreachable!();
-    };
-    match table.reach_uncounted(heard) {
+    match table.reach_uncounted(&arrival) {
         Reached::Discarded(test) => (Answer::Dropped(test), 0),
         Reached::Answered(out) => {
             outs.push(out);
             (Answer::Handled, 0)
         }
         Reached::Packet(place) => {
+            let packet = Event::Packet(arrival);
             own::<W, Brand>(sessions, place, moment, &packet, outs, Blank::new(1))
         }
         Reached::Returned(place, sequence) => {

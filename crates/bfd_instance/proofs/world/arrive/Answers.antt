@@ -1,13 +1,19 @@
 -- What an arrival comes to is a turn of the world.
 use Rattle.bfd_instance.proofs.Common.{◌∙◌, ap, sym, carried_out, reached, world_of, table_of}
+use Rattle.bfd_session.specs.declared.event.Event.TheVariants.{Packet, Returned}
 use Rattle.bfd_session.specs.Arrivals.{comes_to}
 use Rattle.bfd_instance.proofs.Comings.{answered, discarded, none_answered, none_discarded, taken}
 use Rattle.bfd_instance.proofs.world.arrive.Goals as goal
 
-pub enact-answer-requires-clause-can : goal.enact-answer-requires-clause-can
-enact-answer-requires-clause-can g c =
+pub own-requires-clause-taken : goal.own-requires-clause-taken
+own-requires-clause-taken g c =
     let t = c.args.table.now in
-    rw (← c.requires.configs) ((taken (comes_to (table_of t.configs t.pool) c.args.arrival) t.configs t.pool c.args.arrival c.args.moment c.in-Own.place c.in-Own.event c.in-Own.ensures).1)
+    rw (← c.requires.configs) ((taken (comes_to (table_of t.configs t.pool) c.args.arrival) t.configs t.pool c.args.arrival c.args.moment c.in-Packet.place (Packet c.args.arrival) c.in-Packet.ensures).1)
+
+pub own-requires-in-Returned-clause-taken : goal.own-requires-in-Returned-clause-taken
+own-requires-in-Returned-clause-taken g c =
+    let t = c.args.table.now in
+    rw (← c.requires.configs) ((taken (comes_to (table_of t.configs t.pool) c.args.arrival) t.configs t.pool c.args.arrival c.args.moment c.in-Returned.place (Returned c.in-Returned.sequence) c.in-Returned.ensures).1)
 
 pub returns-in-Discarded-clause-turn : goal.returns-in-Discarded-clause-turn
 returns-in-Discarded-clause-turn g c =
@@ -19,11 +25,17 @@ returns-in-Answered-clause-turn g c =
     let t = c.args.table.now in
     rw (c.push.ensures.items, c.requires.empty) (answered (comes_to (table_of t.configs t.pool) c.args.arrival) t.configs t.pool c.args.arrival c.args.moment c.in-Answered.out c.args.sessions.now.sessions c.args.sessions.now.last c.in-Answered.ensures)
 
-pub returns-in-Own-clause-turn : goal.returns-in-Own-clause-turn
-returns-in-Own-clause-turn g c =
+pub returns-in-Packet-clause-turn : goal.returns-in-Packet-clause-turn
+returns-in-Packet-clause-turn g c =
     let t = c.args.table.now in
-    let is = (taken (comes_to (table_of t.configs t.pool) c.args.arrival) t.configs t.pool c.args.arrival c.args.moment c.in-Own.place c.in-Own.event c.in-Own.ensures).0 in
-    c.enact-answer.ensures.turn t.pool ∙ sym (ap (λ d. carried_out d (world_of c.args.sessions.now.sessions t.pool c.args.sessions.now.last)) is)
+    let is = (taken (comes_to (table_of t.configs t.pool) c.args.arrival) t.configs t.pool c.args.arrival c.args.moment c.in-Packet.place (Packet c.args.arrival) c.in-Packet.ensures).0 in
+    c.own.ensures.turn t.pool ∙ sym (ap (λ d. carried_out d (world_of c.args.sessions.now.sessions t.pool c.args.sessions.now.last)) is)
+
+pub returns-in-Returned-clause-turn : goal.returns-in-Returned-clause-turn
+returns-in-Returned-clause-turn g c =
+    let t = c.args.table.now in
+    let is = (taken (comes_to (table_of t.configs t.pool) c.args.arrival) t.configs t.pool c.args.arrival c.args.moment c.in-Returned.place (Returned c.in-Returned.sequence) c.in-Returned.ensures).0 in
+    c.own-in-Returned.ensures.turn t.pool ∙ sym (ap (λ d. carried_out d (world_of c.args.sessions.now.sessions t.pool c.args.sessions.now.last)) is)
 
 pub returns-in-Discarded-clause-reached : goal.returns-in-Discarded-clause-reached
 returns-in-Discarded-clause-reached g c =
@@ -35,8 +47,14 @@ returns-in-Answered-clause-reached g c =
     let t = c.args.table.now in
     none_answered (comes_to (table_of t.configs t.pool) c.args.arrival) t.configs t.pool c.args.arrival c.args.moment c.in-Answered.out _ c.in-Answered.ensures
 
-pub returns-in-Own-clause-reached : goal.returns-in-Own-clause-reached
-returns-in-Own-clause-reached g c =
+pub returns-in-Packet-clause-reached : goal.returns-in-Packet-clause-reached
+returns-in-Packet-clause-reached g c =
     let t = c.args.table.now in
-    let is = (taken (comes_to (table_of t.configs t.pool) c.args.arrival) t.configs t.pool c.args.arrival c.args.moment c.in-Own.place c.in-Own.event c.in-Own.ensures).0 in
-    c.discr_at-discr.ensures ∙ sym (ap (λ d. reached d (world_of c.args.sessions.now.sessions t.pool c.args.sessions.now.last)) is)
+    let is = (taken (comes_to (table_of t.configs t.pool) c.args.arrival) t.configs t.pool c.args.arrival c.args.moment c.in-Packet.place (Packet c.args.arrival) c.in-Packet.ensures).0 in
+    c.own.ensures.reached ∙ sym (ap (λ d. reached d (world_of c.args.sessions.now.sessions t.pool c.args.sessions.now.last)) is)
+
+pub returns-in-Returned-clause-reached : goal.returns-in-Returned-clause-reached
+returns-in-Returned-clause-reached g c =
+    let t = c.args.table.now in
+    let is = (taken (comes_to (table_of t.configs t.pool) c.args.arrival) t.configs t.pool c.args.arrival c.args.moment c.in-Returned.place (Returned c.in-Returned.sequence) c.in-Returned.ensures).0 in
+    c.own-in-Returned.ensures.reached ∙ sym (ap (λ d. reached d (world_of c.args.sessions.now.sessions t.pool c.args.sessions.now.last)) is)

@@ -1,5 +1,5 @@
 -- The counter is the blank's own.
 use Rattle.bfd_instance.proofs.world.ask.Given as goal
 
-abbrev pub ghosts-enact : goal.ghosts-enact
-ghosts-enact g a = record { name = a.blank.name; parts = a.blank.parts }
+abbrev pub ghosts-own : goal.ghosts-own
+ghosts-own g a = record { name = a.blank.name; parts = a.blank.parts }

@@ -1,5 +1,5 @@
 -- The counter is the blank's own.
 use Rattle.bfd_instance.proofs.world.happen.Given as goal
 
-abbrev pub ghosts-enact : goal.ghosts-enact
-ghosts-enact g a = record { name = a.blank.name; parts = a.blank.parts }
+abbrev pub ghosts-pass : goal.ghosts-pass
+ghosts-pass g a = record { name = a.blank.name; parts = a.blank.parts }
