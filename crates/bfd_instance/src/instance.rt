@@ -131,7 +131,13 @@ impl<W: Timers> Instance<W> {
         ensures reached { result.1 ≡ world.discr_reached (lines.Rx moment arrival) self.old.world }
     {
         self.outs.clear();
-        arrive(&self.table, &mut self.sessions, moment, arrival, &mut self.outs)
+        arrive(
+            &self.table,
+            &mut self.sessions,
+            moment,
+            arrival,
+            &mut self.outs,
+        )
     }
 
     /// A tick: `happen` of its line.
