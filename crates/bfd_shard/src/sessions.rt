@@ -77,7 +77,16 @@ fn act_own<W: Timers, L: Ledger>(
     ensures room { outs.new.room ≡ outs.old.room }
     ensures cost { steps.new ≤ steps.old + 2 }
 {
-    step_at(sessions, timers, last, place, moment.get(), event, outs, steps)
+    step_at(
+        sessions,
+        timers,
+        last,
+        place,
+        moment.get(),
+        event,
+        outs,
+        steps,
+    )
 }
 
 /// An event of the sessions: answers the last tick after it, and the event's answer.
@@ -117,9 +126,7 @@ fn act<W: Timers, L: Ledger>(
             moment,
             event,
         } => {
-            let answer = act_own(
-                sessions, timers, last, *place, *moment, event, outs, steps,
-            );
+            let answer = act_own(sessions, timers, last, *place, *moment, event, outs, steps);
             (last, answer)
         }
         ShardEvent::Tick(t) => {
