@@ -1,5 +1,5 @@
 //! The watched text of a script.
-ghost use Rattle.std.specs.Prelude.{ℕ, ◌≡◌, ◌≤◌, ◌<◌, ◌+◌, ◌*◌, [], IfOk, IfErr, length, map};
+ghost use Rattle.std.specs.Prelude.{ℕ, ◌≡◌, ◌≤◌, ◌<◌, ◌+◌, ◌*◌, [], IfOk, IfErr, Ok, length, map};
 ghost use Rattle.bfd_session.specs.Rows.{Ascends};
 ghost use Rattle.bfd_session.specs.Step.{started};
 ghost use Rattle.bfd_script.specs.Sound.{IsScript};
@@ -108,6 +108,18 @@ fn opened<W: Timers>(
     }
 }
 
+/// The text, which nothing but want of memory kept away.
+fn text_of(told: Result<Vec<u8>, EngineFault>) -> Result<Vec<u8>, AllocError>
+    requires { IfErr told (λ fault. fault ≡ EngineFault.Memory) }
+    ensures { IfOk result (λ text. told ≡ Ok text) }
+{
+    match told {
+        Ok(text) => Ok(text),
+        Err(EngineFault::Memory) => Err(AllocError),
+        Err(_) => unreachable!(),
+    }
+}
+
 /// The watched text of a replay of the script on 1 to 64 shards, with a group of these members, of which `need` must be Up: the changes
 /// of each event, of members and of other sessions, and each move of the group. Each line is turns of an engine's shards, and after each
 /// event a watch of each shard takes its history's new entries. The one refusal is want of memory.
@@ -144,11 +156,7 @@ pub fn watched<R: Wait>(
         Blank::new(1),
     );
     match engine.close(alloc, pass) {
-        Ok(_states) => match told {
-            Ok(text) => Ok(text),
-            Err(EngineFault::Memory) => Err(AllocError),
-            Err(_) => unreachable!(),
-        },
+        Ok(_states) => text_of(told),
         Err(
             Unclosed {
                 engine: _engine,
