@@ -29,7 +29,7 @@ close-requires-clause-joined g c = none_open c.in_ok-engine.ensures.pass c.tell-
 
 pub text_of-requires : goal.text_of-requires
 text_of-requires g c = IfErr-weaker c.tell-told.result (λ fault. IsCutShort fault c.in_ok-engine.engine c.tell-told.new.pass) (λ fault. fault ≡ Memory)
-    (λ fault. never_stopped fault c.in_ok-engine.ensures.pass c.tell-told.ensures.kept (omega (arith, c.requires.script.few)) c.in-Ok.ensures.closed) c.tell-told.ensures.stopped
+    (λ fault. never_stopped fault c.in_ok-engine.ensures.pass c.tell-told.ensures.kept (omega (arith, (taken_apart c.script.view_is c.requires.script).events.few)) c.in-Ok.ensures.closed) c.tell-told.ensures.stopped
 
 pub returns-in-Ok : goal.returns-in-Ok
 returns-in-Ok g c = IfOk-weaker c.text_of.result (λ text. c.tell-told.result ≡ Ok text) (λ text. text.items ≡ watched_of c.args.need c.args.members.now c.args.script)
