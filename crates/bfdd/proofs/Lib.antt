@@ -5,7 +5,7 @@ pub mod Wanting
 pub mod Writing
 pub mod Decimal
 pub mod Naming
-pub mod Words
+pub mod Leading
 pub mod Answering
 pub mod ServedText
 pub mod Taking

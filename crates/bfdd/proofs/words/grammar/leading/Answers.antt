@@ -2,7 +2,7 @@ use Rattle.std.proofs.Common.{string_bytes, ap, ◌∙◌, arith}
 use Rattle.std.proofs.lemmas.Bool.Decides.{nat_tests}
 use Rattle.std.proofs.lemmas.Grind.{common_steps}
 use Rattle.bfdd.specs.Grammar.{member_of}
-use Rattle.bfdd.proofs.Words.{leading-more, leading-many}
+use Rattle.bfdd.proofs.Leading.{leading-more, leading-many}
 use Rattle.bfdd.proofs.words.grammar.leading.Goals as goal
 
 pub returns-then-is_full-clause-many : goal.returns-then-is_full-clause-many

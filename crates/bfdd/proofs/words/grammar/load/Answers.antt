@@ -1,5 +1,5 @@
 use Rattle.std.proofs.Common.{string_bytes}
-use Rattle.bfdd.proofs.Words.{load_of-short}
+use Rattle.bfdd.proofs.Leading.{load_of-short}
 use Rattle.bfdd.proofs.words.grammar.load.Goals as goal
 
 pub returns-in_default-clause-value : goal.returns-in_default-clause-value

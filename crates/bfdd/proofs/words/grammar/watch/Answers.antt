@@ -1,5 +1,5 @@
 use Rattle.std.proofs.Common.{string_bytes, rules}
-use Rattle.bfdd.proofs.Words.{watch_of-parts}
+use Rattle.bfdd.proofs.Leading.{watch_of-parts}
 use Rattle.bfdd.proofs.words.grammar.watch.Goals as goal
 
 pub returns-clause-value : goal.returns-clause-value
