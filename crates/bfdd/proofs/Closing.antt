@@ -34,19 +34,19 @@ pub taken_apart : {whole script : Lists} → script ≡ whole → IsScript whole
 taken_apart same is = subst IsScript (sym same) is
 
 -- what was told is the script's watched text
-pub whole_text : (script : Lists) {engine : Shards} {shards limit need : ℕ} {members : List ℕ} {k : Knows} {text : List ℕ} {g : Group} → IsOpenedFor engine script.configs script.pool shards limit
+pub whole_text : (script : Lists) {engine : Shards} {shards limit need : ℕ} (members : List ℕ) (k : Knows) {text : List ℕ} {g : Group} → IsOpenedFor engine script.configs script.pool shards limit
     → (AllSole (length engine.locks) k → text ≡ watched (happening_outcomes 0 (happenings engine.configs engine.pool script.events) (map started engine.configs)) g)
     → g ≡ group_in need members (map started script.configs) → AllSole (length engine.locks) k → text ≡ watched_of need members script
-whole_text script {engine} {g = g} o told group_is s =
+whole_text script {engine} members k {g = g} o told group_is s =
     told s
     ∙ (ap (λ cs. watched (happening_outcomes 0 (happenings cs engine.pool script.events) (map started cs)) g) o.configs_are
     ∙ (ap (λ p. watched (happening_outcomes 0 (happenings script.configs p script.events) (map started script.configs)) g) o.pool_is
     ∙ (ap (λ os. watched os g) (world_is script) ∙ ap (λ x. watched (world script) x) group_is)))
 
 -- .. once the engine is closed, which shows that caller 0 was the only one
-pub closed_text : {whole script : Lists} {engine : Shards} {n limit times need : ℕ} {members : List ℕ} {k l : Knows} {states : List Shard} {text : List ℕ} {g : Group} → script ≡ whole
+pub closed_text : {whole script : Lists} {engine : Shards} {n limit times need : ℕ} (members : List ℕ) {k l : Knows} {states : List Shard} {text : List ℕ} {g : Group} → script ≡ whole
     → IsOpenedFor engine script.configs script.pool n limit → IsNewPass engine k → HasKept times k l → AreClosed engine l states
     → (AllSole (length engine.locks) l → text ≡ watched (happening_outcomes 0 (happenings engine.configs engine.pool script.events) (map started engine.configs)) g)
     → g ≡ group_in need members (map started script.configs) → text ≡ watched_of need members whole
-closed_text {script = script} {need = need} {members} {text = text} same o new kept closed told group_is =
-    subst (λ s. text ≡ watched_of need members s) same (whole_text script o told group_is (all_sole new kept closed))
+closed_text {script = script} {need = need} members {l = l} {text = text} same o new kept closed told group_is =
+    subst (λ s. text ≡ watched_of need members s) same (whole_text script members l o told group_is (all_sole new kept closed))

@@ -27,7 +27,7 @@ went_by {k} {l} {r} between new others here =
 pub went_same : {k l : Knows} {r : ℕ} → seen_at l r ≡ seen_at k r → Went k l [] r
 went_same {k} {l} {r} same = record { begins = ([], same ∙ sym (append-nil (seen_at k r))); sole = λ s. subst (IsSole 0) same s; seen = λ s. same ∙ sym (append-nil (seen_at k r)) }
 
-entries_both : (xs ys : List ShardEvent) → entries_by 0 (xs ++ ys) ≡ entries_by 0 xs ++ entries_by 0 ys
+pub entries_both : (xs ys : List ShardEvent) → entries_by 0 (xs ++ ys) ≡ entries_by 0 xs ++ entries_by 0 ys
 entries_both xs ys = map-append (entry_of 0) xs ys
 
 -- two turns one after another

@@ -73,8 +73,8 @@ pub polled_first : {engine : Shards} {limit : ℕ} (number : ℕ) (k : Knows) {w
 polled_first {engine} {limit} number k {watches} none w = subst (HasPolled engine limit number 0 k k watches watches) (sym none) (polled_none number k w)
 
 -- the watch at a place of the list
-pub at_place : {n at : ℕ} {watches : List Watching} {w : Watching} → length watches ≡ n → at < n → w ≡ slice_index_or watches at w → slice_get watches at ≡ Some w
-at_place {at = at} {watches} {w} long inside is = slice_get-get_or watches at w (omega (arith, long, inside)) ∙ ap (λ x. Some x) (sym is)
+pub at_place : {n at : ℕ} (watches : List Watching) {w : Watching} → length watches ≡ n → at < n → w ≡ slice_index_or watches at w → slice_get watches at ≡ Some w
+at_place {at = at} watches {w} long inside is = slice_get-get_or watches at w (omega (arith, long, inside)) ∙ ap (λ x. Some x) (sym is)
 
 module _ (engine : Shards) (limit number at : ℕ) (k l : Knows) (first watches : List Watching) (told : List Change) (w : Watching) where
   -- the next watch

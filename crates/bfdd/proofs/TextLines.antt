@@ -59,7 +59,7 @@ renumbered number a (Changed discr before after diag ∷ os) = cc (renumbered nu
 renumbered number a (Sent discr datagram ∷ os) = renumbered number a os
 
 -- the changes of an event of a shard, if there is one
-abbrev shard_news : ℕ → ℕ → Option ShardEvent → List Running → List Change
+abbrev pub shard_news : ℕ → ℕ → Option ShardEvent → List Running → List Change
 shard_news number last None sessions = []
 shard_news number last (Some event) sessions = changes_in number (outcome_of last event sessions).items
 

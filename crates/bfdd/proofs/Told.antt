@@ -65,8 +65,8 @@ told_none lines g new = record {
 
 -- at the loop's first turn
 pub told_first : {engine : Shards} {lines left : List Line} {k : Knows} {text : List ℕ} (g : Group) → IsNewPass engine k → left ≡ lines → text ≡ [] → IsTold engine lines left k 1 0 text g g
-told_first {engine} {lines} {k = k} g new same none =
-    subst (λ t. IsTold engine lines _ k 1 0 t g g) (sym none) (subst (λ ls. IsTold engine lines ls k 1 0 [] g g) (sym same) (told_none lines g new))
+told_first {engine} {lines} {left} {k} g new same none =
+    subst (λ t. IsTold engine lines left k 1 0 t g g) (sym none) (subst (λ ls. IsTold engine lines ls k 1 0 [] g g) (sym same) (told_none lines g new))
 
 pub kept_same : (times : ℕ) (k : Knows) → HasKept times k k
 kept_same times k = record { number = refl; made = λ r. refl; taken = λ r. omega arith }
@@ -76,89 +76,88 @@ pub behind_after : {engine : Shards} {limit : ℕ} {k l : Knows} {watches : List
     → ((r : ℕ) → r < length engine.locks → Went k l (new r) r) → AreBehind engine limit l watches
 behind_after {k = k} w went = record { long = w.long; each = λ r inside. record { before = seen_at k r; is = w.each r inside; begins = (went r inside).begins } }
 
-module _ {engine : Shards} {lines left rest : List Line} {line : Line} {k l m : Knows} {number told : ℕ} {text : List ℕ} {before g : Group} where
-  -- a shard's history, after a line and after the looks at it
-  both : ((r : ℕ) → r < length engine.locks → Went k l (brought (length engine.locks) (happening engine.configs engine.pool line) r) r)
-      → ((r : ℕ) → r < length engine.locks → Went l m [] r) → (r : ℕ) → r < length engine.locks
-      → Went k m (brought (length engine.locks) (happening engine.configs engine.pool line) r) r
-  both went looked r inside = went_on (went r inside) (looked r inside)
+-- a shard's history, after a line and after the looks at it
+both : (engine : Shards) (line : Line) {k l m : Knows} → ((r : ℕ) → r < length engine.locks → Went k l (brought (length engine.locks) (happening engine.configs engine.pool line) r) r)
+    → ((r : ℕ) → r < length engine.locks → Went l m [] r) → (r : ℕ) → r < length engine.locks
+    → Went k m (brought (length engine.locks) (happening engine.configs engine.pool line) r) r
+both engine line went looked r inside = went_on (went r inside) (looked r inside)
 
-  seen_next : (t : IsTold engine lines left k number told text before g)
-      → ((r : ℕ) → r < length engine.locks → Went k m (brought (length engine.locks) (happening engine.configs engine.pool line) r) r)
-      → (r : ℕ) → r < length engine.locks → IsSole 0 (seen_at m r)
-      → seen_at m r ≡ entries_by 0 (history_of (length engine.locks) r (past_after t.past (happening engine.configs engine.pool line)))
-  seen_next t went r inside sole =
-      let n = length engine.locks in
-      let h = happening engine.configs engine.pool line in
-      let w = went r inside in
-      cc (w.seen sole, t.seen r inside (w.sole sole), entries_both (history_of n r t.past) (brought n h r), history_after n r t.past h)
+seen_next : {engine : Shards} {lines left : List Line} (line : Line) {k m : Knows} {number told : ℕ} {text : List ℕ} {before g : Group} (t : IsTold engine lines left k number told text before g)
+    → ((r : ℕ) → r < length engine.locks → Went k m (brought (length engine.locks) (happening engine.configs engine.pool line) r) r)
+    → (r : ℕ) → r < length engine.locks → IsSole 0 (seen_at m r)
+    → seen_at m r ≡ entries_by 0 (history_of (length engine.locks) r (past_after t.past (happening engine.configs engine.pool line)))
+seen_next {engine} line t went r inside sole =
+    let n = length engine.locks in
+    let h = happening engine.configs engine.pool line in
+    let w = went r inside in
+    cc (w.seen sole, t.seen r inside (w.sole sole), entries_both (history_of n r t.past) (brought n h r), history_after n r t.past h)
 
-  -- what all watches tell is what the line gives
-  changes_are : {limit : ℕ} {watches : List Watching} {changes : List Change} (t : IsTold engine lines left k number told text before g)
-      → 0 < length engine.locks → Ascends engine.configs
-      → ((r : ℕ) → r < length engine.locks → Went k m (brought (length engine.locks) (happening engine.configs engine.pool line) r) r)
-      → AreWatched engine limit k watches → ((d : Watching) → changes ≡ merged_of (length engine.locks) (λ r. news number (slice_index_or watches r d) (seen_at m r)))
-      → AllSole (length engine.locks) m
-      → changes ≡ changes_in number (outcome_in (last_tick t.past) (happening engine.configs engine.pool line) (runs t.past engine.configs)).items
-  changes_are {limit} {watches} t some up went watched_as news_are s =
-      let n = length engine.locks in
-      let cs = engine.configs in
-      let h = happening engine.configs engine.pool line in
-      let d : Watching = watching [] [] 0 in
-      news_are d ∙ (same_of n (λ r. news number (slice_index_or watches r d) (seen_at m r)) (λ r. shard_news number (last_tick t.past) (in_shard n r h) (share n r (runs t.past cs)))
-      (λ r inside. let w = went r inside in
-      ap (λ x. news number x (seen_at m r)) (get_or_from_slice_get watches r (watching (share n r cs) (seen_at k r) limit) d (watched_as.each r inside))
-      ∙ shard_tells n r number (seen_at k r) (seen_at m r) limit t.past h cs inside (t.seen r inside (w.sole (s r inside))) (w.seen (s r inside)))
-      ∙ all_tell number (last_tick t.past) h (runs t.past cs) some (subst Ascends (sym (runs_configs 0 t.past cs)) up) (is_quiet engine.pool (doing cs engine.pool line)))
+-- what all watches tell is what the line gives
+changes_are : {engine : Shards} {lines left : List Line} (line : Line) {k m : Knows} {number told : ℕ} {text : List ℕ} {before g : Group} {limit : ℕ} {watches : List Watching} {changes : List Change} (t : IsTold engine lines left k number told text before g)
+    → 0 < length engine.locks → Ascends engine.configs
+    → ((r : ℕ) → r < length engine.locks → Went k m (brought (length engine.locks) (happening engine.configs engine.pool line) r) r)
+    → AreWatched engine limit k watches → ((d : Watching) → changes ≡ merged_of (length engine.locks) (λ r. news number (slice_index_or watches r d) (seen_at m r)))
+    → AllSole (length engine.locks) m
+    → changes ≡ changes_in number (outcome_in (last_tick t.past) (happening engine.configs engine.pool line) (runs t.past engine.configs)).items
+changes_are {engine} line {k} {m} {number} {limit = limit} {watches} t some up went watched_as news_are s =
+    let n = length engine.locks in
+    let cs = engine.configs in
+    let h = happening engine.configs engine.pool line in
+    let d : Watching = watching [] [] 0 in
+    news_are d ∙ (same_of n (λ r. news number (slice_index_or watches r d) (seen_at m r)) (λ r. shard_news number (last_tick t.past) (in_shard n r h) (share n r (runs t.past cs)))
+    (λ r inside. let w = went r inside in
+    ap (λ x. news number x (seen_at m r)) (get_or_from_slice_get watches r (watching (share n r cs) (seen_at k r) limit) d (watched_as.each r inside))
+    ∙ shard_tells n r number (seen_at k r) (seen_at m r) limit t.past h cs inside (t.seen r inside (w.sole (s r inside))) (w.seen (s r inside)))
+    ∙ all_tell number (last_tick t.past) h (runs t.past cs) some (subst Ascends (sym (runs_configs 0 t.past cs)) up) (is_quiet engine.pool (doing cs engine.pool line)))
 
-  -- a line more is told
-  pub told_next : {limit told2 : ℕ} {watches : List Watching} {changes : List Change} {text2 : List ℕ} {g2 : Group} → 0 < length engine.locks → Ascends engine.configs
-      → IsTold engine lines left k number told text before g → left ≡ line ∷ rest
-      → ((r : ℕ) → r < length engine.locks → Went k l (brought (length engine.locks) (happening engine.configs engine.pool line) r) r)
-      → ((r : ℕ) → r < length engine.locks → Went l m [] r) → AreWatched engine limit k watches
-      → ((d : Watching) → changes ≡ merged_of (length engine.locks) (λ r. news number (slice_index_or watches r d) (seen_at m r)))
-      → told2 ≡ told + length changes → text2 ≡ text ++ watched_lines number changes g → g2 ≡ group_after changes g
-      → IsTold engine lines rest m (number + 1) told2 text2 before g2
-  told_next {told2 = told2} {changes = changes} {text2} {g2} some up t split went looked watched_as news_are counted_is text_is group_is =
-      let h = happening engine.configs engine.pool line in
-      let w = both went looked in
-      let first : outcomes_from engine left t.past ≡ outcome_in (last_tick t.past) h (runs t.past engine.configs) ∷ outcomes_from engine rest (past_after t.past h) =
-      ap (λ ls. outcomes_from engine ls t.past) split ∙ outcome_first engine.configs t.past h (happenings engine.configs engine.pool rest) in
-      let are : AllSole (length engine.locks) m → changes ≡ changes_in number (outcome_in (last_tick t.past) h (runs t.past engine.configs)).items =
-      changes_are t some up w watched_as news_are in
-      let earlier : AllSole (length engine.locks) m → AllSole (length engine.locks) k = λ s r inside. (w r inside).sole (s r inside) in
-      record {
-        past = past_after t.past h;
-        short = omega (arith, t.short, past_few t.past h);
-        seen = seen_next t w;
-        whole = λ s. lines_step text number g first (are s) group_is text_is (t.whole (earlier s));
-        after = λ s. group_step number g first (are s) group_is (t.after (earlier s));
-        counted = λ s. count_step number told told2 first (are s) counted_is (t.counted (earlier s));
-      }
+-- a line more is told
+pub told_next : {engine : Shards} {lines left rest : List Line} {line : Line} {k l m : Knows} {number told : ℕ} {text : List ℕ} {before g : Group} {limit told2 : ℕ} {watches : List Watching} {changes : List Change} {text2 : List ℕ} {g2 : Group} → 0 < length engine.locks → Ascends engine.configs
+    → IsTold engine lines left k number told text before g → left ≡ line ∷ rest
+    → ((r : ℕ) → r < length engine.locks → Went k l (brought (length engine.locks) (happening engine.configs engine.pool line) r) r)
+    → ((r : ℕ) → r < length engine.locks → Went l m [] r) → AreWatched engine limit k watches
+    → ((d : Watching) → changes ≡ merged_of (length engine.locks) (λ r. news number (slice_index_or watches r d) (seen_at m r)))
+    → told2 ≡ told + length changes → text2 ≡ text ++ watched_lines number changes g → g2 ≡ group_after changes g
+    → IsTold engine lines rest m (number + 1) told2 text2 before g2
+told_next {engine} {left = left} {rest} {line} {k} {m = m} {number} {told} {text} {g = g} {told2 = told2} {changes = changes} {text2} {g2} some up t split went looked watched_as news_are counted_is text_is group_is =
+    let h = happening engine.configs engine.pool line in
+    let w = both engine line went looked in
+    let first : outcomes_from engine left t.past ≡ outcome_in (last_tick t.past) h (runs t.past engine.configs) ∷ outcomes_from engine rest (past_after t.past h) =
+    ap (λ ls. outcomes_from engine ls t.past) split ∙ outcome_first engine.configs t.past h (happenings engine.configs engine.pool rest) in
+    let are : AllSole (length engine.locks) m → changes ≡ changes_in number (outcome_in (last_tick t.past) h (runs t.past engine.configs)).items =
+    changes_are line t some up w watched_as news_are in
+    let earlier : AllSole (length engine.locks) m → AllSole (length engine.locks) k = λ s r inside. (w r inside).sole (s r inside) in
+    record {
+      past = past_after t.past h;
+      short = omega (arith, t.short, past_few t.past h);
+      seen = seen_next line t w;
+      whole = λ s. lines_step text number g first (are s) group_is text_is (t.whole (earlier s));
+      after = λ s. group_step number g first (are s) group_is (t.after (earlier s));
+      counted = λ s. count_step number told told2 first (are s) counted_is (t.counted (earlier s));
+    }
 
-  -- a line that was refused
+-- a line that was refused
 
-  pub refused_stopped : (fault : EngineFault) → IsTold engine lines left k number told text before g → number ≤ engine.limit → IsRefusal fault engine k l → IsCutShort fault engine l
-  refused_stopped Memory t few r = tt
-  refused_stopped (Spent at word) t few r = (at, r.0, r.1)
-  refused_stopped (Full at n) t few r = λ s.
-      let w = r.2 in
-      let sole = s at r.0 in
-      let is : seen_at l at ≡ entries_by 0 (history_of (length engine.locks) at t.past) = cc (w.seen sole, t.seen at r.0 (w.sole sole), append-nil (seen_at k at)) in
-      absurd (omega (arith, ap length is, length-map (history_of (length engine.locks) at t.past) (entry_of 0), history_few (length engine.locks) at t.past, t.short, r.1, few))
+pub refused_stopped : {engine : Shards} {lines left : List Line} {k : Knows} (l : Knows) {number told : ℕ} {text : List ℕ} {before g : Group} (fault : EngineFault) → IsTold engine lines left k number told text before g → number ≤ engine.limit → IsRefusal fault engine k l → IsCutShort fault engine l
+refused_stopped l Memory t few r = tt
+refused_stopped l (Spent at word) t few r = (at, r.0, r.1)
+refused_stopped {engine} {k = k} l (Full at n) t few r = λ s.
+    let w = r.2 in
+    let sole = s at r.0 in
+    let is : seen_at l at ≡ entries_by 0 (history_of (length engine.locks) at t.past) = cc (w.seen sole, t.seen at r.0 (w.sole sole), append-nil (seen_at k at)) in
+    absurd (omega (arith, ap length is, length-map (history_of (length engine.locks) at t.past) (entry_of 0), history_few (length engine.locks) at t.past, t.short, r.1, few))
 
-  -- .. or whose changes couldn't be had
-  pub untaken_stopped : (fault : EngineFault) → IsTold engine lines left k number told text before g → number ≤ engine.limit
-      → ((r : ℕ) → r < length engine.locks → Went k l (brought (length engine.locks) (happening engine.configs engine.pool line) r) r)
-      → ((r : ℕ) → r < length engine.locks → Went l m [] r)
-      → (r : ℕ) × (r < length engine.locks) × IsUntaken fault engine engine.limit r m → IsCutShort fault engine m
-  untaken_stopped Memory t few went looked u = tt
-  untaken_stopped (Spent at word) t few went looked u = (u.0, u.1, u.2.1)
-  untaken_stopped (Full at n) t few went looked u = λ s.
-      let h = happening engine.configs engine.pool line in
-      let is = seen_next t (both went looked) u.0 u.1 (s u.0 u.1) in
-      let hist : List ShardEvent = history_of (length engine.locks) u.0 (past_after t.past h) in
-      absurd (omega (arith, ap length is, length-map hist (entry_of 0), history_few (length engine.locks) u.0 (past_after t.past h), past_few t.past h, t.short, u.2.1, few))
+-- .. or whose changes couldn't be had
+pub untaken_stopped : {engine : Shards} {lines left : List Line} (line : Line) {k l m : Knows} {number told : ℕ} {text : List ℕ} {before g : Group} (fault : EngineFault) → IsTold engine lines left k number told text before g → number ≤ engine.limit
+    → ((r : ℕ) → r < length engine.locks → Went k l (brought (length engine.locks) (happening engine.configs engine.pool line) r) r)
+    → ((r : ℕ) → r < length engine.locks → Went l m [] r)
+    → (r : ℕ) × (r < length engine.locks) × IsUntaken fault engine engine.limit r m → IsCutShort fault engine m
+untaken_stopped line Memory t few went looked u = tt
+untaken_stopped line (Spent at word) t few went looked u = (u.0, u.1, u.2.1)
+untaken_stopped {engine} line (Full at n) t few went looked u = λ s.
+    let h = happening engine.configs engine.pool line in
+    let is = seen_next line t (both engine line went looked) u.0 u.1 (s u.0 u.1) in
+    let hist : List ShardEvent = history_of (length engine.locks) u.0 (past_after t.past h) in
+    absurd (omega (arith, ap length is, length-map hist (entry_of 0), history_few (length engine.locks) u.0 (past_after t.past h), past_few t.past h, t.short, u.2.1, few))
 
 -- the end: nothing is left
 pub told_all : {engine : Shards} {lines left : List Line} {k : Knows} {number told : ℕ} {text more : List ℕ} {before g : Group} → left ≡ []

@@ -11,10 +11,10 @@ pub loop-shard-init : goal.loop-shard-init
 loop-shard-init g c = record { of = c.requires.of; there = c.requires.there; polled = polled_first c.args.number c.args.pass.now c.new-told.ensures.items c.requires.behind }
 
 pub poll-requires-clause-configs : goal.poll-requires-clause-configs
-poll-requires-clause-configs g c = (behind_at c.args.engine.now c.args.engine.now.limit c.args.number c.loop-shard.shard c.args.pass.now c.loop-shard.pass c.args.watches.now.items c.loop-shard.watches.items c.loop-shard.told.items c.index_mut-watch.result.now c.requires.behind c.loop-shard.invariant.polled (search rules) (at_place c.loop-shard.invariant.polled.long (search rules) c.index_mut-watch.ensures.value)).0
+poll-requires-clause-configs g c = (behind_at c.args.engine.now c.args.engine.now.limit c.args.number c.loop-shard.shard c.args.pass.now c.loop-shard.pass c.args.watches.now.items c.loop-shard.watches.items c.loop-shard.told.items c.index_mut-watch.result.now c.requires.behind c.loop-shard.invariant.polled (search rules) (at_place c.loop-shard.watches.items c.loop-shard.invariant.polled.long (search rules) c.index_mut-watch.ensures.value)).0
 
 pub poll-requires-clause-begins : goal.poll-requires-clause-begins
-poll-requires-clause-begins g c = (behind_at c.args.engine.now c.args.engine.now.limit c.args.number c.loop-shard.shard c.args.pass.now c.loop-shard.pass c.args.watches.now.items c.loop-shard.watches.items c.loop-shard.told.items c.index_mut-watch.result.now c.requires.behind c.loop-shard.invariant.polled (search rules) (at_place c.loop-shard.invariant.polled.long (search rules) c.index_mut-watch.ensures.value)).2
+poll-requires-clause-begins g c = (behind_at c.args.engine.now c.args.engine.now.limit c.args.number c.loop-shard.shard c.args.pass.now c.loop-shard.pass c.args.watches.now.items c.loop-shard.watches.items c.loop-shard.told.items c.index_mut-watch.result.now c.requires.behind c.loop-shard.invariant.polled (search rules) (at_place c.loop-shard.watches.items c.loop-shard.invariant.polled.long (search rules) c.index_mut-watch.ensures.value)).2
 
 pub returns-in-Err-clause-kept : goal.returns-in-Err-clause-kept
 returns-in-Err-clause-kept g c = (passed_on c.loop-shard.invariant.polled.passed c.poll.ensures.read.turned).kept
@@ -27,7 +27,7 @@ returns-in-Err-clause-untaken g c = (
   c.loop-shard.shard,
   search rules,
   subst (λ n. IsUntaken c.in-Err.fault c.args.engine.now n c.loop-shard.shard c.poll.new.pass)
-      (behind_at c.args.engine.now c.args.engine.now.limit c.args.number c.loop-shard.shard c.args.pass.now c.loop-shard.pass c.args.watches.now.items c.loop-shard.watches.items c.loop-shard.told.items c.index_mut-watch.result.now c.requires.behind c.loop-shard.invariant.polled (search rules) (at_place c.loop-shard.invariant.polled.long (search rules) c.index_mut-watch.ensures.value)).1 c.in-Err.ensures.untaken,
+      (behind_at c.args.engine.now c.args.engine.now.limit c.args.number c.loop-shard.shard c.args.pass.now c.loop-shard.pass c.args.watches.now.items c.loop-shard.watches.items c.loop-shard.told.items c.index_mut-watch.result.now c.requires.behind c.loop-shard.invariant.polled (search rules) (at_place c.loop-shard.watches.items c.loop-shard.invariant.polled.long (search rules) c.index_mut-watch.ensures.value)).1 c.in-Err.ensures.untaken,
 )
 
 pub returns-in-Err-merge-clause-went : goal.returns-in-Err-merge-clause-went
@@ -37,7 +37,7 @@ pub loop-shard-preserved : goal.loop-shard-preserved
 loop-shard-preserved g c = record {
   of = c.poll.ensures.of;
   there = c.poll.ensures.there;
-  polled = polled_on c.args.engine.now c.args.engine.now.limit c.args.number c.loop-shard.shard c.args.pass.now c.loop-shard.pass c.args.watches.now.items c.loop-shard.watches.items c.loop-shard.told.items c.index_mut-watch.result.now c.poll.new.pass _ c.in-Ok-merge.all.items c.in-Ok.more.items c.poll.new.watch c.requires.number c.requires.behind c.loop-shard.invariant.polled (search rules) (at_place c.loop-shard.invariant.polled.long (search rules) c.index_mut-watch.ensures.value)
+  polled = polled_on c.args.engine.now c.args.engine.now.limit c.args.number c.loop-shard.shard c.args.pass.now c.loop-shard.pass c.args.watches.now.items c.loop-shard.watches.items c.loop-shard.told.items c.index_mut-watch.result.now c.poll.new.pass _ c.in-Ok-merge.all.items c.in-Ok.more.items c.poll.new.watch c.requires.number c.requires.behind c.loop-shard.invariant.polled (search rules) (at_place c.loop-shard.watches.items c.loop-shard.invariant.polled.long (search rules) c.index_mut-watch.ensures.value)
       c.poll.ensures.read (search rules) refl (search rules) (search rules);
 }
 

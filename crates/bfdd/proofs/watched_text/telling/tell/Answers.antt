@@ -36,7 +36,7 @@ returns-in-Err-clause-kept g c =
 pub returns-in-Err-clause-stopped : goal.returns-in-Err-clause-stopped
 returns-in-Err-clause-stopped g c =
     let split : c.loop-line.line-iterator.rest.items ≡ c.in-Some.line ∷ c.next.new.self.rest.items = search rules in
-    refused_stopped c.in-Err.fault c.loop-line.invariant.told (omega (arith, ap length split, c.loop-line.invariant.numbers, c.requires.limit)) c.in-Err.ensures.refused
+    refused_stopped c.happen.new.pass c.in-Err.fault c.loop-line.invariant.told (omega (arith, ap length split, c.loop-line.invariant.numbers, c.requires.limit)) c.in-Err.ensures.refused
 
 pub returns-in-Err-poll_all-clause-kept : goal.returns-in-Err-poll_all-clause-kept
 returns-in-Err-poll_all-clause-kept g c =
@@ -46,7 +46,7 @@ returns-in-Err-poll_all-clause-kept g c =
 pub returns-in-Err-poll_all-clause-stopped : goal.returns-in-Err-poll_all-clause-stopped
 returns-in-Err-poll_all-clause-stopped g c =
     let split : c.loop-line.line-iterator.rest.items ≡ c.in-Some.line ∷ c.next.new.self.rest.items = search rules in
-    untaken_stopped c.in-Err-poll_all.fault c.loop-line.invariant.told (omega (arith, ap length split, c.loop-line.invariant.numbers, c.requires.limit)) c.in-Ok.ensures.went
+    untaken_stopped c.in-Some.line c.in-Err-poll_all.fault c.loop-line.invariant.told (omega (arith, ap length split, c.loop-line.invariant.numbers, c.requires.limit)) c.in-Ok.ensures.went
     c.poll_all.ensures.went c.in-Err-poll_all.ensures.untaken
 
 pub returns-in_default-clause-kept : goal.returns-in_default-clause-kept

@@ -12,14 +12,14 @@ use Rattle.bfdd.proofs.Told.{none_open, never_stopped}
 use Rattle.bfdd.proofs.Closing.{first_watched, room_enough, in_order, taken_apart, closed_text}
 use Rattle.bfdd.proofs.watched_text.telling.watched.Goals as goal
 
-pub tell-requires-clause-ascends : goal.tell-requires-clause-ascends
-tell-requires-clause-ascends g c = in_order c.in_ok-engine.ensures.engine (taken_apart c.script.view_is c.requires.script).configs.ascends
+pub tell-told-requires-clause-ascends : goal.tell-told-requires-clause-ascends
+tell-told-requires-clause-ascends g c = in_order c.in_ok-engine.ensures.engine (taken_apart c.script.view_is c.requires.script).configs.ascends
 
-pub tell-requires-clause-watched : goal.tell-requires-clause-watched
-tell-requires-clause-watched g c = first_watched c.in_ok-engine.ensures.engine (search rules) c.in_ok-engine.ensures.pass c.in_ok-watches.ensures.long c.in_ok-watches.ensures.each
+pub tell-told-requires-clause-watched : goal.tell-told-requires-clause-watched
+tell-told-requires-clause-watched g c = first_watched c.in_ok-engine.ensures.engine (search rules) c.in_ok-engine.ensures.pass c.in_ok-watches.ensures.long c.in_ok-watches.ensures.each
 
-pub tell-requires-clause-room : goal.tell-requires-clause-room
-tell-requires-clause-room g c = room_enough c.in_ok-engine.ensures.engine (search rules)
+pub tell-told-requires-clause-room : goal.tell-told-requires-clause-room
+tell-told-requires-clause-room g c = room_enough c.in_ok-engine.ensures.engine (search rules)
 
 pub close-requires-clause-first : goal.close-requires-clause-first
 close-requires-clause-first g c = c.tell-told.ensures.kept.number ∙ c.in_ok-engine.ensures.pass.number
@@ -33,6 +33,6 @@ text_of-requires g c = IfErr-weaker c.tell-told.result (λ fault. IsCutShort fau
 
 pub returns-in-Ok : goal.returns-in-Ok
 returns-in-Ok g c = IfOk-weaker c.text_of.result (λ text. c.tell-told.result ≡ Ok text) (λ text. text.items ≡ watched_of c.args.need c.args.members.now c.args.script)
-    (λ text same. closed_text c.script.view_is c.in_ok-engine.ensures.engine c.in_ok-engine.ensures.pass c.tell-told.ensures.kept c.in-Ok.ensures.closed
-    (IfOk-at_ok (λ t. AllSole (length c.in_ok-engine.engine.locks) c.tell-told.new.pass → t.items ≡ watch.watched (happening_outcomes 0 (happenings c.in_ok-engine.engine.configs c.in_ok-engine.engine.pool c.script.events.items) (map started c.in_ok-engine.engine.configs)) c.in_ok-group.group) same c.tell-told.ensures.told)
+    (λ text same. closed_text c.args.members.now c.script.view_is c.in_ok-engine.ensures.engine c.in_ok-engine.ensures.pass c.tell-told.ensures.kept c.in-Ok.ensures.closed
+    (IfOk-at_ok (λ t. AllSole (length c.in_ok-engine.engine.locks) c.tell-told.new.pass → t.items ≡ watch.watched (happening_outcomes 0 (happenings c.in_ok-engine.engine.configs c.in_ok-engine.engine.pool c.script.inside.events.items) (map started c.in_ok-engine.engine.configs)) c.in_ok-group.group) same c.tell-told.ensures.told)
     c.in_ok-group.ensures) c.text_of.ensures
