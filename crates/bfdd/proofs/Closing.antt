@@ -15,12 +15,12 @@ same_watching {cs} {ds} {es} {fs} {m} p q r = ap (λ x. Some (watching x es m)) 
 
 module _ {engine : Shards} {configs : List SessionConfig} {pool : List Reflector} {shards limit : ℕ} (o : IsOpenedFor engine configs pool shards limit) where
   -- each watch has taken all that was seen of its shard: nothing
-  pub first_watched : {k : Knows} {watches : List Watching} {most : ℕ} → most ≡ limit → IsNewPass engine k → length watches ≡ shards
-      → ((r : ℕ) → r < shards → slice_get watches r ≡ Some (watching (share shards r configs) [] most)) → AreWatched engine engine.limit k watches
-  first_watched same new long each = record {
+  pub first_watched : {k : Knows} {watches : List Watching} {own : List SessionConfig} {most : ℕ} → own ≡ configs → most ≡ limit → IsNewPass engine k → length watches ≡ shards
+      → ((r : ℕ) → r < shards → slice_get watches r ≡ Some (watching (share shards r own) [] most)) → AreWatched engine engine.limit k watches
+  first_watched {own = own} its same new long each = record {
     long = long ∙ sym o.shards_are;
     each = λ r inside. each r (omega (arith, inside, o.shards_are))
-        ∙ same_watching (let e : share shards r configs ≡ configs_at engine r = cc (o.shards_are, o.configs_are) in e) (sym (new.seen r inside)) (same ∙ sym o.limit_is);
+        ∙ same_watching (let e : share shards r own ≡ configs_at engine r = cc (o.shards_are, o.configs_are, its) in e) (sym (new.seen r inside)) (same ∙ sym o.limit_is);
   }
 
   pub room_enough : {room : ℕ} → room ≡ 5 * length configs + 5 → (shard : ℕ) → 5 * length (configs_at engine shard) + 5 ≤ room

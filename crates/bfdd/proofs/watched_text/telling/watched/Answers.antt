@@ -1,5 +1,5 @@
 -- The engine is opened for the script, and closed with no pass beside caller 0's.
-use Rattle.std.proofs.Common.{rules, ◌≡◌, ◌∙◌, ◌*◌, ◌+◌, Ok, length, map, arith}
+use Rattle.std.proofs.Common.{rules, ◌≡◌, ◌∙◌, Ok, length, map, ap, arith}
 use Rattle.std.proofs.lemmas.Result.{IfErr-weaker, IfOk-at_ok, IfOk-weaker}
 use Rattle.bfd_session.specs.Step.{started}
 use Rattle.bfd_engine.specs.declared.fault.EngineFault.TheVariants.{Memory}
@@ -7,7 +7,7 @@ use Rattle.bfd_replay.specs.Happenings.{happening_outcomes}
 use Rattle.bfd_replay.specs.Planned.{happenings}
 use Rattle.bfd_watch.specs.Watched as watch
 use Rattle.bfdd.specs.Following.{AllSole, IsCutShort}
-use Rattle.bfdd.specs.Members.{watched_of}
+use Rattle.bfdd.specs.Members.{group_in, watched_of}
 use Rattle.bfdd.proofs.Told.{none_open, never_stopped}
 use Rattle.bfdd.proofs.Closing.{first_watched, room_enough, in_order, taken_apart, closed_text}
 use Rattle.bfdd.proofs.watched_text.telling.watched.Goals as goal
@@ -16,7 +16,7 @@ pub tell-told-requires-clause-ascends : goal.tell-told-requires-clause-ascends
 tell-told-requires-clause-ascends g c = in_order c.in_ok-engine.ensures.engine (taken_apart c.script.view_is c.requires.script).configs.ascends
 
 pub tell-told-requires-clause-watched : goal.tell-told-requires-clause-watched
-tell-told-requires-clause-watched g c = first_watched c.in_ok-engine.ensures.engine (search rules) c.in_ok-engine.ensures.pass c.in_ok-watches.ensures.long c.in_ok-watches.ensures.each
+tell-told-requires-clause-watched g c = first_watched c.in_ok-engine.ensures.engine c.deref-2.ensures.value (search rules) c.in_ok-engine.ensures.pass c.in_ok-watches.ensures.long c.in_ok-watches.ensures.each
 
 pub tell-told-requires-clause-room : goal.tell-told-requires-clause-room
 tell-told-requires-clause-room g c = room_enough c.in_ok-engine.ensures.engine (search rules)
@@ -35,4 +35,4 @@ pub returns-in-Ok : goal.returns-in-Ok
 returns-in-Ok g c = IfOk-weaker c.text_of.result (λ text. c.tell-told.result ≡ Ok text) (λ text. text.items ≡ watched_of c.args.need c.args.members.now c.args.script)
     (λ text same. closed_text c.args.members.now c.script.view_is c.in_ok-engine.ensures.engine c.in_ok-engine.ensures.pass c.tell-told.ensures.kept c.in-Ok.ensures.closed
     (IfOk-at_ok (λ t. AllSole (length c.in_ok-engine.engine.locks) c.tell-told.new.pass → t.items ≡ watch.watched (happening_outcomes 0 (happenings c.in_ok-engine.engine.configs c.in_ok-engine.engine.pool c.script.inside.events.items) (map started c.in_ok-engine.engine.configs)) c.in_ok-group.group) same c.tell-told.ensures.told)
-    c.in_ok-group.ensures) c.text_of.ensures
+    (c.in_ok-group.ensures ∙ ap (λ cs. group_in c.args.need c.args.members.now (map started cs)) c.deref.ensures.value)) c.text_of.ensures
