@@ -2,4 +2,3 @@ pub mod Changes
 pub mod Watching
 pub mod Groups
 pub mod Watched
-pub mod Members

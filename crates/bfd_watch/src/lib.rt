@@ -3,10 +3,9 @@
 //! A client follows the sessions of a shard by a cursor over the shard's history: a [`Watch`] has a shard of its own, which
 //! is given the history's entries one by one, and tells the changes of each. Who follows never touches the shard that is
 //! followed. A [`LinkGroup`] is up while enough of its members are Up; it is told the changes, and writes the watched text:
-//! the changes of each event, and each move of the group. [`watched_text`] is that text of a whole script.
+//! the changes of each event, and each move of the group.
 //!
-//! It stands on `bfd_shard` and what that stands on, on `bfd_script` for how a line is spelled, and on `bfd_instance` for the events of a
-//! script. It promises that what a watch has told after any entries is exactly the changes of that history, each once and in order; that the
+//! It stands on `bfd_shard` and what that stands on, and on `bfd_script` for how a line is spelled. It promises that what a watch has told after any entries is exactly the changes of that history, each once and in order; that the
 //! lines of a group are those of the definition; and that after a refusal all is as before.
 #![tactic(auto)]
 
@@ -15,7 +14,6 @@ mod group;
 mod law;
 mod text;
 mod watch;
-pub mod watched_text;
 
 pub use change::{Change, WatchFault};
 pub use group::{LinkGroup, Member};

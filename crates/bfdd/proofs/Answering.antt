@@ -6,7 +6,7 @@ use Rattle.bfd_instance.specs.World.{replayed, totals}
 use Rattle.bfd_load.specs.Load.{script}
 use Rattle.bfd_pair.specs.Schedule.{schedule}
 use Rattle.bfd_pair.specs.Line.{pair_line}
-use Rattle.bfd_watch.specs.Members.{first_unknown, watched_of}
+use Rattle.bfdd.specs.Members.{first_unknown, watched_of}
 use Rattle.bfdd.specs.declared.words.job.Job.{Job}
 use Rattle.bfdd.specs.declared.words.job.Job.TheVariants.{Replay, Serve, Load, Pair, Watch}
 use Rattle.bfdd.specs.Answers.{IsAnswer}

@@ -10,3 +10,13 @@ pub mod Answering
 pub mod ServedText
 pub mod Taking
 pub mod Telling
+mod WatchedTextCommon
+mod Shared
+mod Copies
+mod Going
+mod TextLines
+mod Polling
+mod Told
+mod Closing
+pub mod Steps
+pub mod Opening

@@ -14,3 +14,5 @@ pub mod Codes
 pub mod Tells
 pub mod Text
 pub mod Words
+pub mod Members
+pub mod Following

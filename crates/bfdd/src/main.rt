@@ -17,6 +17,7 @@ ghost use Rattle.bfdd.specs.Status.{status_without_words};
 mod job;
 mod output;
 mod running;
+mod watched_text;
 mod words;
 
 pub use crate::job::Status;

@@ -1,5 +1,5 @@
 // What each job has to write.
-ghost use Rattle.std.specs.Prelude.{◌≡◌, false, IfOk, Some, string_bytes};
+ghost use Rattle.std.specs.Prelude.{◌≡◌, ◌<◌, ◌≤◌, false, IfOk, Some, string_bytes};
 ghost use Rattle.bfd_load.specs.Load as load;
 ghost use Rattle.bfd_instance.specs.World.{replayed, totals};
 ghost use Rattle.bfd_pair.specs.Line.{pair_line};
@@ -15,6 +15,7 @@ ghost use Rattle.bfdd.specs.Words.{serves};
 use crate::job::answer::Answer;
 use crate::job::replaying::{replay_by, replay_in_parts};
 use crate::job::status::Status;
+use crate::watched_text::{first_unknown, watched};
 use crate::words::{Hands, Job};
 use bfd_edge::Gate;
 use bfd_load::generate;
@@ -22,7 +23,6 @@ use bfd_pair::schedule::pair_line;
 use bfd_replay::worker::Report;
 use bfd_script::fields::{BadLine, ScriptFault};
 use bfd_script::{Script, read};
-use bfd_watch::watched_text::{first_unknown, watched};
 use std::alloc::{AllocError, Global};
 use std::sync::Wait;
 use std::thread::Threads;
@@ -101,32 +101,41 @@ fn replay_answer<R: Threads + Wait + Sync, G: Gate + Sync>(
 }
 
 /// `watch` of a script.
-fn watch_script(
+fn watch_script<R: Wait>(
+    rt: &R,
     alloc: Global,
     need: u32,
     members: &[u32],
+    shards: u32,
     script: Script,
 ) -> Result<Answer, AllocError>
-    requires { IsScript script }
+    requires script { IsScript script }
+    requires shards { (0 < shards) × (shards ≤ 64) }
     ensures { IfOk result (λ answer. answer ≡ watch_wanted need members.now script) }
 {
     match first_unknown(script.configs.as_slice(), members) {
         Some(discr) => Ok(Answer::bare(alloc, Status::NoMember(discr))),
-        None => Ok(Answer::done_with(watched(alloc, script, need as usize, members)?)),
+        None => {
+            let text = watched(rt, alloc, script, need as usize, members, shards)?;
+            Ok(Answer::done_with(text))
+        }
     }
 }
 
 /// `watch` of these bytes.
-fn watch_answer(
+fn watch_answer<R: Wait>(
+    rt: &R,
     alloc: Global,
     need: u32,
     members: &[u32],
+    shards: u32,
     bytes: Vec<u8>,
 ) -> Result<Answer, AllocError>
+    requires { IsFrom 1 64 shards }
     ensures { IfOk result (λ answer. answer ≡ over (watch_wanted need members.now) (script_of false bytes.items)) }
 {
     match script_in(alloc, bytes) {
-        Ok(script) => watch_script(alloc, need, members, script),
+        Ok(script) => watch_script(rt, alloc, need, members, shards, script),
         Err(ScriptFault::Bad(bad)) => complain(alloc, bad),
         Err(ScriptFault::Memory) => Err(AllocError),
     }
@@ -199,7 +208,11 @@ pub(crate) fn answer_to<R: Threads + Wait + Sync, G: Gate + Sync>(
 {
     match job {
         Job::Replay(hands) => replay_answer(rt, alloc, *hands, bytes, gate),
-        Job::Watch { need, members, .. } => watch_answer(alloc, *need, members.as_slice(), bytes),
+        Job::Watch {
+            need,
+            members,
+            shards,
+        } => watch_answer(rt, alloc, *need, members.as_slice(), *shards, bytes),
         Job::Load {
             sessions,
             ticks,

@@ -110,7 +110,7 @@ pub enum Job {
         /// The members of the link group.
         members: Members,
 
-        /// How many shards, 1 to 64. It is read as with the other jobs, and changes nothing: sessions are watched over a plain list.
+        /// How many shards the sessions are on, 1 to 64. It changes nothing that is written.
         shards: u32,
     },
 }

@@ -1,0 +1,198 @@
+-- The text of a script, event by event, and what is known of it once the engine is closed.
+use Rattle.bfdd.proofs.WatchedTextCommon.{◌≡◌, ◌≢◌, ◌<◌, ◌≤◌, ◌+◌, ◌*◌, ◌++◌, ◌∙◌, ◌∷◌, ℕ, suc, true, false, [], List, length, map, sym, ap, subst, refl, append-nil, arith, length-append, length-map, map-append, filter_map-append, slice_index_or, get_or, get_or_from_slice_get, slice_get-get_or, Option, None, Some, cons_option, Outcome, Running, configs_of, Ascends, started, SessionConfig, Line, Entry, ShardEvent, share, history_of, event_in, last_tick, last_from, runs, has, EngineFault, Full, Memory, Spent, Knows, Shards, made_at, met_word, seen_at, taken_at, AreClosed, EachJoined, IsClosed, IsNewPass, by, entry_of, Among, Apart, Happening, happening_outcomes, session_event, in_shard, happening, happenings, IsSole, entries_by, sole_of, left_runs, Change, changes_in, changes_from, Group, group_after, Watching, watching, watched, watched_line, watched_lines, watched_lines_from, AllSole, AreBehind, AreWatched, HasKept, IsRefusal, IsCutShort, IsUntaken, Went, brought, merged_of, news}
+use Rattle.bfd_turn.specs.Passes.{last_word}
+use Rattle.bfd_shard.specs.Shard.{Shard}
+use Rattle.bfd_shard.proofs.Runs.{last_more, runs_configs, runs_more}
+use Rattle.bfd_script.specs.Doing.{doing}
+use Rattle.bfdd.proofs.Going.{went_on, entries_both}
+use Rattle.bfdd.proofs.Shared.{same_of}
+use Rattle.bfdd.proofs.TextLines.{shard_news, shard_tells, all_tell, is_quiet, outcome_in}
+use Rattle.bfdd.proofs.Steps.{lines_step, group_step, count_step, end_told}
+
+-- what these lines give, after these events of the sessions
+abbrev pub outcomes_from : Shards → List Line → List ShardEvent → List Outcome
+outcomes_from engine lines past = happening_outcomes (last_tick past) (happenings engine.configs engine.pool lines) (runs past engine.configs)
+
+pub outcomes_start : (engine : Shards) (lines : List Line) → outcomes_from engine lines [] ≡ happening_outcomes 0 (happenings engine.configs engine.pool lines) (map started engine.configs)
+unfolding last_from
+outcomes_start engine lines =
+    let e : map started engine.configs ≡ runs [] engine.configs = left_runs [] engine.configs in
+    ap (λ ss. happening_outcomes 0 (happenings engine.configs engine.pool lines) ss) (sym e)
+
+-- an event more, if it is one of the sessions
+abbrev pub past_after : List ShardEvent → Happening → List ShardEvent
+past_after past h = past ++ cons_option (session_event h) []
+
+outcome_first : (cs : List SessionConfig) (past : List ShardEvent) (h : Happening) (hs : List Happening) → happening_outcomes (last_tick past) (h ∷ hs) (runs past cs)
+    ≡ outcome_in (last_tick past) h (runs past cs) ∷ happening_outcomes (last_tick (past_after past h)) hs (runs (past_after past h) cs)
+outcome_first cs past (Apart outcome) hs = cc (append-nil past)
+outcome_first cs past (Among event) hs = cc (last_more 0 past event, runs_more past event cs)
+
+history_after : (n r : ℕ) (past : List ShardEvent) (h : Happening) → history_of n r (past_after past h) ≡ history_of n r past ++ brought n h r
+history_after n r past (Apart outcome) = cc (append-nil past, append-nil (history_of n r past))
+history_after n r past (Among event) = filter_map-append (event_in n r) past (event ∷ [])
+
+few_by : (o : Option ShardEvent) (es : List ShardEvent) {m : ℕ} → length es ≤ m → length (cons_option o es) ≤ m + 1
+few_by None es h = omega (arith, h)
+few_by (Some e) es h = omega (arith, h)
+
+history_few : (n r : ℕ) (es : List ShardEvent) → length (history_of n r es) ≤ length es
+history_few n r [] = omega arith
+history_few n r (e ∷ es) = omega (arith, few_by (event_in n r e) (history_of n r es) (history_few n r es))
+
+past_few : (past : List ShardEvent) (h : Happening) → length (past_after past h) ≤ length past + 1
+past_few past (Apart outcome) = omega (arith, length-append past [])
+past_few past (Among event) = omega (arith, length-append past (event ∷ []))
+
+-- what was told of a script so far, if caller 0 is the only one
+pub record IsTold (engine : Shards) (lines left : List Line) (k : Knows) (number told : ℕ) (text : List ℕ) (before g : Group) : Type 0 where
+  pub past : List ShardEvent
+  pub short : length past + 1 ≤ number
+  pub seen : (r : ℕ) → r < length engine.locks → IsSole 0 (seen_at k r) → seen_at k r ≡ entries_by 0 (history_of (length engine.locks) r past)
+  pub whole : AllSole (length engine.locks) k → text ++ watched_lines_from number (outcomes_from engine left past) g ≡ watched_lines_from 1 (outcomes_from engine lines []) before
+  pub after : AllSole (length engine.locks) k → group_after (changes_from number (outcomes_from engine left past)) g ≡ group_after (changes_from 1 (outcomes_from engine lines [])) before
+  pub counted : AllSole (length engine.locks) k → told + length (changes_from number (outcomes_from engine left past)) ≡ length (changes_from 1 (outcomes_from engine lines []))
+
+pub told_none : {engine : Shards} (lines : List Line) {k : Knows} (g : Group) → IsNewPass engine k → IsTold engine lines lines k 1 0 [] g g
+told_none lines g new = record {
+  past = [];
+  short = omega arith;
+  seen = λ r inside sole. new.seen r inside;
+  whole = λ s. refl;
+  after = λ s. refl;
+  counted = λ s. omega arith;
+}
+
+-- at the loop's first turn
+pub told_first : {engine : Shards} {lines left : List Line} {k : Knows} {text : List ℕ} (g : Group) → IsNewPass engine k → left ≡ lines → text ≡ [] → IsTold engine lines left k 1 0 text g g
+told_first {engine} {lines} {left} {k} g new same none =
+    subst (λ t. IsTold engine lines left k 1 0 t g g) (sym none) (subst (λ ls. IsTold engine lines ls k 1 0 [] g g) (sym same) (told_none lines g new))
+
+pub kept_same : (times : ℕ) (k : Knows) → HasKept times k k
+kept_same times k = record { number = refl; made = λ r. refl; taken = λ r. omega arith }
+
+-- behind a line the watches lack no more than what it brought
+pub behind_after : {engine : Shards} {limit : ℕ} {k l : Knows} {watches : List Watching} {new : ℕ → List ShardEvent} → AreWatched engine limit k watches
+    → ((r : ℕ) → r < length engine.locks → Went k l (new r) r) → AreBehind engine limit l watches
+behind_after {k = k} w went = record { long = w.long; each = λ r inside. record { before = seen_at k r; is = w.each r inside; begins = (went r inside).begins } }
+
+-- a shard's history, after a line and after the looks at it
+both : (engine : Shards) (line : Line) {k l m : Knows} → ((r : ℕ) → r < length engine.locks → Went k l (brought (length engine.locks) (happening engine.configs engine.pool line) r) r)
+    → ((r : ℕ) → r < length engine.locks → Went l m [] r) → (r : ℕ) → r < length engine.locks
+    → Went k m (brought (length engine.locks) (happening engine.configs engine.pool line) r) r
+both engine line went looked r inside = went_on (went r inside) (looked r inside)
+
+seen_next : {engine : Shards} {lines left : List Line} (line : Line) {k m : Knows} {number told : ℕ} {text : List ℕ} {before g : Group} (t : IsTold engine lines left k number told text before g)
+    → ((r : ℕ) → r < length engine.locks → Went k m (brought (length engine.locks) (happening engine.configs engine.pool line) r) r)
+    → (r : ℕ) → r < length engine.locks → IsSole 0 (seen_at m r)
+    → seen_at m r ≡ entries_by 0 (history_of (length engine.locks) r (past_after t.past (happening engine.configs engine.pool line)))
+seen_next {engine} line t went r inside sole =
+    let n = length engine.locks in
+    let h = happening engine.configs engine.pool line in
+    let w = went r inside in
+    cc (w.seen sole, t.seen r inside (w.sole sole), entries_both (history_of n r t.past) (brought n h r), history_after n r t.past h)
+
+-- what all watches tell is what the line gives
+changes_are : {engine : Shards} {lines left : List Line} (line : Line) {k m : Knows} {number told : ℕ} {text : List ℕ} {before g : Group} {limit : ℕ} {watches : List Watching} {changes : List Change} (t : IsTold engine lines left k number told text before g)
+    → 0 < length engine.locks → Ascends engine.configs
+    → ((r : ℕ) → r < length engine.locks → Went k m (brought (length engine.locks) (happening engine.configs engine.pool line) r) r)
+    → AreWatched engine limit k watches → ((d : Watching) → changes ≡ merged_of (length engine.locks) (λ r. news number (slice_index_or watches r d) (seen_at m r)))
+    → AllSole (length engine.locks) m
+    → changes ≡ changes_in number (outcome_in (last_tick t.past) (happening engine.configs engine.pool line) (runs t.past engine.configs)).items
+changes_are {engine} line {k} {m} {number} {limit = limit} {watches} t some up went watched_as news_are s =
+    let n = length engine.locks in
+    let cs = engine.configs in
+    let h = happening engine.configs engine.pool line in
+    let d : Watching = watching [] [] 0 in
+    news_are d ∙ (same_of n (λ r. news number (slice_index_or watches r d) (seen_at m r)) (λ r. shard_news number (last_tick t.past) (in_shard n r h) (share n r (runs t.past cs)))
+    (λ r inside. let w = went r inside in
+    ap (λ x. news number x (seen_at m r)) (get_or_from_slice_get watches r (watching (share n r cs) (seen_at k r) limit) d (watched_as.each r inside))
+    ∙ shard_tells n r number (seen_at k r) (seen_at m r) limit t.past h cs inside (t.seen r inside (w.sole (s r inside))) (w.seen (s r inside)))
+    ∙ all_tell number (last_tick t.past) h (runs t.past cs) some (subst Ascends (sym (runs_configs 0 t.past cs)) up) (is_quiet engine.pool (doing cs engine.pool line)))
+
+-- a line more is told
+pub told_next : {engine : Shards} {lines left rest : List Line} {line : Line} {k l m : Knows} {number told : ℕ} {text : List ℕ} {before g : Group} {limit told2 : ℕ} {watches : List Watching} {changes : List Change} {text2 : List ℕ} {g2 : Group} → 0 < length engine.locks → Ascends engine.configs
+    → IsTold engine lines left k number told text before g → left ≡ line ∷ rest
+    → ((r : ℕ) → r < length engine.locks → Went k l (brought (length engine.locks) (happening engine.configs engine.pool line) r) r)
+    → ((r : ℕ) → r < length engine.locks → Went l m [] r) → AreWatched engine limit k watches
+    → ((d : Watching) → changes ≡ merged_of (length engine.locks) (λ r. news number (slice_index_or watches r d) (seen_at m r)))
+    → told2 ≡ told + length changes → text2 ≡ text ++ watched_lines number changes g → g2 ≡ group_after changes g
+    → IsTold engine lines rest m (number + 1) told2 text2 before g2
+told_next {engine} {left = left} {rest} {line} {k} {m = m} {number} {told} {text} {g = g} {told2 = told2} {changes = changes} {text2} {g2} some up t split went looked watched_as news_are counted_is text_is group_is =
+    let h = happening engine.configs engine.pool line in
+    let w = both engine line went looked in
+    let first : outcomes_from engine left t.past ≡ outcome_in (last_tick t.past) h (runs t.past engine.configs) ∷ outcomes_from engine rest (past_after t.past h) =
+    ap (λ ls. outcomes_from engine ls t.past) split ∙ outcome_first engine.configs t.past h (happenings engine.configs engine.pool rest) in
+    let are : AllSole (length engine.locks) m → changes ≡ changes_in number (outcome_in (last_tick t.past) h (runs t.past engine.configs)).items =
+    changes_are line t some up w watched_as news_are in
+    let earlier : AllSole (length engine.locks) m → AllSole (length engine.locks) k = λ s r inside. (w r inside).sole (s r inside) in
+    record {
+      past = past_after t.past h;
+      short = omega (arith, t.short, past_few t.past h);
+      seen = seen_next line t w;
+      whole = λ s. lines_step text number g first (are s) group_is text_is (t.whole (earlier s));
+      after = λ s. group_step number g first (are s) group_is (t.after (earlier s));
+      counted = λ s. count_step number told told2 first (are s) counted_is (t.counted (earlier s));
+    }
+
+-- a line that was refused
+
+pub refused_stopped : {engine : Shards} {lines left : List Line} {k : Knows} (l : Knows) {number told : ℕ} {text : List ℕ} {before g : Group} (fault : EngineFault) → IsTold engine lines left k number told text before g → number ≤ engine.limit → IsRefusal fault engine k l → IsCutShort fault engine l
+refused_stopped l Memory t few r = tt
+refused_stopped l (Spent at word) t few r = (at, r.0, r.1)
+refused_stopped {engine} {k = k} l (Full at n) t few r = λ s.
+    let w = r.2 in
+    let sole = s at r.0 in
+    let is : seen_at l at ≡ entries_by 0 (history_of (length engine.locks) at t.past) = cc (w.seen sole, t.seen at r.0 (w.sole sole), append-nil (seen_at k at)) in
+    absurd (omega (arith, ap length is, length-map (history_of (length engine.locks) at t.past) (entry_of 0), history_few (length engine.locks) at t.past, t.short, r.1, few))
+
+-- .. or whose changes couldn't be had
+pub untaken_stopped : {engine : Shards} {lines left : List Line} (line : Line) {k l m : Knows} {number told : ℕ} {text : List ℕ} {before g : Group} (fault : EngineFault) → IsTold engine lines left k number told text before g → number ≤ engine.limit
+    → ((r : ℕ) → r < length engine.locks → Went k l (brought (length engine.locks) (happening engine.configs engine.pool line) r) r)
+    → ((r : ℕ) → r < length engine.locks → Went l m [] r)
+    → (r : ℕ) × (r < length engine.locks) × IsUntaken fault engine engine.limit r m → IsCutShort fault engine m
+untaken_stopped line Memory t few went looked u = tt
+untaken_stopped line (Spent at word) t few went looked u = (u.0, u.1, u.2.1)
+untaken_stopped {engine} line (Full at n) t few went looked u = λ s.
+    let h = happening engine.configs engine.pool line in
+    let is = seen_next line t (both engine line went looked) u.0 u.1 (s u.0 u.1) in
+    let hist : List ShardEvent = history_of (length engine.locks) u.0 (past_after t.past h) in
+    absurd (omega (arith, ap length is, length-map hist (entry_of 0), history_few (length engine.locks) u.0 (past_after t.past h), past_few t.past h, t.short, u.2.1, few))
+
+-- the end: nothing is left
+pub told_all : {engine : Shards} {lines left : List Line} {k : Knows} {number told : ℕ} {text more : List ℕ} {before g : Group} → left ≡ []
+    → IsTold engine lines left k number told text before g → more ≡ text ++ watched_line told g → AllSole (length engine.locks) k
+    → more ≡ watched (happening_outcomes 0 (happenings engine.configs engine.pool lines) (map started engine.configs)) before
+told_all {engine} {lines} {left} {number = number} {told} {text} {before = before} {g} none t added s =
+    end_told text number told (outcomes_from engine lines []) g before (ap (λ ls. outcomes_from engine ls t.past) none) (t.whole s) (t.after s) (t.counted s) added
+    ∙ ap (λ os. watched os before) (outcomes_start engine lines)
+
+pub kept_less : {a b : ℕ} {k l : Knows} → a ≤ b → HasKept a k l → HasKept b k l
+kept_less h x = record { number = x.number; made = x.made; taken = λ r. omega (arith, x.taken r, h) }
+
+-- the engine is closed
+
+closed_at : {engine : Shards} {l : Knows} (shards : List Shard) {s : ℕ} → AreClosed engine l shards → s < length engine.locks → (shard : Shard) × IsClosed engine l s shard
+closed_at [] closed h = absurd (omega (arith, closed.long, h))
+closed_at (x ∷ shards) {s} closed h =
+    (get_or (x ∷ shards) s x, closed.each s (get_or (x ∷ shards) s x) (slice_get-get_or (x ∷ shards) s x (omega (arith, closed.long, h))))
+
+none_made : {engine : Shards} {times : ℕ} {k l : Knows} → IsNewPass engine k → HasKept times k l → (r : ℕ) → r < length engine.locks → made_at l r ≡ []
+none_made new kept r inside = kept.made r ∙ new.made r inside
+
+pub none_open : {engine : Shards} {times : ℕ} {k l : Knows} → IsNewPass engine k → HasKept times k l → EachJoined engine l
+none_open {l = l} new kept r n inside made = let e : has n (made_at l r) ≡ false = ap (has n) (none_made new kept r inside) in absurd (cc)
+
+-- then caller 0 was the only one
+pub all_sole : {engine : Shards} {times : ℕ} {k l : Knows} {shards : List Shard} → IsNewPass engine k → HasKept times k l → AreClosed engine l shards → AllSole (length engine.locks) l
+all_sole {shards = shards} new kept closed r inside =
+    let c = (closed_at shards closed inside).1 in
+    subst (IsSole 0) c.journal (sole_of 0 _ (λ n other. c.unmade n other (ap (has n) (none_made new kept r inside))))
+
+-- and it didn't stop but for want of memory
+pub never_stopped : {engine : Shards} {times : ℕ} {k l : Knows} {shards : List Shard} (fault : EngineFault) → IsNewPass engine k → HasKept times k l → times ≤ 400002
+    → AreClosed engine l shards → IsCutShort fault engine l → fault ≡ Memory
+never_stopped Memory new kept few closed stop = refl
+never_stopped (Full at n) new kept few closed stop = absurd (stop (all_sole new kept closed))
+never_stopped {shards = shards} (Spent at word) new kept few closed stop =
+    absurd (omega (arith, (closed_at shards closed stop.1).1.word, kept.taken stop.0, new.taken stop.0 stop.1, few, stop.2))

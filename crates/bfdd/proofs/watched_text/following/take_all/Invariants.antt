@@ -1,0 +1,14 @@
+-- With the entries that are left, those taken so far are all, and so is what they tell.
+use Rattle.std.proofs.Common.{◌≡◌, ◌++◌}
+use Rattle.bfd_engine.specs.Reads.{AreGiven}
+use Rattle.bfdd.specs.Following.{told_after}
+use Rattle.bfdd.proofs.watched_text.following.take_all.Given as goal
+
+abbrev pub invariant-loop-entry : goal.invariant-loop-entry
+invariant-loop-entry g l = record {
+  configs : l.watch.configs ≡ l.initial.watch.configs;
+  limit : l.watch.limit ≡ l.initial.watch.limit;
+  given : AreGiven l.watch.configs l.entry-iterator.rest.items;
+  taken : l.watch.entries ++ l.entry-iterator.rest.items ≡ l.initial.watch.entries ++ l.fn.entries.items;
+  told : l.told.items ++ told_after l.watch l.entry-iterator.rest.items ≡ told_after l.initial.watch l.fn.entries.items;
+}

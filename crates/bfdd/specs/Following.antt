@@ -1,0 +1,119 @@
+-- What clients of an engine's shards are told after an event, and what a caller knows that is the only one.
+use Rattle.std.specs.Prelude.{ℕ, zero, suc, ◌≡◌, ◌≢◌, ◌≤◌, ◌<◌, ◌+◌, ◌*◌, ◌++◌, List, [], ◌∷◌, length, map, drop, slice_get, nat_lt, if◌then◌else◌, Option, Some}
+use Rattle.std.specs.List.{cons_option}
+use Rattle.bfd_sbfd.specs.declared.reflecting.Reflector.{Reflector}
+use Rattle.bfd_session.specs.declared.event.SessionConfig.{SessionConfig}
+use Rattle.bfd_shard.specs.declared.entry.Entry.{Entry}
+use Rattle.bfd_shard.specs.declared.entry.ShardEvent.{ShardEvent}
+use Rattle.bfd_turn.specs.Lists.{Begins}
+use Rattle.bfd_turn.specs.Passes.{last_word}
+use Rattle.bfd_engine.specs.declared.fault.EngineFault.{EngineFault}
+use Rattle.bfd_engine.specs.declared.fault.EngineFault.TheVariants.{Memory, Full, Spent}
+use Rattle.bfd_engine.specs.Engines.{Shards, Knows, IsOf, AllThere, configs_at}
+use Rattle.bfd_engine.specs.Calls.{seen_at, met_word, taken_at, made_at}
+use Rattle.bfd_replay.specs.Happenings.{Happening, in_shard}
+use Rattle.bfd_replay.specs.Working.{IsSole, entries_by}
+use Rattle.bfd_watch.specs.declared.change.Change.{Change}
+use Rattle.bfd_watch.specs.declared.change.WatchFault.{WatchFault}
+use Rattle.bfd_watch.specs.declared.change.WatchFault.TheVariants as watch
+use Rattle.bfd_watch.specs.Watching.{Watching, watching, told_by}
+
+-- the changes that these entries tell, one after another
+abbrev pub told_after : Watching → List Entry → List Change
+told_after w [] = []
+told_after w (entry ∷ entries) = told_by w entry ++ told_after (record w { entries = w.entries ++ entry ∷ [] }) entries
+
+-- a change, told of the event of this number of a script
+abbrev pub of_event : ℕ → Change → Change
+of_event number change = record change { number = number }
+
+-- what a watch tells of the event of this number, where its shard's history is now this
+abbrev pub news : ℕ → Watching → List Entry → List Change
+news number w seen = map (of_event number) (told_after w (drop (length w.entries) seen))
+
+-- of changes the first ones that are of a session with a lower discriminator
+abbrev pub lower : ℕ → List Change → List Change
+lower discr [] = []
+lower discr (c ∷ cs) = if nat_lt c.discr discr then c ∷ lower discr cs else []
+
+-- and what comes after those
+abbrev pub not_lower : ℕ → List Change → List Change
+not_lower discr [] = []
+not_lower discr (c ∷ cs) = if nat_lt c.discr discr then not_lower discr cs else c ∷ cs
+
+-- two lists of changes as one: each of the first stands behind those of the second that have a lower discriminator
+abbrev pub merged : List Change → List Change → List Change
+merged [] more = more
+merged (c ∷ cs) more = lower c.discr more ++ c ∷ merged cs (not_lower c.discr more)
+
+-- what the first so many shards tell, as one
+abbrev pub merged_of : ℕ → (ℕ → List Change) → List Change
+merged_of zero told = []
+merged_of (suc n) told = merged (merged_of n told) (told n)
+
+-- this is the watch of a shard, and it has taken a beginning of what a caller has seen of it
+pub record IsBehind (engine : Shards) (limit : ℕ) (k : Knows) (r : ℕ) (found : Option Watching) : Type 0 where
+  pub before : List Entry
+  pub is : found ≡ Some (watching (configs_at engine r) before limit)
+  pub begins : Begins before (seen_at k r)
+
+pub record AreBehind (engine : Shards) (limit : ℕ) (k : Knows) (watches : List Watching) : Type 0 where
+  pub long : length watches ≡ length engine.locks
+  pub each : (r : ℕ) → r < length engine.locks → IsBehind engine limit k r (slice_get watches r)
+
+-- a watch of each shard has taken what a caller has seen of it
+pub record AreWatched (engine : Shards) (limit : ℕ) (k : Knows) (watches : List Watching) : Type 0 where
+  pub long : length watches ≡ length engine.locks
+  pub each : (r : ℕ) → r < length engine.locks → slice_get watches r ≡ Some (watching (configs_at engine r) (seen_at k r) limit)
+
+-- all entries that caller 0 has seen are its own
+abbrev pub AllSole : ℕ → Knows → Type 0
+AllSole n k = (r : ℕ) → r < n → IsSole 0 (seen_at k r)
+
+-- on a shard k became l: it has seen what it had, and more behind it; if all entries there are caller 0's, they were, and those of
+-- these events were added
+pub record Went (k l : Knows) (new : List ShardEvent) (r : ℕ) : Type 0 where
+  pub begins : Begins (seen_at k r) (seen_at l r)
+  pub sole : IsSole 0 (seen_at l r) → IsSole 0 (seen_at k r)
+  pub seen : IsSole 0 (seen_at l r) → seen_at l r ≡ seen_at k r ++ entries_by 0 new
+
+-- caller 0's pass k became l, with at most so many turns of each shard
+pub record HasKept (times : ℕ) (k l : Knows) : Type 0 where
+  pub number : l.0 ≡ k.0
+  pub made : (r : ℕ) → made_at l r ≡ made_at k r
+  pub taken : (r : ℕ) → taken_at l r ≤ taken_at k r + times
+
+-- an event as the shard of this number has it, if it has it
+abbrev pub brought : ℕ → Happening → ℕ → List ShardEvent
+brought n h r = cons_option (in_shard n r h) []
+
+-- why an event couldn't be carried out: for want of memory; with a shard's journal at its limit, to which this caller had added nothing;
+-- or with a lock's last word
+abbrev pub IsRefusal : EngineFault → Shards → Knows → Knows → Type 0
+IsRefusal Memory engine k l = Unit {0}
+IsRefusal (Full at n) engine k l = (at < length engine.locks) × (length (seen_at l at) ≡ engine.limit) × Went k l [] at
+IsRefusal (Spent at word) engine k l = (at < length engine.locks) × (met_word l at ≡ last_word)
+
+-- why a watch didn't take all entries that a caller has seen of a shard
+abbrev pub IsUntaken : EngineFault → Shards → ℕ → ℕ → Knows → Type 0
+IsUntaken Memory engine limit shard l = Unit {0}
+IsUntaken (Full at n) engine limit shard l = (at ≡ shard) × (limit < length (seen_at l shard))
+IsUntaken (Spent at word) engine limit shard l = (at ≡ shard) × (met_word l shard ≡ last_word)
+
+-- why some of these entries weren't taken
+abbrev pub IsLeft : WatchFault → Watching → List Entry → Type 0
+IsLeft (watch.Full count) w entries = w.limit < length (w.entries ++ entries)
+IsLeft watch.Memory w entries = Unit {0}
+
+-- why the text couldn't be told: for want of memory, if caller 0 is the only one and no lock's last word was met
+abbrev pub IsCutShort : EngineFault → Shards → Knows → Type 0
+IsCutShort Memory engine l = Unit {0}
+IsCutShort (Full at n) engine l = AllSole (length engine.locks) l → ⊥
+IsCutShort (Spent at word) engine l = (r : ℕ) × (r < length engine.locks) × (met_word l r ≡ last_word)
+
+-- an engine of these sessions and reflectors, on so many shards, whose journals take so many entries
+pub record IsOpenedFor (engine : Shards) (configs : List SessionConfig) (pool : List Reflector) (shards limit : ℕ) : Type 0 where
+  pub shards_are : length engine.locks ≡ shards
+  pub configs_are : engine.configs ≡ configs
+  pub pool_is : engine.pool ≡ pool
+  pub limit_is : engine.limit ≡ limit
