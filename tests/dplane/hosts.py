@@ -264,11 +264,11 @@ class Sniffer:
 class Peer:
     """bfdd-peer on a host: its lines of JSON, and the packet files that it records."""
 
-    def __init__(self, room, network, host, *words):
+    def __init__(self, room, network, host, *words, records=True):
         self.room = Path(tempfile.mkdtemp(dir=room))
         self.room.chmod(0o777)
         self.log = self.room / "log"
-        words = [*unprivileged("nobody"), room / "bfdd-peer", "--json", "--record", self.room, *words]
+        words = [*unprivileged("nobody"), room / "bfdd-peer", "--json", *(["--record", self.room] if records else []), *words]
         with open(self.room / "out", "w") as out, open(self.log, "w") as log:
             self.process = subprocess.Popen(network.inside(host, *words), stdout=out, stderr=log)
 
@@ -288,6 +288,12 @@ class Peer:
         self.process.send_signal(signal.SIGINT)
         if self.process.wait(10):
             raise Failure(f"bfdd-peer ended with status {self.process.returncode}: {self.log.read_text()[-3000:]}")
+
+
+def seconds_of(process):
+    """Processor seconds of a process, and its memory in kB."""
+    nanoseconds = sum(int(path.read_text().split()[0]) for path in Path(f"/proc/{process.pid}/task").glob("*/schedstat"))
+    return nanoseconds / 1e9, int(re.search(r"VmRSS:\s+(\d+)", Path(f"/proc/{process.pid}/status").read_text())[1])
 
 
 def replayed(program, folder, sent):
