@@ -47,25 +47,20 @@ static void drop(struct link *link, enum log_level level, const char *cause, uin
     if (listener < 0 && open_links == 0) connect_at = now + PAUSE;
 }
 
-/* Sends a message. False, and nothing is sent, while a part of another waits. A connection that has ended is seen when it is read. */
-static bool send_to(struct link *link, const uint8_t *bytes, size_t length) {
-    if (link->fd < 0 || link->is_connecting || link->rest) return false;
-    ssize_t sent = send(link->fd, bytes, length, MSG_NOSIGNAL);
-    if (sent < 0) sent = 0;
-    link->rest = length - (size_t)sent;
-    memcpy(link->out, bytes + sent, link->rest);
-    if (link->rest) await(link);
-    return true;
+/* Sends what waits. False when the connection has ended. */
+static bool flush(struct link *link) {
+    ssize_t sent = send(link->fd, link->out, link->rest, MSG_NOSIGNAL);
+    bool goes_on = sent >= 0 || errno == EAGAIN || errno == EINTR;
+    if (sent > 0) memmove(link->out, link->out + sent, link->rest -= (size_t)sent);
+    await(link);
+    return goes_on;
 }
 
-/* Sends what waits. False when the connection has ended. */
-static bool send_rest(struct link *link) {
-    ssize_t sent = send(link->fd, link->out, link->rest, MSG_NOSIGNAL);
-    if (sent < 0) return errno == EAGAIN || errno == EINTR;
-    link->rest -= (size_t)sent;
-    memmove(link->out, link->out + sent, link->rest);
-    if (link->rest == 0) await(link);
-    return true;
+/* Sends a message. False, and nothing is sent, while a part of another waits. A connection that has ended is seen at its next event. */
+static bool put(struct link *link, const uint8_t *bytes, size_t length) {
+    if (link->fd < 0 || link->is_connecting || link->rest) return false;
+    memcpy(link->out, bytes, link->rest = length);
+    return flush(link), true;
 }
 
 /* A connection is there: it begins with a question, behind whose answer all has come that FRR had to add at once. */
@@ -74,8 +69,7 @@ static void begin(struct link *link, uint64_t now) {
     struct dp_echo echo = {.data_plane_time = now};
     say(LOG_INFO, "connection %u to FRR is open", place_of(link) + 1);
     is_refused = link->is_connecting = false;
-    await(link);
-    send_to(link, bytes, dp_write_echo(bytes, DP_ECHO_REQUEST, 0, &echo));
+    put(link, bytes, dp_write_echo(bytes, DP_ECHO_REQUEST, 0, &echo));
 }
 
 static void refuse(const char *cause, uint64_t now) {
@@ -123,14 +117,14 @@ static void answer_counters(struct link *link, uint16_t id, uint32_t discr) {
     const struct session *s = sessions_find(discr);
     struct dp_counters counters = {0};
     if (s) counters = (struct dp_counters){s->bytes_in, s->packets_in, s->bytes_out, s->packets_out};
-    send_to(link, bytes, dp_write_counters(bytes, id, discr, &counters));
+    put(link, bytes, dp_write_counters(bytes, id, discr, &counters));
 }
 
 static void carry_out(struct link *link, const struct dp_message *message, uint64_t now) {
     uint8_t bytes[DP_ECHO_LENGTH];
     struct dp_echo echo = {now, message->body.echo.control_time};
     switch (message->type) {
-    case DP_ECHO_REQUEST: send_to(link, bytes, dp_write_echo(bytes, DP_ECHO_REPLY, message->id, &echo)); break;
+    case DP_ECHO_REQUEST: put(link, bytes, dp_write_echo(bytes, DP_ECHO_REPLY, message->id, &echo)); break;
     case DP_ECHO_REPLY: /* all is there that FRR had for this connection: one that brought nothing isn't needed beside another */
         if (!link->has_sessions && listener < 0 && open_links > 1) drop(link, LOG_INFO, "no session was left for it", now);
         break;
@@ -184,7 +178,7 @@ static void link_event(uint32_t place, uint64_t now) {
         close_link(link);
         return refuse(strerror(cause), now);
     }
-    bool goes_on = link->rest ? send_rest(link) : read_from(link);
+    bool goes_on = link->rest ? flush(link) : read_from(link);
     cause = errno;
     carry_out_all(link, now);
     if (!goes_on && link->fd >= 0) drop(link, LOG_WARNING, link->rest ? strerror(cause) : "closed by FRR", now);
@@ -204,7 +198,7 @@ void control_open(const struct endpoint *endpoint, bool listens) {
 bool control_tell(const struct session *s, const struct session_change *change) {
     uint8_t bytes[DP_STATE_LENGTH];
     (void)change;
-    return s->owner != NO_OWNER && send_to(&links[s->owner - 1], bytes, dp_write_state(bytes, &s->state));
+    return s->owner != NO_OWNER && put(&links[s->owner - 1], bytes, dp_write_state(bytes, &s->state));
 }
 
 uint64_t control_round(uint64_t now) {

@@ -10,11 +10,11 @@
 #include <string.h>
 #include <time.h>
 
-static const char *const names[] = {"report", "error", "warning", "info", "debug"};
+static const char *const names[] = {"error", "warning", "info", "debug"};
 enum log_level log_greatest = LOG_INFO;
 
 bool log_level_named(const char *name, enum log_level *level) {
-    for (unsigned i = LOG_ERROR; i < sizeof names / sizeof *names; i++)
+    for (unsigned i = 0; i < sizeof names / sizeof *names; i++)
         if (strcmp(name, names[i]) == 0) return *level = (enum log_level)i, true;
     return false;
 }

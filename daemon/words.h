@@ -6,8 +6,7 @@
 
 enum { ADDRESS_TEXT = 46, MOMENT_TEXT = 28 };
 
-/* LOG_REPORT is what was asked for, and is always written. */
-enum log_level { LOG_REPORT, LOG_ERROR, LOG_WARNING, LOG_INFO, LOG_DEBUG };
+enum log_level { LOG_ERROR, LOG_WARNING, LOG_INFO, LOG_DEBUG };
 
 /* Lines above this level aren't written. It begins as LOG_INFO. */
 extern enum log_level log_greatest;
