@@ -9,7 +9,7 @@
 #include <string.h>
 #include <unistd.h>
 
-enum { LINKS = 256, FRR_QUEUE = 8192, NEARLY_FULL = FRR_QUEUE - DP_SESSION_LENGTH, LONGEST_SENT = DP_COUNTERS_LENGTH };
+enum { LINKS = 256, FRR_QUEUE = 8192, NEARLY_FULL = FRR_QUEUE - DP_SESSION_LENGTH, BUFFER = DP_LONGEST + 1, ANSWER = DP_COUNTERS_LENGTH };
 static const uint64_t NEVER = UINT64_MAX, PAUSE = 1000000;
 
 /* A connection. Its place is its number for the loop, and one more than that is the owner of its sessions. */
@@ -17,7 +17,7 @@ static struct link {
     int fd; /* -1: closed */
     bool is_connecting, has_sessions;
     size_t from, to, rest; /* where its unread bytes are, and how many wait to be sent */
-    uint8_t in[DP_LONGEST + 1], out[LONGEST_SENT];
+    uint8_t in[BUFFER], out[BUFFER];
 } links[LINKS];
 static size_t open_links;
 static struct endpoint peer;
@@ -30,8 +30,12 @@ static uint32_t place_of(const struct link *link) { return (uint32_t)(link - lin
 
 static void link_event(uint32_t place, uint64_t now);
 
+/* A message is read while its answer has room. */
+static bool has_room(const struct link *link) { return BUFFER - link->rest >= ANSWER; }
+
 static void await(struct link *link) {
-    loop_await(link->fd, LOOP_LINK, place_of(link), link->is_connecting || link->rest ? EPOLLOUT : EPOLLIN, link_event);
+    uint32_t out = link->is_connecting || link->rest ? EPOLLOUT : 0, in = !link->is_connecting && has_room(link) ? EPOLLIN : 0;
+    loop_await(link->fd, LOOP_LINK, place_of(link), in | out, link_event);
 }
 
 static void close_link(struct link *link) {
@@ -56,11 +60,14 @@ static bool flush(struct link *link) {
     return goes_on;
 }
 
-/* Sends a message. False, and nothing is sent, while a part of another waits. A connection that has ended is seen at its next event. */
+/* Sends a message, at once or when the others have gone. False, and nothing is sent, where there is no room. A connection that has
+ * ended is seen at its next event. */
 static bool put(struct link *link, const uint8_t *bytes, size_t length) {
-    if (link->fd < 0 || link->is_connecting || link->rest) return false;
-    memcpy(link->out, bytes, link->rest = length);
-    return flush(link), true;
+    if (link->fd < 0 || link->is_connecting || BUFFER - link->rest < length) return false;
+    memcpy(link->out + link->rest, bytes, length);
+    link->rest += length;
+    if (link->rest == length) flush(link);
+    return true;
 }
 
 /* A connection is there: it begins with a question, behind whose answer all has come that FRR had to add at once. */
@@ -141,9 +148,9 @@ static void carry_out(struct link *link, const struct dp_message *message, uint6
     }
 }
 
-/* Carries out the messages that have come, while their answers are taken. */
+/* Carries out the messages that have come, while their answers have room. */
 static void carry_out_all(struct link *link, uint64_t now) {
-    while (link->fd >= 0 && !link->rest) {
+    while (link->fd >= 0 && has_room(link)) {
         struct dp_message message;
         size_t used;
         enum dp_reading reading = dp_read(link->in + link->from, link->to - link->from, &message, &used);
@@ -163,7 +170,8 @@ static bool read_from(struct link *link) {
     memmove(link->in, link->in + link->from, link->to - link->from);
     link->to -= link->from;
     link->from = 0;
-    ssize_t got = recv(link->fd, link->in + link->to, sizeof link->in - link->to, 0);
+    if (link->to == BUFFER) return true; /* full of messages whose answers have no room */
+    ssize_t got = recv(link->fd, link->in + link->to, BUFFER - link->to, 0);
     if (got > 0) link->to += (size_t)got;
     return got > 0 || (got < 0 && (errno == EAGAIN || errno == EINTR));
 }
@@ -178,10 +186,10 @@ static void link_event(uint32_t place, uint64_t now) {
         close_link(link);
         return refuse(strerror(cause), now);
     }
-    bool goes_on = link->rest ? flush(link) : read_from(link);
-    cause = errno;
+    bool goes_on = (link->rest == 0 || flush(link)) && read_from(link);
     carry_out_all(link, now);
-    if (!goes_on && link->fd >= 0) drop(link, LOG_WARNING, link->rest ? strerror(cause) : "closed by FRR", now);
+    if (!goes_on && link->fd >= 0) drop(link, LOG_WARNING, "closed by FRR", now);
+    else if (link->fd >= 0) await(link);
 }
 
 void control_open(const struct endpoint *endpoint, bool listens) {

@@ -4,8 +4,8 @@
  * it gives to the next connection that is opened. So when that many bytes have come, one more connection is opened, and it
  * stays if sessions come on it. A session belongs to the connection on which it came.
  *
- * What a connection has to send goes to its socket at once. The socket may take a part of a message; the rest waits here, and until
- * it has gone no message is read: where FRR doesn't read, its own messages wait. */
+ * Both buffers of a connection have a fixed size, and a message is read only while there is room for its answer: where FRR doesn't
+ * read, its own messages wait in the socket. */
 #ifndef BFDD_CONTROL_H
 #define BFDD_CONTROL_H
 
