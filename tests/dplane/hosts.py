@@ -236,6 +236,7 @@ def prepare(it, count):
 
 SNIFF = """import socket
 heard = socket.socket(socket.AF_PACKET, socket.SOCK_DGRAM, socket.htons(3))
+heard.setsockopt(socket.SOL_SOCKET, 33, 1 << 23)  # SO_RCVBUFFORCE
 print("ready", flush=True)
 while True:
     ip = heard.recv(2048)
@@ -249,14 +250,17 @@ class Sniffer:
     """What goes over the links of a host: the payloads of control packets by My Discriminator, in their order."""
 
     def __init__(self, network, host):
-        self.process = subprocess.Popen(network.inside(host, sys.executable, "-c", SNIFF), stdout=subprocess.PIPE, text=True)
-        self.process.stdout.readline()
+        self.out = tempfile.TemporaryFile("w+")
+        self.process = subprocess.Popen(network.inside(host, sys.executable, "-c", SNIFF), stdout=self.out)
+        until(lambda: os.fstat(self.out.fileno()).st_size, "the sniffer is there")
 
     def ends(self):
         time.sleep(0.3)
         self.process.terminate()
+        self.process.wait()
+        self.out.seek(0)
         sent = {}
-        for line in self.process.communicate()[0].split():
+        for line in self.out.read().split()[1:]:
             sent.setdefault(int(line[8:16], 16), []).append(line)
         return sent
 
