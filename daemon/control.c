@@ -1,13 +1,12 @@
-/* The connections to FRR's bfdd: see control.h. */
-#define _GNU_SOURCE
-#include "control.h"
-
-#include "loop.h"
-#include "words.h"
-
-#include <errno.h>
-#include <string.h>
-#include <unistd.h>
+/* control: the connections to FRR's bfdd: they are opened again when lost, and their messages are carried out and answered.
+ *
+ * FRR queues at most FRR_QUEUE bytes for a connection and loses what doesn't fit without a word; a session that it lost so
+ * it gives to the next connection that is opened. So when that many bytes have come, one more connection is opened, and it
+ * stays if sessions come on it. A session belongs to the connection on which it came.
+ *
+ * Both buffers of a connection have a fixed size, and a message is read only while there is room for its answer: where FRR doesn't
+ * read, its own messages wait in the socket. */
+#include "daemon.h"
 
 enum { LINKS = 256, FRR_QUEUE = 8192, NEARLY_FULL = FRR_QUEUE - DP_SESSION_LENGTH, BUFFER = DP_LONGEST + 1, ANSWER = DP_COUNTERS_LENGTH };
 static const uint64_t NEVER = UINT64_MAX, PAUSE = 1000000;

@@ -1,16 +1,10 @@
-/* The loop of the program: see loop.h. */
-#define _GNU_SOURCE
-#include "loop.h"
+/* loop: one thread that sleeps until a descriptor has an event or a moment has come. */
+#include "daemon.h"
 
-#include "words.h"
-
-#include <errno.h>
 #include <signal.h>
-#include <string.h>
 #include <sys/signalfd.h>
 #include <sys/timerfd.h>
 #include <time.h>
-#include <unistd.h>
 
 enum { EVENTS = 64, TICK = 1000 /* microseconds */ };
 

@@ -1,18 +1,11 @@
-/* The sessions: see sessions.h.
+/* sessions: all on one engine.
  *
  * All are in one engine of libbfdd, which selects a packet's session by its discriminator, or by its addresses and interface. The
  * selection here comes first, for what the engine doesn't know: the least TTL over several hops, sessions of any interface, and
  * VRFs. A value that its owner changed is given to the engine by a command; while a Poll Sequence makes the engine refuse it, it
  * is tried again after each packet of the session and each second. */
-#include "sessions.h"
+#include "daemon.h"
 
-#include "words.h"
-
-#include <errno.h>
-#include <inttypes.h>
-#include <net/if.h>
-#include <stdlib.h>
-#include <string.h>
 #include <sys/random.h>
 
 enum { BUCKETS = 4096, CHANGEABLE = 4, NAME = 160, CAUSE = 160, CHANGE = 480, LEAST_INTERVAL = 10000, GREATEST_INTERVAL = 60000000 };

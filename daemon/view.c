@@ -1,16 +1,5 @@
-/* What a session shows: see view.h. */
-#define _GNU_SOURCE
-#include "view.h"
-
-#include "endpoint.h"
-#include "loop.h"
-#include "words.h"
-
-#include <errno.h>
-#include <inttypes.h>
-#include <stdlib.h>
-#include <string.h>
-#include <unistd.h>
+/* view: what a session shows. */
+#include "daemon.h"
 
 static double seconds(uint64_t us) { return (double)us / 1000000; }
 
