@@ -1,15 +1,14 @@
-/* The connections to FRR's bfdd: see control.h. */
-#define _GNU_SOURCE
-#include "control.h"
+/* control: the connections to FRR's bfdd: they are opened again when lost, and their messages are carried out and answered.
+ *
+ * FRR queues at most FRR_QUEUE bytes for a connection and loses what doesn't fit without a word; a session that it lost so
+ * it gives to the next connection that is opened. So when that many bytes have come, one more connection is opened, and it
+ * stays if sessions come on it. A session belongs to the connection on which it came.
+ *
+ * Both buffers of a connection have a fixed size, and a message is read only while there is room for its answer: where FRR doesn't
+ * read, its own messages wait in the socket. */
+#include "daemon.h"
 
-#include "loop.h"
-#include "words.h"
-
-#include <errno.h>
-#include <string.h>
-#include <unistd.h>
-
-enum { LINKS = 256, FRR_QUEUE = 8192, NEARLY_FULL = FRR_QUEUE - DP_SESSION_LENGTH, LONGEST_SENT = DP_COUNTERS_LENGTH };
+enum { LINKS = 256, FRR_QUEUE = 8192, NEARLY_FULL = FRR_QUEUE - DP_SESSION_LENGTH, BUFFER = DP_LONGEST + 1, ANSWER = DP_COUNTERS_LENGTH };
 static const uint64_t NEVER = UINT64_MAX, PAUSE = 1000000;
 
 /* A connection. Its place is its number for the loop, and one more than that is the owner of its sessions. */
@@ -17,7 +16,7 @@ static struct link {
     int fd; /* -1: closed */
     bool is_connecting, has_sessions;
     size_t from, to, rest; /* where its unread bytes are, and how many wait to be sent */
-    uint8_t in[DP_LONGEST + 1], out[LONGEST_SENT];
+    uint8_t in[BUFFER], out[BUFFER];
 } links[LINKS];
 static size_t open_links;
 static struct endpoint peer;
@@ -30,8 +29,12 @@ static uint32_t place_of(const struct link *link) { return (uint32_t)(link - lin
 
 static void link_event(uint32_t place, uint64_t now);
 
+/* A message is read while its answer has room. */
+static bool has_room(const struct link *link) { return BUFFER - link->rest >= ANSWER; }
+
 static void await(struct link *link) {
-    loop_await(link->fd, LOOP_LINK, place_of(link), link->is_connecting || link->rest ? EPOLLOUT : EPOLLIN, link_event);
+    uint32_t out = link->is_connecting || link->rest ? EPOLLOUT : 0, in = !link->is_connecting && has_room(link) ? EPOLLIN : 0;
+    loop_await(link->fd, LOOP_LINK, place_of(link), in | out, link_event);
 }
 
 static void close_link(struct link *link) {
@@ -47,24 +50,22 @@ static void drop(struct link *link, enum log_level level, const char *cause, uin
     if (listener < 0 && open_links == 0) connect_at = now + PAUSE;
 }
 
-/* Sends a message. False, and nothing is sent, while a part of another waits. A connection that has ended is seen when it is read. */
-static bool send_to(struct link *link, const uint8_t *bytes, size_t length) {
-    if (link->fd < 0 || link->is_connecting || link->rest) return false;
-    ssize_t sent = send(link->fd, bytes, length, MSG_NOSIGNAL);
-    if (sent < 0) sent = 0;
-    link->rest = length - (size_t)sent;
-    memcpy(link->out, bytes + sent, link->rest);
-    if (link->rest) await(link);
-    return true;
+/* Sends what waits. False when the connection has ended. */
+static bool flush(struct link *link) {
+    ssize_t sent = send(link->fd, link->out, link->rest, MSG_NOSIGNAL);
+    bool goes_on = sent >= 0 || errno == EAGAIN || errno == EINTR;
+    if (sent > 0) memmove(link->out, link->out + sent, link->rest -= (size_t)sent);
+    await(link);
+    return goes_on;
 }
 
-/* Sends what waits. False when the connection has ended. */
-static bool send_rest(struct link *link) {
-    ssize_t sent = send(link->fd, link->out, link->rest, MSG_NOSIGNAL);
-    if (sent < 0) return errno == EAGAIN || errno == EINTR;
-    link->rest -= (size_t)sent;
-    memmove(link->out, link->out + sent, link->rest);
-    if (link->rest == 0) await(link);
+/* Sends a message, at once or when the others have gone. False, and nothing is sent, where there is no room. A connection that has
+ * ended is seen at its next event. */
+static bool put(struct link *link, const uint8_t *bytes, size_t length) {
+    if (link->fd < 0 || link->is_connecting || BUFFER - link->rest < length) return false;
+    memcpy(link->out + link->rest, bytes, length);
+    link->rest += length;
+    if (link->rest == length) flush(link);
     return true;
 }
 
@@ -74,8 +75,7 @@ static void begin(struct link *link, uint64_t now) {
     struct dp_echo echo = {.data_plane_time = now};
     say(LOG_INFO, "connection %u to FRR is open", place_of(link) + 1);
     is_refused = link->is_connecting = false;
-    await(link);
-    send_to(link, bytes, dp_write_echo(bytes, DP_ECHO_REQUEST, 0, &echo));
+    put(link, bytes, dp_write_echo(bytes, DP_ECHO_REQUEST, 0, &echo));
 }
 
 static void refuse(const char *cause, uint64_t now) {
@@ -123,14 +123,14 @@ static void answer_counters(struct link *link, uint16_t id, uint32_t discr) {
     const struct session *s = sessions_find(discr);
     struct dp_counters counters = {0};
     if (s) counters = (struct dp_counters){s->bytes_in, s->packets_in, s->bytes_out, s->packets_out};
-    send_to(link, bytes, dp_write_counters(bytes, id, discr, &counters));
+    put(link, bytes, dp_write_counters(bytes, id, discr, &counters));
 }
 
 static void carry_out(struct link *link, const struct dp_message *message, uint64_t now) {
     uint8_t bytes[DP_ECHO_LENGTH];
     struct dp_echo echo = {now, message->body.echo.control_time};
     switch (message->type) {
-    case DP_ECHO_REQUEST: send_to(link, bytes, dp_write_echo(bytes, DP_ECHO_REPLY, message->id, &echo)); break;
+    case DP_ECHO_REQUEST: put(link, bytes, dp_write_echo(bytes, DP_ECHO_REPLY, message->id, &echo)); break;
     case DP_ECHO_REPLY: /* all is there that FRR had for this connection: one that brought nothing isn't needed beside another */
         if (!link->has_sessions && listener < 0 && open_links > 1) drop(link, LOG_INFO, "no session was left for it", now);
         break;
@@ -147,9 +147,9 @@ static void carry_out(struct link *link, const struct dp_message *message, uint6
     }
 }
 
-/* Carries out the messages that have come, while their answers are taken. */
+/* Carries out the messages that have come, while their answers have room. */
 static void carry_out_all(struct link *link, uint64_t now) {
-    while (link->fd >= 0 && !link->rest) {
+    while (link->fd >= 0 && has_room(link)) {
         struct dp_message message;
         size_t used;
         enum dp_reading reading = dp_read(link->in + link->from, link->to - link->from, &message, &used);
@@ -169,7 +169,8 @@ static bool read_from(struct link *link) {
     memmove(link->in, link->in + link->from, link->to - link->from);
     link->to -= link->from;
     link->from = 0;
-    ssize_t got = recv(link->fd, link->in + link->to, sizeof link->in - link->to, 0);
+    if (link->to == BUFFER) return true; /* full of messages whose answers have no room */
+    ssize_t got = recv(link->fd, link->in + link->to, BUFFER - link->to, 0);
     if (got > 0) link->to += (size_t)got;
     return got > 0 || (got < 0 && (errno == EAGAIN || errno == EINTR));
 }
@@ -184,10 +185,10 @@ static void link_event(uint32_t place, uint64_t now) {
         close_link(link);
         return refuse(strerror(cause), now);
     }
-    bool goes_on = link->rest ? send_rest(link) : read_from(link);
-    cause = errno;
+    bool goes_on = (link->rest == 0 || flush(link)) && read_from(link);
     carry_out_all(link, now);
-    if (!goes_on && link->fd >= 0) drop(link, LOG_WARNING, link->rest ? strerror(cause) : "closed by FRR", now);
+    if (!goes_on && link->fd >= 0) drop(link, LOG_WARNING, "closed by FRR", now);
+    else if (link->fd >= 0) await(link);
 }
 
 void control_open(const struct endpoint *endpoint, bool listens) {
@@ -204,7 +205,7 @@ void control_open(const struct endpoint *endpoint, bool listens) {
 bool control_tell(const struct session *s, const struct session_change *change) {
     uint8_t bytes[DP_STATE_LENGTH];
     (void)change;
-    return s->owner != NO_OWNER && send_to(&links[s->owner - 1], bytes, dp_write_state(bytes, &s->state));
+    return s->owner != NO_OWNER && put(&links[s->owner - 1], bytes, dp_write_state(bytes, &s->state));
 }
 
 uint64_t control_round(uint64_t now) {

@@ -2,16 +2,10 @@
  *
  *     FRR's bfdd <- control -> sessions -> libbfdd, and sockets for its packets
  *
- * There is one thread: see loop.h. Nothing is allocated for a packet. */
-#define _GNU_SOURCE
-#include "control.h"
-#include "front.h"
+ * Nothing is allocated for a packet. */
+#include "daemon.h"
 
-#include <stdlib.h>
-#include <string.h>
-#include <sys/socket.h>
 #include <sys/un.h>
-#include <unistd.h>
 
 enum { LONGEST_KEEP = 86400 };
 
@@ -58,7 +52,6 @@ int main(int count, char **words) {
     front_open(control_tell, keep * 1000000, stderr, false);
     control_open(&endpoint, listens);
     notify_ready();
-    front_run(control_round);
-    front_close();
+    front_run(control_round, false);
     return 0;
 }

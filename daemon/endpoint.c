@@ -1,28 +1,12 @@
-/* Addresses of stream sockets: see endpoint.h. */
-#define _GNU_SOURCE
-#include "endpoint.h"
-
-#include "words.h"
+/* endpoint: addresses of stream sockets. */
+#include "daemon.h"
 
 #include <arpa/inet.h>
-#include <errno.h>
 #include <netinet/in.h>
-#include <stdio.h>
-#include <stdlib.h>
-#include <string.h>
 #include <sys/stat.h>
 #include <sys/un.h>
-#include <unistd.h>
 
 enum { DEFAULT_PORT = 50700 };
-
-bool read_number(const char *text, uint64_t least, uint64_t greatest, uint64_t *number) {
-    char *end;
-    if (*text < '0' || *text > '9') return false;
-    errno = 0;
-    *number = strtoull(text, &end, 10);
-    return *end == 0 && errno == 0 && *number >= least && *number <= greatest;
-}
 
 bool endpoint_unix(const char *path, struct endpoint *endpoint) {
     struct sockaddr_un *at = (struct sockaddr_un *)&endpoint->address;

@@ -1,13 +1,7 @@
-/* What both programs have in common: see front.h. */
-#define _GNU_SOURCE
-#include "front.h"
-
-#include "view.h"
-#include "words.h"
+/* front: what both programs have in common. */
+#include "daemon.h"
 
 #include <signal.h>
-#include <stdlib.h>
-#include <unistd.h>
 
 static const char *folder, *control;
 static enum log_level level;
@@ -62,12 +56,10 @@ static uint64_t pass_time(uint64_t now) {
     return due < other ? due : other;
 }
 
-void front_run(loop_round *round) {
+void front_run(loop_round *round, bool is_viewed) {
     also = round;
     loop_run(pass_time);
-}
-
-void front_close(void) {
+    if (is_viewed) front_view(clock_now());
     sessions_close(clock_now());
     sockets_flush();
 }

@@ -1,17 +1,12 @@
-/* The loop of the program: see loop.h. */
-#define _GNU_SOURCE
-#include "loop.h"
+/* loop: one thread that sleeps until a descriptor has an event or a moment has come. */
+#include "daemon.h"
 
-#include "words.h"
-
-#include <errno.h>
 #include <signal.h>
-#include <string.h>
 #include <sys/signalfd.h>
 #include <sys/timerfd.h>
-#include <unistd.h>
+#include <time.h>
 
-enum { EVENTS = 64 };
+enum { EVENTS = 64, TICK = 1000 /* microseconds */ };
 
 static int epoll, signals, timer;
 static uint64_t armed = UINT64_MAX; /* the moment for which the timer is set */
@@ -71,11 +66,19 @@ static void carry_out(const struct epoll_event *events, int count, bool packets)
     }
 }
 
+/* Rounds come at most once in a millisecond, the engine's tick: what comes meanwhile is gathered. */
+static void gather(uint64_t last) {
+    uint64_t now = clock_now();
+    if (now - last < TICK) nanosleep(&(struct timespec){.tv_nsec = (long)(TICK - now % TICK) * 1000}, NULL);
+}
+
 void loop_run(loop_round *round) {
     struct epoll_event events[EVENTS];
+    uint64_t now = clock_now();
     while (!is_ended) {
-        uint64_t due = round(clock_now());
+        uint64_t last = now, due = round(now = clock_now());
         set_timer(due, clock_now());
+        gather(last);
         int count = epoll_wait(epoll, events, EVENTS, -1);
         carry_out(events, count, true);
         carry_out(events, count, false);

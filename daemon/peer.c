@@ -3,22 +3,12 @@
  *     words or a table -> sessions -> libbfdd, and sockets for its packets
  *
  * Each change of a session's state is a line on standard output, and may run a command. */
-#define _GNU_SOURCE
-#include "endpoint.h"
-#include "front.h"
-#include "view.h"
-#include "words.h"
+#include "daemon.h"
 
 #include <arpa/inet.h>
-#include <errno.h>
 #include <fcntl.h>
-#include <inttypes.h>
-#include <net/if.h>
 #include <signal.h>
-#include <stdlib.h>
-#include <string.h>
 #include <sys/random.h>
-#include <unistd.h>
 
 enum { OWNER = 1, WORD = 48, TYPED = 256 };
 
@@ -207,8 +197,6 @@ int main(int count, char **words) {
     front_open(report_change, 0, stdout, json);
     for (size_t i = 0; i < count_entries; i++) sessions_add(OWNER, &entries[i].wanted, &entries[i].key, clock_now());
     if (isatty(STDIN_FILENO)) loop_await(STDIN_FILENO, LOOP_KEY, 0, EPOLLIN, take_key);
-    front_run(NULL);
-    front_view(clock_now());
-    front_close();
+    front_run(NULL, true);
     return 0;
 }

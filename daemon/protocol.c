@@ -12,7 +12,7 @@ static uint64_t get(const uint8_t *at, size_t bytes) {
     return value;
 }
 
-static uint32_t get32(const uint8_t *at) { return (uint32_t)get(at, 4); }
+uint32_t dp_get32(const uint8_t *at) { return (uint32_t)get(at, 4); }
 
 static void put(uint8_t *at, size_t bytes, uint64_t value) {
     for (size_t i = 0; i < bytes; i++) at[i] = (uint8_t)(value >> 8 * (bytes - 1 - i));
@@ -26,18 +26,18 @@ static uint16_t length_of(uint16_t type) {
 }
 
 static void read_session(const uint8_t *at, struct dp_session *session) {
-    session->flags = get32(at + 8);
+    session->flags = dp_get32(at + 8);
     memcpy(session->source, at + 12, sizeof session->source);
     memcpy(session->destination, at + 28, sizeof session->destination);
-    session->discr = get32(at + 44);
-    session->tx = get32(at + 48);
-    session->rx = get32(at + 52);
-    session->echo_tx = get32(at + 56);
-    session->echo_rx = get32(at + 60);
-    session->hold_ms = get32(at + 64);
+    session->discr = dp_get32(at + 44);
+    session->tx = dp_get32(at + 48);
+    session->rx = dp_get32(at + 52);
+    session->echo_tx = dp_get32(at + 56);
+    session->echo_rx = dp_get32(at + 60);
+    session->hold_ms = dp_get32(at + 64);
     session->least_ttl = at[68];
     session->mult = at[69];
-    session->ifindex = get32(at + 72);
+    session->ifindex = dp_get32(at + 72);
     memcpy(session->ifname, at + 76, 64);
     session->ifname[64] = 0;
 }
@@ -57,7 +57,7 @@ enum dp_reading dp_read(const uint8_t *bytes, size_t count, struct dp_message *m
     if (length_of(message->type) == 0) return DP_UNKNOWN_TYPE;
     if (length_of(message->type) != message->length) return DP_WRONG_LENGTH;
     if (message->length == DP_ECHO_LENGTH) message->body.echo = (struct dp_echo){get(bytes + 8, 8), get(bytes + 16, 8)};
-    else if (message->length == DP_REQUEST_LENGTH) message->body.discr = get32(bytes + 8);
+    else if (message->length == DP_REQUEST_LENGTH) message->body.discr = dp_get32(bytes + 8);
     else read_session(bytes, &message->body.session);
     return DP_READ;
 }

@@ -64,6 +64,9 @@ enum dp_reading {
     DP_LOST          /* a length below the header's: no next message can be found */
 };
 
+/* A number of four bytes in network order. */
+uint32_t dp_get32(const uint8_t *at);
+
 /* Reads the first message of the bytes. `used` is how many bytes it has: 0 for DP_PARTIAL and DP_LOST. */
 enum dp_reading dp_read(const uint8_t *bytes, size_t count, struct dp_message *message, size_t *used);
 

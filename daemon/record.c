@@ -1,16 +1,9 @@
-/* The life of a session as a packet file: see record.h. */
-#define _GNU_SOURCE
-#include "record.h"
+/* record: the life of a session as a packet file. */
+#include "daemon.h"
 
-#include "words.h"
-
-#include <errno.h>
 #include <fcntl.h>
-#include <inttypes.h>
-#include <string.h>
 #include <sys/resource.h>
 #include <sys/stat.h>
-#include <unistd.h>
 
 enum { MOST_EVENTS = 200000, MOST_PAYLOAD = 256, PATH = 512 };
 

@@ -1,18 +1,11 @@
-/* The sessions: see sessions.h.
+/* sessions: all on one engine.
  *
  * All are in one engine of libbfdd, which selects a packet's session by its discriminator, or by its addresses and interface. The
  * selection here comes first, for what the engine doesn't know: the least TTL over several hops, sessions of any interface, and
  * VRFs. A value that its owner changed is given to the engine by a command; while a Poll Sequence makes the engine refuse it, it
  * is tried again after each packet of the session and each second. */
-#include "sessions.h"
+#include "daemon.h"
 
-#include "words.h"
-
-#include <errno.h>
-#include <inttypes.h>
-#include <net/if.h>
-#include <stdlib.h>
-#include <string.h>
 #include <sys/random.h>
 
 enum { BUCKETS = 4096, CHANGEABLE = 4, NAME = 160, CAUSE = 160, CHANGE = 480, LEAST_INTERVAL = 10000, GREATEST_INTERVAL = 60000000 };
@@ -72,15 +65,13 @@ static bool is_multihop(const struct session *s) { return (s->wanted.flags & DP_
 
 static bool is_same_address(const bfdd_address *a, const bfdd_address *b) { return memcmp(a, b, sizeof *a) == 0; }
 
-static uint32_t get32(const uint8_t *at) { return (uint32_t)at[0] << 24 | (uint32_t)at[1] << 16 | (uint32_t)at[2] << 8 | at[3]; }
-
 /* The session that a packet is for, by its Your Discriminator, or where that is 0 by addresses and interface. The engine
  * selects once more: a fault here can only lose a packet. */
 static struct session *find_for(const struct arrivals *arrivals, size_t i) {
     const bfdd_packet *packet = &arrivals->packets[i].packet;
     struct session *any = NULL;
     if (arrivals->packets[i].length < 24) return NULL;
-    uint32_t discr = get32(arrivals->packets[i].payload + 8);
+    uint32_t discr = dp_get32(arrivals->packets[i].payload + 8);
     struct session *s = discr ? sessions_find(discr) : *bucket_of_peer(&packet->src);
     for (; s; s = discr ? NULL : s->next[BY_PEER]) {
         bool is_exact = is_multihop(s) || s->path.ifindex == arrivals->ifindex[i];
@@ -182,17 +173,17 @@ static void keep_peer(struct session *s, const uint8_t *payload, size_t length) 
     s->state.diagnostic = payload[0] & 31;
     s->state.peer_flags = c * DP_PEER_C | d * DP_PEER_DEMAND | m * DP_PEER_MULTIPOINT;
     s->state.peer_mult = payload[2];
-    s->state.peer_discr = get32(payload + 4);
-    s->state.peer_tx = get32(payload + 12);
-    s->state.peer_rx = get32(payload + 16);
-    s->state.peer_echo_rx = get32(payload + 20);
+    s->state.peer_discr = dp_get32(payload + 4);
+    s->state.peer_tx = dp_get32(payload + 12);
+    s->state.peer_rx = dp_get32(payload + 16);
+    s->state.peer_echo_rx = dp_get32(payload + 20);
     s->packets_in++;
     s->bytes_in += length;
 }
 
 static void say_dropped(const bfdd_arrival *arrival, const char *cause) {
     char from[ADDRESS_TEXT];
-    say(LOG_DEBUG, "a packet from %s was dropped: %s", address_text(&arrival->packet.src, from), cause);
+    if (log_greatest == LOG_DEBUG) say(LOG_DEBUG, "a packet from %s was dropped: %s", address_text(&arrival->packet.src, from), cause);
 }
 
 /* A packet was handed in. Of several only the last one may have left outputs. */
@@ -212,6 +203,7 @@ static void receive(struct arrivals *arrivals) {
     struct session *whose[BFDD_MANY];
     bfdd_arrival *packets = arrivals->packets;
     size_t count = 0, handled = 0;
+    uint64_t now = clock_now();
     for (size_t i = 0; i < arrivals->count; i++) {
         struct session *s = find_for(arrivals, i);
         bool is_far = s && is_multihop(s) && packets[i].packet.ttl < s->wanted.least_ttl;
@@ -227,7 +219,7 @@ static void receive(struct arrivals *arrivals) {
     for (size_t at = 0; at < count; at += handled) {
         uint32_t code = bfdd_packets(&engine, packets + at, count - at, answers, count - at, &handled);
         for (size_t i = 0; i < handled; i++) received(whose[at + i], &packets[at + i], &answers[i], i + 1 == handled);
-        for (size_t i = 0; i < handled; i++) give_changes(whose[at + i], clock_now());
+        for (size_t i = 0; i < handled; i++) give_changes(whose[at + i], now);
         if (code != BFDD_DONE) say_dropped(&packets[at + handled++], "not received by the engine");
     }
 }
@@ -299,8 +291,8 @@ static void close_session(struct session *s, uint64_t now) {
 static const char *fault_of(const struct dp_session *wanted) {
     if (wanted->discr == 0) return "its discriminator is 0";
     if (memcmp(wanted->destination, no_address, sizeof no_address) == 0) return "it has no destination";
-    if (wanted->tx < LEAST_INTERVAL || wanted->tx > GREATEST_INTERVAL) return "Desired Min TX is below 10 ms or above 60 s";
-    if (wanted->rx < LEAST_INTERVAL || wanted->rx > GREATEST_INTERVAL) return "Required Min RX is below 10 ms or above 60 s";
+    if (wanted->tx < LEAST_INTERVAL || wanted->tx > GREATEST_INTERVAL || wanted->rx < LEAST_INTERVAL || wanted->rx > GREATEST_INTERVAL)
+        return "an interval is below 10 ms or above 60 s";
     return wanted->mult == 0 ? "Detect Mult is 0" : NULL;
 }
 

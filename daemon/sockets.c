@@ -1,20 +1,9 @@
-/* The UDP sockets of BFD: see sockets.h. */
-#define _GNU_SOURCE
-#include "sockets.h"
-
-#include "loop.h"
-#include "words.h"
+/* sockets: the UDP sockets of BFD. */
+#include "daemon.h"
 
 #include <arpa/inet.h>
-#include <errno.h>
-#include <net/if.h>
 #include <netinet/in.h>
-#include <stdio.h>
-#include <stdlib.h>
-#include <string.h>
-#include <sys/socket.h>
 #include <time.h>
-#include <unistd.h>
 
 enum { SINGLE, MULTI, SENDER, KINDS, MOST_SOCKETS = 1024, PAYLOAD_ROOM = 256, CONTROL_ROOM = 128, ROUNDS = 64 };
 enum { TTL = 255, TOS = 0xc0, BUFFER = 4 << 20, PAUSE = 30000000 /* microseconds between warnings of packets that weren't sent */ };

@@ -1,16 +1,5 @@
-/* What a session shows: see view.h. */
-#define _GNU_SOURCE
-#include "view.h"
-
-#include "endpoint.h"
-#include "loop.h"
-#include "words.h"
-
-#include <errno.h>
-#include <inttypes.h>
-#include <stdlib.h>
-#include <string.h>
-#include <unistd.h>
+/* view: what a session shows. */
+#include "daemon.h"
 
 static double seconds(uint64_t us) { return (double)us / 1000000; }
 
@@ -54,25 +43,17 @@ static void put_names(FILE *file, const struct session *s) {
     put_string(file, "interface", s->wanted.ifname);
 }
 
-static void put_diagnostic(FILE *file, const char *name, uint32_t diagnostic) {
-    fprintf(file, "\"%s\":%" PRIu32 ",\"%s-text\":\"%s\",", name, diagnostic, name, diagnostic_text(diagnostic));
-}
-
 static void put_shown(FILE *file, const struct session *s, const bfdd_answered *shown) {
     char text[MOMENT_TEXT];
     fprintf(file, "\"state\":\"%s\",\"since\":\"%s\",", state_text(shown->state), moment_text(s->since, text));
-    put_diagnostic(file, "diagnostic", shown->diag);
+    fprintf(file, "\"diagnostic\":%u,\"diagnostic-text\":\"%s\",", shown->diag, diagnostic_text(shown->diag));
     fprintf(file, "\"advertised-transmit-interval\":%" PRIu32 ",\"transmit-interval\":%" PRIu32 ",\"receive-interval\":%" PRIu32 ",",
             shown->adv_tx, shown->used_tx, shown->used_rx);
     fprintf(file, "\"detection-time\":%" PRIu64 ",\"detect-multiplier\":%u,\"poll\":%u,", shown->detect, s->wanted.mult, shown->poll);
     fprintf(file, "\"remote-state\":\"%s\",\"remote-id\":%" PRIu32 ",", state_text(shown->remote_state), shown->remote_discr);
-}
-
-/* What the peer last said of itself. */
-static void put_peer(FILE *file, const struct session *s) {
-    char text[MOMENT_TEXT];
-    fprintf(file, "\"heard\":\"%s\",", moment_text(s->heard, text));
-    put_diagnostic(file, "remote-diagnostic", s->state.diagnostic);
+    if (s->heard == 0) return;
+    fprintf(file, "\"heard\":\"%s\",\"remote-diagnostic\":%u,\"remote-diagnostic-text\":\"%s\",", moment_text(s->heard, text),
+            s->state.diagnostic, diagnostic_text(s->state.diagnostic));
     fprintf(file, "\"remote-transmit-interval\":%" PRIu32 ",\"remote-receive-interval\":%" PRIu32 ",\"remote-detect-multiplier\":%u,",
             s->state.peer_tx, s->state.peer_rx, s->state.peer_mult);
 }
@@ -81,7 +62,6 @@ void view_json(FILE *file, const struct session *s, const bfdd_answered *shown, 
     fputc('{', file);
     put_names(file, s);
     if (shown) put_shown(file, s, shown);
-    if (shown && s->heard) put_peer(file, s);
     fprintf(file, "\"bytes-in\":%" PRIu64 ",\"packets-in\":%" PRIu64 ",\"bytes-out\":%" PRIu64 ",\"packets-out\":%" PRIu64 ",", s->bytes_in,
             s->packets_in, s->bytes_out, s->packets_out);
     fprintf(file, "\"ups\":%" PRIu64 ",\"seconds-up\":%.6f,\"seconds\":%.6f}\n", s->ups, seconds_up(s, now), seconds(now - s->begun));

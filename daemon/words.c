@@ -1,20 +1,15 @@
-/* Lines, clocks and text: see words.h. */
-#define _GNU_SOURCE
-#include "words.h"
+/* words: lines, clocks and text. */
+#include "daemon.h"
 
 #include <arpa/inet.h>
-#include <errno.h>
 #include <stdarg.h>
-#include <stdio.h>
-#include <stdlib.h>
-#include <string.h>
 #include <time.h>
 
-static const char *const names[] = {"report", "error", "warning", "info", "debug"};
+static const char *const names[] = {"error", "warning", "info", "debug"};
 enum log_level log_greatest = LOG_INFO;
 
 bool log_level_named(const char *name, enum log_level *level) {
-    for (unsigned i = LOG_ERROR; i < sizeof names / sizeof *names; i++)
+    for (unsigned i = 0; i < sizeof names / sizeof *names; i++)
         if (strcmp(name, names[i]) == 0) return *level = (enum log_level)i, true;
     return false;
 }
@@ -32,6 +27,14 @@ void say(enum log_level level, const char *format, ...) {
 void fail(const char *what, const char *cause) {
     say(LOG_ERROR, "%s: %s", what, cause);
     exit(1);
+}
+
+bool read_number(const char *text, uint64_t least, uint64_t greatest, uint64_t *number) {
+    char *end;
+    if (*text < '0' || *text > '9') return false;
+    errno = 0;
+    *number = strtoull(text, &end, 10);
+    return *end == 0 && errno == 0 && *number >= least && *number <= greatest;
 }
 
 static uint64_t read_clock(clockid_t clock) {

@@ -236,6 +236,7 @@ def prepare(it, count):
 
 SNIFF = """import socket
 heard = socket.socket(socket.AF_PACKET, socket.SOCK_DGRAM, socket.htons(3))
+heard.setsockopt(socket.SOL_SOCKET, 33, 1 << 23)  # SO_RCVBUFFORCE
 print("ready", flush=True)
 while True:
     ip = heard.recv(2048)
@@ -249,14 +250,17 @@ class Sniffer:
     """What goes over the links of a host: the payloads of control packets by My Discriminator, in their order."""
 
     def __init__(self, network, host):
-        self.process = subprocess.Popen(network.inside(host, sys.executable, "-c", SNIFF), stdout=subprocess.PIPE, text=True)
-        self.process.stdout.readline()
+        self.out = tempfile.TemporaryFile("w+")
+        self.process = subprocess.Popen(network.inside(host, sys.executable, "-c", SNIFF), stdout=self.out)
+        until(lambda: os.fstat(self.out.fileno()).st_size, "the sniffer is there")
 
     def ends(self):
         time.sleep(0.3)
         self.process.terminate()
+        self.process.wait()
+        self.out.seek(0)
         sent = {}
-        for line in self.process.communicate()[0].split():
+        for line in self.out.read().split()[1:]:
             sent.setdefault(int(line[8:16], 16), []).append(line)
         return sent
 
@@ -264,11 +268,11 @@ class Sniffer:
 class Peer:
     """bfdd-peer on a host: its lines of JSON, and the packet files that it records."""
 
-    def __init__(self, room, network, host, *words):
+    def __init__(self, room, network, host, *words, records=True):
         self.room = Path(tempfile.mkdtemp(dir=room))
         self.room.chmod(0o777)
         self.log = self.room / "log"
-        words = [*unprivileged("nobody"), room / "bfdd-peer", "--json", "--record", self.room, *words]
+        words = [*unprivileged("nobody"), room / "bfdd-peer", "--json", *(["--record", self.room] if records else []), *words]
         with open(self.room / "out", "w") as out, open(self.log, "w") as log:
             self.process = subprocess.Popen(network.inside(host, *words), stdout=out, stderr=log)
 
@@ -288,6 +292,12 @@ class Peer:
         self.process.send_signal(signal.SIGINT)
         if self.process.wait(10):
             raise Failure(f"bfdd-peer ended with status {self.process.returncode}: {self.log.read_text()[-3000:]}")
+
+
+def seconds_of(process):
+    """Processor seconds of a process, and its memory in kB."""
+    nanoseconds = sum(int(path.read_text().split()[0]) for path in Path(f"/proc/{process.pid}/task").glob("*/schedstat"))
+    return nanoseconds / 1e9, int(re.search(r"VmRSS:\s+(\d+)", Path(f"/proc/{process.pid}/status").read_text())[1])
 
 
 def replayed(program, folder, sent):
