@@ -8,16 +8,19 @@ ghost use Rattle.bfd_instance.specs.Stage.{IsTable};
 ghost use Rattle.bfd_instance.specs.World.{turn_giving};
 ghost use Rattle.bfd_instance.specs.World as world;
 ghost use Rattle.bfd_records.specs.Looks.{look_in, look_of};
+ghost use Rattle.bfd_script.specs.declared.line.entries.Line.TheVariants as lines;
 ghost use Rattle.bfd_records.specs.Records as keeping;
 
 use crate::looking::{Look, seen};
 use crate::noting::{note_all, note_came};
-use crate::records::{Record, came_with, fresh};
+use crate::records::{Record, came_on, came_with, fresh};
 use bfd_demux::AddFault;
-use bfd_script::line::Line;
 use bfd_instance::Instance;
+use bfd_num::{Moment, Tick};
+use bfd_packet::Arrival;
 use bfd_rules::Out;
 use bfd_sbfd::Reflector;
+use bfd_script::line::Line;
 use bfd_session::{Answer, SessionConfig};
 use bfd_wheel::Timers;
 use std::alloc::{AllocError, Global};
@@ -97,6 +100,29 @@ impl<W: Timers> Recorded<W> {
         note_came(&self.instance, place, came, &answer, &mut self.records);
         note_all(&self.instance, &mut self.records);
         (answer, discr_of_place(&self.instance, place))
+    }
+
+    /// A packet that came in: `happen_naming` of its line.
+    pub fn hear(&mut self, moment: Moment, arrival: Arrival) -> (Answer, u32)
+        ensures turn { turn_giving self.new.world self.new.items result.0 ≡ world.happens (lines.Rx moment arrival) self.old.world }
+        ensures reached { result.1 ≡ world.discr_reached (lines.Rx moment arrival) self.old.world }
+        ensures records { self.new.records ≡ keeping.recorded (lines.Rx moment arrival) self.old.world self.old.records }
+    {
+        let came = came_on(&arrival);
+        let (answer, place) = self.instance.hear(moment, arrival);
+        note_came(&self.instance, place, came, &answer, &mut self.records);
+        note_all(&self.instance, &mut self.records);
+        (answer, discr_of_place(&self.instance, place))
+    }
+
+    /// A tick: `happen_naming` of its line.
+    pub fn tick(&mut self, t: Tick) -> Answer
+        ensures turn { turn_giving self.new.world self.new.items result ≡ world.happens (lines.Tick t) self.old.world }
+        ensures records { self.new.records ≡ keeping.recorded (lines.Tick t) self.old.world self.old.records }
+    {
+        let answer = self.instance.tick(t);
+        note_all(&self.instance, &mut self.records);
+        answer
     }
 
     /// One session more, as `Instance::add` has it, with a record in which nothing has happened. Where a fault keeps it from being added,

@@ -3,9 +3,9 @@ ghost use Rattle.std.specs.Prelude.{◌≡◌, ◌<◌, Some};
 ghost use Rattle.bfd_packet.specs.Layout.{fields_of};
 ghost use Rattle.bfd_records.specs.Records as keeping;
 
-use bfd_script::line::Line;
 use bfd_packet::{Arrival, Port, State, Test};
 use bfd_rules::Out;
+use bfd_script::line::Line;
 use bfd_session::{Answer, SessionConfig};
 
 /// The kind of a session.
@@ -128,7 +128,7 @@ fn diag_of(payload: &[u8]) -> u8
 }
 
 /// What comes with an arrival.
-fn came_on(arrival: &Arrival) -> Came
+pub(crate) fn came_on(arrival: &Arrival) -> Came
     ensures { result ≡ keeping.came_on arrival.now.port arrival.now }
 {
     match arrival.port {
