@@ -3,9 +3,9 @@ ghost use Rattle.std.specs.Prelude.{◌≡◌, ◌<◌, Some};
 ghost use Rattle.bfd_packet.specs.Layout.{fields_of};
 ghost use Rattle.bfd_records.specs.Records as keeping;
 
-use bfd_script::line::Line;
 use bfd_packet::{Arrival, Port, State, Test};
 use bfd_rules::Out;
+use bfd_script::line::Line;
 use bfd_session::{Answer, SessionConfig};
 
 /// The kind of a session.

@@ -22,6 +22,14 @@ invariant_of-self-in-Err g c =
 pub returns-in-Err-clause-same : goal.returns-in-Err-clause-same
 returns-in-Err-clause-same g c =
     let e = c.in_ok-place.ensures in
-    rw (← c.self.view_is, c.in-Err.ensures.items, c.remove.ensures.world, c.remove.ensures.items, e.world, e.items, c.discr-discr.ensures,
-    undone c.args.config c.self.inside.instance.world e.fault)
+    rw (
+      ← c.self.view_is,
+      c.in-Err.ensures.items,
+      c.remove.ensures.world,
+      c.remove.ensures.items,
+      e.world,
+      e.items,
+      c.discr-discr.ensures,
+      undone c.args.config c.self.inside.instance.world e.fault,
+    )
     refl
