@@ -36,6 +36,9 @@ use Rattle.bfd_shard.proofs.sessions.Sessions.TheSendSync as sessions
 use Rattle.bfd_session.proofs.event.Answer.TheSendSync as answer
 use Rattle.bfd_instance.specs.contracts.instance.Instance as World
 use Rattle.bfd_instance.specs.contracts.instance.Instance.TheInside as world
+use Rattle.bfd_records.proofs.records.Record.TheSendSync as kept
+use Rattle.bfd_records.specs.contracts.recorded.Recorded
+use Rattle.bfd_records.specs.contracts.recorded.Recorded.TheInside as recorded
 use Rattle.bfd_c.specs.Owning.{kept_owns}
 use Rattle.bfd_c.specs.contracts.engine.Engine as Held
 use Rattle.bfd_c.specs.contracts.engine.Engine.TheInside as inside
@@ -66,8 +69,11 @@ world_send = view_send _ _ _ _ _ (declared_send (world.the_type ByCount.the_row 
   (sessions.the_send ByCount.the_row ghosts timers.the_send, (outs.the_send, tt)),
 ))
 
+recorded_send : IsSend (Recorded.the_row ByCount.the_row ghosts)
+recorded_send = view_send _ _ _ _ _ (declared_send (recorded.the_type ByCount.the_row ghosts) (world_send, (Vec-send _ kept.the_send, tt)))
+
 held : IsSend Held.the_row
-held = view_send _ _ _ _ _ (declared_send inside.the_type (world_send, (search (sendable, crosses) depth 20, (answer.the_send, (search (sendable, crosses) depth 20, tt)))))
+held = view_send _ _ _ _ _ (declared_send inside.the_type (recorded_send, (search (sendable, crosses) depth 20, (answer.the_send, (search (sendable, crosses) depth 20, tt)))))
 
 keyless : (a : Global) (p : Ptr) (h : Option (Held.the_row).Denot) → Keyless (kept_owns a p h)
 keyless a p None = tt
