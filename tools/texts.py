@@ -377,7 +377,9 @@ def tool_name():
 
 
 def run_tool(work):
-    """Runs a tool: 0, or 1 with what is wrong on standard error."""
+    """Runs a tool: 0, or 1 with what is wrong on standard error. With --version it says what bin/bfdd says."""
+    if sys.argv[1:] == ["--version"]:
+        os.execv(TOP / "bin/bfdd", ["bfdd", "--version"])
     sys.stderr = sys.stderr or open(os.devnull, "w")
     try:
         finish(work)
