@@ -26,7 +26,7 @@ ECHO = bytes.fromhex("42464465")  # the first word of an echo packet
 BITS = {"P": 0x20, "F": 0x10, "C": 0x08, "A": 0x04, "D": 0x02, "M": 0x01}
 MOST_BYTES, LONGEST_LINE = 67108864, 4096  # of a packet file
 LAST_TICK, LAST_MOMENT = 1152921504606846, 1152921504606846975
-REFUSED = {7: f": the packet file has more than {MOST_BYTES:,} bytes", 11: ": there was no memory"}  # what some statuses mean
+REFUSED = {7: f": the packet file has more than {MOST_BYTES:,} bytes", 11: ": out of memory"}  # what some statuses mean
 
 
 class Complaint(Exception):
