@@ -50,7 +50,7 @@ def discriminator(text):
     try:
         return number_of(text, 2**32 - 1)
     except ValueError:
-        raise argparse.ArgumentTypeError(f"a discriminator is wanted, and {text!r} was given") from None
+        raise argparse.ArgumentTypeError(f"a discriminator is required, and {text!r} was given") from None
 
 
 def add_choice_arguments(parser):

@@ -1,6 +1,6 @@
 """Packet files, reports and control packets, as the tools read them. docs/FORMATS.md and docs/PROTOCOL.md say what they are.
 
-Nothing here is proved. A packet file is taken as one that the program reads: only what a tool needs of a line is looked at.
+Nothing here is proved. A packet file is assumed to be one that the program reads: only what a tool needs of a line is looked at.
 """
 import argparse
 import functools
@@ -30,7 +30,7 @@ REFUSED = {7: f": the packet file has more than {MOST_BYTES:,} bytes", 11: ": ou
 
 
 class Complaint(Exception):
-    """What a person is told in place of an answer."""
+    """What a person reads in place of an answer."""
 
 
 def library(name, package):
@@ -308,7 +308,7 @@ def moment_of(text):
     except ValueError:
         value = -1
     if not 0 <= value < 1e12:
-        raise argparse.ArgumentTypeError(f"a number of seconds from 0 to below 1,000,000,000,000 is wanted, and {text!r} was given")
+        raise argparse.ArgumentTypeError(f"a number of seconds from 0 to below 1,000,000,000,000 is required, and {text!r} was given")
     return value
 
 
