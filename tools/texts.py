@@ -359,15 +359,15 @@ def add_replay_arguments(parser):
                         help="what replays it, in place of bin/bfdd")
 
 
-def script_and_happenings(told):
+def script_and_happenings(choices):
     """The packet file that these arguments name, and each of its events with what a report has of it, one after another."""
-    if told.served:
+    if choices.served:
         from served import read_run, whole_run
-        return whole_run(*read_run(told.file, told.served))
-    text = text_of(told.file)
-    script = Script(text, told.file)
-    report = text_of(told.report) if told.report else replayed(told.program, text)
-    return script, happenings(script, report_of(report, script, told.report or "the report"))
+        return whole_run(*read_run(choices.file, choices.served))
+    text = text_of(choices.file)
+    script = Script(text, choices.file)
+    report = text_of(choices.report) if choices.report else replayed(choices.program, text)
+    return script, happenings(script, report_of(report, script, choices.report or "the report"))
 
 
 def tool_name():
