@@ -16,7 +16,7 @@ _bfdd() {
     bfdd-judge) words="--help --local --keys --slack --json --rules --program" ;;
     bfdd-listing) words="--help --report --served --program --session --peer" ;;
     bfdd-packets) words="--help --report --served --program --sent --output" ;;
-    bfdd-peer) words="--help --multihop --interface --tx --rx --mult --passive --auth --json --on-change --record --control --log" ;;
+    bfdd-peer) words="--help --multihop --interface --tx --rx --mult --passive --auth --json --on-change --record --control --log --version" ;;
     bfdd-probe) words="--help --interface --source --multihop --auth --jitter --json --list" ;;
     bfdd-script) words="--help --output" ;;
     bfdd-timeline) words="--help --report --served --program --output --from --to --lanes --session --peer --title" ;;

@@ -256,17 +256,18 @@ uint64_t control_round(uint64_t now);
 /* The last of the options that a front knows, and their lines of its usage. */
 #define FRONT_OPTIONS \
     {"record", required_argument, NULL, 'R'}, {"control", required_argument, NULL, 'C'}, {"log", required_argument, NULL, 'L'}, \
-    {"help", no_argument, NULL, 'H'}, {0}
+    {"help", no_argument, NULL, 'H'}, {"version", no_argument, NULL, 'V'}, {0}
 #define FRONT_USAGE(level) \
     "  --record FOLDER  write each session's life to a packet file of its own there, for bfdd replay\n" \
     "  --control PATH   a unix socket that answers whoever connects with a line of JSON for each session\n" \
     "  --log LEVEL      error, warning, info or debug, to standard error; " level " if not given\n" \
-    "  --help           this text\n"
+    "  --help           this text\n" \
+    "  --version        the version\n"
 
 /* Carries out an option of the front's own. False where its value is wrong. */
 typedef bool front_option(int option, const char *value);
 
-/* Reads the options. It ends the program by --help, and where one is wrong. */
+/* Reads the options. It ends the program by --help and --version, and where one is wrong. */
 void front_read(int count, char **words, const struct option *known, front_option *take, const char *usage);
 
 /* Writes the usage to standard error and ends the program. */

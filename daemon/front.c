@@ -15,6 +15,12 @@ void front_fault(const char *usage) {
     exit(1);
 }
 
+static void print_version(const char *program) {
+    const char *slash = strrchr(program, '/');
+    printf("%s %u.%u\n", slash ? slash + 1 : program, bfdd_version() >> 16, bfdd_version() & 0xffff);
+    exit(0);
+}
+
 void front_read(int count, char **words, const struct option *known, front_option *take, const char *usage) {
     bool is_good = true;
     level = log_greatest;
@@ -23,6 +29,7 @@ void front_read(int count, char **words, const struct option *known, front_optio
         else if (option == 'C') control = optarg;
         else if (option == 'L') is_good = log_level_named(optarg, &level);
         else if (option == 'H') fputs(usage, stdout), exit(0);
+        else if (option == 'V') print_version(words[0]);
         else is_good = option != '?' && take(option, optarg);
     }
     if (!is_good) front_fault(usage);

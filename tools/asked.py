@@ -154,16 +154,16 @@ def answer_of(words):
         raise Complaint(f"the program's answer isn't one of `show`: {' '.join(words)[:80]}") from None
 
 
-def parts_of(told):
+def parts_of(choices):
     """The packet file that the arguments of a command line name, or those of a run's shards, each with its answers."""
-    if told.served:
-        live, served = read_run(told.file, told.served)
-        parts = [Part(packet_file(live, served, number), f"shard {number} of {told.served}", report_text(shard), told.served)
+    if choices.served:
+        live, served = read_run(choices.file, choices.served)
+        parts = [Part(packet_file(live, served, number), f"shard {number} of {choices.served}", report_text(shard), choices.served)
                  for number, shard in enumerate(served.shards)]
     else:
-        text = text_of(told.file)
-        parts = [Part(text, told.file, text_of(told.report) if told.report else replayed(told.program, text),
-                      told.report or "the report")]
+        text = text_of(choices.file)
+        parts = [Part(text, choices.file, text_of(choices.report) if choices.report else replayed(choices.program, text),
+                      choices.report or "the report")]
     for part in parts:
-        part.ask(told.program)
+        part.ask(choices.program)
     return parts

@@ -136,7 +136,7 @@ class Course:
     def by_expiry(self, number, event):
         answer = self.part.before(self.session.discr, number)
         if not self.heard or not answer:
-            return "expiry", {}, ["The Detection Time expired. How long it was can't be told: the packet file has no room for questions."]
+            return "expiry", {}, ["The Detection Time expired. How long it was is unknown: the packet file has no room for questions."]
         if self.own_polls.since is not None and self.own and self.own.has("D"):
             return self.by_unanswered_poll(event)
         packet, detect, last = self.heard.packet, answer.detect, max(self.heard.moment, self.demand_end)
@@ -166,7 +166,7 @@ class Course:
         late = event.moment - due
         what = f"the tick at {seconds(event.moment)}" if event.word == "tick" else f"event {number} at {seconds(event.moment)}"
         if late <= 0:
-            return f"It ended at {seconds(due)}, and {what} found it so at once."
+            return f"It ended at {seconds(due)}, and {what} found it so immediately."
         return f"It ended at {seconds(due)}, and {what} found it so, {span(late)} late."
 
     def by_unanswered_poll(self, event):
@@ -207,7 +207,7 @@ class Course:
         sentences = [f"The peer said {packet.state}, diagnostic {diagnostic(packet.diag)}, in the packet at {seconds(event.moment)} "
                      f"(event {number})."]
         if restarted:
-            sentences.append(f"Its My Discriminator changed from {known} to {packet.my}: it restarted, or made the session anew.")
+            sentences.append(f"Its My Discriminator changed from {known} to {packet.my}: it restarted, or created the session again.")
         if not packet.your and self.session.kind in ("single", "multi"):
             facts["knows_us"] = False
             sentences.append("Its Your Discriminator is 0: it has heard nothing of this session yet, or has forgotten it.")
@@ -297,7 +297,7 @@ def after(course, change):
             f"and says {packet.state}, diagnostic {diagnostic(packet.diag)}"
     known = change.facts["peer_discr"]
     if packet.my != known:
-        return [first + f", with another My Discriminator ({packet.my} after {known}): the peer restarted, or made the session anew."]
+        return [first + f", with another My Discriminator ({packet.my} after {known}): the peer restarted, or created the session again."]
     return [first + ". " + STILL_THERE.get((packet.state, packet.diag), STILL_THERE.get(packet.state, SAME + "."))]
 
 

@@ -2,7 +2,7 @@
 others.py the ends of seamless and multipoint BFD and the echo packets.
 
 A rule of what an end did is certain, since what it heard has passed the capturing point, but where packets are missing in the capture. A
-rule of what an end failed to do can be told of the local end alone: for the other, a packet may have been lost behind that point. So each
+rule of what an end failed to do is certain of the local end alone: for the other, a packet may have been lost behind that point. So each
 finding is `wrong`, or `can't be told`. Nothing here is proved.
 """
 import collections
@@ -230,7 +230,7 @@ class End:
                       f"Desired Min TX rose; allowed: {span(allowed)}", self.is_local or self.late_gaps > 1)
 
     def unwanted(self, moment, said):
-        """Periodic packets to a peer that wants none."""
+        """Periodic packets to a peer that asks for none."""
         peer = self.peer
         if not peer or not peer.last or peer.heard_at is None:
             return
@@ -361,7 +361,7 @@ class End:
         if moment - self.downs[0] > limit and not self.downs[1]:
             self.downs[1] = True
             self.find("ignored-down", self.number, moment, f"Up, {span(moment - self.downs[0])} after the peer said "
-                      f"{STATES[peer.last.state]} and went on to; allowed: Down at once")
+                      f"{STATES[peer.last.state]} and went on to; allowed: Down immediately")
 
     # Discriminators and sequence numbers.
 

@@ -50,7 +50,7 @@ def discriminator(text):
     try:
         return number_of(text, 2**32 - 1)
     except ValueError:
-        raise argparse.ArgumentTypeError(f"a discriminator is wanted, and {text!r} was given") from None
+        raise argparse.ArgumentTypeError(f"a discriminator is required, and {text!r} was given") from None
 
 
 def add_choice_arguments(parser):
@@ -60,22 +60,22 @@ def add_choice_arguments(parser):
                         help="only the sessions with this peer, or with peers of this prefix")
 
 
-def chosen(told, script):
+def chosen(choices, script):
     """The discriminators of the sessions that these arguments choose; all where they choose none."""
-    unknown = [str(discr) for discr in told.session if discr not in script.sessions]
+    unknown = [str(discr) for discr in choices.session if discr not in script.sessions]
     if unknown:
-        raise Complaint(f"{told.file} has no session {', '.join(unknown)}")
-    found = {discr for discr, session in script.sessions.items() if is_chosen(told, session)}
+        raise Complaint(f"{choices.file} has no session {', '.join(unknown)}")
+    found = {discr for discr, session in script.sessions.items() if is_chosen(choices, session)}
     if script.sessions and not found:
-        raise Complaint(f"{told.file} has no session with a peer of {', '.join(map(str, told.peer))}")
+        raise Complaint(f"{choices.file} has no session with a peer of {', '.join(map(str, choices.peer))}")
     return found
 
 
-def is_chosen(told, session):
-    if not told.session and not told.peer:
+def is_chosen(choices, session):
+    if not choices.session and not choices.peer:
         return True
     peer = ipaddress.ip_address(session.remote)
-    return session.discr in told.session or any(peer in one for one in told.peer)
+    return session.discr in choices.session or any(peer in one for one in choices.peer)
 
 
 # The clock on the wall.

@@ -96,7 +96,7 @@ class Peer:
             else:
                 into.setsockopt(socket.IPPROTO_IPV6, socket.IPV6_RECVHOPLIMIT, 1)
         except OSError as fault:
-            raise Complaint(f"port {self.port} of {local or 'this machine'} can't be had: {fault.strerror}") from None
+            raise Complaint(f"port {self.port} of {local or 'this machine'} can't be opened: {fault.strerror}") from None
         return out, into
 
     # Sending.

@@ -12,7 +12,7 @@ from reasons import diagnostic
 from rules import DEMAND, FINAL, MULTIPOINT, POLL
 
 SOON = 0.25         # seconds in which F has to come
-WATCH = 0.6         # in which a packet that was taken would show in Up
+WATCH = 0.6         # in which a packet that was accepted would show in Up
 SLOW = 1.4          # the same outside Up, where packets come each second
 SPARE = 0.3         # by which a state may be told late
 EARLY = 0.01        # by which a timer may seem early
@@ -229,7 +229,7 @@ def poll_in_up(peer):
 
 
 def poll_till_final(peer):
-    """A Poll Sequence of the daemon goes on till F, and then ends. It begins one as it comes Up, where an interval changes there."""
+    """A Poll Sequence of the daemon goes on until F, and then ends. It begins one as it comes Up, where an interval changes there."""
     before = [came.packet for came in peer.came if came.packet.state == "Down"][-1:]
     peer.answers, peer.follows, peer.sends, peer.state, peer.diag, peer.next = False, True, True, DOWN, 0, 0.0
     first = peer.run(8, lambda came: came.packet.state == "Up" and came.packet.has("P"))
@@ -247,7 +247,7 @@ def poll_till_final(peer):
     peer.run(0.05)
     rest = peer.since(peer.last_sent)
     came = peer.run(2, lambda came: not came.packet.has("P"))
-    return came is not None and len(rest) < 3, "P till F, and then clear" if came else "P went on after F"
+    return came is not None and len(rest) < 3, "P until F, and then clear" if came else "P went on after F"
 
 
 def gaps(peer, seconds):
@@ -276,7 +276,7 @@ def jitter(peer, seconds):
 
 
 def slower(peer):
-    """A greater Required Min RX without P is obeyed at once."""
+    """A greater Required Min RX without P is obeyed immediately."""
     peer.rx = 1000000
     peer.send()
     peer.run(0.3)
@@ -495,26 +495,26 @@ PROBES = [
     Probe("your-0-up-in-down", "RFC 5880 section 6.8.6", "Up with Your Discriminator 0 is discarded in Down",
           lambda peer: refused(peer, "Down", state=UP, your=0), "Down", False),
     Probe("your-0-up-in-init", "RFC 5880 section 6.8.6", "Up with Your Discriminator 0 is discarded in Init", zero_in_init, "Down", False),
-    Probe("your-0-down-in-up", "RFC 5880 section 6.8.6", "Down with Your Discriminator 0 takes it Down", goes_down(DOWN, "zero", your=0),
+    Probe("your-0-down-in-up", "RFC 5880 section 6.8.6", "Down with Your Discriminator 0 brings it Down", goes_down(DOWN, "zero", your=0),
           keys=False),
     Probe("up-in-down", "RFC 5880 section 6.8.6", "Up leaves it Down", up_in_down, "Down", False),
-    Probe("down-in-down", "RFC 5880 section 6.8.6", "Down takes it from Down to Init", down_to_init, "Down", False),
-    Probe("init-in-down", "RFC 5880 section 6.8.6", "Init takes it from Down to Up",
+    Probe("down-in-down", "RFC 5880 section 6.8.6", "Down moves it from Down to Init", down_to_init, "Down", False),
+    Probe("init-in-down", "RFC 5880 section 6.8.6", "Init moves it from Down to Up",
           lambda peer: goes_up(peer, INIT), "Down", False),
     Probe("down-in-init", "RFC 5880 section 6.8.6", "Down leaves it Init", down_in_init, "Down", False),
-    Probe("up-in-init", "RFC 5880 section 6.8.6", "Up takes it from Init to Up", init_to_up, "Down", False),
+    Probe("up-in-init", "RFC 5880 section 6.8.6", "Up moves it from Init to Up", init_to_up, "Down", False),
     Probe("init-in-up", "RFC 5880 section 6.8.6", "Init leaves it Up", init_in_up, keys=False),
-    Probe("down-in-up", "RFC 5880 section 6.8.6", "Down takes it from Up to Down with diagnostic 3", goes_down(DOWN, "down"), keys=False),
-    Probe("admin-down-in-up", "RFC 5880 section 6.8.6", "AdminDown takes it from Up to Down with diagnostic 3",
+    Probe("down-in-up", "RFC 5880 section 6.8.6", "Down moves it from Up to Down with diagnostic 3", goes_down(DOWN, "down"), keys=False),
+    Probe("admin-down-in-up", "RFC 5880 section 6.8.6", "AdminDown moves it from Up to Down with diagnostic 3",
           goes_down(ADMIN_DOWN, "admin", diag=7), keys=False),
     Probe("admin-down-holds", "RFC 5880 section 6.2", "it stays Down while the peer says AdminDown", stays_admin_down, keys=False),
     Probe("restart", "RFC 5880 section 6.3", "a peer with another My Discriminator brings it Up again", restart),
     Probe("poll-in-down", "RFC 5880 section 6.5", "P is answered by F in Down", poll_in_down, "Down", False),
     Probe("poll-in-init", "RFC 5880 section 6.5", "P is answered by F in Init", poll_in_init, "Down", False),
     Probe("poll-in-up", "RFC 5880 section 6.5", "P is answered by F in Up", poll_in_up),
-    Probe("own-poll", "RFC 5880 section 6.5", "its Poll Sequence lasts till F", poll_till_final, "Down", False),
+    Probe("own-poll", "RFC 5880 section 6.5", "its Poll Sequence lasts until F", poll_till_final, "Down", False),
     Probe("final-unasked", "RFC 5880 section 6.8.7", "F is sent only for P", unasked_finals, keys=False),
-    Probe("greater-min-rx", "RFC 5880 section 6.8.7", "a greater Required Min RX slows it at once", slower, keys=False),
+    Probe("greater-min-rx", "RFC 5880 section 6.8.7", "a greater Required Min RX slows it immediately", slower, keys=False),
     Probe("min-rx-0", "RFC 5880 section 6.8.7", "at Required Min RX 0 it sends nothing periodically", min_rx_zero, keys=False),
     Probe("poll-at-min-rx-0", "RFC 5880 section 6.8.7", "P is answered at Required Min RX 0 too", poll_at_zero, keys=False),
     Probe("demand", "RFC 5880 section 6.8.7", "to a peer in demand mode it sends nothing periodically", demand, keys=False),
@@ -531,7 +531,7 @@ PROBES = [
     Probe("auth-length", "RFC 5880 section 6.7", "a wrong Auth Len is discarded", wrong_length, keys=True),
     Probe("auth-digest", "RFC 5880 section 6.7", "a wrong digest or password is discarded", wrong_digest, keys=True),
     Probe("auth-repeated", "RFC 5880 sections 6.7.3 and 6.7.4",
-          "a repeated number is refused by the meticulous types, and taken by the others", replayed, keys=True),
+          "a repeated number is refused by the meticulous types, and accepted by the others", replayed, keys=True),
     Probe("auth-old", "RFC 5880 section 6.7.3", "an old number is refused", old_number, keys=True),
     Probe("auth-far", "RFC 5880 section 6.7.3", "a number beyond three times Detect Mult is refused", far_number, keys=True),
     Probe("auth-wrapped", "RFC 5880 section 6.7.3", "numbers go on from 4294967295 to 0", wrapped, keys=True),

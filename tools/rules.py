@@ -52,7 +52,7 @@ RULES = {
     "missed-expiry": Rule("RFC 5880 section 6.8.4", "the session leaves Init and Up when no packet came for a Detection Time"),
     "ignored-down": Rule("RFC 5880 section 6.8.6", "the session leaves Up when the peer says Down or AdminDown"),
     "final-without-poll": Rule("RFC 5880 section 6.8.7", "F answers a packet with P"),
-    "poll-unanswered": Rule("RFC 5880 section 6.5", "a packet with P is answered at once by one with F"),
+    "poll-unanswered": Rule("RFC 5880 section 6.5", "a packet with P is answered immediately by one with F"),
     "change-without-poll": Rule("RFC 5880 section 6.8.3", "a changed Desired Min TX or Required Min RX begins a Poll Sequence"),
     "interval-before-poll": Rule("RFC 5880 section 6.8.3", "a longer Desired Min TX is used when its Poll Sequence has ended"),
     "too-early": Rule("RFC 5880 section 6.8.7", "periodic packets are at least 0.75 of the interval apart"),
@@ -89,8 +89,8 @@ RULES = {
     "head-discriminator": Rule("RFC 8562 section 5.13.3", "a head's Your Discriminator is 0"),
     "head-min-rx": Rule("RFC 8562 section 5.13.3", "a head's Required Min RX is 0, but where tails are active (RFC 8563)"),
     "head-state": Rule("RFC 8562 section 5.5", "a head isn't in Init"),
-    "head-poll": Rule("RFC 8562 section 5.10", "a head tells a changed interval by packets with P"),
-    "head-interval": Rule("RFC 8562 section 5.10", "a head tells a longer interval at the old one before it uses it"),
+    "head-poll": Rule("RFC 8562 section 5.10", "a head sends a changed interval in packets with P"),
+    "head-interval": Rule("RFC 8562 section 5.10", "a head sends a longer interval at the old one before it uses it"),
     "tail-answer": Rule("RFC 8562 section 5.10", "a tail sends nothing to a head whose Required Min RX is 0"),
 }
 

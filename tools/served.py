@@ -129,7 +129,7 @@ def entries_of(live, served, shard):
         while at < len(shard.lines) and shard.lines[at][0] == place + len(lines) + 1:
             number, word, *words = shard.lines[at][1].split(" ")
             if not live.script.may_have(word, words):
-                raise Complaint(f"{served.name}: line {shard.lines[at][0]} tells nothing of this script: {quoted(shard.lines[at][1])}")
+                raise Complaint(f"{served.name}: line {shard.lines[at][0]} is none of this script: {quoted(shard.lines[at][1])}")
             lines.append(Line(int(number), word, words))
             at += 1
         latest = max(latest, event.moment)

@@ -1,4 +1,4 @@
-"""What a session's whole course comes to: times, packets, intervals, polls and authentication. The intervals that were advertised and
+"""The summary of a session's whole course: times, packets, intervals, polls and authentication. The intervals that were advertised and
 used are the program's answers (asked.py), and those that were seen are between packets of the packet file and of its report.
 
 Nothing here is proved.
@@ -91,7 +91,7 @@ def summary_lines(course):
     times = ", ".join(f"{span(round(moment * 1e6))} {state}" for state, moment in summary["seconds"].items())
     yield f"In all: {times}; {counted(summary['changes'], 'change')} of state, {counted(summary['flaps'], 'flap')} (left Up)."
     dropped = sum(summary["dropped"].values())
-    yield (f"Packets: {summary['packets_in']} taken, {summary['packets_out']} sent, {dropped} dropped"
+    yield (f"Packets: {summary['packets_in']} accepted, {summary['packets_out']} sent, {dropped} dropped"
            + (f": {drops_in_words(summary['dropped'])}." if dropped else "."))
     yield (f"Own intervals: Desired Min TX advertised {series(summary['advertised_min_tx'])}, in use {series(summary['used_min_tx'])}; "
            f"Required Min RX in use {series(summary['used_min_rx'])}; Detection Time {series(summary['detection_times'])}.")

@@ -1,6 +1,6 @@
 """Packet files, reports and control packets, as the tools read them. docs/FORMATS.md and docs/PROTOCOL.md say what they are.
 
-Nothing here is proved. A packet file is taken as one that the program reads: only what a tool needs of a line is looked at.
+Nothing here is proved. A packet file is assumed to be one that the program reads: only what a tool needs of a line is looked at.
 """
 import argparse
 import functools
@@ -26,11 +26,11 @@ ECHO = bytes.fromhex("42464465")  # the first word of an echo packet
 BITS = {"P": 0x20, "F": 0x10, "C": 0x08, "A": 0x04, "D": 0x02, "M": 0x01}
 MOST_BYTES, LONGEST_LINE = 67108864, 4096  # of a packet file
 LAST_TICK, LAST_MOMENT = 1152921504606846, 1152921504606846975
-REFUSED = {7: f": the packet file has more than {MOST_BYTES:,} bytes", 11: ": there was no memory"}  # what some statuses mean
+REFUSED = {7: f": the packet file has more than {MOST_BYTES:,} bytes", 11: ": out of memory"}  # what some statuses mean
 
 
 class Complaint(Exception):
-    """What a person is told in place of an answer."""
+    """What a person reads in place of an answer."""
 
 
 def library(name, package):
@@ -308,7 +308,7 @@ def moment_of(text):
     except ValueError:
         value = -1
     if not 0 <= value < 1e12:
-        raise argparse.ArgumentTypeError(f"a number of seconds from 0 to below 1,000,000,000,000 is wanted, and {text!r} was given")
+        raise argparse.ArgumentTypeError(f"a number of seconds from 0 to below 1,000,000,000,000 is required, and {text!r} was given")
     return value
 
 
@@ -359,15 +359,15 @@ def add_replay_arguments(parser):
                         help="what replays it, in place of bin/bfdd")
 
 
-def script_and_happenings(told):
+def script_and_happenings(choices):
     """The packet file that these arguments name, and each of its events with what a report has of it, one after another."""
-    if told.served:
+    if choices.served:
         from served import read_run, whole_run
-        return whole_run(*read_run(told.file, told.served))
-    text = text_of(told.file)
-    script = Script(text, told.file)
-    report = text_of(told.report) if told.report else replayed(told.program, text)
-    return script, happenings(script, report_of(report, script, told.report or "the report"))
+        return whole_run(*read_run(choices.file, choices.served))
+    text = text_of(choices.file)
+    script = Script(text, choices.file)
+    report = text_of(choices.report) if choices.report else replayed(choices.program, text)
+    return script, happenings(script, report_of(report, script, choices.report or "the report"))
 
 
 def tool_name():
@@ -377,7 +377,9 @@ def tool_name():
 
 
 def run_tool(work):
-    """Runs a tool: 0, or 1 with what is wrong on standard error."""
+    """Runs a tool: 0, or 1 with what is wrong on standard error. With --version it says what bin/bfdd says."""
+    if sys.argv[1:] == ["--version"]:
+        os.execv(TOP / "bin/bfdd", ["bfdd", "--version"])
     sys.stderr = sys.stderr or open(os.devnull, "w")
     try:
         finish(work)

@@ -230,7 +230,7 @@ def capture_tells_echo_packets_that_came_back(place):
          "what came back")
     for rest, why in (([echo(302000, 7, 255), echo(303000, 7, 254), echo(402000, 8, 255), echo(403000, 8, 254)],
                        "don't begin with number 0"),
-                      ([echo(302000, 0, 255), echo(303000, 0, 254)], "one echo packet tells no interval")):
+                      ([echo(302000, 0, 255), echo(303000, 0, 254)], "one echo packet shows no interval")):
         text, said = captured(place, pcap([*started, *rest]))
         has(text, TABLE + "\n")
         has(said, why, f"left out: {len(rest) // 2} echo packets that came: no session has the Echo function on here and sent them")

@@ -94,7 +94,7 @@ def probe_explains_bad_input(_place):
                                (["127.0.0.1", "--auth", "5:1:"], 2, "TYPE:KEYID:SECRET is needed"),
                                (["127.0.0.1", "--jitter", "0"], 2, "a number of seconds from 1 to 3600 is needed"),
                                (["127.0.0.1", "nothing-like-it"], 1, "no probe of such a session is named nothing-like-it"),
-                               (["127.0.0.1", "--source", "192.0.2.1"], 1, "of 192.0.2.1 can't be had")):
+                               (["127.0.0.1", "--source", "192.0.2.1"], 1, "of 192.0.2.1 can't be opened")):
         ran = subprocess.run([TOP / "tools/probe", *words], capture_output=True, text=True, timeout=60)
         same((ran.returncode, "Traceback" in ran.stderr), (status, False), f"words {words}: {ran.stderr}")
         has(ran.stderr, why)

@@ -62,6 +62,7 @@ class Place:
         top = self.folder / "tree"
         for part in ("bin", "tools", "man", "docs", "include", "daemon"):
             shutil.copytree(TOP / part, top / part, ignore=shutil.ignore_patterns("__pycache__"))
+        shutil.copy(TOP / "LICENSE", top)
         (top / "stand-in").write_text(f'#!/bin/sh\nexec {shlex.join(self.program)} "$@"\n')
         (top / "bin/proved").write_text(f"#!/bin/sh\necho {shlex.quote(str(top / 'stand-in'))}\n")
         (top / "bin/library").write_text('#!/bin/sh\nmkdir -p "$1/lib"\necho a stand-in >"$1/lib/libbfdd.a"\n')
