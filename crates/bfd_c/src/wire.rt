@@ -45,8 +45,7 @@ pub(crate) fn read_address(address: &Address) -> Option<Addr>
     }
 }
 
-/// The address for C. (Not put in place, where its bytes would be moved one by one.)
-#[inline(never)]
+/// The address for C.
 pub(crate) fn told_address(addr: Addr) -> Address
     ensures { result ≡ address_for_c addr }
 {
