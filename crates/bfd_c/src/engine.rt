@@ -10,9 +10,9 @@ ghost use Rattle.bfd_script.specs.declared.line.entries.Line.TheVariants as line
 
 use bfd_demux::AddFault;
 use bfd_levels::ByCount;
-use bfd_records::{Look, Recorded as World};
 use bfd_num::{Moment, Tick};
 use bfd_packet::Arrival;
+use bfd_records::{Look, Recorded as World};
 use bfd_rules::Out;
 use bfd_sbfd::Reflector;
 use bfd_script::line::Line;
