@@ -57,7 +57,7 @@ impl<W: Timers> Engine<W> {
         requires joined { EachJoined self pass }
         requires none { shards.items ≡ [] }
         requires room { length self.locks ≤ vec_capacity shards }
-        ensures closed { AreClosed self pass result.items }
+        ensures { AreClosed self pass result.items }
     {
         let mut shards = shards;
         let mut pass = pass;
