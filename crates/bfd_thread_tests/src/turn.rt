@@ -1,12 +1,10 @@
-//! A lock over a value that keeps pairs of a caller and a number: two threads that add to it, and one that is at the last word.
-ghost use Rattle.std.specs.Prelude.{◌≡◌, ◌++◌, ◌∷◌, [], OnErr, OnOk, IfSome};
+//! A lock that is at the last word, over a value that keeps pairs of a caller and a number.
+ghost use Rattle.std.specs.Prelude.{◌≡◌, [], IfSome};
 ghost use Rattle.bfd_turn.specs.Refusals.{IsRefused};
 
 use bfd_turn::{Pass, Recorded, TryFault, TurnLock};
-use std::alloc::{AllocError, Global};
-use std::sync::Wait;
+use std::alloc::Global;
 use std::test::Fail;
-use std::thread::{Threads, join};
 
 #[derive(Drop)]
 struct Pairs {
@@ -38,115 +36,16 @@ impl Recorded for Pairs {
 
 impl Pairs {
     fn empty(alloc: Global) -> Pairs
-        ensures { (result.pairs.items ≡ []) × (result.limit ≡ 7) }
+        ensures { result.pairs.items ≡ [] }
     {
         Pairs {
             limit: 7,
             pairs: Vec::new(alloc),
         }
     }
-
-    fn add(&mut self, caller: u32, number: u32) -> Result<(), AllocError>
-        ensures ok { OnOk result (self.new.pairs.items ≡ self.old.pairs.items ++ (caller, number) ∷ []) }
-        ensures err { OnErr result (self.new.pairs.items ≡ self.old.pairs.items) }
-        ensures limit { self.new.limit ≡ self.old.limit }
-    {
-        self.pairs.push((caller, number))?;
-        Ok(())
-    }
 }
 
 type Own = Pass<(u32, u32), u32>;
-
-// Adds one pair in a turn, which waits until it is had. Nothing comes back where memory or turns ran out.
-fn add_one<R: Wait>(rt: &R, lock: &TurnLock<Pairs>, pass: Own, number: u32) -> Option<Own>
-    requires { pass.0 ≡ lock.now }
-    ensures { IfSome result (λ p. p.0 ≡ lock.now) }
-{
-    let caller = pass.caller();
-    let mut turn = lock.turn(rt, pass).ok()?;
-    match turn.value().add(caller, number) {
-        Ok(()) => Some(lock.done(turn)),
-        Err(_) => {
-            lock.done(turn);
-            None
-        }
-    }
-}
-
-// Adds the pairs of the numbers below `count`, each in a turn of its own.
-fn add_all<R: Wait>(rt: &R, lock: &TurnLock<Pairs>, mut pass: Own, count: u32) -> Option<Own>
-    requires { pass.0 ≡ lock.now }
-    ensures { IfSome result (λ p. p.0 ≡ lock.now) }
-{
-    for number in 0..count {
-        pass = add_one(rt, lock, pass, number)?;
-    }
-    Some(pass)
-}
-
-// Two threads add `count` pairs each. Gives the pass of the first.
-fn add_by_two<R: Threads + Wait + Sync>(
-    rt: &R,
-    lock: &TurnLock<Pairs>,
-    first: Own,
-    second: Own,
-    count: u32,
-) -> Option<Own>
-    requires { (first.0 ≡ lock.now) × (second.0 ≡ lock.now) }
-    ensures { IfSome result (λ p. p.0 ≡ lock.now) }
-{
-    let (first, second) = join(
-        rt,
-        move || -> Option<Own>
-            requires { first.0 ≡ lock.now }
-            ensures { IfSome result (λ p. p.0 ≡ lock.entry.now) }
-        { add_all(rt, lock, first, count) },
-        move || -> Option<Own>
-            requires { second.0 ≡ lock.now }
-            ensures { IfSome result (λ p. p.0 ≡ lock.entry.now) }
-        { add_all(rt, lock, second, count) },
-    );
-    second?;
-    first
-}
-
-// Whether the numbers of one caller are those below `count`, in their order.
-fn are_in_order(pairs: &[(u32, u32)], caller: u32, count: u32) -> bool {
-    let mut next = 0u32;
-    for pair in pairs {
-        if pair.0 == caller {
-            if pair.1 != next {
-                return false;
-            }
-            next = next.wrapping_add(1);
-        }
-    }
-    next == count
-}
-
-// Whether the history has `count` pairs of each of two callers, in their order. None where no turn was had.
-fn has_both(lock: &TurnLock<Pairs>, pass: Own, count: u32) -> Option<bool>
-    requires { pass.0 ≡ lock.now }
-{
-    let mut turn = lock.try_turn(pass).ok()?;
-    let pairs = turn.value().notes();
-    let are_all = pairs.len() as u64 == 2 * count as u64
-        && are_in_order(pairs, 0, count)
-        && are_in_order(pairs, 1, count);
-    lock.done(turn);
-    Some(are_all)
-}
-
-#[test]
-fn two_threads_add_to_one_history(rt: HostRuntime) -> Result<(), Fail> {
-    let alloc = rt.alloc();
-    let (lock, mut first) = TurnLock::new(alloc, Pairs::empty(alloc), 0)?;
-    let second = lock.split(&mut first, 1);
-    let first = add_by_two(&rt, &lock, first, second, 1000).ok_or("memory or turns ran out")?;
-    assert!(rt; has_both(&lock, first, 1000) == Some(true));
-    Ok(())
-}
 
 // Why one try is refused. A turn that is had is given back.
 fn refusal_of(lock: &TurnLock<Pairs>, pass: Own) -> Option<TryFault<(u32, u32), u32>>

@@ -189,7 +189,7 @@ all_sole {shards = shards} new kept closed r inside =
     let c = (closed_at shards closed inside).1 in
     subst (IsSole 0) c.journal (sole_of 0 _ (λ n other. c.unmade n other (ap (has n) (none_made new kept r inside))))
 
--- and it didn't stop but for want of memory
+-- and it stopped only when out of memory
 pub never_stopped : {engine : Shards} {times : ℕ} {k l : Knows} {shards : List Shard} (fault : EngineFault) → IsNewPass engine k → HasKept times k l → times ≤ 400002
     → AreClosed engine l shards → IsCutShort fault engine l → fault ≡ Memory
 never_stopped Memory new kept few closed stop = refl

@@ -87,7 +87,7 @@ pub record HasKept (times : ℕ) (k l : Knows) : Type 0 where
 abbrev pub brought : ℕ → Happening → ℕ → List ShardEvent
 brought n h r = cons_option (in_shard n r h) []
 
--- why an event couldn't be carried out: for want of memory; with a shard's journal at its limit, to which this caller had added nothing;
+-- why an event couldn't be carried out: out of memory; with a shard's journal at its limit, to which this caller had added nothing;
 -- or with a lock's last word
 abbrev pub IsRefusal : EngineFault → Shards → Knows → Knows → Type 0
 IsRefusal Memory engine k l = Unit {0}
@@ -105,7 +105,7 @@ abbrev pub IsLeft : WatchFault → Watching → List Entry → Type 0
 IsLeft (watch.Full count) w entries = w.limit < length (w.entries ++ entries)
 IsLeft watch.Memory w entries = Unit {0}
 
--- why the text couldn't be told: for want of memory, if caller 0 is the only one and no lock's last word was met
+-- why the text couldn't be told: out of memory, if caller 0 is the only one and no lock's last word was met
 abbrev pub IsCutShort : EngineFault → Shards → Knows → Type 0
 IsCutShort Memory engine l = Unit {0}
 IsCutShort (Full at n) engine l = AllSole (length engine.locks) l → ⊥

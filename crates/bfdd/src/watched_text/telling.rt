@@ -108,7 +108,7 @@ fn opened<W: Timers>(
     }
 }
 
-/// The text, which nothing but want of memory kept away.
+/// The text, or that memory ran out.
 fn text_of(told: Result<Vec<u8>, EngineFault>) -> Result<Vec<u8>, AllocError>
     requires { IfErr told (λ fault. fault ≡ EngineFault.Memory) }
     ensures { IfOk result (λ text. told ≡ Ok text) }
@@ -122,7 +122,7 @@ fn text_of(told: Result<Vec<u8>, EngineFault>) -> Result<Vec<u8>, AllocError>
 
 /// The watched text of a replay of the script on 1 to 64 shards, with a group of these members, of which `need` must be Up: the changes
 /// of each event, of members and of other sessions, and each move of the group. Each line is turns of an engine's shards, and after each
-/// event a watch of each shard takes its history's new entries. The one refusal is want of memory.
+/// event a watch of each shard takes its history's new entries. Fails only when out of memory.
 pub fn watched<R: Wait>(
     rt: &R,
     alloc: Global,
