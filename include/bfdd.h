@@ -48,7 +48,7 @@ extern "C" {
 /* The version of this header. What is compiled with it runs with a library of the same major version, and of this minor version or a
  * later one: bfdd_version() >= BFDD_VERSION. */
 #define BFDD_VERSION_MAJOR 1
-#define BFDD_VERSION_MINOR 1
+#define BFDD_VERSION_MINOR 2
 #define BFDD_VERSION (BFDD_VERSION_MAJOR * 65536 + BFDD_VERSION_MINOR)
 
 /* The version of the library, by the same rule. */

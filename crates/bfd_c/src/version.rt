@@ -4,7 +4,7 @@ ghost use Rattle.bfd_c.specs.Version.{version};
 
 const MAJOR: u32 = 1;
 
-const MINOR: u32 = 1;
+const MINOR: u32 = 2;
 
 /// The version: the major part times 65,536, and the minor part. It is that of the header.
 #[unsafe(no_mangle)]

@@ -113,7 +113,7 @@ pub enum Named {
 /// ```
 /// assert_eq!(bfdd::name(bfdd::Named::Diagnostic, 1), Some("Control Detection Time Expired"));
 /// assert_eq!(bfdd::name(bfdd::Named::State, 4), None);
-/// assert_eq!(bfdd::version(), (1, 1));
+/// assert_eq!(bfdd::version(), (1, 2));
 /// ```
 pub fn name(named: Named, number: u32) -> Option<&'static str> {
     let mut text = sys::bfdd_text { bytes: c"".as_ptr(), length: 0 };
