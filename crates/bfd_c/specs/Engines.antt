@@ -1,6 +1,5 @@
--- An engine behind a handle, and what a call makes of it. A call's code is 0 where it did its work, 1 where the handle is closed,
--- 2 for want of memory, 3 where a value is outside its range, 4 where nothing is left, 5 where a text is no table and 6 where it
--- has event lines.
+-- An engine behind a handle, and what a call makes of it. A call's code is 0 where it did its work, 1 where the handle is closed, 2 when
+-- out of memory, 3 where a value is outside its range, 4 where nothing is left, 5 where a text is no table and 6 where it has event lines.
 use Rattle.std.specs.Prelude.{ℕ, List, [], ◌∷◌, Option, None, Some, Result, Ok, Err, map}
 use Rattle.bfd_lanes.specs.Places.{least}
 use Rattle.bfd_rules.specs.declared.outputs.Out.{Out}

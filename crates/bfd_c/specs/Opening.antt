@@ -26,7 +26,7 @@ abbrev pub IsOpenedWith : Result Lists BadLine → Instance → Type 0
 IsOpenedWith (Err bad) e = ⊥
 IsOpenedWith (Ok s) e = (s.events ≡ []) × (e ≡ new_instance s.configs s.pool)
 
--- any other text comes to its complaint, or to its having event lines; or memory is wanting
+-- any other text comes to its complaint, or to its having event lines; or memory runs out
 abbrev pub IsWhy : Result Lists BadLine → Unopened → Type 0
 IsWhy text Memory = Unit {0}
 IsWhy (Err bad) (Bad b) = b ≡ bad

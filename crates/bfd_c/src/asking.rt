@@ -105,9 +105,9 @@ pub(crate) fn hear(alloc: Global, engine: &mut Engine, values: &Packet, payload:
 
 /// A packet came in. The first 256 bytes of its payload are kept.
 ///
-/// 1 comes exactly where the handle is closed; 3 exactly where it's open and the moment is 2^60 or above, the port isn't 1 to
-/// 5, the interface is above 65,535, or a family isn't 4 or 6; 2 only for want of memory for the payload, where neither 1 nor 3
-/// comes. Then nothing has changed.
+/// 1 comes exactly where the handle is closed; 3 exactly where it's open and the moment is 2^60 or above, the port isn't 1 to 5, the
+/// interface is above 65,535, or a family isn't 4 or 6; 2 only when out of memory for the payload, where neither 1 nor 3 comes. Then
+/// nothing has changed.
 #[unsafe(no_mangle)]
 pub extern "C" fn bfdd_receive(
     alloc: Global,

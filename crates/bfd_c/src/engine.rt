@@ -89,7 +89,7 @@ fn add_code(fault: AddFault) -> u32
 }
 
 impl Engine {
-    /// The sessions and reflectors of a table, before the first event. The one refusal is want of memory.
+    /// The sessions and reflectors of a table, before the first event. Fails only when out of memory.
     pub(crate) fn start(
         alloc: Global,
         configs: Vec<SessionConfig>,

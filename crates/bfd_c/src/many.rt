@@ -85,10 +85,10 @@ fn read_into(engine: &mut Engine, places: &mut [Output]) -> usize
 /// Packets came in: each is handed in as by `bfdd_receive`, in their order, and its answer goes to its place. None is handled behind
 /// one that left outputs, so that they can be read, nor behind one that can't be handled.
 ///
-/// `handled` gets how many were handled, the first ones. 0 comes where all were, or the last one left outputs. 1 comes exactly where
-/// the handle is closed; 3 where it's open and there are more than 64 or fewer places, or else exactly where the values of the packet
-/// behind those that were handled are outside their ranges, as `bfdd_receive` says; 2 only for want of memory for its payload, where 3
-/// doesn't come. The packets that weren't handled have changed nothing, and their places stay.
+/// `handled` gets how many were handled, the first ones. 0 comes where all were, or the last one left outputs. 1 comes exactly where the
+/// handle is closed; 3 where it's open and there are more than 64 or fewer places, or else exactly where the values of the packet behind
+/// those that were handled are outside their ranges, as `bfdd_receive` says; 2 only when out of memory for its payload, where 3 doesn't
+/// come. The packets that weren't handled have changed nothing, and their places stay.
 #[unsafe(no_mangle)]
 pub extern "C" fn bfdd_packets(
     alloc: Global,

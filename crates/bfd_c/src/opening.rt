@@ -88,9 +88,8 @@ fn start_by(alloc: Global, text: &[u8]) -> Result<Box<Engine>, Unopened>
 /// Opens a handle with the sessions and reflectors of a table: the text of a packet file without event lines. What the handle held
 /// before is freed, once all is there.
 ///
-/// 5 comes exactly where the text is no packet file in which packets and ticks come from outside, or in place of it 2, and then
-/// `complaint` gets its first faulty line; 6 where it's one and has event lines, or 2; and 2 for want of memory alone. Then
-/// nothing else has changed.
+/// 5 comes exactly where the text is no packet file in which packets and ticks come from outside, or in place of it 2, and then `complaint`
+/// gets its first faulty line; 6 where it's one and has event lines, or 2; and 2 only when out of memory. Then nothing else has changed.
 #[unsafe(no_mangle)]
 pub extern "C" fn bfdd_open(
     alloc: Global,
@@ -128,8 +127,8 @@ fn start_one(alloc: Global, config: SessionConfig) -> Result<Box<Engine>, AllocE
 
 /// Opens a handle with one session. What the handle held before is freed, once all is there.
 ///
-/// 3 comes exactly where a value that the kind uses is outside its range, 2 for want of memory alone, and only where none is. Then
-/// nothing has changed.
+/// 3 comes exactly where a value that the kind uses is outside its range, 2 only when out of memory, and only where none is. Then nothing
+/// has changed.
 #[unsafe(no_mangle)]
 pub extern "C" fn bfdd_open_session(alloc: Global, handle: &mut Handle, fields: &Fields) -> u32
     ensures done { result ≢ 2 → (handle.new.kept.held, result)

@@ -78,8 +78,8 @@ fn port(number: u32) -> Option<Port>
     }
 }
 
-/// The packet with its payload, of which the first 256 bytes are kept, where its port, its interface and its addresses are in
-/// their ranges. It's refused for want of memory alone, and only where they are.
+/// The packet with its payload, of which the first 256 bytes are kept, where its port, its interface and its addresses are in their ranges.
+/// It fails only when out of memory, and only where they are.
 pub(crate) fn arrival(
     alloc: Global,
     packet: &Packet,

@@ -113,8 +113,7 @@ impl Demux {
         Demux::of_sound(alloc, rows)
     }
 
-    /// The same table, of rows that are known to have no fault: they aren't looked through for one. The one refusal is want of
-    /// memory.
+    /// The same table, of rows that are known to have no fault: they aren't looked through for one. Fails only when out of memory.
     pub fn of_sound(alloc: Global, rows: Vec<Row>) -> Result<Demux, AllocError>
         requires { build_fault rows.items ≡ None }
         ensures { IfOk result (λ demux. demux ≡ rows.items) }
@@ -124,7 +123,7 @@ impl Demux {
         Ok(Demux::of_lists(rows, names, addresses))
     }
 
-    /// The same table, of the two lists of its rows, which may have been made at once.
+    /// The same table, of the two lists of its rows, which may have been made in parallel.
     pub fn of_lists(rows: Vec<Row>, names: Names, addresses: Addresses) -> Demux
         requires sound { build_fault rows.items ≡ None }
         requires names { AreNames rows.items names }

@@ -1,4 +1,4 @@
-//! The two lists of a table, each in order. They ask nothing of one another, so they may be made at once.
+//! The two lists of a table, each in order. They ask nothing of one another, so they may be made in parallel.
 
 ghost use Rattle.std.specs.Prelude.{◌≡◌, ◌<◌, ◌++◌, ◌∷◌, [], IfOk, None, false, true, vec_capacity, vec_len};
 ghost use Rattle.std.specs.List.{list_any};
@@ -33,7 +33,7 @@ impl Model for Names {
 }
 
 impl Names {
-    /// The names of rows that have no fault. The one refusal is want of memory.
+    /// The names of rows that have no fault. Fails only when out of memory.
     pub fn of(alloc: Global, rows: &[Row]) -> Result<Names, AllocError>
         requires { build_fault rows.now ≡ None }
         ensures { IfOk result (AreNames rows.now) }
@@ -60,7 +60,7 @@ impl Model for Addresses {
 }
 
 impl Addresses {
-    /// The addresses of rows that have no fault. The one refusal is want of memory.
+    /// The addresses of rows that have no fault. Fails only when out of memory.
     pub fn of(alloc: Global, rows: &[Row]) -> Result<Addresses, AllocError>
         requires { build_fault rows.now ≡ None }
         ensures { IfOk result (AreAddresses rows.now) }

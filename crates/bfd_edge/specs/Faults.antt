@@ -15,7 +15,7 @@ risen count more = max count (min (count + more) (2 ^ 64 - 1))
 abbrev pub Rose : ℕ → ℕ → Type 0
 Rose before now = raised before ≤ now
 
--- the count didn't fall, the call failed only where it rose, and want of memory is no fault: it leaves the count
+-- the count didn't fall, the call failed only where it rose, and out of memory is no fault: it leaves the count
 pub record HasCause {T : Type 0} (before now : ℕ) (result : Result T Fault) : Type 0 where
   pub later : before ≤ now
   pub failed : IsErrOf result Failed → Rose before now

@@ -60,7 +60,7 @@ abbrev pub IsPacket : Option Heard → Type 0
 IsPacket (Some (Got moment arrival)) = ⊤
 IsPacket item = ⊥
 
--- the item that is next, if there is one, and the answer: want of memory comes at a packet alone
+-- the item that is next, if there is one, and the answer: it runs out of memory at a packet alone
 abbrev pub Hears : Option Heard → Received → Type 0
 Hears next (received.Got moment arrival) = next ≡ Some (Got moment arrival)
 Hears next received.Quiet = next ≡ Some Quiet

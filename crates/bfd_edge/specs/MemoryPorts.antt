@@ -34,17 +34,17 @@ abbrev pub AllNew : List HeldLink → Type 0
 AllNew [] = ⊤
 AllNew (link ∷ links) = IsNewLink (memory_link.told_of link) × AllNew links
 
--- a link that is Ended at once
+-- a link that is Ended from the start
 abbrev pub ended_link : HeldLink
 ended_link = record { number = 0; received = []; left = []; sent = []; sends = 0; fails = []; counts = no_counts }
 
--- the link of a number, by the list: one that is Ended at once where the list lacks it
+-- the link of a number, by the list: one that is Ended from the start where the list lacks it
 abbrev pub link_at : List HeldLink → ℕ → HeldLink
 link_at [] n = ended_link
 link_at (link ∷ links) zero = link
 link_at (link ∷ links) (suc n) = link_at links n
 
--- the list with a link that is Ended at once in place of the one of this number
+-- the list with a link that is Ended from the start in place of the one of this number
 abbrev pub with_ended : ℕ → List HeldLink → List HeldLink
 with_ended n [] = []
 with_ended zero (link ∷ links) = ended_link ∷ links

@@ -14,8 +14,8 @@ use std::alloc::Global;
 use std::marker::Model;
 use std::mem;
 
-/// Ports that open the links of a list, by number from 0. A number that the list lacks opens as a link that is Ended at once.
-/// A link that is shut is kept. Contracts see them as the record `HeldPorts`.
+/// Ports that open the links of a list, by number from 0. A number that the list lacks opens as a link that is Ended from the start. A link
+/// that is shut is kept. Contracts see them as the record `HeldPorts`.
 #[derive(Drop)]
 pub struct MemPorts {
     alloc: Global,
@@ -67,7 +67,7 @@ impl MemPorts {
     }
 }
 
-/// Takes the link of the number out of the list, and leaves one that is Ended at once.
+/// Takes the link of the number out of the list, and leaves one that is Ended from the start.
 fn take_link(alloc: Global, links: &mut Vec<MemLink>, number: usize) -> MemLink
     ensures link { result ≡ link_at links.old.items number }
     ensures rest { links.new.items ≡ with_ended number links.old.items }

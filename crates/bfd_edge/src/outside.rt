@@ -37,7 +37,7 @@ pub trait Sink {
     // How often it failed.
     ghost faults: { Self → ℕ };
 
-    /// Takes a front of `piece`, and answers how many bytes that is.
+    /// Takes a prefix of `piece`, and answers how many bytes that is.
     ///
     /// `Failed` comes only where the count of faults rose, and an `Ok(0)` for a piece that isn't empty is a fault too.
     /// Any other `Ok`, and `Memory`, leave the count as it was. After a refusal no byte was taken.

@@ -55,7 +55,7 @@ impl<T: Drop> Places<T> {
         }
     }
 
-    /// Opens a number. It fails only for want of memory.
+    /// Opens a number. It fails only when out of memory.
     pub fn open(&mut self, number: u32) -> Result<(), AllocError>
         ensures ok { OnOk result (place_in self.new ≡ with_place number Place.Opened (place_in self.old)) }
         ensures err { OnErr result (place_in self.new ≡ place_in self.old) }

@@ -27,7 +27,7 @@ pub record IsNewPass (engine : Shards) (pass : Knows) : Type 0 where
   pub made : (shard : ℕ) → shard < length engine.locks → made_at pass shard ≡ []
   pub kept : (shard : ℕ) → shard < length engine.locks → kept_at pass shard ≡ []
 
--- why no engine is opened: what is wrong with the rows, or want of memory
+-- why no engine is opened: what is wrong with the rows, or out of memory
 abbrev pub IsOpenFault : List Row → OpenFault → Type 0
 IsOpenFault rows (Build fault) = build_fault rows ≡ Some fault
 IsOpenFault rows Memory = Unit {0}

@@ -1,4 +1,4 @@
-//! Work that is done at once, or in turn where that is asked for.
+//! Work that is done in parallel, or one after another where that is asked for.
 ghost use Rattle.std.specs.Prelude.{◌≡◌, IfOk, Ok, length, map};
 ghost use Rattle.std.specs.Fork.{AcceptsJobs, GivesJobs};
 ghost use Rattle.std.specs.Fork.Halves.{GivesFor};
@@ -8,8 +8,8 @@ use std::alloc::{AllocError, Global};
 use std::thread;
 use std::thread::Threads;
 
-/// Calls both. With `at_once` the first is called in a thread of its own, beside the second, where one can be had; without, both are
-/// called in this thread, the first first.
+/// Calls both. With `at_once` the first is called in a thread of its own, beside the second, if one is available; without, both are called
+/// in this thread, the first first.
 pub fn both<R: Threads, F: FnOnce() -> A + Send, G: FnOnce() -> B, A: Send, B>(
     rt: &R,
     at_once: bool,
@@ -44,7 +44,7 @@ fn in_turn<J: Drop, X: Drop, F: Fn(J) -> X>(
     Ok(given)
 }
 
-/// Calls `f` with each job, with all but the last in a thread of its own where one can be had. They are started one after another by this
+/// Calls `f` with each job, with all but the last in a thread of its own if one is available. They are started one after another by this
 /// thread: where threads are started by threads that were just started, two are at times set on one processor while another is idle.
 #[cycle(jobs)]
 fn beside<R: Threads + Sync, J: Send + Drop, X: Send + Drop, F: Fn(J) -> X + Sync>(
@@ -77,7 +77,7 @@ fn beside<R: Threads + Sync, J: Send + Drop, X: Send + Drop, F: Fn(J) -> X + Syn
 }
 
 /// Calls `f` with each job, and gives what it gave, in their order. With `at_once` all but the last are called in a thread of their own
-/// each, where one can be had; without, all are called in this thread, in turn. The one refusal is want of memory.
+/// each, if one is available; without, all are called in this thread, one after another. Fails only when out of memory.
 pub fn each<R: Threads + Sync, J: Send + Drop, X: Send + Drop, F: Fn(J) -> X + Sync>(
     rt: &R,
     alloc: Global,
@@ -95,7 +95,7 @@ pub fn each<R: Threads + Sync, J: Send + Drop, X: Send + Drop, F: Fn(J) -> X + S
     in_turn(alloc, jobs, f)
 }
 
-/// All values, where none is a refusal. The one refusal is want of memory.
+/// All values, where none is a refusal. Fails only when out of memory.
 pub fn all_there<T: Drop>(
     alloc: Global,
     made: Vec<Result<T, AllocError>>,

@@ -84,8 +84,8 @@ impl<W: Timers> Engine<W> {
     /// Its entry is this event, at a place of the shard, whose number is below `shards()`. `outs` has room for five outputs, or at
     /// a tick for five of each session of the shard.
     ///
-    /// Full comes only where the journal has as many entries as its limit, Spent only where the lock has no turn left, and Memory
-    /// for want of memory, with a journal below its limit. Then no entry and no output is added, and the sessions are as before.
+    /// Full comes only where the journal has as many entries as its limit, Spent only where the lock has no turn left, and Memory when out
+    /// of memory, with a journal below its limit. Then no entry and no output is added, and the sessions are as before.
     pub fn turn_on<R: Wait, L: Ledger>(
         &self,
         rt: &R,

@@ -12,7 +12,7 @@ use bfd_shard::ShardState;
 use bfd_wheel::Timers;
 use std::alloc::Global;
 
-/// An engine that isn't closed, for want of memory: both are as they were.
+/// An engine that isn't closed, when out of memory: both are as they were.
 pub struct Unclosed<W: Timers> {
     pub engine: Engine<W>,
     pub pass: EnginePass,

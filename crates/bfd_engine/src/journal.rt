@@ -91,8 +91,8 @@ impl<W: Timers> Engine<W> {
     /// Appends the history of a shard, whose number is below `shards()`, from a place on, which is at most the length of what the
     /// pass has seen of it; the pass has then seen it whole. It may wait.
     ///
-    /// It is one turn that adds no entry. Each entry may be given to a shard of the same sessions. Memory for want of memory,
-    /// Spent where no turn is left, and never Full; after either `out` is as before.
+    /// It is one turn that adds no entry. Each entry may be given to a shard of the same sessions. Memory when out of memory, Spent where
+    /// no turn is left, and never Full; after either `out` is as before.
     pub fn journal_from<R: Wait>(
         &self,
         rt: &R,

@@ -1,4 +1,4 @@
-//! Making shards, at once or in turn.
+//! Making shards, in parallel or one after another.
 ghost use Rattle.std.specs.Prelude.{◌≡◌, ◌≤◌, ◌<◌, ℕ, IfOk, length, slice_index_or};
 ghost use Rattle.bfd_session.specs.Rows.{AreFit};
 ghost use Rattle.bfd_shard.specs.Dealing.{share};
@@ -42,9 +42,9 @@ fn numbers_below(alloc: Global, count: usize) -> Result<Vec<usize>, AllocError>
     Ok(all)
 }
 
-/// New shards of these sessions by number, with `at_once` all but the last made in a thread of their own each, where one
-/// can be had, and else in turn: session k of the list lives in shard k % shards, at place k / shards; all stand at the start,
-/// and no journal takes an entry yet. The one refusal is want of memory.
+/// New shards of these sessions by number, with `at_once` all but the last made in a thread of their own each, if one is available, and
+/// else one after another: session k of the list lives in shard k % shards, at place k / shards; all stand at the start, and no journal
+/// takes an entry yet. Fails only when out of memory.
 pub fn make_shards<W: Timers + Send, R: Threads + Sync>(
     rt: &R,
     alloc: Global,

@@ -158,8 +158,8 @@ impl<W: Timers> Engine<W> {
     /// discriminator, and each configuration is within its ranges. Session k of the list lives in shard k % shards, at place
     /// k / shards, and each shard's journal takes `limit` entries.
     ///
-    /// Build comes exactly where the rows of the sessions, and then of the reflectors, make no table, with what is wrong with
-    /// them; Memory for want of memory alone.
+    /// Build comes exactly where the rows of the sessions, and then of the reflectors, make no table, with what is wrong with them; Memory
+    /// only when out of memory.
     pub fn open(
         alloc: Global,
         configs: Vec<SessionConfig>,

@@ -67,7 +67,7 @@ pub fn table(
     Ok(Table::of(demux, roster, pool))
 }
 
-/// Seats a session at this place, with room for its outputs. Where memory is wanting the sessions are as they were.
+/// Seats a session at this place, with room for its outputs. Where memory runs out the sessions are as they were.
 fn seat<W: Timers>(
     alloc: Global,
     sessions: &mut Sessions<W>,

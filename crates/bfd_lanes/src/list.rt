@@ -25,7 +25,7 @@ impl Model for Ids {
 }
 
 impl Ids {
-    /// Room for `room` ids, and none in it. The only refusal is want of memory.
+    /// Room for `room` ids, and none in it. Fails only when out of memory.
     pub fn make(alloc: Global, room: usize) -> Result<Ids, AllocError>
         ensures { IfOk result (λ ids. ids ≡ record { items = []; spare = room }) }
     {

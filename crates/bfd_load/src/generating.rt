@@ -177,7 +177,7 @@ fn events(alloc: Global, sessions: u32, ticks: u32) -> Result<Vec<Line>, AllocEr
     Ok(events)
 }
 
-/// The script of `sessions` sessions, at most 5,000, and `ticks` ticks, at most 6,000. The one refusal is want of memory.
+/// The script of `sessions` sessions, at most 5,000, and `ticks` ticks, at most 6,000. Fails only when out of memory.
 ///
 /// Session i, from 1 on, has the discriminator i and runs from 10.0.0.1 to 10.1.0.0 plus i over interface 1. It is active, its
 /// intervals are 300,000 microseconds, its Detect Mult is 3, and its seed is `seed` plus i, round at 2^32. At each tick that

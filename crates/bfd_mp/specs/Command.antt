@@ -63,8 +63,8 @@ head_refusal v cmd = find (is_head_refused_by v cmd) (WrongKind ∷ OutOfRange �
 abbrev pub tail_refusal : Vars → Cmd → Option Refusal
 tail_refusal v cmd = find (is_tail_refused_by v cmd) (WrongKind ∷ WrongState ∷ [])
 
--- a changed interval (RFC 8562 section 5.10): in Up the next packets carry P, as many as Detect Mult, and the lesser of the
--- new interval and the one in use is used until they are sent; in AdminDown it is used at once. The same number is no change
+-- a changed interval (RFC 8562 section 5.10): in Up the next packets carry P, as many as Detect Mult, and the lesser of the new interval
+-- and the one in use is used until they are sent; in AdminDown it is used immediately. The same number is no change
 abbrev pub interval_done : ℕ → Vars → Vars
 interval_done n v =
     if n == v.tx then v

@@ -5,8 +5,8 @@ use Rattle.bfd_rules.specs.EventFrame.{Course, is_untold, based, redrawn}
 use Rattle.bfd_mp.specs.declared.config.HeadConfig.{HeadConfig}
 use Rattle.bfd_mp.specs.Transmit.{transmits}
 
--- a changed state or diagnostic is told at once by one packet with P clear (RFC 5880 section 6.8.7); it isn't one of those
--- that tell a changed interval
+-- a changed state or diagnostic is told immediately by one packet with P clear (RFC 5880 section 6.8.7); it isn't one of those that tell a
+-- changed interval
 unfoldable pub extra : HeadConfig → ℕ → Course → Course
 extra c eff s = if is_untold true s.mark s.vars then based eff (transmits c false s) else s
 

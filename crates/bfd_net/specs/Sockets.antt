@@ -81,7 +81,7 @@ answer_on_error WouldBlock = Quiet
 answer_on_error TimedOut = Quiet
 answer_on_error kind = Failed
 
--- this packet, at a moment since the ports were made; but for a clock that can't be read, and for want of memory
+-- this packet, at a moment since the ports were made; but for a clock that can't be read, and when out of memory
 abbrev pub IsGot : Option Instant → Arrival → Received → Type 0
 IsGot made arrival (Got moment came) = (came ≡ arrival) × IsSince made moment
 IsGot made arrival Failed = ⊤

@@ -4,8 +4,8 @@ use Rattle.bfd_rules.specs.declared.config.Config.{Config}
 use Rattle.bfd_rules.specs.EventFrame.{Course, is_untold, based, redrawn}
 use Rattle.bfd_p2p.specs.Transmit.{transmits}
 
--- a changed state or diagnostic is told at once by one packet with P clear, unless a packet with F has told it or none
--- may be sent (section 6.8.7)
+-- a changed state or diagnostic is told immediately by one packet with P clear, unless a packet with F has told it or none may be sent
+-- (section 6.8.7)
 unfoldable pub extra : Config → ℕ → Course → Course
 extra c eff s = if is_untold c.active s.mark s.vars then based eff (transmits c false false s) else s
 

@@ -108,7 +108,7 @@ machine _ _ v = v
 unfoldable pub moves_state : Config → ℕ → Control → Course → Course
 moves_state c eff packet s = moves c.discr eff (machine s.vars.state packet.state s.vars) s
 
--- 5. P is answered at once by a packet with F, whatever else may be sent (section 6.5)
+-- 5. P is answered immediately by a packet with F, whatever else may be sent (section 6.5)
 unfoldable pub answers : Config → Control → Course → Course
 answers c packet s =
     if packet.poll

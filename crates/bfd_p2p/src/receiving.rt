@@ -273,7 +273,7 @@ fn moves_state(config: &Config, eff: u64, packet: &Control, vars: &mut Vars, out
     }
 }
 
-/// P is answered at once by a packet with F, whatever else may be sent (section 6.5).
+/// P is answered immediately by a packet with F, whatever else may be sent (section 6.5).
 #[tactic(auto, unfolding(crate::specs::Receive::answers))]
 fn answers(config: &Config, packet: &Control, vars: &mut Vars, mark: &mut Mark, outs: &mut Outs)
     requires steady { IsSteady config.now vars.old }

@@ -43,7 +43,7 @@ pub struct Arrival {
 }
 
 impl Arrival {
-    /// An equal arrival. The one refusal is want of memory, for the payload.
+    /// An equal arrival. Fails only when out of memory for the payload.
     pub fn copy(&self, alloc: Global) -> Result<Arrival, AllocError>
         ensures { IfOk result (λ copied. copied ≡ self.now) }
     {

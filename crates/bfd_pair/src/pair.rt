@@ -85,7 +85,7 @@ fn order(peer: &mut Peer, last: u64, moment: Moment, cmd: Cmd, outs: &mut Outs) 
     PairAnswer::Did(own_move(peer, last, moment.get(), &Event::Command(cmd), outs))
 }
 
-/// One event. Answers the greatest tick so far besides. After a refusal, for want of memory, all is as before.
+/// One event. Answers the greatest tick so far besides. When out of memory it fails, and all is as before.
 fn happen(
     left: &mut Peer,
     right: &mut Peer,
@@ -151,9 +151,9 @@ fn happen(
 }
 
 impl Pair {
-    /// Two sessions at the start, which know nothing of each other. NotPeers comes exactly where the roles differ or the
-    /// local address of one isn't the remote address of the other, and is tested first; the only other refusal is want of memory.
-    /// The configurations are within their ranges.
+    /// Two sessions at the start, which know nothing of each other. NotPeers comes exactly where the roles differ or the local address of
+    /// one isn't the remote address of the other, and is tested first; otherwise it fails only when out of memory. The configurations are
+    /// within their ranges.
     pub fn make(alloc: Global, left: Config, right: Config) -> Result<Pair, PairFault>
         requires left { IsFit (PairOf left) }
         requires right { IsFit (PairOf right) }
@@ -180,9 +180,8 @@ impl Pair {
         })
     }
 
-    /// One event. It answers NoPacket with the count exactly where a Give names no packet of the other side, and then only
-    /// the list of past events grows. It adds at most ten outputs, Left's first. Room is
-    /// made first; after a refusal, for want of memory, all is as before.
+    /// One event. It answers NoPacket with the count exactly where a Give names no packet of the other side, and then only the list of past
+    /// events grows. It adds at most ten outputs, Left's first. Room is made first; when out of memory it fails, and all is as before.
     pub fn step(&mut self, event: PairEvent, outs: &mut Outs) -> Result<PairAnswer, AllocError>
         requires room { 10 ≤ outs.old.spare }
         ensures past { OnOk result (self.new ≡ record self.old { past = self.old.past ++ event ∷ [] }) }

@@ -66,7 +66,7 @@ fn way_to(config: &Config) -> Way
     }
 }
 
-/// A side at the start. The one refusal is want of memory.
+/// A side at the start. Fails only when out of memory.
 pub(crate) fn open(alloc: Global, config: Config) -> Result<Peer, AllocError>
     requires { IsFit (PairOf config) }
     ensures peer { IfOk result (λ p. IsPeer p) }
@@ -165,7 +165,7 @@ pub(crate) fn own_move(
     answer
 }
 
-/// A packet as it comes to a side. The one refusal is want of memory.
+/// A packet as it comes to a side. Fails only when out of memory.
 #[tactic(auto, using(crate::proofs::Peers::whole))]
 fn arrival(alloc: Global, way: &Way, wire: &Wire) -> Result<Arrival, AllocError>
     ensures { IfOk result (λ a. a ≡ by_way way.now wire.now) }
@@ -227,7 +227,7 @@ fn packet(sent: &[Wire], number: u64) -> Option<&Wire>
     sent.get(number as usize - 1)
 }
 
-/// A side is given the packet of this number among those that were sent. After a refusal, for want of memory, all is as before.
+/// A side is given the packet of this number among those that were sent. When out of memory it fails, and all is as before.
 #[tactic(auto, using(crate::proofs::Peers::comes_by))]
 pub(crate) fn give(
     peer: &mut Peer,

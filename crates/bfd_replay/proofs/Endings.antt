@@ -177,7 +177,7 @@ told_at engine queues workers k l works shards i v c e (Ok parts) is =
           cc ((f.done s h).told_is (sole_seen c.atend h (closed_at _ c.closed h).1 e (sym same)), own_at s d.own (omega (arith, h, c.queues_long)) same),
     )
 
--- no worker stopped but for want of memory
+-- no worker stopped but when out of memory
 
 -- a full journal can't be where the caller is the only one
 never_full : {engine : Shards} {queues : List (List Numbered)} {workers : ℕ} {k l : Knows} {works : List Work} {shards : List Shard} (i : ℕ) {s : ℕ} {v : Work} → AllClosed engine queues workers k l works shards

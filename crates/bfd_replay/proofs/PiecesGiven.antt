@@ -5,7 +5,7 @@ use Rattle.bfd_replay.proofs.Taking.{Going, go, gone, txs_of, drops_of}
 use Rattle.bfd_replay.proofs.Telling.{deal_all}
 use Rattle.bfd_replay.proofs.Whole.{all_text, whole_report}
 
--- a sink took a front of the pieces' text, this text is what it didn't take, and the others are left
+-- a sink took a prefix of the pieces' text, this text is what it didn't take, and the others are left
 pub record Giving (all : List Dealt) (parts : List (List Piece)) (old new : Option (List ℕ)) (before text : List ℕ) (txs drops : ℕ) : Type 0 where
   pub front : List ℕ
   pub took : Appends old new front

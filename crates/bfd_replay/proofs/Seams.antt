@@ -14,7 +14,7 @@ pub record Halves (dealt : List Dealt) (fronts backs : List (List Piece)) : Type
   pub in_backs : IsSpread second backs
   pub all : dealt ≡ first ++ second
 
--- of marks that have all of a text a front is cut off
+-- of marks that have all of a text a prefix is cut off
 low_pieces : (rank : ℕ) (ms : List Mark) (t : List ℕ) → AllByRecursion (λ m. precedes (mark_key m) (rank_key rank) ≡ true) ms → AllByRecursion (λ p. precedes p.key (rank_key rank) ≡ true) (pieces_at ms t)
 low_pieces rank [] t h = tt
 low_pieces rank (m ∷ ms) t h = (h.0, low_pieces rank ms (drop m.long t) h.1)

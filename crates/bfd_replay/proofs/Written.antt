@@ -15,7 +15,7 @@ pub took_more : (first next last : Option (List ℕ)) {text rest : List ℕ} (n 
 took_more first next last {rest} n (front, so_far, whole) more =
     (front ++ take n rest, Appends-trans first next last front (take n rest) so_far more, whole ∙ rw (append_assoc, take-append-drop n rest) refl)
 
--- of what was left more was taken, up to a rest, as a front, and whole
+-- of what was left more was taken, up to a rest, as a prefix, and whole
 pub took_on : (first next last : Option (List ℕ)) (text mid rest : List ℕ) → TookUpTo first next text mid → TookUpTo next last mid rest → TookUpTo first last text rest
 took_on first next last text mid rest (front, so_far, whole) (more, now, is) =
     (front ++ more, Appends-trans first next last front more so_far now, cc (append_assoc front more rest))
@@ -38,7 +38,7 @@ pub when_ok : {T E : Type 0} {P Q : Type 0} (r : Result T E) → (P → Q) → O
 when_ok (Ok done) f p = f p
 when_ok (Err e) f p = tt
 
--- of texts one behind another the sink took some, and of the next one a front
+-- of texts one behind another the sink took some, and of the next one a prefix
 pub each_front : {X : Type 0} (old mid new : Option (List ℕ)) (f : X → List ℕ) (xs : List X) (at : ℕ) (x : X) {t : List ℕ} → at < length xs → x ≡ get_or xs at x → t ≡ f x
     → Appends old mid (flat_map f (take at xs)) → TookFront mid new t → TookFront old new (flat_map f xs)
 each_front old mid new f xs at x {t} inside is same took front =

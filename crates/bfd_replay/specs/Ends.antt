@@ -23,7 +23,7 @@ pub record IsDoneJob (engine : Shards) (queues : List (List Numbered)) (workers 
   pub own : AreOwn workers at queues mine
   pub ended : HasEnded engine mine w.pass w.told
 
--- it ended with a part of each shard, or for want of memory
+-- it ended with a part of each shard, or when out of memory
 abbrev pub IsFine : Result (List (List Piece)) EngineFault → Type 0
 IsFine (Ok parts) = Unit {0}
 IsFine (Err Memory) = Unit {0}

@@ -11,8 +11,8 @@ pub record Telling : Type 0 where
   pub txs : ℕ
   pub drops : ℕ
 
--- of events that give these outcomes all were told but those that give the rest: a sink took a front of their lines, and what it
--- didn't take is kept; and their packets were counted
+-- of events that give these outcomes all were told but those that give the rest: a sink took a prefix of their lines, and what it didn't
+-- take is kept; and their packets were counted
 pub record ToldUpTo (old new : Option (List ℕ)) (before after : Telling) (outcomes rest : List Outcome) : Type 0 where
   pub lines : TookUpTo old new (before.text ++ lines_from (before.events + 1) outcomes) (after.text ++ lines_from (after.events + 1) rest)
   pub events : after.events + length rest ≡ before.events + length outcomes

@@ -40,8 +40,8 @@ pub record HasDoneEvents (engine : Shards) (shard caller : ℕ) (done : List Num
   pub told_is : IsSole caller seen → part ≡ shard_tells 0 done (map started (configs_at engine shard))
   pub few : taken ≤ length done
 
--- why it stopped at an event of the queue: for want of memory; with a full journal, which can't be if it is the only caller; or
--- with the lock's last word
+-- why it stopped at an event of the queue: when out of memory; with a full journal, which can't be if it is the only caller; or with the
+-- lock's last word
 abbrev pub IsStop : EngineFault → ℕ → ℕ → ℕ → List Entry → ℕ → Type 0
 IsStop Memory limit caller most seen word = Unit {0}
 IsStop (Full at n) limit caller most seen word = (length seen ≡ limit) × (IsSole caller seen → length seen < most)

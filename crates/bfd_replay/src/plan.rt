@@ -4,7 +4,7 @@
 //! packet is screened and selected here, once. For that the sessions' discriminators are enough ([`Places`]), so whoever plans may move the
 //! configurations elsewhere meanwhile. [`planned`] deals the events of the sessions out to the queues of 1 to 64 shards, tells the others
 //! apart, and gives the table too ([`Plan`]). The table is made while the lines are cut into runs, one for each worker or fewer; the runs
-//! are looked through at once, each in a thread of its own where one can be had, and what was planned of them is put one behind another:
+//! are looked through in parallel, each in a thread of its own if one is available, and what was planned of them is put one behind another:
 //! the queues as pieces ([`Queue`]), from which the events are taken one by one. With one worker all is done in turn, and no thread is
 //! started.
 //!

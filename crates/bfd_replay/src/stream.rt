@@ -10,7 +10,7 @@
 //! `reporting` the whole.
 //!
 //! It promises that a sink which doesn't fail takes the report of `bfd_instance`'s `specs/World.antt`, byte for byte, as the replays on
-//! several shards give it too; and that any sink takes a front of it.
+//! several shards give it too; and that any sink takes a prefix of it.
 
 mod happening;
 mod reporting;

@@ -41,7 +41,7 @@ impl Model for Outs {
 }
 
 impl Outs {
-    /// An empty list with room for `room` outputs. The one refusal is want of memory.
+    /// An empty list with room for `room` outputs. Fails only when out of memory.
     pub fn make(alloc: Global, room: usize) -> Result<Outs, AllocError>
         ensures { IfOk result (λ outs. outs ≡ record { items = []; spare = room; room = room }) }
     {
@@ -74,8 +74,7 @@ impl Outs {
         self.room - self.list.len()
     }
 
-    /// Hands the outputs over; then all the room is free again. The one refusal is want of memory, and then all is as it
-    /// was.
+    /// Hands the outputs over; then all the room is free again. Fails only when out of memory, and then all is as it was.
     pub fn take(&mut self) -> Result<Vec<Out>, AllocError>
         ensures taken { IfOk result (λ list. list.items ≡ self.old.items) }
         ensures free { OnOk result (self.new ≡ record { items = []; spare = self.old.room; room = self.old.room }) }

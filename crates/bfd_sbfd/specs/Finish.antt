@@ -4,7 +4,7 @@ use Rattle.bfd_rules.specs.EventFrame.{Course, is_untold, based, redrawn}
 use Rattle.bfd_sbfd.specs.declared.config.SeekConfig.{SeekConfig}
 use Rattle.bfd_sbfd.specs.Transmit.{transmits}
 
--- a changed state or diagnostic is told at once by one packet, unless none may be sent (RFC 5880 section 6.8.7)
+-- a changed state or diagnostic is told immediately by one packet, unless none may be sent (RFC 5880 section 6.8.7)
 unfoldable pub extra : SeekConfig → ℕ → Course → Course
 extra c eff s = if is_untold true s.mark s.vars then based eff (transmits c s) else s
 

@@ -4,7 +4,7 @@ use Rattle.bfd_rules.specs.declared.variables.Vars.{Vars}
 use Rattle.bfd_rules.specs.Quantities.{adv_tx}
 use Rattle.bfd_rules.specs.EventFrame.{Course, changes}
 
--- without Poll Sequences the advertised interval is used at once
+-- without Poll Sequences the advertised interval is used immediately
 abbrev pub in_use : Vars → Vars
 in_use v = record v { used_tx = adv_tx v }
 

@@ -1,4 +1,4 @@
--- The front of bytes is bytes.
+-- A prefix of bytes is bytes.
 use Rattle.bfd_script.proofs.FieldsCommon.{ℕ, List, [], ◌∷◌, take, arith, suc, zero, IsBytes}
 
 pub bytes_front : (m : ℕ) (xs : List ℕ) → IsBytes xs → IsBytes (take m xs)

@@ -53,7 +53,7 @@ impl Pool {
         self.reflectors.contains_key(&discr)
     }
 
-    /// One more reflector, whose discriminator is new. The one refusal is want of memory.
+    /// One more reflector, whose discriminator is new. Fails only when out of memory.
     pub(crate) fn with(self, reflector: Reflector) -> Result<Pool, AllocError>
         requires discr { has_reflector reflector.discr self ≡ false }
         requires row { IsReflector reflector }

@@ -157,7 +157,7 @@ fn push_items(number: u64, outs: &[Out], text: &mut Vec<u8>) -> Result<(), Alloc
 }
 
 /// Appends the line of one output of the event whose number is written so, and gives how long it is: for whoever tells outputs one by one,
-/// and writes their number once. The one refusal is want of memory; then the text is as before.
+/// and writes their number once. Fails only when out of memory; then the text is as before.
 pub fn output_line(number: &[u8], out: &Out, text: &mut Vec<u8>) -> Result<usize, AllocError>
     requires { length number.now ≤ 20 }
     ensures text { (n : ℕ) → number.now ≡ decimal n → OnOk result (text.new.items ≡ text.old.items ++ item_line n out.now) }
@@ -250,9 +250,8 @@ fn push_event(
     push_answer(number, answer, text)
 }
 
-/// Appends the report lines of the event of this number: a line `state` or `tx` for each output, in their order, and
-/// then a line `drop`, `refuse` or `show` where the answer has one. The one refusal is want of memory; then the text is
-/// as before.
+/// Appends the report lines of the event of this number: a line `state` or `tx` for each output, in their order, and then a line `drop`,
+/// `refuse` or `show` where the answer has one. Fails only when out of memory; then the text is as before.
 pub fn lines(
     number: u64,
     outs: &[Out],

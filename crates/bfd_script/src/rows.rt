@@ -175,7 +175,7 @@ impl Rows {
         self.get(discr).is_some()
     }
 
-    /// One more session, whose discriminator is new. The one refusal is want of memory.
+    /// One more session, whose discriminator is new. Fails only when out of memory.
     pub(crate) fn with(self, config: SessionConfig) -> Result<Rows, AllocError>
         requires discr { has_discr (discr_of config) (values_of self) ≡ false }
         requires room { length self < 65536 }

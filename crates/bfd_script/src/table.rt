@@ -136,7 +136,7 @@ impl Table {
         self.places.has(row_of(config).kind)
     }
 
-    /// One more session, whose discriminator and selecting addresses are new. The one refusal is want of memory.
+    /// One more session, whose discriminator and selecting addresses are new. Fails only when out of memory.
     pub(crate) fn with(self, config: SessionConfig) -> Result<Table, AllocError>
         requires discr { has_discr (discr_of config) self ≡ false }
         requires place { has_place config self ≡ false }

@@ -50,7 +50,7 @@ sent_ok d t u lost is = record {
 pub sent_failed : (d : Datagram) (t u : LinkTold) (lost after : ℕ) → u ≡ after_send d (Err fault.Failed) t → after ≡ risen lost 1 → HasSent (d ∷ []) [] t u lost after
 sent_failed d t u lost after is up = record { tried = d ∷ []; kept = []; missing = 1; parts = refl; lacks = inr (0, refl, (refl, refl)); told = is; lost_is = up }
 
--- want of memory leaves what a link tells
+-- running out of memory leaves what a link tells
 pub unsent : (d : Datagram) (t u : LinkTold) → u ≡ after_send d (Err fault.Memory) t → u ≡ t
 unsent d t u is = is ∙ ap (λ a. record t { traffic = a }) (traffic_same t.traffic)
 

@@ -39,7 +39,7 @@ pub record IsUnopened (refused : Refused) (before after : PortsTold) : Type 0 wh
   pub fault : IsFaultOf refused before after
   pub uncalled : AreUncalled after
 
--- a port couldn't be opened: the links that were are shut, and nothing ran; want of memory may come at any place
+-- a port couldn't be opened: the links that were are shut, and nothing ran; memory may run out at any place
 abbrev pub IsLinkRefused : Refused → PortsTold → PortsTold → TickerTold → TickerTold → Type 0
 IsLinkRefused PortFault before after c d = IsUnopened PortFault before after × (d ≡ c)
 IsLinkRefused Memory before after c d = after.faults ≡ before.faults

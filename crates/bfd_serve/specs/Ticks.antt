@@ -18,7 +18,7 @@ abbrev pub more_given : List ℕ → Option Ticks → Option Ticks
 more_given got None = None
 more_given got (Some ticks) = Some (record { given = ticks.given ++ got; left = drop (length got) ticks.left })
 
--- why the timer ended, and what is left out of its acts and its sends: by want of memory some of these, or of its ticks
+-- why the timer ended, and what is left out of its acts and its sends: when out of memory some of these, or of its ticks
 abbrev pub IsTimerEnd : Shards → (ℕ → List Entry) → (ℕ → ℕ) → TickerTold → TickerTold → List ℕ → ℕ → List Act → List Datagram → End → Type 0
 IsTimerEnd engine histories words c d got ticks cut untried Ended =
     (cut ≡ []) × (untried ≡ []) × (d.faults ≡ c.faults) × ((d.over ≡ true) ⊎ (length got ≡ ticks))

@@ -37,7 +37,7 @@ end_of fault.Memory = Memory
 end_of (fault.Full shard length) = Full shard length
 end_of (fault.Spent shard word) = Spent shard word
 
--- what was sent after a call of the engine: nothing after a fault; all, or with want of memory not the last ones
+-- what was sent after a call of the engine: nothing after a fault; all, or when out of memory not the last ones
 abbrev pub IsSentAfter : Result Answer EngineFault → List Out → LinkTold → LinkTold → ℕ → ℕ → Result (Unit {0}) End → Type 0
 IsSentAfter (Err f) outs t u lost after result = (result ≡ Err (end_of f)) × (u ≡ t) × (after ≡ lost)
 IsSentAfter (Ok answer) outs t u lost after (Ok done) = HasSent (datagrams outs) [] t u lost after
@@ -70,9 +70,9 @@ pub record Did (engine : Shards) (k l : Knows) (t u : LinkTold) (heard : List (�
 abbrev pub StartsOn : ℕ → List Act → Type 0
 StartsOn shard cut = (event : ShardEvent) × (rest : List Act) × (cut ≡ Turns shard event ∷ rest)
 
--- why a caller stopped in its acts, of which `cut` are left out, where the shards' histories and words are at least these. By
--- Full the refused call is the first that is left out, on a shard whose journal is at its limit; by Spent on one whose lock
--- has no turn left. By want of memory any last acts may be left out, or the last packets of the last one that was made: some are
+-- why a caller stopped in its acts, of which `cut` are left out, where the shards' histories and words are at least these. By Full the
+-- refused call is the first that is left out, on a shard whose journal is at its limit; by Spent on one whose lock has no turn left. When
+-- out of memory any last acts may be left out, or the last packets of the last one that was made: some are
 abbrev pub Stops : Shards → (ℕ → List Entry) → (ℕ → ℕ) → List Act → List Datagram → End → Type 0
 Stops engine histories words cut untried (Full shard n) =
     (untried ≡ []) × (n ≤ length (histories shard)) × StartsOn shard cut × (n ≡ engine.limit)
@@ -121,8 +121,8 @@ pub record IsTooWide (engine : Shards) : Type 0 where
   pub there : shard < length engine.locks
   pub wide : 2 ^ 64 ≤ 5 * length (configs_at engine shard)
 
--- why a worker ended that took so many turns of its number, and what is left out of its acts and its sends: by want of memory some
--- of these, or of its turns
+-- why a worker ended that took so many turns of its number, and what is left out of its acts and its sends: when out of memory some of
+-- these, or of its turns
 abbrev pub IsWorkerEnd : Shards → (ℕ → List Entry) → (ℕ → ℕ) → LinkTold → LinkTold → ℕ → ℕ → List Act → List Datagram → End → Type 0
 IsWorkerEnd engine histories words t u turned turns cut untried Ended =
     (cut ≡ []) × (untried ≡ []) × (u.counts.over ≡ true) × (u.counts.receive_faults ≡ t.counts.receive_faults)

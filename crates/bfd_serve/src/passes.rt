@@ -29,7 +29,7 @@ pub(crate) fn join_all<W: Timers>(
     }
 }
 
-/// So many passes of a new engine, or none for want of memory: then those that were made are joined again.
+/// So many passes of a new engine, or none when out of memory: then those that were made are joined again.
 pub(crate) fn split_all<W: Timers>(
     engine: &Engine<W>,
     alloc: Global,

@@ -1,7 +1,7 @@
 //! A serve run, from its script to the served text.
 //!
-//! [`serve_script`] opens the links 0 to the number of workers, opens an engine of the script's sessions, runs the timer and the
-//! workers at once, closes the engine, shuts every link, and tells the journals of the closed shards.
+//! [`serve_script`] opens the links 0 to the number of workers, opens an engine of the script's sessions, runs the timer and the workers in
+//! parallel, closes the engine, shuts every link, and tells the journals of the closed shards.
 //!
 //! Modules: `linking` opens and shuts the links, `copying` copies the sessions for the text, `opening` opens the engine, `running`
 //! goes from it to the closed shards, `finish` says how a run ended, `serving` is all of it.

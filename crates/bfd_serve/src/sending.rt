@@ -11,7 +11,7 @@ use bfd_rules::Out;
 use bfd_session::Answer;
 use std::alloc::AllocError;
 
-/// Sends the packet of an output, if it is one. One that fails is counted as lost; want of memory leaves all as it was.
+/// Sends the packet of an output, if it is one. One that fails is counted as lost; out of memory leaves all as it was.
 #[tactic(auto, using(crate::proofs::Packets::sent_none, crate::proofs::Packets::sent_ok, crate::proofs::Packets::sent_failed, crate::proofs::Packets::unsent))]
 fn send_one<L: Link>(link: &mut L, out: &Out, lost: &mut u64) -> Result<(), AllocError>
     ensures sent { OnOk result (HasSent (datagrams (out.now ∷ [])) [] (L.told link.old) (L.told link.new)
@@ -32,7 +32,7 @@ fn send_one<L: Link>(link: &mut L, out: &Out, lost: &mut u64) -> Result<(), Allo
     }
 }
 
-/// Sends the packets of some outputs, in order. One that fails is counted as lost; want of memory ends it.
+/// Sends the packets of some outputs, in order. One that fails is counted as lost; out of memory ends it.
 fn send_all<L: Link>(link: &mut L, outs: &[Out], lost: &mut u64) -> Result<(), AllocError>
     ensures sent { OnOk result (HasSent (datagrams outs.now) [] (L.told link.old) (L.told link.new) lost.old lost.new) }
     ensures refused { OnErr result ((untried : List Packet)

@@ -187,7 +187,7 @@ fn run_all<
     served
 }
 
-/// Runs a worker over each link beside the timer, all at once, each in a thread. It may wait.
+/// Runs a worker over each link beside the timer, all in parallel, each in a thread. It may wait.
 ///
 /// The timer is caller 0, with the pass that the engine was opened with and a link of its own; worker i is caller i, counted from
 /// 1. When it returns, every pass that it split is joined to that of caller 0, which then keeps each worker's calls. Want of

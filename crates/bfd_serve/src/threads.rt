@@ -1,4 +1,4 @@
-//! Workers and the timer at once, each in a thread.
+//! Workers and the timer in parallel, each in a thread.
 ghost use Rattle.std.specs.Prelude.{◌≡◌, ◌<◌, ℕ, false, length, slice_index_or};
 ghost use Rattle.std.specs.List.{All};
 ghost use Rattle.bfd_engine.specs.Engines.{IsOf, AllThere};
@@ -17,7 +17,7 @@ use std::sync::Wait;
 use std::thread;
 use std::thread::{Threads, join_mut};
 
-/// Works on all jobs, at most 64, at once.
+/// Works on all jobs, at most 64, in parallel.
 fn work_all<W: Timers + Send, L: Link + Send, G: Gate + Sync, R: Threads + Wait + Sync>(
     rt: &R,
     alloc: Global,

@@ -173,11 +173,10 @@ fn is_idle(orders: &[Line], ticks: u64) -> bool
 /// Advances the engine to the ticks of a ticker, and gives it orders, each before the first tick by which its moment has come. It
 /// sends what they put out on its link. It may wait. It answers why it ended, and how many sends failed.
 ///
-/// Before a tick come the leading orders that are due by it, up to the first that isn't; then every shard is advanced to it,
-/// ascending. At most `ticks` ticks are taken. After the last one, and where the ticker answers Ended, come the orders that are
-/// left, and then the end is Ended. ClockFault comes at once exactly where the ticker fails, Full and Spent where the engine's
-/// call has that fault. A send that fails is counted and no more. Memory is for want of memory alone, and never told where all was
-/// done.
+/// Before a tick come the leading orders that are due by it, up to the first that isn't; then every shard is advanced to it, ascending. At
+/// most `ticks` ticks are taken. After the last one, and where the ticker answers Ended, come the orders that are left, and then the end is
+/// Ended. ClockFault comes immediately, exactly where the ticker fails, Full and Spent where the engine's call has that fault. A send that
+/// fails is counted and no more. Memory means out of memory, and is never told where all was done.
 pub fn timer<W: Timers, L: Link, T: Ticker, R: Wait>(
     rt: &R,
     alloc: Global,

@@ -51,7 +51,7 @@ pub fn row_of_reflector(reflector: &Reflector) -> Row
     }
 }
 
-/// The rows of sessions, in their order. The one refusal is want of memory.
+/// The rows of sessions, in their order. Fails only when out of memory.
 pub fn rows_of(alloc: Global, configs: &[SessionConfig]) -> Result<Vec<Row>, AllocError>
     ensures { IfOk result (λ list. list.items ≡ rows.rows_of configs.now) }
 {
@@ -67,8 +67,8 @@ fn reflector_rows(alloc: Global, pool: &[Reflector]) -> Result<Vec<Row>, AllocEr
         .collect(alloc)
 }
 
-/// The table of sessions and of a pool of reflectors: the rows of the sessions, and then those of the reflectors. The one
-/// refusal is want of memory.
+/// The table of sessions and of a pool of reflectors: the rows of the sessions, and then those of the reflectors. Fails only when out of
+/// memory.
 pub fn table_of(
     alloc: Global,
     configs: &[SessionConfig],

@@ -172,7 +172,7 @@ impl Table {
         }
     }
 
-    /// The same table, of its rows' table and its sessions' roster, which may have been made at once.
+    /// The same table, of its rows' table and its sessions' roster, which may have been made in parallel.
     pub fn of(demux: Demux, roster: Roster, pool: Vec<Reflector>) -> Table
         requires rows { demux ≡ rows.table_of roster pool.items }
         requires ascends { Ascends roster }

@@ -30,7 +30,7 @@ pub struct Entry {
 pub struct Full(pub usize);
 
 impl Entry {
-    /// An equal entry. The one refusal is want of memory, for the payload of a packet.
+    /// An equal entry. Fails only when out of memory for the payload of a packet.
     pub fn copy(&self, alloc: Global) -> Result<Entry, AllocError>
         ensures { IfOk result (λ entry. entry ≡ self.now) }
     {

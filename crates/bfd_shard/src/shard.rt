@@ -44,8 +44,8 @@ impl<W: Timers> Model for ShardState<W> {
 }
 
 impl<W: Timers> ShardState<W> {
-    /// A shard of the sessions with these configurations, at most 65,536 and each within its ranges: all stand at the start,
-    /// the last tick is 0, and the journal is empty and takes `limit` entries. It is refused only for want of memory.
+    /// A shard of the sessions with these configurations, at most 65,536 and each within its ranges: all stand at the start, the last tick
+    /// is 0, and the journal is empty and takes `limit` entries. It fails only when out of memory.
     pub fn make(
         alloc: Global,
         configs: Vec<SessionConfig>,
@@ -64,7 +64,7 @@ impl<W: Timers> ShardState<W> {
     }
 
     /// The same of one shard of 1 to 64, `shard` counted from 0, out of the configurations of all sessions, which stay: session k of the
-    /// list stands in shard k % shards, at place k / shards. It is refused only for want of memory.
+    /// list stands in shard k % shards, at place k / shards. It fails only when out of memory.
     pub fn make_share(
         alloc: Global,
         configs: &[SessionConfig],
@@ -116,8 +116,8 @@ impl<W: Timers> ShardState<W> {
         self.group.takes(event)
     }
 
-    /// Makes room for one entry more in the journal, where it is below its limit. Nothing else changes. It is refused only for
-    /// want of memory, and only below the limit, and then all is as before.
+    /// Makes room for one entry more in the journal, where it is below its limit. Nothing else changes. It fails only when out of memory,
+    /// and only below the limit, and then all is as before.
     pub fn prepare(&mut self) -> Result<(), AllocError>
         ensures ready { OnOk result (length self.new.journal < self.new.limit → 0 < self.new.room) }
         ensures room { self.old.room ≤ self.new.room }
@@ -134,8 +134,8 @@ impl<W: Timers> ShardState<W> {
         Ok(())
     }
 
-    /// Lets the journal take `limit` entries, no fewer than before, and makes room for so many more, 200,000 at most. Nothing else
-    /// changes. It is refused only for want of memory, and then all is as before.
+    /// Lets the journal take `limit` entries, no fewer than before, and makes room for so many more, 200,000 at most. Nothing else changes.
+    /// It fails only when out of memory, and then all is as before.
     pub fn raise_limit(&mut self, limit: usize) -> Result<(), AllocError>
         requires { self.old.limit ≤ limit }
         ensures limit { OnOk result (self.new.limit ≡ limit) }

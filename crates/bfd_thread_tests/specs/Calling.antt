@@ -47,7 +47,7 @@ pub record HasCalled (engine : Shards) (before after : Job) : Type 0 where
   pub saw : after.saw.items ≡ before.saw.items ++ news
   pub made : WereMade engine done before.pass after.pass news
 
--- .. and it ended: all its calls were made, or memory was wanting
+-- .. and it ended: all its calls were made, or memory ran out
 pub record HasEndedCalls (engine : Shards) (before after : Job) : Type 0 where
   pub worked : HasCalled engine before after
   pub all : OnOk after.ended (after.calls.items ≡ [])

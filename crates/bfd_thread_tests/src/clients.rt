@@ -39,7 +39,7 @@ fn new_client(alloc: Global) -> Option<Client>
     })
 }
 
-/// The next entry of the shard. None where it is none of the shard's, or for want of memory.
+/// The next entry of the shard. None where it is none of the shard's, or when out of memory.
 fn take(client: &mut Client, entry: Entry) -> Option<()>
     requires told { AreItsChanges client.old.watch client.old.told.items }
     ensures told { IfSome result (λ _. AreItsChanges client.new.watch client.new.told.items) }

@@ -33,7 +33,7 @@ fn timer_calls(alloc: Global, shards: u32) -> Option<Vec<Call>> {
     Some(list)
 }
 
-/// Both threads at once: the shards as they leave them, and what each saw.
+/// Both threads in parallel: the shards as they leave them, and what each saw.
 #[tactic(auto, using(crate::proofs::Rooms::room_enough))]
 fn daemon<R: Threads + Wait + Sync>(
     rt: &R,

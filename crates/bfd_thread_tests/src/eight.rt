@@ -221,7 +221,7 @@ fn over(sights: &mut [Sight], shard: u32) -> bool {
 }
 
 /// Holds each entry of a closed shard's journal, on one thread, against what its caller saw. Gives how many there are; None where one
-/// differs or a caller saw more, or for want of memory.
+/// differs or a caller saw more, or when out of memory.
 fn beside_journal<L: Ledger>(
     alloc: Global,
     journal: &[Entry],

@@ -1,4 +1,4 @@
-//! Two shards' turns at once, a full journal, calls for nobody, and a session that is there twice.
+//! Two shards' turns at one time, a full journal, calls for nobody, and a session that is there twice.
 ghost use Rattle.std.specs.Prelude.{◌≡◌, ◌≤◌, ◌<◌, ◌+◌, [], IfOk, IfSome, OnErr, length};
 ghost use Rattle.bfd_session.specs.Step.{IsFit};
 ghost use Rattle.bfd_session.specs.Kinds.{discr_of};

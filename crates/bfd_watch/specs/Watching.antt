@@ -25,7 +25,7 @@ pub record IsWatch (shard : Shard) (outs : Outputs) (limit : ℕ) : Type 0 where
   pub room : outs.room ≡ 5 * length shard.sessions + 5
   pub limits : shard.limit ≡ limit
 
--- what a refusal tells of the watch: it is full, with this number of entries, which is its limit; or memory was wanting below it
+-- what a refusal tells of the watch: it is full, with this number of entries, which is its limit; or memory ran out below it
 abbrev pub TellsOfWatch : WatchFault → Watching → Type 0
 TellsOfWatch (Full count) watch = (count ≡ length watch.entries) × (length watch.entries ≡ watch.limit)
 TellsOfWatch Memory watch = length watch.entries < watch.limit

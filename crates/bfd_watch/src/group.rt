@@ -92,7 +92,7 @@ impl LinkGroup {
         self.need <= self.count()
     }
 
-    /// The group after these changes. The one refusal is want of memory.
+    /// The group after these changes. Fails only when out of memory.
     pub fn after(&self, alloc: Global, changes: &[Change]) -> Result<LinkGroup, AllocError>
         ensures { IfOk result (λ after. after ≡ group_after changes.now self.now) }
     {

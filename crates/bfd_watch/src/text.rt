@@ -95,9 +95,9 @@ fn watched_text(alloc: Global, changes: u64, group: &LinkGroup) -> Result<String
 }
 
 impl LinkGroup {
-    /// Appends the lines of the event of this number, which has these changes: a line for each change, in order, of members
-    /// and of other sessions, and then the group's line where the event as a whole has moved it between up and down. The
-    /// group is then as after these changes. The one refusal is want of memory; then the group and the text are as before.
+    /// Appends the lines of the event of this number, which has these changes: a line for each change, in order, of members and of other
+    /// sessions, and then the group's line where the event as a whole has moved it between up and down. The group is then as after these
+    /// changes. Fails only when out of memory; then the group and the text are as before.
     pub fn tell(
         &mut self,
         number: u64,
@@ -117,7 +117,7 @@ impl LinkGroup {
         Ok(())
     }
 
-    /// Appends the last line, with the number of all changes. The one refusal is want of memory; then the text is as before.
+    /// Appends the last line, with the number of all changes. Fails only when out of memory; then the text is as before.
     pub fn close(&self, changes: u64, text: &mut Vec<u8>) -> Result<(), AllocError>
         ensures told { OnOk result (text.new.items ≡ text.old.items ++ watched_line changes self.now) }
         ensures untold { OnErr result (text.new.items ≡ text.old.items) }

@@ -83,7 +83,7 @@ fn append_changes(number: u64, items: &[Out], out: &mut Vec<Change>)
     }
 }
 
-/// The changes that the outputs of the event of this number tell, in their order. The one refusal is want of memory.
+/// The changes that the outputs of the event of this number tell, in their order. Fails only when out of memory.
 pub fn changes_of(alloc: Global, number: u64, items: &[Out]) -> Result<Vec<Change>, AllocError>
     ensures { IfOk result (λ changes. changes.items ≡ changes_in number items.now) }
 {
@@ -122,9 +122,8 @@ fn follow<W: Timers, L: Ledger>(
 }
 
 impl<W: Timers> Watch<W> {
-    /// A watch of a shard of the sessions with these configurations, at most 65,536 and each within its ranges; they are the
-    /// ones with which the shard was made. No entry was taken, and `limit` entries may be. It is refused only for want of
-    /// memory.
+    /// A watch of a shard of the sessions with these configurations, at most 65,536 and each within its ranges; they are the ones with
+    /// which the shard was made. No entry was taken, and `limit` entries may be. It fails only when out of memory.
     pub fn make(
         alloc: Global,
         configs: Vec<SessionConfig>,
@@ -161,10 +160,10 @@ impl<W: Timers> Watch<W> {
         self.shard.sessions()
     }
 
-    /// The next entry of the history, which the shard's sessions may be given. The changes that it tells are appended to
-    /// `out`, in order, each with the number of the entry, from 1. So where `out` had the changes of the entries that were
-    /// taken before, behind whatever, it has now those of all. `Full` comes exactly where as many entries as the limit were
-    /// taken, and `Memory` for want of memory below it; after each of them the watch and what `out` holds are as before.
+    /// The next entry of the history, which the shard's sessions may be given. The changes that it tells are appended to `out`, in order,
+    /// each with the number of the entry, from 1. So where `out` had the changes of the entries that were taken before, behind whatever, it
+    /// has now those of all. `Full` comes exactly where as many entries as the limit were taken, and `Memory` when out of memory below it;
+    /// after each of them the watch and what `out` holds are as before.
     pub fn take(&mut self, entry: Entry, out: &mut Vec<Change>) -> Result<(), WatchFault>
         requires can { CanHappen self.old.configs entry.event }
         ensures taken { OnOk result (self.new ≡ record self.old { entries = self.old.entries ++ entry ∷ [] }) }

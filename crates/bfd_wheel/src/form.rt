@@ -12,7 +12,7 @@ use std::sync::ledger::Ledger;
 pub trait Timers: Drop + Sized {
     ghost dues: { Self → List (Option ℕ) };
 
-    /// Timers for `count` ids, at most 65,536, with no due tick. The only refusal is want of memory.
+    /// Timers for `count` ids, at most 65,536, with no due tick. Fails only when out of memory.
     fn make(alloc: Global, count: u32) -> Result<Self, AllocError>
         requires { count ≤ 65536 }
         ensures { IfOk result (λ timers. dues timers ≡ replicate count None) };

@@ -73,7 +73,7 @@ fn link_to_self(nodes: &mut [Node])
     }
 }
 
-/// As many nodes, each linked to itself. The only refusal is want of memory.
+/// As many nodes, each linked to itself. Fails only when out of memory.
 #[tactic(auto, unfolding(crate::specs::Wheel::next_in, crate::specs::Wheel::prev_in))]
 pub fn loops(alloc: Global, count: u32) -> Result<Vec<Node>, AllocError>
     ensures size { IfOk result (λ nodes. length nodes.items ≡ count) }

@@ -5,7 +5,7 @@ ghost use Rattle.bfd_lanes.specs.Places.{never, due_of, without};
 use bfd_lanes::NEVER;
 use std::alloc::{AllocError, Global};
 
-/// `NEVER` for each id. The only refusal is want of memory.
+/// `NEVER` for each id. Fails only when out of memory.
 pub fn no_dues(alloc: Global, count: u32) -> Result<Vec<u64>, AllocError>
     ensures { IfOk result (λ dues. dues.items ≡ replicate count never) }
 {

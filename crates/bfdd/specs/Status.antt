@@ -35,8 +35,8 @@ IsEndOf job ReadFault = is_reading job ≡ true
 IsEndOf job TooLarge = is_reading job ≡ true
 IsEndOf job status = ⊤
 
--- a status, where another is wanted: it is that one, but for want of memory, for a source that failed, and for a sink that
--- failed under a text that isn't a complaint
+-- a status, where another is wanted: it is that one, but when out of memory, for a source that failed, and for a sink that failed under a
+-- text that isn't a complaint
 abbrev pub IsDecided : Status → Status → Type 0
 IsDecided Memory wanted = ⊤
 IsDecided ReadFault wanted = ⊤
@@ -71,11 +71,11 @@ WhereUnopened (BadLine line fault) P = P
 WhereUnopened (NoMember discr) P = P
 WhereUnopened status P = ⊤
 
--- what the sink took of a text: all of it, or a front where its count rose
+-- what the sink took of a text: all of it, or a prefix where its count rose
 abbrev pub IsWritten : Option (List ℕ) → Option (List ℕ) → ℕ → ℕ → List ℕ → Type 0
 IsWritten old new before now text = Appends old new text ⊎ (Rose before now × TookFront old new text)
 
--- the same by the status: with Done it is all of it, with WriteFault the count rose, and where memory was wanting it is a front
+-- the same by the status: with Done it is all of it, with WriteFault the count rose, and when memory ran out it is a prefix
 abbrev pub IsWrittenBy : Status → Option (List ℕ) → Option (List ℕ) → ℕ → ℕ → List ℕ → Type 0
 IsWrittenBy Done old new before now text = Appends old new text
 IsWrittenBy WriteFault old new before now text = Rose before now × TookFront old new text

@@ -33,7 +33,7 @@ pub record BreaksOff (w : Wanted) (result : Status) (old new : Option (List ℕ)
   pub front : TookFront old new w.text
   pub rose : Rose before now
 
--- memory was wanting
+-- memory ran out
 pub record LacksMemory (w : Wanted) (result : Status) (old new : Option (List ℕ)) (before now : ℕ) : Type 0 where
   pub status : result ≡ Memory
   pub front : TookFront old new w.text

@@ -7,10 +7,10 @@
 //! Layers, lowest first: `status`, `answer`, `asking` (whether a job reads), `input` (a whole text from a source), `replaying`, `jobs`
 //! and `serving` (what each word has to write), `deciding` ([`answer_to_job`] itself).
 //!
-//! It promises that the answer is what the
-//! job and the source's bytes ask for, where the source tells them, and of `serve` a run of the script for every interleaving; that a
-//! source is read to its end, but never more than one byte past 67,108,864; that every link that was opened is shut; and that the
-//! text goes with its status. The refusals are a source that failed, with its cause, and want of memory.
+//! It promises that the answer is what the job and the source's bytes ask for, where the source tells them, and of `serve` a run of the
+//! script for every interleaving; that a source is read to its end, but never more than one byte past 67,108,864; that every link that was
+//! opened is shut; and that the text goes with its status. The refusals are a source that failed, with its cause, and running out of
+//! memory.
 
 mod answer;
 mod asking;

@@ -54,7 +54,7 @@ where
     ensures decided { IfSome (wanted (job_of (map (λ word. string_bytes word) words.now)) (S.left source.old))
         (λ w. IsDecided result w.status) }
 
-    // With Done the wanted text was written and nothing else; and however the run ends, what was written is a front of it.
+    // With Done the wanted text was written and nothing else; and however the run ends, what was written is a prefix of it.
     ensures done { result ≡ Status.Done
         → IfSome (wanted (job_of (map (λ word. string_bytes word) words.now)) (S.left source.old))
         (λ w. Appends (K.taken sink.old) (K.taken sink.new) w.text) }
@@ -72,7 +72,7 @@ where
     ensures usage { job_of (map (λ word. string_bytes word) words.now) ≡ None → result ≡ Status.Usage }
     ensures usage_alone { result ≡ Status.Usage → job_of (map (λ word. string_bytes word) words.now) ≡ None }
 
-    // A faulty line is told, or a front of that where the sink failed.
+    // A faulty line is told, or a prefix of that where the sink failed.
     ensures bad_text { OnBadLine result (λ bad. Appends (K.taken sink.old) (K.taken sink.new) (complaint_line bad)
         ⊎ (Rose (K.faults sink.old) (K.faults sink.new)
         × TookFront (K.taken sink.old) (K.taken sink.new) (complaint_line bad))) }
@@ -96,11 +96,11 @@ where
         → IfSome (wanted (job_of (map (λ word. string_bytes word) words.now)) (S.left source.old))
         (λ w. (result ≡ w.status) ⊎ (result ≡ Status.Memory)) }
 
-    // Whether or not the source tells what it had: each status is one of the job's, and with every status but those of want of memory
-    // and of a source that failed there is an answer of which the status and what was written are. It is what is wanted of some bytes
-    // that were read to the end of the source. A script that is served has one run: its engine and its histories, one per shard, give
-    // the text, and each caller's entries, its sends and its end are those of what its link or the ticker gave. The status is the
-    // finish, and shows its cause.
+    // Whether or not the source tells what it had: each status is one of the job's, and with every status but those of running out of
+    // memory and of a source that failed there is an answer of which the status and what was written are. It is what is wanted of some
+    // bytes that were read to the end of the source. A script that is served has one run: its engine and its histories, one per shard, give
+    // the text, and each caller's entries, its sends and its end are those of what its link or the ticker gave. The status is the finish,
+    // and shows its cause.
     ensures fits { IsEndOf (job_of (map (λ word. string_bytes word) words.now)) result }
     ensures told { result ≢ Status.Memory → result ≢ Status.ReadFault
         → IfSome (job_of (map (λ word. string_bytes word) words.now))
@@ -108,7 +108,7 @@ where
         (edges_of (P.told ports.old) (T.told ticker.old)) (edges_of (P.told ports.new) (T.told ticker.new))
         (K.taken sink.old) (K.taken sink.new) (K.faults sink.old) (K.faults sink.new) result) }
 
-    // Where memory was wanting, nothing of it was written, or a front.
+    // When memory ran out, nothing of it was written, or a prefix.
     ensures broken_off { result ≡ Status.Memory → IsBrokenOff (job_of (map (λ word. string_bytes word) words.now))
         (S.left source.old) (S.left source.new)
         (edges_of (P.told ports.old) (T.told ticker.old)) (edges_of (P.told ports.new) (T.told ticker.new))

@@ -47,7 +47,7 @@ fn rises(items: &[Out]) -> usize
     items.iter().filter(|item| is_rise(item)).count()
 }
 
-/// The next event, of number `e + 1`. The one refusal is want of memory.
+/// The next event, of number `e + 1`. Fails only when out of memory.
 fn play_next(pair: &mut Pair, tally: &mut Tally, outs: &mut Outs, e: u64) -> Result<(), AllocError>
     requires number { e < 100000 }
     requires few_given { tally.old.given ≤ e }
@@ -66,7 +66,7 @@ fn play_next(pair: &mut Pair, tally: &mut Tally, outs: &mut Outs, e: u64) -> Res
     Ok(())
 }
 
-/// The two of a seed after so many events of its schedule. The one refusal is want of memory.
+/// The two of a seed after so many events of its schedule. Fails only when out of memory.
 fn play(alloc: Global, events: u64, seed: u32) -> Result<(Pair, Tally), AllocError>
     requires { events ≤ 100000 }
     ensures { IfOk result (λ played. IsPlayed seed events played.0 played.1) }
@@ -117,9 +117,9 @@ fn state_of(pair: &Pair, side: Side) -> State
     pair.session(side).vars().state
 }
 
-/// Plays so many events, up to 100,000, of the seed's schedule from the start, and writes the line that sums it up:
-/// `pair EVENTS SENT GIVEN LEFT RIGHT UPS` and LF, with how many packets both sides sent, how many Gives found a packet, the
-/// two last states, and how many changes to Up there were. The one refusal is want of memory.
+/// Plays so many events, up to 100,000, of the seed's schedule from the start, and writes the line that sums it up: `pair EVENTS SENT GIVEN
+/// LEFT RIGHT UPS` and LF, with how many packets both sides sent, how many Gives found a packet, the two last states, and how many changes
+/// to Up there were. Fails only when out of memory.
 #[tactic(auto, using(crate::proofs::Played::line_is))]
 pub fn pair_line(alloc: Global, events: u64, seed: u32) -> Result<String, AllocError>
     requires { events ≤ 100000 }

@@ -36,7 +36,7 @@ fn side(discr: u32, local: Addr, remote: Addr, seed: u32) -> Config
     }
 }
 
-/// The two of a seed at the start. The one refusal is want of memory.
+/// The two of a seed at the start. Fails only when out of memory.
 pub(crate) fn peers(alloc: Global, seed: u32) -> Result<Pair, AllocError>
     ensures { IfOk result (λ pair. pair
         ≡ record { left = PairOf (schedule.left seed); right = PairOf (schedule.right seed); past = [] }) }

@@ -77,7 +77,7 @@ fn take_in(
 }
 
 /// The queues and what is told apart of a run of lines. The queues get room for a shard's even share of the run's lines and a 64th of them
-/// more, which is a guess: shares differ, and a tick comes to every shard. The one refusal is want of memory.
+/// more, which is a guess: shares differ, and a tick comes to every shard. Fails only when out of memory.
 fn plan_run(
     alloc: Global,
     table: &Table,
@@ -102,7 +102,7 @@ fn plan_run(
     Ok((queues, apart))
 }
 
-/// The same of each run, all but the last in a thread of its own each, where one can be had.
+/// The same of each run, all but the last each in a thread of its own if one is available.
 fn plan_each<R: Threads + Sync>(
     rt: &R,
     alloc: Global,
@@ -131,7 +131,7 @@ fn plan_each<R: Threads + Sync>(
     Ok(plans)
 }
 
-/// The table of rows that have no fault, its two lists made at once or in turn. The one refusal is want of memory.
+/// The table of rows that have no fault, its two lists made in parallel or one after another. Fails only when out of memory.
 fn table_of_rows<R: Threads>(
     rt: &R,
     alloc: Global,
@@ -158,8 +158,8 @@ fn table_of_rows<R: Threads>(
     Ok(Demux::of_lists(rows, names, addresses))
 }
 
-/// The table of rows that have no fault, and the lines in at most as many runs as there are workers: made at once where there are
-/// several workers. The one refusal is want of memory.
+/// The table of rows that have no fault, and the lines in at most as many runs as there are workers: made in parallel where there are
+/// several workers. Fails only when out of memory.
 fn table_and_runs<R: Threads + Sync>(
     rt: &R,
     alloc: Global,
@@ -200,10 +200,10 @@ pub struct Plan {
     pub apart: Part,
 }
 
-/// What a replay on an engine begins with, by the rows of the sessions and the pool: their table, the queue of each shard, and what is
-/// told of the events of no session. With several workers the table is built, its two lists at once, while the lines are cut into runs,
-/// one for each worker or fewer, and the runs are planned at once; with one all is done in turn. Then the runs' queues and what they tell
-/// are put one behind another. Fails only when out of memory.
+/// What a replay on an engine begins with, by the rows of the sessions and the pool: their table, the queue of each shard, and what is told
+/// of the events of no session. With several workers the table is built, its two lists in parallel, while the lines are cut into runs, one
+/// for each worker or fewer, and the runs are planned in parallel; with one all is done one after another. Then the runs' queues and what
+/// they tell are put one behind another. Fails only when out of memory.
 pub fn planned<R: Threads + Sync>(
     rt: &R,
     alloc: Global,

@@ -61,7 +61,8 @@ impl Queue {
         }
     }
 
-    /// The queue with a piece more behind what there is. The one refusal is want of memory, as which 2^64 events count.
+    /// The queue with a piece more behind what there is. Fails only when out of memory, or at 2^64 events, which it reports as out of
+    /// memory.
     pub(crate) fn with(self, piece: Vec<Numbered>) -> Result<Queue, AllocError>
         ensures { IfOk result (λ queue. queue ≡ self ++ piece.items) }
     {
@@ -98,7 +99,7 @@ impl Queue {
     }
 }
 
-/// As many queues with no event. The one refusal is want of memory.
+/// As many queues with no event. Fails only when out of memory.
 pub(crate) fn new_queues(alloc: Global, count: usize) -> Result<Vec<Queue>, AllocError>
     ensures long { IfOk result (λ queues. length queues.items ≡ count) }
     ensures each { IfOk result (λ queues. (k : ℕ) → slice_index_or queues.items k [] ≡ []) }
@@ -110,7 +111,7 @@ pub(crate) fn new_queues(alloc: Global, count: usize) -> Result<Vec<Queue>, Allo
     Ok(queues)
 }
 
-/// Puts a run's piece behind each shard's queue. The one refusal is want of memory.
+/// Puts a run's piece behind each shard's queue. Fails only when out of memory.
 pub(crate) fn push_pieces(
     alloc: Global,
     queues: Vec<Queue>,

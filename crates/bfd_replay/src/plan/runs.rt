@@ -12,7 +12,7 @@ pub(crate) struct Run {
     pub(crate) lines: Vec<Line>,
 }
 
-/// Cuts lines into at most `count` runs of one length, of which the first may be shorter. The one refusal is want of memory.
+/// Cuts lines into at most `count` runs of one length, of which the first may be shorter. Fails only when out of memory.
 pub(crate) fn cut(alloc: Global, lines: Vec<Line>, count: usize) -> Result<Vec<Run>, AllocError>
     requires some { 0 < count }
     requires few { length lines.items ≤ 200000 }

@@ -1,4 +1,4 @@
-//! The report of the parts of a replay, gathered by several threads at once.
+//! The report of the parts of a replay, gathered by several threads in parallel.
 ghost use Rattle.std.specs.Prelude.{ℕ, ◌≡◌, ◌+◌, ◌++◌, List, IfOk, OnOk, length};
 ghost use Rattle.std.specs.List.{flat_map};
 ghost use Rattle.bfd_session.specs.Kinds.{Running};
@@ -16,7 +16,7 @@ use std::alloc::{AllocError, Global};
 use std::thread;
 use std::thread::Threads;
 
-/// All pieces, gathered in two halves, one behind the other: at once where a thread more can be had. The one refusal is want of memory.
+/// All pieces, gathered in two halves, one behind the other: in parallel if a further thread is available. Fails only when out of memory.
 fn in_two<R: Threads>(
     rt: &R,
     alloc: Global,
@@ -46,8 +46,8 @@ struct Texts {
     drops: u64,
 }
 
-/// Puts a text behind the others, and adds to these counts the packets that it tells. The one refusal is want of memory, as which 2^64
-/// packets count.
+/// Puts a text behind the others, and adds to these counts the packets that it tells. Fails only when out of memory, or when 2^64 packets
+/// were counted, which it reports as out of memory.
 fn put_behind(
     texts: &mut Vec<Vec<u8>>,
     counts: (u64, u64),
@@ -64,7 +64,7 @@ fn put_behind(
     Ok(sums)
 }
 
-/// The pieces of one list, gathered whole, and those of another, gathered in two halves: at once where threads can be had.
+/// The pieces of one list, gathered whole, and those of another, gathered in two halves: in parallel if threads are available.
 fn one_and_two<R: Threads>(
     rt: &R,
     alloc: Global,
@@ -90,8 +90,8 @@ fn one_and_two<R: Threads>(
     )
 }
 
-/// All pieces, gathered in four quarters, one behind another: at once where threads can be had, which are started one after another by
-/// this thread. The one refusal is want of memory, as which 2^64 packets count.
+/// All pieces, gathered in four quarters, one behind another: in parallel if threads are available, which are started one after another by
+/// this thread. Fails only when out of memory, or when 2^64 packets were counted, which it reports as out of memory.
 fn in_four<R: Threads>(rt: &R, alloc: Global, rests: Vec<Rest>) -> Result<Texts, AllocError>
     ensures { IfOk result (λ t. Gathers rests.entry.items (flat_map (λ text. text.items) t.texts.items) t.txs t.drops) }
 {
@@ -123,8 +123,8 @@ fn in_four<R: Threads>(rt: &R, alloc: Global, rests: Vec<Rest>) -> Result<Texts,
 }
 
 /// The report of a replay of so many events, as `report` gives it, in texts that stand one behind another. Up to four threads gather it,
-/// each a part of its lines, where they can be had. The one refusal is want of memory, as which 2^64 packets that were sent or were
-/// dropped count.
+/// each a part of its lines, if they are available. Fails only when out of memory, or when 2^64 packets were sent or dropped, which it
+/// reports as out of memory.
 pub fn report_at_once<R: Threads>(
     rt: &R,
     alloc: Global,

@@ -50,7 +50,7 @@ pub fn dropped(answer: &Answer) -> u64
     }
 }
 
-/// Adds up how many packets were sent and were dropped. The one refusal is 2^64 packets, which count as want of memory.
+/// Adds up how many packets were sent and were dropped. Fails only when 2^64 packets were counted, which it reports as out of memory.
 pub(crate) fn added(counts: (u64, u64), more: (u64, u64)) -> Result<(u64, u64), AllocError>
     ensures sent { IfOk result (λ sums. sums.0 ≡ counts.0 + more.0) }
     ensures dropped { IfOk result (λ sums. sums.1 ≡ counts.1 + more.1) }

@@ -22,7 +22,7 @@ pub(crate) fn middle_of(rests: &Vec<Rest>) -> u64 {
     }
 }
 
-/// The pieces of each part up to the first one whose rank is this or above, and those from there on. The one refusal is want of memory.
+/// The pieces of each part up to the first one whose rank is this or above, and those from there on. Fails only when out of memory.
 pub(crate) fn cut_all<'a>(
     alloc: Global,
     rests: &Vec<Rest<'a>>,

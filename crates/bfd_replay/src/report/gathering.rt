@@ -7,14 +7,14 @@ use crate::report::part::Part;
 use crate::report::rest::Rest;
 use std::alloc::{AllocError, Global};
 
-/// The pieces of the parts, by reference. The one refusal is want of memory.
+/// The pieces of the parts, by reference. Fails only when out of memory.
 pub(crate) fn rests_of(alloc: Global, parts: &Vec<Part>) -> Result<Vec<Rest>, AllocError>
     ensures { IfOk result (λ rests. rests.items ≡ parts.now.items) }
 {
     parts.iter().map(|part| part.rest()).collect(alloc)
 }
 
-/// The ranks of the first keys, in their order. The one refusal is want of memory.
+/// The ranks of the first keys, in their order. Fails only when out of memory.
 pub(crate) fn heads_of(alloc: Global, rests: &Vec<Rest>) -> Result<Vec<Option<u64>>, AllocError>
     ensures { IfOk result (λ heads. keys heads.items ≡ map first_key rests.now.items) }
 {
@@ -55,8 +55,8 @@ fn room_of(rests: &Vec<Rest>) -> usize {
     count
 }
 
-/// Takes all pieces off, which have these heads, in the order of a report: by event, and then by discriminator.
-/// Appends their text, and gives how many packets they tell were sent and were dropped. The one refusal is want of memory.
+/// Takes all pieces off, which have these heads, in the order of a report: by event, and then by discriminator. Appends their text, and
+/// gives how many packets they tell were sent and were dropped. Fails only when out of memory.
 fn gather(
     heads: &mut [Option<u64>],
     rests: &mut Vec<Rest>,
@@ -90,7 +90,7 @@ pub struct Gathered {
     pub drops: u64,
 }
 
-/// All pieces, gathered into a text with room for a report's last line behind it. The one refusal is want of memory.
+/// All pieces, gathered into a text with room for a report's last line behind it. Fails only when out of memory.
 pub(crate) fn gather_text(alloc: Global, rests: Vec<Rest>) -> Result<Gathered, AllocError>
     ensures { IfOk result (λ g. Gathers rests.entry.items g.text.items g.txs g.drops) }
 {
@@ -124,7 +124,7 @@ fn sole(heads: &[Option<u64>]) -> Option<usize>
     }
 }
 
-/// The same, of parts. The one refusal is want of memory.
+/// The same, of parts. Fails only when out of memory.
 pub(crate) fn sole_of(alloc: Global, parts: &Vec<Part>) -> Result<Option<usize>, AllocError>
     ensures { IfOk result (λ one. IfSome one (λ s. HasAll (map first_key parts.now.items) s)) }
 {
@@ -133,7 +133,7 @@ pub(crate) fn sole_of(alloc: Global, parts: &Vec<Part>) -> Result<Option<usize>,
     Ok(sole(&heads))
 }
 
-/// All pieces of parts, gathered; the text of a part that has all of them is taken as it lies. The one refusal is want of memory.
+/// All pieces of parts, gathered; the text of a part that has all of them is taken as it lies. Fails only when out of memory.
 pub(crate) fn gather_all(alloc: Global, parts: Vec<Part>) -> Result<Gathered, AllocError>
     ensures { IfOk result (λ g. Gathers parts.items g.text.items g.txs g.drops) }
 {

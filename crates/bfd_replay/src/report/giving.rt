@@ -14,8 +14,8 @@ use crate::report::rest::Rest;
 use bfd_edge::{Fault, Sink};
 use std::alloc::{AllocError, Global};
 
-/// Takes the first piece off, appends its text, and adds to these counts the packets that it tells were sent and were
-/// dropped. The one refusal is want of memory, as which 2^64 packets count.
+/// Takes the first piece off, appends its text, and adds to these counts the packets that it tells were sent and were dropped. Fails only
+/// when out of memory, or when 2^64 packets were counted, which it reports as out of memory.
 fn take_counted(
     rest: &mut Rest,
     text: &mut Vec<u8>,
@@ -31,9 +31,9 @@ fn take_counted(
     added(counts, more)
 }
 
-/// Takes all pieces off, which have these heads, in the order of a report. Appends their text, which the sink takes
-/// where it is long, and gives how many packets they tell were sent and were dropped. It is refused as Failed where the sink failed, and
-/// as Memory where memory was wanting, here or there, as which 2^64 packets count.
+/// Takes all pieces off, which have these heads, in the order of a report. Appends their text, which the sink takes where it is long, and
+/// gives how many packets they tell were sent and were dropped. It is refused as Failed where the sink failed, and as Memory when out of
+/// memory, here or in the sink, or at 2^64 packets.
 fn give<K: Sink>(
     heads: &mut [Option<u64>],
     rests: &mut Vec<Rest>,
@@ -66,8 +66,8 @@ fn give<K: Sink>(
     Ok(counts)
 }
 
-/// Takes all pieces off a part, appends their text, which the sink takes where it is long, and gives how many packets they tell were
-/// sent and were dropped. It is refused as Failed where the sink failed, and as Memory where memory was wanting, here or there.
+/// Takes all pieces off a part, appends their text, which the sink takes where it is long, and gives how many packets they tell were sent
+/// and were dropped. It is refused as Failed where the sink failed, and as Memory when out of memory, here or in the sink.
 fn give_sole<K: Sink>(
     part: &mut Part,
     text: &mut Vec<u8>,

@@ -228,9 +228,8 @@ impl Part {
         }
     }
 
-    /// Tells all that an event of one session, or of none, gave. `number` is the event's in the replay. The one refusal is
-    /// want of memory, as which 4 GiB of text for one event count, 2^16 packets that it tells were sent or were dropped, and a
-    /// number of 2^32 or more; and then the part is as before.
+    /// Tells all that an event of one session, or of none, gave. `number` is the event's in the replay. Fails only when out of memory, at 4
+    /// GiB of text for one event, at 2^16 packets that it sent or dropped, or at a number of 2^32 or more; then the part is as before.
     pub fn tell_event(
         &mut self,
         number: u64,
@@ -244,8 +243,8 @@ impl Part {
         append_event(&mut self.marks, &mut self.text, number, outs, answer)
     }
 
-    /// Tells what a tick put out, one piece for each output. `number` is the tick's in the replay. The one refusal is want of
-    /// memory, as which a number of 2^32 or more counts, and then the part is as before.
+    /// Tells what a tick put out, one piece for each output. `number` is the tick's in the replay. Fails only when out of memory or when a
+    /// number is 2^32 or more; then the part is as before.
     pub fn tell_tick(&mut self, number: u64, outs: &[Out]) -> Result<(), AllocError>
         ensures told { OnOk result (self.new ≡ self.old ++ map (item_piece number) outs.now) }
         ensures same { OnErr result (self.new ≡ self.old) }
@@ -253,8 +252,7 @@ impl Part {
         append_items(&mut self.marks, &mut self.text, number, outs)
     }
 
-    /// Tells behind what it told so far all that another part tells. The one refusal is want of memory, and then the part is
-    /// as before.
+    /// Tells behind what it told so far all that another part tells. Fails only when out of memory, and then the part is as before.
     pub fn append(&mut self, other: &Part) -> Result<(), AllocError>
         ensures told { OnOk result (self.new ≡ self.old ++ other.now) }
         ensures same { OnErr result (self.new ≡ self.old) }
@@ -272,8 +270,8 @@ impl Part {
         }
     }
 
-    /// Takes all pieces off, appends their text, and gives how many packets they tell were sent and were dropped. Behind no text
-    /// its own is handed over as it lies. The one refusal is want of memory.
+    /// Takes all pieces off, appends their text, and gives how many packets they tell were sent and were dropped. Behind no text its own is
+    /// handed over as it lies. Fails only when out of memory.
     pub(crate) fn take_all(&mut self, text: &mut Vec<u8>) -> Result<(u64, u64), AllocError>
         ensures rest { OnOk result (self.new ≡ []) }
         ensures text { OnOk result (text.new.items ≡ text.old.items ++ texts self.old) }

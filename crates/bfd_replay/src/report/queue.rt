@@ -67,8 +67,8 @@ fn deal_tick(queues: &mut Vec<Vec<Numbered>>, number: u64, tick: Tick) -> Result
     Ok(())
 }
 
-/// Deals out the event of this number to the queues of 1 to 64 shards, by its place in the whole table; a tick goes to every
-/// queue. The one refusal is want of memory, and then some of the queues may have a tick already.
+/// Deals out the event of this number to the queues of 1 to 64 shards, by its place in the whole table; a tick goes to every queue. Fails
+/// only when out of memory, and then some of the queues may have a tick already.
 pub fn queue_event(
     queues: &mut Vec<Vec<Numbered>>,
     number: u64,

@@ -15,8 +15,7 @@ use crate::report::part::Part;
 use bfd_edge::{Fault, Sink};
 use std::alloc::{AllocError, Global};
 
-/// The last line of a report: how many events there were, and how many packets were sent and were dropped. The one refusal is
-/// want of memory.
+/// The last line of a report: how many events there were, and how many packets were sent and were dropped. Fails only when out of memory.
 pub(crate) fn done_text(
     alloc: Global,
     events: u64,
@@ -28,8 +27,8 @@ pub(crate) fn done_text(
     format!(in alloc; "done {events} {txs} {drops}\n")
 }
 
-/// Writes what is left of a report's text, and its last line behind it. It is refused as Failed where the sink failed, and as Memory
-/// where memory was wanting, here or there; the sink took a front then.
+/// Writes what is left of a report's text, and its last line behind it. It is refused as Failed where the sink failed, and as Memory when
+/// out of memory, here or in the sink; the sink took a prefix then.
 pub fn write_last<K: Sink>(
     alloc: Global,
     text: Vec<u8>,
@@ -54,8 +53,8 @@ pub fn write_last<K: Sink>(
     write_all(sink, text.as_slice())
 }
 
-/// The report of a replay of so many events, of the parts of its shards and, last, of what was told of events of no session:
-/// it is what the whole table would tell, whatever the number of shards. The one refusal is want of memory.
+/// The report of a replay of so many events, of the parts of its shards and, last, of what was told of events of no session: it is what the
+/// whole table would tell, whatever the number of shards. Fails only when out of memory.
 pub fn report(alloc: Global, parts: Vec<Part>, events: u64) -> Result<Gathered, AllocError>
     ensures text { (shards last : ℕ) (happenings : List Happening) (sessions : List Running)
         → length happenings ≡ events
@@ -79,8 +78,8 @@ pub fn report(alloc: Global, parts: Vec<Part>, events: u64) -> Result<Gathered, 
     Ok(Gathered { text, txs, drops })
 }
 
-/// The same report, written in pieces as it is gathered. It is refused as Failed where the sink failed, and as Memory where memory
-/// was wanting, here or there, as which 2^64 packets that were sent or were dropped count; the sink took a front of the report then.
+/// The same report, written in pieces as it is gathered. It is refused as Failed where the sink failed, and as Memory when out of memory,
+/// here or in the sink, or at 2^64 packets sent or dropped; the sink took a prefix of the report then.
 pub fn report_to<K: Sink>(
     alloc: Global,
     parts: Vec<Part>,

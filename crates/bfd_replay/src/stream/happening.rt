@@ -46,8 +46,8 @@ fn applied<W: Timers, L: Ledger>(
     }
 }
 
-/// Does one event, in the shard where it is one of its sessions. `outs` and the answer are what the definition says, and the shard
-/// is then as later events find it. The one refusal is want of memory; what comes of the shard then is of no use to a report.
+/// Does one event, in the shard where it is one of its sessions. `outs` and the answer are what the definition says, and the shard is then
+/// as later events find it. Fails only when out of memory; what comes of the shard then is of no use to a report.
 pub(crate) fn happen<W: Timers>(
     shard: &mut ShardState<W>,
     route: Route,

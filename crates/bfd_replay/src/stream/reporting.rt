@@ -127,8 +127,8 @@ fn tell_all<W: Timers, K: Sink>(
     }
 }
 
-/// Replays the script on one shard, and writes its report to the sink as it comes. It is refused as Failed where the sink failed, and
-/// as Memory where memory was wanting, here or there; the sink took a front of the report then.
+/// Replays the script on one shard, and writes its report to the sink as it comes. It is refused as Failed where the sink failed, and as
+/// Memory when out of memory, here or in the sink; the sink took a prefix of the report then.
 #[tactic(auto, using(crate::proofs::Worlds::is_table))]
 pub fn report_to<W: Timers, K: Sink>(
     alloc: Global,

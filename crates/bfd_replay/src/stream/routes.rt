@@ -26,8 +26,8 @@ fn found(alloc: Global, table: &Table, events: Vec<Line>) -> Result<Vec<Route>, 
     Ok(routes)
 }
 
-/// What the lines of a script are to its sessions and reflectors, in their order. The table by which packets are selected is
-/// let go after that. The one refusal is want of memory.
+/// What the lines of a script are to its sessions and reflectors, in their order. The table by which packets are selected is freed after
+/// that. Fails only when out of memory.
 pub(crate) fn routes_of(
     alloc: Global,
     configs: &Vec<SessionConfig>,

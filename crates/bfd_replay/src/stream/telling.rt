@@ -47,7 +47,7 @@ impl Told {
         }
     }
 
-    /// Tells what the next event gave. The one refusal is want of memory.
+    /// Tells what the next event gave. Fails only when out of memory.
     pub(crate) fn tell(&mut self, outs: &Outs, answer: &Answer) -> Result<(), AllocError>
         requires few { self.old.events < 200000 }
         requires room { outs.now.room ≤ 327685 }

@@ -1,4 +1,4 @@
-//! Shards and plan of a replay, made at once or in turn.
+//! Shards and plan of a replay, made in parallel or one after another.
 ghost use Rattle.std.specs.Prelude.{◌≡◌, ◌≤◌, ◌<◌, IfOk, length};
 ghost use Rattle.bfd_engine.specs.Opening.{AreNewStates, MayOpen};
 ghost use Rattle.bfd_session.specs.Rows.{table_of as table_in};
@@ -16,7 +16,8 @@ use bfd_wheel::Timers;
 use std::alloc::{AllocError, Global};
 use std::thread::Threads;
 
-/// The roster of the sessions and the rows of the sessions and the pool, made at once or in turn. Fails only when out of memory.
+/// The roster of the sessions and the rows of the sessions and the pool, made in parallel or one after another. Fails only when out of
+/// memory.
 fn roster_and_rows<R: Threads + Sync>(
     rt: &R,
     alloc: Global,

@@ -81,7 +81,7 @@ fn total(counts: &Vec<u32>) -> u32
     count
 }
 
-/// The same as `up_all`, of shards that are counted and let go, at once or in turn. The one refusal is want of memory.
+/// The same as `up_all`, of shards that are counted and freed, in parallel or one after another. Fails only when out of memory.
 pub(crate) fn up_at_last<W: Timers + Send, R: Threads + Sync>(
     rt: &R,
     alloc: Global,

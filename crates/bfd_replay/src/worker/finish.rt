@@ -11,7 +11,7 @@ use bfd_engine::EngineFault;
 use std::alloc::{AllocError, Global};
 use std::mem;
 
-/// A worker's parts, which ended with them or for want of memory.
+/// A worker's parts, which ended with them or when out of memory.
 fn parts_of(told: Told) -> Result<Vec<Part>, AllocError>
     requires { IsFine (seen_as (λ parts. parts.items) told) }
     ensures { IfOk result (λ parts. seen_as (λ parts. parts.items) told ≡ Ok parts.items) }
@@ -23,7 +23,7 @@ fn parts_of(told: Told) -> Result<Vec<Part>, AllocError>
     }
 }
 
-/// The parts of all workers, of which none stopped but for want of memory.
+/// The parts of all workers, of which none stopped but when out of memory.
 pub(crate) fn all_told(alloc: Global, tolds: Vec<Told>) -> Result<Vec<Vec<Part>>, AllocError>
     requires { (i : ℕ) (end : Result (List (List Piece)) FaultIn)
         → slice_get (map (seen_as (λ parts. parts.items)) tolds.items) i ≡ Some end → IsFine end }

@@ -62,8 +62,8 @@ impl ReportInParts {
     }
 
     /// Writes the report text by text, or in pieces as it is put together. It is refused as Failed where the sink failed, and as Memory
-    /// where memory was wanting, here or there; the sink took a front of the report then. The thread that frees the shards has ended
-    /// when it returns.
+    /// when out of memory, here or in the sink; the sink took a prefix of the report then. The thread that frees the shards has ended when
+    /// it returns.
     pub fn write_to<R: Threads, K: Sink>(
         self,
         rt: &R,

@@ -95,7 +95,7 @@ fn work<W: Timers, R: Wait, G: Gate>(
     );
 }
 
-/// Works on a job in a thread of its own where one can be had, and on all others beside it.
+/// Works on a job in a thread of its own if one is available, and on all others beside it.
 #[cycle(workers)]
 fn work_beside<W: Timers + Send, R: Threads + Wait + Sync, G: Gate + Sync>(
     rt: &R,
@@ -130,7 +130,7 @@ fn work_beside<W: Timers + Send, R: Threads + Wait + Sync, G: Gate + Sync>(
     join_mut(rt, &mut own, &mut others);
 }
 
-/// Works on all jobs at once, each but the last in a thread of its own where one can be had. They are started one after another by this
+/// Works on all jobs in parallel, each but the last in a thread of its own if one is available. They are started one after another by this
 /// thread: where threads are started by threads that were just started, two are at times set on one processor while another is idle.
 #[cycle(workers)]
 fn work_each<W: Timers + Send, R: Threads + Wait + Sync, G: Gate + Sync>(

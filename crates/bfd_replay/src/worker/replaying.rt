@@ -189,12 +189,11 @@ fn report_lists<W: Timers + Send, R: Threads + Wait + Sync, G: Gate + Sync>(
     ))
 }
 
-/// Replays the script on 1 to 64 shards, with 1 to 64 workers at once, each with a pass of its own.
+/// Replays the script on 1 to 64 shards, with 1 to 64 workers in parallel, each with a pass of its own.
 ///
-/// Session k of the table stands at place k / shards of shard k % shards. Worker w of n takes the shards whose number, divided by
-/// n, leaves w - 1, and does each shard's events in the order of the script; each turn of worker w for event N stands between
-/// `gate.before(w, N)` and `gate.after(w, N)`. The report is that of one thread, byte for byte. The one refusal is want of
-/// memory.
+/// Session k of the table stands at place k / shards of shard k % shards. Worker w of n takes the shards whose number, divided by n, leaves
+/// w - 1, and does each shard's events in the order of the script; each turn of worker w for event N stands between `gate.before(w, N)` and
+/// `gate.after(w, N)`. The report is that of one thread, byte for byte. Fails only when out of memory.
 #[tactic(auto, using(crate::proofs::Worlds::is_table))]
 pub fn replay<W: Timers + Send, R: Threads + Wait + Sync, G: Gate + Sync>(
     rt: &R,
@@ -223,7 +222,7 @@ pub fn replay<W: Timers + Send, R: Threads + Wait + Sync, G: Gate + Sync>(
 }
 
 /// The same replay, for a caller that needs its counts besides its report. The shards with their journals are freed before the report is
-/// put together, so the two are never held at once; what they were stays for clauses. It fails only when out of memory.
+/// put together, so the two are never held at the same time; what they were stays for clauses. It fails only when out of memory.
 #[tactic(auto, using(crate::proofs::Worlds::is_table))]
 pub fn reported<W: Timers + Send, R: Threads + Wait + Sync, G: Gate + Sync>(
     rt: &R,
@@ -251,7 +250,7 @@ pub fn reported<W: Timers + Send, R: Threads + Wait + Sync, G: Gate + Sync>(
     report_lists::<W, R, G>(rt, alloc, configs, pool, events, shards, workers, gate)
 }
 
-/// Frees shards in a thread of its own, and gives that thread; where none can be had, before it returns.
+/// Frees shards in a thread of its own, and gives that thread; if none is available, before it returns.
 fn free<W: Timers + Send + 'static, R: Threads>(
     rt: &R,
     states: Vec<ShardState<W>>,
@@ -262,11 +261,11 @@ fn free<W: Timers + Send + 'static, R: Threads>(
     freeing.ok()
 }
 
-/// The same replay, whose report is written by whoever holds what this gives. With several workers it is put together here, by up to
-/// four threads at once; the shards with their journals are freed then, in a thread that `write_to` waits for, where one can be had: they
-/// may still be there when this returns. With one worker they are gone by then, and the report is put together only when it is
-/// written. What the closed shards were stays for clauses. It fails only when out of memory, as which 2^64 packets that were sent or
-/// were dropped count.
+/// The same replay, whose report is written by whoever holds what this gives. With several workers it is put together here, by up to four
+/// threads in parallel; the shards with their journals are freed then, in a thread that `write_to` waits for, if one is available: they may
+/// still be there when this returns. With one worker they are gone by then, and the report is put together only when it is written. What
+/// the closed shards were stays for clauses. It fails only when out of memory, or when 2^64 packets were sent or dropped, which it reports
+/// as out of memory.
 #[tactic(auto, using(crate::proofs::Worlds::is_table))]
 pub fn reported_in_parts<W: Timers + Send + 'static, R: Threads + Wait + Sync, G: Gate + Sync>(
     rt: &R,

@@ -47,8 +47,8 @@ pub(crate) fn refused_as(fault: Fault) -> Refused
     }
 }
 
-/// The finish that these ends bring, of the timer first and then of each worker. It's refused only where one of them is for want
-/// of memory, which brings none.
+/// The finish that these ends bring, of the timer first and then of each worker. It's refused only where one of them is when out of memory,
+/// which brings none.
 pub(crate) fn finish_of(ends: &[End]) -> Result<Finish, AllocError>
     requires unspent { All IsUnspent ends.now }
     requires few { length ends.now ≤ 65 }

@@ -35,15 +35,15 @@ pub struct Outcome<W: Timers> {
     pub finish: Finish,
 }
 
-/// Runs a script whose packets come from links and whose ticks come from a ticker, on 1 to 64 shards, with 1 to 64 workers at
-/// once. It may wait.
+/// Runs a script whose packets come from links and whose ticks come from a ticker, on 1 to 64 shards, with 1 to 64 workers in parallel. It
+/// may wait.
 ///
 /// Session k of the table stands at place k / shards of shard k % shards, and each shard's journal takes `journal` entries. The
 /// timer is caller 0, over link 0 and the ticker, and gives the script's event lines as orders; worker i is caller i, over link i.
 /// Turns and ticks are at most 1,000,000,000.
 ///
-/// `PortFault` comes where a port can't be opened: its count of faults rose, nothing ran, and no link was called. `Memory` comes for
-/// want of memory alone, before the run, in a caller, or after it. In every case each link that was opened is shut.
+/// `PortFault` comes where a port can't be opened: its count of faults rose, nothing ran, and no link was called. `Memory` comes only when
+/// out of memory, before the run, in a caller, or after it. In every case each link that was opened is shut.
 pub fn serve_script<
     W: Timers + Send,
     P: Ports,

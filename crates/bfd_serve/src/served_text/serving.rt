@@ -52,8 +52,8 @@ fn served_line(alloc: Global, entries: u64, txs: u64, lost: u64) -> Result<Strin
     format!(in alloc; "served {entries} {txs} {lost}\n")
 }
 
-/// The served text of the journals of these shards, where so many sends failed. `parts` has for each shard the configurations of
-/// its sessions, by place: the ones with which it was made, each within its ranges. The one refusal is want of memory.
+/// The served text of the journals of these shards, where so many sends failed. `parts` has for each shard the configurations of its
+/// sessions, by place: the ones with which it was made, each within its ranges. Fails only when out of memory.
 pub fn served<W: Timers>(
     alloc: Global,
     parts: Vec<Vec<SessionConfig>>,

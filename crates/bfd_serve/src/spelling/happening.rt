@@ -45,8 +45,8 @@ fn happening_text(alloc: Global, discr: u32, event: &ShardEvent) -> Result<Strin
     }
 }
 
-/// Appends the line of an event of a shard: that of a packet file, or `back MOMENT DISCR SEQ` for an echo packet that came
-/// back. `discr` names the session of an own event. The one refusal is want of memory; then the text is as before.
+/// Appends the line of an event of a shard: that of a packet file, or `back MOMENT DISCR SEQ` for an echo packet that came back. `discr`
+/// names the session of an own event. Fails only when out of memory; then the text is as before.
 pub fn line_of(discr: u32, event: &ShardEvent, text: &mut Vec<u8>) -> Result<(), AllocError>
     ensures all { OnOk result (text.new.items ≡ text.old.items ++ line (happening_fields discr event.now)) }
     ensures kept { OnErr result (text.new.items ≡ text.old.items) }

@@ -21,10 +21,9 @@ fn script_text(alloc: Global, script: &Script) -> Result<String, AllocError>
     format!(in alloc; "bfd {version}\n{rows}{pool}run\n{events}end\n")
 }
 
-/// The one spelling of a script, as bytes: the sessions as they stand, each with its keys after it, then the reflectors, with
-/// decimal numbers without leading zeros and hexadecimal digits in lower case. It is of version 1 where no session has a second key and no
-/// event is a command `key`, and else of version 2. `read` of it gives a script that `read` gave. The one refusal is want of
-/// memory.
+/// The one spelling of a script, as bytes: the sessions as they stand, each with its keys after it, then the reflectors, with decimal
+/// numbers without leading zeros and hexadecimal digits in lower case. It is of version 1 where no session has a second key and no event is
+/// a command `key`, and else of version 2. `read` of it gives a script that `read` gave. Fails only when out of memory.
 #[tactic(auto, using(crate::proofs::ScriptAgain::text_again))]
 pub fn write(alloc: Global, script: &Script) -> Result<Vec<u8>, AllocError>
     ensures text { IfOk result (λ bytes. bytes.items ≡ spelling script.now) }

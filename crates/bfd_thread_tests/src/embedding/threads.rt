@@ -47,7 +47,7 @@ pub struct Job {
     pub saw: Vec<Saw>,
     /// For how many outputs of a call there is to be room.
     pub room: usize,
-    /// That its calls were made; or that memory was wanting before the next of them.
+    /// That its calls were made; or that memory ran out before the next of them.
     pub ended: Result<(), AllocError>,
 }
 
@@ -101,7 +101,7 @@ fn next<W: Timers, R: Wait, L: Ledger>(
     Ok(())
 }
 
-/// All calls of a job, or those before memory was wanting.
+/// All calls of a job, or those before memory ran out.
 fn work<W: Timers, R: Wait, L: Ledger>(
     rt: &R,
     alloc: Global,
@@ -136,7 +136,7 @@ pub(crate) fn work_alone<W: Timers, R: Wait>(
     job.ended = work::<W, R, Brand>(rt, alloc, engine, job, Blank::new(1));
 }
 
-/// Does all jobs, each in a thread of its own where one can be had. It may wait.
+/// Does all jobs, each in a thread of its own if one is available. It may wait.
 ///
 /// Every pass comes back in its place, with its number, and no turn held. What a thread did are the calls that its job no longer
 /// has, in their order, with the answer and the outputs of each.

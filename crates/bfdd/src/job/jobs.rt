@@ -192,7 +192,7 @@ fn pair_answer(alloc: Global, events: u32, seed: u32) -> Result<Answer, AllocErr
     Ok(Answer::done_with(line.into_bytes()))
 }
 
-/// What the job has to write, where the source had these bytes. The one refusal is want of memory.
+/// What the job has to write, where the source had these bytes. Fails only when out of memory.
 #[tactic(auto, using(crate::proofs::Answering::is_answer))]
 pub(crate) fn answer_to<R: Threads + Wait + Sync, G: Gate + Sync>(
     rt: &R,

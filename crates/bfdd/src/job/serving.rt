@@ -110,8 +110,8 @@ where
     }
 }
 
-/// Serves a script by these numbers, and answers what is to be told of it. The one refusal is want of memory. Every link that was
-/// opened is shut.
+/// Serves a script by these numbers, and answers what is to be told of it. Fails only when out of memory. Every link that was opened is
+/// shut.
 pub(crate) fn serve_by<R: Threads + Wait + Sync, G: Gate + Sync, P: Ports, T: Ticker + Send>(
     rt: &R,
     alloc: Global,

@@ -27,7 +27,7 @@ pub enum Status {
     /// A port couldn't be opened. Nothing ran, nothing was written, and the links that were opened are shut.
     PortFault,
 
-    /// The link of this number, a worker's, failed to receive. The served text was written, or a front of it where the sink failed.
+    /// The link of this number, a worker's, failed to receive. The served text was written, or a prefix of it where the sink failed.
     LinkFault(u32),
 
     /// The source gave more than 67,108,864 bytes. Nothing was written.

@@ -1,4 +1,4 @@
--- What the sink took is a front of the report.
+-- What the sink took is a prefix of the report.
 use Rattle.bfdd.proofs.output.write_text.Goals as goal
 
 pub returns-in-Report-default-Hashed-clause-front : goal.returns-in-Report-default-Hashed-clause-front
