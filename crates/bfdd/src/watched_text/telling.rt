@@ -15,7 +15,7 @@ ghost use Rattle.bfdd.specs.Members.{watched_of};
 use crate::watched_text::following::{poll_all, watches};
 use crate::watched_text::members::group;
 use crate::watched_text::turning::happen;
-use bfd_engine::{Engine, EngineFault, EnginePass, OpenFault, Unclosed};
+use bfd_engine::{Engine, EngineFault, EnginePass, OpenFault};
 use bfd_num::Steps;
 use bfd_rules::Outs;
 use bfd_sbfd::Reflector;
@@ -143,6 +143,7 @@ pub fn watched<R: Wait>(
     let group = group(alloc, need, members, &configs)?;
     let watches = watches::<HashedWheel>(alloc, &configs, shards, events.len())?;
     let outs = Outs::make(alloc, 5 * configs.len() + 5)?;
+    let states = Vec::with_capacity(alloc, shards as usize)?;
     let (engine, mut pass) = opened(alloc, configs, pool, &events, shards)?;
     let told = tell::<HashedWheel, R, Brand>(
         rt,
@@ -155,13 +156,6 @@ pub fn watched<R: Wait>(
         outs,
         Blank::new(1),
     );
-    match engine.close(alloc, pass) {
-        Ok(_states) => text_of(told),
-        Err(
-            Unclosed {
-                engine: _engine,
-                pass: _pass,
-            },
-        ) => Err(AllocError),
-    }
+    let _states = engine.close(pass, states);
+    text_of(told)
 }

@@ -8,11 +8,11 @@ loop-lock-init g c = record {
   can = tt;
   ends = tt;
   all = search rules;
-  long = ap length c.in-Ok.ensures.items;
-  room = search rules;
+  long = ap length c.requires.none;
+  room = c.requires.room;
   number = refl;
-  left = left_whole (length c.in-Ok.shards.items) c.args.pass.1;
-  ended = none_ended c.args.self c.args.pass c.in-Ok.ensures.items;
+  left = left_whole (length c.args.shards.items) c.args.pass.1;
+  ended = none_ended c.args.self c.args.pass c.requires.none;
 }
 
 pub lift-own-requires : goal.lift-own-requires
