@@ -1,6 +1,19 @@
 -- One event more is told.
-use Rattle.bfd_replay.proofs.StreamCommon.{◌≡◌, ◌+◌, ◌++◌, ℕ, List, [], ◌∷◌, length, Option, refl, sym, subst, append_assoc, append-nil, arith, Appends, Outcome, done_line, dropped, event_lines, lines_from, packets_sent, report, ToldUpTo, Telling, TookFront, TookUpTo, front_of_longer, took_front, took_of_longer, took_on, took_rest}
-use Rattle.std.specs.Prelude.{sum_by}
+use Rattle.bfd_replay.proofs.StreamCommon.{◌≡◌, ◌+◌, ◌++◌, ◌∙◌, ℕ, List, [], ◌∷◌, length, Option, ap, refl, sym, subst, append_assoc, append-nil, arith, Appends, Line, Outcome, done_line, dropped, event_lines, lines_from, packets_sent, report, Happening, happening, happenings, happening_outcomes, ToldUpTo, Telling, TookFront, TookUpTo, front_of_longer, none_taken, took_front, took_of_longer, took_on, took_rest}
+use Rattle.std.specs.Prelude.{◌<◌, sum_by}
+use Rattle.std.specs.List.{cons_option, filter_map}
+use Rattle.std.proofs.lemmas.List.Sums.{sum_by-cons}
+use Rattle.bfd_shard.specs.declared.entry.ShardEvent.{ShardEvent}
+use Rattle.bfd_shard.specs.History.{last_tick, runs}
+use Rattle.bfd_engine.specs.Engines.{Knows, Shards, configs_at}
+use Rattle.bfd_engine.specs.Calls.{seen_at}
+use Rattle.bfd_engine.specs.Opening.{IsNewPass}
+use Rattle.bfd_replay.specs.Happenings.{Apart, Among, session_event}
+use Rattle.bfd_replay.specs.Telling.{HasToldEvent, HasToldFront, outcomes_on}
+use Rattle.bfd_replay.specs.Turning.{Went, brought, given}
+use Rattle.bfd_replay.specs.Working.{IsSole, entries_by}
+use Rattle.bfd_replay.proofs.Going.{entries_both}
+use Rattle.bfd_replay.proofs.OneCaller.{given_past, one_brought, outcome_first, outcome_in, outcomes_none, past_after}
 
 -- more was told
 pub told_on : {first next last : Option (List ℕ)} {start told after : Telling} {all some rest : List Outcome}
@@ -12,6 +25,13 @@ told_on {first} {next} {last} {start} {told} {after} {all} {some} {rest} so_far 
   drops = cc;
 }
 
+nothing_told : (now : Option (List ℕ)) (told : Telling) (os : List Outcome) → ToldUpTo now now told told os os
+nothing_told now told os = record { lines = none_taken now _; events = refl; txs = refl; drops = refl }
+
+past_on : (past : List ShardEvent) (h : Happening) (rest : List ShardEvent) → past_after past h ++ rest ≡ past ++ cons_option (session_event h) rest
+past_on past (Apart outcome) rest = cc (append-nil past)
+past_on past (Among event) rest = append_assoc past (event ∷ []) rest
+
 -- an event's lines stand behind the text, before those of the others
 lines_split : (text told : List ℕ) (n : ℕ) (o : Outcome) (all os : List Outcome) → all ≡ o ∷ os → told ≡ text ++ event_lines n o
     → text ++ lines_from n all ≡ told ++ lines_from (n + 1) os
@@ -22,6 +42,68 @@ pub event_front : (old new : Option (List ℕ)) (before told : Telling) {o : Out
 event_front old new before told {o} {all} {os} split text took =
     subst (TookFront old new) (sym (lines_split before.text told.text (before.events + 1) o all os split text))
     (front_of_longer old new _ (lines_from (before.events + 1 + 1) os) took)
+
+pub event_told : (old new : Option (List ℕ)) (before told after : Telling) (o : Outcome) → told.text ≡ before.text ++ event_lines (before.events + 1) o → told.events ≡ before.events + 1
+    → told.txs ≡ before.txs + packets_sent o → told.drops ≡ before.drops + dropped o → after.events ≡ told.events → after.txs ≡ told.txs → after.drops ≡ told.drops
+    → TookUpTo old new told.text after.text → (rest : List Outcome) → ToldUpTo old new before after (o ∷ rest) rest
+event_told old new before told after o text events txs drops events2 txs2 drops2 took rest = record {
+  lines = subst (λ t. TookUpTo old new t (after.text ++ lines_from (after.events + 1) rest)) (sym (lines_split before.text told.text (before.events + 1) o (o ∷ rest) rest refl text))
+      (rw (events2, events) (took_of_longer old new told.text after.text (lines_from (before.events + 1 + 1) rest) took));
+  events = omega (arith, events, events2);
+  txs = omega (arith, txs, txs2, sum_by-cons packets_sent o rest);
+  drops = omega (arith, drops, drops2, sum_by-cons dropped o rest);
+}
+
+-- what was told of a script so far by caller 0 on an engine of one shard, if it is the only one
+pub record IsTelling (engine : Shards) (lines left : List Line) (l : Knows) (old now : Option (List ℕ)) (before after : Telling) : Type 0 where
+  pub past : List ShardEvent
+  pub whole : past ++ filter_map session_event (happenings engine.configs engine.pool left) ≡ filter_map session_event (happenings engine.configs engine.pool lines)
+  pub seen : IsSole 0 (seen_at l 0) → seen_at l 0 ≡ entries_by 0 past
+  pub told : IsSole 0 (seen_at l 0) → ToldUpTo old now before after (outcomes_on engine (happenings engine.configs engine.pool lines))
+      (happening_outcomes (last_tick past) (happenings engine.configs engine.pool left) (runs past (configs_at engine 0)))
+
+pub telling_none : {engine : Shards} (lines : List Line) {left : List Line} {k : Knows} (now : Option (List ℕ)) (told : Telling) → left ≡ lines → IsNewPass engine k → 0 < length engine.locks
+    → IsTelling engine lines left k now now told told
+telling_none {engine} lines {left} {k} now told same new some = record {
+  past = [];
+  whole = ap (λ ls. filter_map session_event (happenings engine.configs engine.pool ls)) same;
+  seen = λ s. new.seen 0 some;
+  told = λ s. rw (ap (λ ls. happening_outcomes (last_tick []) (happenings engine.configs engine.pool ls) (runs [] (configs_at engine 0))) same
+      ∙ outcomes_none (configs_at engine 0) (happenings engine.configs engine.pool lines)) (nothing_told now told (outcomes_on engine (happenings engine.configs engine.pool lines)));
+}
+
+module _ {engine : Shards} {lines left rest : List Line} {line : Line} {k l m : Knows} {old now : Option (List ℕ)} (next : Option (List ℕ)) {before told : Telling} (split : left ≡ line ∷ rest)
+    (t : IsTelling engine lines left l old now before told) where
+  h : Happening
+  h = happening engine.configs engine.pool line
+
+  outcomes_split : happening_outcomes (last_tick t.past) (happenings engine.configs engine.pool left) (runs t.past (configs_at engine 0))
+      ≡ outcome_in (last_tick t.past) h (runs t.past (configs_at engine 0))
+      ∷ happening_outcomes (last_tick (past_after t.past h)) (happenings engine.configs engine.pool rest) (runs (past_after t.past h) (configs_at engine 0))
+  outcomes_split = ap (λ ls. happening_outcomes (last_tick t.past) (happenings engine.configs engine.pool ls) (runs t.past (configs_at engine 0))) split
+      ∙ outcome_first (configs_at engine 0) t.past h (happenings engine.configs engine.pool rest)
+
+  given_is : IsSole 0 (seen_at l 0) → given (configs_at engine 0) (seen_at l 0) h ≡ outcome_in (last_tick t.past) h (runs t.past (configs_at engine 0))
+  given_is s = ap (λ before. given (configs_at engine 0) before h) (t.seen s) ∙ given_past (configs_at engine 0) t.past h
+
+  pub telling_next : {after : Telling} → Went l m (brought 1 h 0) 0 → HasToldEvent engine h l m now next told after → IsTelling engine lines rest m old next before after
+  telling_next {after} w more = record {
+    past = past_after t.past h;
+    whole = past_on t.past h (filter_map session_event (happenings engine.configs engine.pool rest))
+        ∙ (ap (λ ls. t.past ++ filter_map session_event (happenings engine.configs engine.pool ls)) (sym split) ∙ t.whole);
+    seen = λ s. cc (w.seen s, t.seen (w.sole s), one_brought h, entries_both t.past (cons_option (session_event h) []));
+    told = λ s.
+        let o = outcome_in (last_tick t.past) h (runs t.past (configs_at engine 0)) in
+        let later = happening_outcomes (last_tick (past_after t.past h)) (happenings engine.configs engine.pool rest) (runs (past_after t.past h) (configs_at engine 0)) in
+        told_on (t.told (w.sole s)) (subst (λ os. ToldUpTo now next told after os later) (ap (λ x. x ∷ later) (given_is (w.sole s)) ∙ sym outcomes_split) (more s later));
+  }
+
+  pub telling_front : (IsSole 0 (seen_at m 0) → IsSole 0 (seen_at l 0)) → HasToldFront engine h l m now next told → IsSole 0 (seen_at m 0)
+      → TookFront old next (before.text ++ lines_from (before.events + 1) (outcomes_on engine (happenings engine.configs engine.pool lines)))
+  telling_front earlier more s =
+      let later = happening_outcomes (last_tick (past_after t.past h)) (happenings engine.configs engine.pool rest) (runs (past_after t.past h) (configs_at engine 0)) in
+      took_front old now next _ _ (t.told (earlier s)).lines
+      (subst (λ os. TookFront now next (told.text ++ lines_from (told.events + 1) os)) (ap (λ x. x ∷ later) (given_is (earlier s)) ∙ sym outcomes_split) (more s later))
 
 -- the report of all events, where nothing was told at first
 module _ (old mid new : Option (List ℕ)) (start told : Telling) (os : List Outcome) (text : start.text ≡ []) (events : start.events ≡ 0) (txs : start.txs ≡ 0) (drops : start.drops ≡ 0) where

@@ -20,6 +20,13 @@ pub record HaveReplayed (script : Lists) (shards workers : ℕ) (states : List S
   pub long : length states ≡ shards
   pub each : (number : ℕ) (state : Shard) → slice_get states number ≡ Some state → HasReplayed script shards workers number state
 
+-- the one shard of a replay by one caller: it was made of the script's sessions, and its journal is, in the order of the script, their own
+-- events and every tick, all brought by that caller
+pub record HasReplayedAlone (script : Lists) (states : List Shard) : Type 0 where
+  pub long : length states ≡ 1
+  pub each : (state : Shard) → slice_get states 0 ≡ Some state
+      → (configs_of state.sessions ≡ script.configs) × (state.journal ≡ entries_by 0 (events_of_table script))
+
 -- the parts of a report are those of this script's events on some number of shards, and so many events are they
 pub record AreOfScript (script : Lists) (parts : List (List Piece)) (events : ℕ) : Type 0 where
   pub shards : ℕ

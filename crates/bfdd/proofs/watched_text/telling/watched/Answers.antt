@@ -6,9 +6,9 @@ use Rattle.bfd_engine.specs.declared.fault.EngineFault.TheVariants.{Memory}
 use Rattle.bfd_replay.specs.Happenings.{happening_outcomes}
 use Rattle.bfd_replay.specs.Planned.{happenings}
 use Rattle.bfd_watch.specs.Watched as watch
-use Rattle.bfdd.specs.Following.{AllSole, IsCutShort}
+use Rattle.bfd_replay.specs.Turning.{AllSole, IsCutShort}
+use Rattle.bfd_replay.proofs.OneCaller.{never_stopped, none_open}
 use Rattle.bfdd.specs.Members.{group_in, watched_of}
-use Rattle.bfdd.proofs.Told.{none_open, never_stopped}
 use Rattle.bfdd.proofs.Closing.{first_watched, room_enough, in_order, taken_apart, closed_text}
 use Rattle.bfdd.proofs.watched_text.telling.watched.Goals as goal
 

@@ -1,5 +1,6 @@
 -- The table of a script has no fault, and its sessions and reflectors stand in order.
-use Rattle.bfdd.proofs.WatchedTextCommon.{None, ◌≡◌, List, SessionConfig, Reflector, Line}
+use Rattle.bfd_replay.proofs.StreamCommon.{◌≡◌, List, SessionConfig, Reflector, Line}
+use Rattle.std.specs.Prelude.{None}
 use Rattle.bfd_demux.specs.Rows.{build_fault}
 use Rattle.bfd_session.specs.Rows.{table_of}
 use Rattle.bfd_session.specs.Tables.{IsSorted}
