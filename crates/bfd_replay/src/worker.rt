@@ -21,12 +21,10 @@
 mod beginning;
 mod counting;
 mod finish;
-mod in_parts;
 mod jobs;
 mod passes;
 mod replaying;
 mod running;
 mod working;
 
-pub use in_parts::ReportInParts;
-pub use replaying::{ClosedShards, Outcome, Report, replay, reported, reported_in_parts};
+pub use replaying::{ClosedShards, Outcome, Report, replay, replay_to, reported};

@@ -9,13 +9,12 @@ ghost use Rattle.bfd_replay.specs.Planned.{happenings, script_with};
 ghost use Rattle.bfd_replay.specs.Replayed.{HaveReplayed};
 
 use crate::plan::{Plan, longest};
-use crate::report::{Part, report, report_at_once};
+use crate::report::{Part, report, report_at_once, report_to, write_each};
 use crate::worker::beginning::begun;
 use crate::worker::counting::{up_all, up_at_last};
 use crate::worker::finish::in_order;
-use crate::worker::in_parts::{Held, ReportInParts};
 use crate::worker::running::run_all;
-use bfd_edge::Gate;
+use bfd_edge::{Fault, Gate, Sink};
 use bfd_engine::Engine;
 use bfd_sbfd::Reflector;
 use bfd_script::Script;
@@ -261,49 +260,67 @@ fn free<W: Timers + Send + 'static, R: Threads>(
     freeing.ok()
 }
 
-/// The same replay, whose report is written by whoever holds what this gives. With several workers it is put together here, by up to four
-/// threads in parallel; the shards with their journals are freed then, in a thread that `write_to` waits for, if one is available: they may
-/// still be there when this returns. With one worker they are gone by then, and the report is put together only when it is written. What
-/// the closed shards were stays for clauses. It fails only when out of memory, or when 2^64 packets were sent or dropped, which it reports
-/// as out of memory.
+/// Waits for the thread, if there is one.
+fn join<R: Threads>(rt: &R, thread: Option<JoinHandle<()>>) {
+    if let Some(thread) = thread {
+        thread.join(rt);
+    }
+}
+
+/// Writes the report of so many events, which is put together by up to four threads; the shards are freed meanwhile.
+fn write_at_once<W: Timers + Send + 'static, R: Threads + Sync, K: Sink>(
+    rt: &R,
+    alloc: Global,
+    parts: Vec<Part>,
+    states: Vec<ShardState<W>>,
+    events: u64,
+    sink: &mut K,
+) -> Result<(), Fault>
+{
+    let Ok(texts) = report_at_once(rt, alloc, parts, events) else {
+        return Err(Fault::Memory);
+    };
+    let freeing = free(rt, states);
+    let written = write_each(sink, texts.as_slice());
+    join(rt, freeing);
+    written
+}
+
+/// The same replay, whose report is written to the sink. With several workers it is put together by up to four threads first, and the
+/// shards with their journals are freed while it is written. With one worker they are freed first, and it is put together as it is written.
+/// It is refused as Failed where the sink failed, and as Memory when out of memory, here or in the sink, or at 2^64 packets sent or dropped;
+/// the sink took a prefix of the report then. What the closed shards were stays for clauses.
 #[tactic(auto, using(crate::proofs::Worlds::is_table))]
-pub fn reported_in_parts<W: Timers + Send + 'static, R: Threads + Wait + Sync, G: Gate + Sync>(
+pub fn replay_to<W: Timers + Send + 'static, R: Threads + Wait + Sync, G: Gate + Sync, K: Sink>(
     rt: &R,
     alloc: Global,
     script: Script,
     shards: u32,
     workers: u32,
     gate: &G,
-) -> Result<(ReportInParts, ClosedShards<W>), AllocError>
-    requires script { IsScript script }
-    requires shards { (0 < shards) × (shards ≤ 64) }
-    requires workers { (0 < workers) × (workers ≤ 64) }
-    ensures report { IfOk result (λ r. r.0 ≡ replayed script) }
-    ensures states { IfOk result (λ r. HaveReplayed script shards workers r.1.value.items) }
+    sink: &mut K,
+) -> Result<ClosedShards<W>, Fault>
 {
-    let known = Snapshot::of(&script);
     let Script {
         configs,
         pool,
         events,
     } = script;
     let count = events.len() as u64;
-    let (parts, states) = worked::<W, R, G>(
+    let Ok((parts, states)) = worked::<W, R, G>(
         rt, alloc, configs, pool, events, shards, workers, gate,
-    )?;
+    ) else {
+        return Err(Fault::Memory);
+    };
     let closed = Snapshot::of(&states);
-    let at_once = 1 < workers;
-    let held = if at_once {
-        Held::Texts(report_at_once(rt, alloc, parts, count)?, free(rt, states))
+    let written = if 1 < workers {
+        write_at_once(rt, alloc, parts, states, count, sink)
     } else {
         drop(states);
-        Held::Parts(parts, count)
+        report_to(alloc, parts, count, sink)
     };
-    Ok((
-        ReportInParts {
-            script: known,
-            held,
-        },
-        closed,
-    ))
+    match written {
+        Ok(()) => Ok(closed),
+        Err(fault) => Err(fault),
+    }
 }

@@ -6,11 +6,12 @@ ghost use Rattle.bfdd.specs.Ranges.{AreHands};
 ghost use Rattle.bfdd.specs.Hands.{IsDoneBy};
 
 use crate::words::{Form, Hands};
-use bfd_edge::Gate;
+use bfd_edge::{Fault, Gate, Sink};
 use bfd_levels::Levels;
-use bfd_replay::worker::{ClosedShards, Report, ReportInParts, reported, reported_in_parts};
+use bfd_replay::stream::report_to;
+use bfd_replay::worker::{ClosedShards, Report, replay_to, reported};
 use bfd_script::Script;
-use bfd_wheel::HashedWheel;
+use bfd_wheel::{HashedWheel, Timers};
 use std::alloc::{AllocError, Global};
 use std::sync::Wait;
 use std::thread::Threads;
@@ -60,37 +61,46 @@ pub(crate) fn replay_by<R: Threads + Wait + Sync, G: Gate + Sync>(
     }
 }
 
-/// The same replay, whose report is put together by several threads, or with one worker only when it is written. It fails only when out
-/// of memory.
-pub(crate) fn replay_in_parts<R: Threads + Wait + Sync, G: Gate + Sync>(
+/// A replay with timers of this form, whose report is written as it comes where it is on one shard by one worker.
+fn replay_with<
+    W: Timers + Send + 'static,
+    R: Threads + Wait + Sync,
+    G: Gate + Sync,
+    K: Sink,
+>(
     rt: &R,
     alloc: Global,
     script: Script,
     hands: Hands,
     gate: &G,
-) -> Result<(ReportInParts, ShardsOf), AllocError>
-    requires script { IsScript script }
-    requires hands { AreHands hands }
-    ensures report { IfOk result (λ r. r.0 ≡ replayed script) }
-    ensures hands { IfOk result (λ r. IsDoneBy hands script r.1) }
+    sink: &mut K,
+) -> Result<ClosedShards<W>, Fault>
 {
-    let Hands {
-        shards,
-        workers,
-        timers,
-    } = hands;
-    match timers {
-        Form::Hashed => {
-            let (report, closed) = reported_in_parts::<HashedWheel, R, G>(
-                rt, alloc, script, shards, workers, gate,
-            )?;
-            Ok((report, ShardsOf::Hashed(closed)))
-        }
-        Form::Levels => {
-            let (report, closed) = reported_in_parts::<Levels, R, G>(
-                rt, alloc, script, shards, workers, gate,
-            )?;
-            Ok((report, ShardsOf::Levels(closed)))
-        }
+    if hands.shards == 1 && hands.workers == 1 {
+        report_to(rt, alloc, script, gate, sink)
+    } else {
+        replay_to(rt, alloc, script, hands.shards, hands.workers, gate, sink)
+    }
+}
+
+/// The same replay, whose report is written to the sink.
+pub(crate) fn write_replay<R: Threads + Wait + Sync, G: Gate + Sync, K: Sink>(
+    rt: &R,
+    alloc: Global,
+    script: Script,
+    hands: Hands,
+    gate: &G,
+    sink: &mut K,
+) -> Result<ShardsOf, Fault>
+{
+    match hands.timers {
+        Form::Hashed => match replay_with(rt, alloc, script, hands, gate, sink) {
+            Ok(closed) => Ok(ShardsOf::Hashed(closed)),
+            Err(fault) => Err(fault),
+        },
+        Form::Levels => match replay_with(rt, alloc, script, hands, gate, sink) {
+            Ok(closed) => Ok(ShardsOf::Levels(closed)),
+            Err(fault) => Err(fault),
+        },
     }
 }
