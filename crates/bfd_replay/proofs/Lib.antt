@@ -24,6 +24,7 @@ pub mod Going
 pub mod OneCaller
 pub mod Opening
 pub mod Events
+pub mod Reporting
 pub mod Courses
 pub mod Owning
 pub mod Joining

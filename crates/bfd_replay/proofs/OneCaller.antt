@@ -68,6 +68,10 @@ one_shard (Apart outcome) = refl
 one_shard (Among (Own k m event)) = rw ((one_by k m 0 k refl refl).0, (one_by k m 0 k refl refl).1) refl
 one_shard (Among (Tick t)) = refl
 
+pub one_history : (es : List ShardEvent) → history_of 1 0 es ≡ es
+one_history [] = refl
+one_history (e ∷ es) = ap (λ o. cons_option o (history_of 1 0 es)) (one_shard (Among e)) ∙ ap (λ xs. e ∷ xs) (one_history es)
+
 pub one_brought : (h : Happening) → brought 1 h 0 ≡ cons_option (session_event h) []
 one_brought h = ap (λ o. cons_option o []) (one_shard h)
 

@@ -13,4 +13,3 @@ pub mod Ends
 pub mod Counts
 pub mod Replayed
 pub mod Beginning
-pub mod Held

@@ -2,7 +2,7 @@
 //!
 //! An engine is opened for the script, and each line is a turn of its shard, in the caller's thread, in the order of the file: [`happen`]
 //! finds what the line is and does it. What it gave is appended to a text as the lines of a report, and a text of 64 KiB goes to the sink
-//! and begins anew. So no more of the report is held than that and the lines of one event. [`report_to`] is all of it.
+//! and begins anew. So no more of the report is held than that and the lines of one event. `report_to` is all of it.
 //!
 //! Modules: `opening` opens the engine of a script, `turning` is one line on an engine of any shards, which a watch uses too, `telling` the
 //! text and the counts so far, `reporting` the whole.
@@ -18,5 +18,5 @@ mod telling;
 mod turning;
 
 pub use opening::opened;
-pub use reporting::report_to;
+pub(crate) use reporting::report_to;
 pub use turning::happen;

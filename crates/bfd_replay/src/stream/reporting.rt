@@ -1,7 +1,7 @@
 //! The report of a script, written as it comes.
-ghost use Rattle.std.specs.Prelude.{ℕ, ◌≡◌, ◌≤◌, ◌<◌, ◌+◌, ◌*◌, ◌++◌, [], IfErr, IfOk, OnOk, IsErrOf, length, vec_capacity};
+ghost use Rattle.std.specs.Prelude.{ℕ, ◌≡◌, ◌≤◌, ◌<◌, ◌+◌, ◌*◌, ◌++◌, [], IfErr, IfOk, OnOk, length, vec_capacity};
 ghost use Rattle.std.specs.Io.KnownBytes.{Appends};
-ghost use Rattle.bfd_edge.specs.Faults.{HasCause, Rose};
+ghost use Rattle.bfd_edge.specs.Faults.{HasCause};
 ghost use Rattle.bfd_engine.specs.Calls.{seen_at};
 ghost use Rattle.bfd_engine.specs.Engines.{IsOf, AllThere, configs_at};
 ghost use Rattle.bfd_engine.specs.Opening.{IsNewPass};
@@ -9,7 +9,7 @@ ghost use Rattle.bfd_script.specs.Report.{lines_from, report};
 ghost use Rattle.bfd_script.specs.Sound.{IsScript};
 ghost use Rattle.bfd_instance.specs.World.{replayed};
 ghost use Rattle.bfd_replay.specs.Planned.{happening, happenings};
-ghost use Rattle.bfd_replay.specs.Replayed.{HasReplayedAlone};
+ghost use Rattle.bfd_replay.specs.Replayed.{HaveReplayed, taker_of};
 ghost use Rattle.bfd_replay.specs.Telling.{HasBrought, HasStopCause, HasToldEvent, HasToldFront, IsClosedAfter, IsEventStop, IsMeant, IsStop, ToldUpTo, fault_of, outcomes_on};
 ghost use Rattle.bfd_replay.specs.Turning.{HasKept, Went, brought};
 ghost use Rattle.bfd_replay.specs.Working.{IsSole};
@@ -188,7 +188,7 @@ fn tell_all<W: Timers, R: Wait, G: Gate, K: Sink>(
 /// Replays the script on one shard, in the caller's thread, and writes its report to the sink as it comes. Each turn for event N stands
 /// between `gate.before(0, N)` and `gate.after(0, N)`. It is refused as Failed where the sink failed, and as Memory when out of memory, here
 /// or in the sink; the sink took a prefix of the report then. What the closed shard was stays for clauses. It may wait.
-pub fn report_to<W: Timers, R: Wait, G: Gate, K: Sink>(
+pub(crate) fn report_to<W: Timers, R: Wait, G: Gate, K: Sink>(
     rt: &R,
     alloc: Global,
     script: Script,
@@ -197,12 +197,10 @@ pub fn report_to<W: Timers, R: Wait, G: Gate, K: Sink>(
 ) -> Result<ClosedShards<W>, Fault>
     requires script { IsScript script }
     ensures whole { OnOk result (Appends (K.taken sink.old) (K.taken sink.new) (replayed script)) }
-    ensures states { IfOk result (λ closed. HasReplayedAlone script closed.value.items) }
-    ensures failed { IsErrOf result Fault.Failed → Rose (K.faults sink.old) (K.faults sink.new) }
+    ensures states { IfOk result (λ closed. HaveReplayed script 1 (taker_of 1 1) closed.value.items) }
     ensures front { TookFront (K.taken sink.old) (K.taken sink.new) (replayed script) }
-    ensures later { K.faults sink.old ≤ K.faults sink.new }
+    ensures cause { HasCause (K.faults sink.old) (K.faults sink.new) result }
     ensures calm { OnOk result (K.faults sink.new ≡ K.faults sink.old) }
-    ensures calm_memory { IsErrOf result Fault.Memory → K.faults sink.new ≡ K.faults sink.old }
 {
     let Script {
         configs,

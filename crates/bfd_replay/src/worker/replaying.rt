@@ -1,12 +1,17 @@
 //! A replay on shards, by several workers.
-ghost use Rattle.std.specs.Prelude.{ℕ, ◌≡◌, ◌≤◌, ◌<◌, IfOk, length, map};
-ghost use Rattle.bfd_replay.specs.Happenings.{AreParts};
+ghost use Rattle.std.specs.Prelude.{ℕ, ◌≡◌, ◌≤◌, ◌<◌, List, IfOk, OnOk, length, map};
+ghost use Rattle.std.specs.Io.KnownBytes.{Appends};
+ghost use Rattle.bfd_edge.specs.Faults.{HasCause};
+ghost use Rattle.bfd_replay.specs.Happenings.{AreParts, Happening, happening_outcomes};
 ghost use Rattle.bfd_instance.specs.World.{replayed, totals};
+ghost use Rattle.bfd_script.specs.Report as script;
 ghost use Rattle.bfd_script.specs.Sound.{IsScript};
+ghost use Rattle.bfd_session.specs.Kinds.{Running};
+ghost use Rattle.bfd_replay.specs.Written.{TookFront};
 ghost use Rattle.bfd_session.specs.Step.{started};
 ghost use Rattle.bfd_instance.specs.Stage.{IsTable};
 ghost use Rattle.bfd_replay.specs.Planned.{happenings, script_with};
-ghost use Rattle.bfd_replay.specs.Replayed.{HaveReplayed};
+ghost use Rattle.bfd_replay.specs.Replayed.{HaveReplayed, worker_of};
 
 use crate::plan::{Plan, longest};
 use crate::report::{Part, report, report_at_once, report_to, write_each};
@@ -81,7 +86,7 @@ fn worked<W: Timers + Send, R: Threads + Wait + Sync, G: Gate + Sync>(
     ensures parts { IfOk result (λ r. AreParts shards 1 0 (happenings configs.items pool.items events.items)
         (map started configs.items) r.0.items) }
     ensures states { IfOk result (λ r. HaveReplayed (script_with configs.items pool.items events.items)
-        shards workers r.1.items) }
+        shards (worker_of workers) r.1.items) }
 {
     let at_once = 1 < workers;
     let room = 5 * configs.len() + 5;
@@ -125,7 +130,7 @@ fn replay_lists<W: Timers + Send, R: Threads + Wait + Sync, G: Gate + Sync>(
     ensures up { IfOk result (λ outcome. outcome.up
         ≡ (totals (script_with configs.items pool.items events.items)).ups) }
     ensures states { IfOk result (λ outcome. HaveReplayed (script_with configs.items pool.items events.items)
-        shards workers outcome.states.items) }
+        shards (worker_of workers) outcome.states.items) }
 {
     let count = events.len();
     let (parts, states) = worked(rt, alloc, configs, pool, events, shards, workers, gate)?;
@@ -167,7 +172,7 @@ fn report_lists<W: Timers + Send, R: Threads + Wait + Sync, G: Gate + Sync>(
     ensures up { IfOk result (λ r. r.0.up
         ≡ (totals (script_with configs.items pool.items events.items)).ups) }
     ensures states { IfOk result (λ r. HaveReplayed (script_with configs.items pool.items events.items)
-        shards workers r.1.value.items) }
+        shards (worker_of workers) r.1.value.items) }
 {
     let count = events.len();
     let (parts, states) = worked::<W, R, G>(
@@ -210,7 +215,7 @@ pub fn replay<W: Timers + Send, R: Threads + Wait + Sync, G: Gate + Sync>(
     ensures txs { IfOk result (λ outcome. outcome.txs ≡ (totals script).txs) }
     ensures drops { IfOk result (λ outcome. outcome.drops ≡ (totals script).drops) }
     ensures up { IfOk result (λ outcome. outcome.up ≡ (totals script).ups) }
-    ensures states { IfOk result (λ outcome. HaveReplayed script shards workers outcome.states.items) }
+    ensures states { IfOk result (λ outcome. HaveReplayed script shards (worker_of workers) outcome.states.items) }
 {
     let Script {
         configs,
@@ -239,7 +244,7 @@ pub fn reported<W: Timers + Send, R: Threads + Wait + Sync, G: Gate + Sync>(
     ensures txs { IfOk result (λ r. r.0.txs ≡ (totals script).txs) }
     ensures drops { IfOk result (λ r. r.0.drops ≡ (totals script).drops) }
     ensures up { IfOk result (λ r. r.0.up ≡ (totals script).ups) }
-    ensures states { IfOk result (λ r. HaveReplayed script shards workers r.1.value.items) }
+    ensures states { IfOk result (λ r. HaveReplayed script shards (worker_of workers) r.1.value.items) }
 {
     let Script {
         configs,
@@ -276,6 +281,18 @@ fn write_at_once<W: Timers + Send + 'static, R: Threads + Sync, K: Sink>(
     events: u64,
     sink: &mut K,
 ) -> Result<(), Fault>
+    ensures whole { (shards last : ℕ) (happenings : List Happening) (sessions : List Running)
+        → length happenings ≡ events
+        → AreParts shards 1 last happenings sessions parts.items
+        → OnOk result (Appends (K.taken sink.old) (K.taken sink.new)
+        (script.report (happening_outcomes last happenings sessions))) }
+    ensures front { (shards last : ℕ) (happenings : List Happening) (sessions : List Running)
+        → length happenings ≡ events
+        → AreParts shards 1 last happenings sessions parts.items
+        → TookFront (K.taken sink.old) (K.taken sink.new)
+        (script.report (happening_outcomes last happenings sessions)) }
+    ensures cause { HasCause (K.faults sink.old) (K.faults sink.new) result }
+    ensures calm { OnOk result (K.faults sink.new ≡ K.faults sink.old) }
 {
     let Ok(texts) = report_at_once(rt, alloc, parts, events) else {
         return Err(Fault::Memory);
@@ -291,7 +308,7 @@ fn write_at_once<W: Timers + Send + 'static, R: Threads + Sync, K: Sink>(
 /// It is refused as Failed where the sink failed, and as Memory when out of memory, here or in the sink, or at 2^64 packets sent or dropped;
 /// the sink took a prefix of the report then. What the closed shards were stays for clauses.
 #[tactic(auto, using(crate::proofs::Worlds::is_table))]
-pub fn replay_to<W: Timers + Send + 'static, R: Threads + Wait + Sync, G: Gate + Sync, K: Sink>(
+pub(crate) fn replay_at_once<W: Timers + Send + 'static, R: Threads + Wait + Sync, G: Gate + Sync, K: Sink>(
     rt: &R,
     alloc: Global,
     script: Script,
@@ -300,6 +317,14 @@ pub fn replay_to<W: Timers + Send + 'static, R: Threads + Wait + Sync, G: Gate +
     gate: &G,
     sink: &mut K,
 ) -> Result<ClosedShards<W>, Fault>
+    requires script { IsScript script }
+    requires shards { (0 < shards) × (shards ≤ 64) }
+    requires workers { (0 < workers) × (workers ≤ 64) }
+    ensures whole { OnOk result (Appends (K.taken sink.old) (K.taken sink.new) (replayed script)) }
+    ensures front { TookFront (K.taken sink.old) (K.taken sink.new) (replayed script) }
+    ensures states { IfOk result (λ closed. HaveReplayed script shards (worker_of workers) closed.value.items) }
+    ensures cause { HasCause (K.faults sink.old) (K.faults sink.new) result }
+    ensures calm { OnOk result (K.faults sink.new ≡ K.faults sink.old) }
 {
     let Script {
         configs,

@@ -1,17 +1,20 @@
 // A replay on the hands that a job asks for.
-ghost use Rattle.std.specs.Prelude.{◌≡◌, IfOk};
+ghost use Rattle.std.specs.Prelude.{◌≡◌, IfOk, OnOk};
+ghost use Rattle.std.specs.Io.KnownBytes.{Appends};
+ghost use Rattle.bfd_edge.specs.Faults.{HasCause};
+ghost use Rattle.bfd_replay.specs.Written.{TookFront};
 ghost use Rattle.bfd_instance.specs.World.{replayed, totals};
 ghost use Rattle.bfd_script.specs.Sound.{IsScript};
 ghost use Rattle.bfdd.specs.Ranges.{AreHands};
-ghost use Rattle.bfdd.specs.Hands.{IsDoneBy};
+ghost use Rattle.bfdd.specs.Hands.{IsDoneBy, IsWrittenBy};
 
 use crate::words::{Form, Hands};
 use bfd_edge::{Fault, Gate, Sink};
 use bfd_levels::Levels;
-use bfd_replay::stream::report_to;
-use bfd_replay::worker::{ClosedShards, Report, replay_to, reported};
+use bfd_replay::replay_to;
+use bfd_replay::worker::{ClosedShards, Report, reported};
 use bfd_script::Script;
-use bfd_wheel::{HashedWheel, Timers};
+use bfd_wheel::HashedWheel;
 use std::alloc::{AllocError, Global};
 use std::sync::Wait;
 use std::thread::Threads;
@@ -61,29 +64,8 @@ pub(crate) fn replay_by<R: Threads + Wait + Sync, G: Gate + Sync>(
     }
 }
 
-/// A replay with timers of this form, whose report is written as it comes where it is on one shard by one worker.
-fn replay_with<
-    W: Timers + Send + 'static,
-    R: Threads + Wait + Sync,
-    G: Gate + Sync,
-    K: Sink,
->(
-    rt: &R,
-    alloc: Global,
-    script: Script,
-    hands: Hands,
-    gate: &G,
-    sink: &mut K,
-) -> Result<ClosedShards<W>, Fault>
-{
-    if hands.shards == 1 && hands.workers == 1 {
-        report_to(rt, alloc, script, gate, sink)
-    } else {
-        replay_to(rt, alloc, script, hands.shards, hands.workers, gate, sink)
-    }
-}
-
-/// The same replay, whose report is written to the sink.
+/// The same replay, whose report is written to the sink. It fails as Failed where the sink failed, and as Memory when out of memory, here or
+/// in the sink; the sink took a prefix of the report then.
 pub(crate) fn write_replay<R: Threads + Wait + Sync, G: Gate + Sync, K: Sink>(
     rt: &R,
     alloc: Global,
@@ -92,13 +74,25 @@ pub(crate) fn write_replay<R: Threads + Wait + Sync, G: Gate + Sync, K: Sink>(
     gate: &G,
     sink: &mut K,
 ) -> Result<ShardsOf, Fault>
+    requires script { IsScript script }
+    requires hands { AreHands hands }
+    ensures whole { OnOk result (Appends (K.taken sink.old) (K.taken sink.new) (replayed script)) }
+    ensures front { TookFront (K.taken sink.old) (K.taken sink.new) (replayed script) }
+    ensures hands { IfOk result (IsWrittenBy hands script) }
+    ensures cause { HasCause (K.faults sink.old) (K.faults sink.new) result }
+    ensures calm { OnOk result (K.faults sink.new ≡ K.faults sink.old) }
 {
-    match hands.timers {
-        Form::Hashed => match replay_with(rt, alloc, script, hands, gate, sink) {
+    let Hands {
+        shards,
+        workers,
+        timers,
+    } = hands;
+    match timers {
+        Form::Hashed => match replay_to(rt, alloc, script, shards, workers, gate, sink) {
             Ok(closed) => Ok(ShardsOf::Hashed(closed)),
             Err(fault) => Err(fault),
         },
-        Form::Levels => match replay_with(rt, alloc, script, hands, gate, sink) {
+        Form::Levels => match replay_to(rt, alloc, script, shards, workers, gate, sink) {
             Ok(closed) => Ok(ShardsOf::Levels(closed)),
             Err(fault) => Err(fault),
         },
