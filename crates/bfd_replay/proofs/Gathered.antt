@@ -80,10 +80,10 @@ have_replayed script {shards} {workers} {states} locks is are all = record {
 }
 
 -- how many sessions are Up
-pub ups_are : {script : Lists} (shards : ℕ) {workers up : ℕ} {states : List Shard} (d : Shard) → 0 < shards → HaveReplayed script shards (worker_of workers) states
+pub ups_are : {script : Lists} (shards workers : ℕ) {up : ℕ} {states : List Shard} (d : Shard) → 0 < shards → HaveReplayed script shards (worker_of workers) states
     → ((k : ℕ) (e : Shard) → k < length states → IsShard (get_or states k e)) → up ≡ sum_to (λ k. sum_by one_up (get_or states k d).sessions) (length states) → up ≡ (totals script).ups
-ups_are zero d some have kept is = absurd (omega (arith, some))
-ups_are {script} (suc n) {workers} {states} d some have kept is = cc (
+ups_are zero workers d some have kept is = absurd (omega (arith, some))
+ups_are {script} (suc n) workers {states = states} d some have kept is = cc (
   sum_same (λ k. sum_by one_up (get_or states k d).sessions) (λ k. ups (share (suc n) k (runs (events_of_table script) script.configs))) (suc n) (λ k h.
       (let inside : k < length states = omega (arith, h, have.long) in
       let state = get_or states k d in

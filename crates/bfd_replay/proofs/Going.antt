@@ -62,6 +62,10 @@ begins_same xs ys same = ([], same ∙ sym (append-nil xs))
 pub kept_same : (times : ℕ) (k : Knows) → HasKept times k k
 kept_same times k = record { number = refl; made = λ r. refl; taken = λ r. omega arith; begins = λ r. begins_same (seen_at k r) (seen_at k r) refl }
 
+-- what was seen before is caller 0's alone where all is
+pub earlier_sole : {times : ℕ} {k l : Knows} (r : ℕ) → HasKept times k l → IsSole 0 (seen_at l r) → IsSole 0 (seen_at k r)
+earlier_sole {k = k} r x s = let b = x.begins r in front_sole 0 (seen_at k r) b.0 (subst (IsSole 0) b.1 s)
+
 -- a turn of one shard
 
 pub kept_by : {k l : Knows} {shard : ℕ} {between new : List Entry} → Turned k l shard between new → HasKept 1 k l
@@ -102,7 +106,10 @@ call_gave engine shard event k l outs2 answer first d sole =
     let others : calls by 0 d.between ≡ [] = subst (λ n. calls by n d.between ≡ []) first d.turned.others in
     let whole : IsSole 0 ((seen_at k shard ++ d.between) ++ entry_of k.0 event ∷ []) = subst (IsSole 0) d.turned.here sole in
     let none = between_none 0 (seen_at k shard) d.between (entry_of k.0 event ∷ []) others whole in
-    cc (none, d.told, d.answered)
+    let o : Outcome = given_after (configs_at engine shard) (seen_at k shard ++ d.between) event in
+    ap (λ xs. let r : Outcome = record { items = xs; answer = answer } in r) d.told
+    ∙ (ap (λ a. let r : Outcome = record { items = o.items; answer = a } in r) d.answered
+    ∙ ap (λ before. given_after (configs_at engine shard) before event) none)
 
 -- what a call leaves
 pub done_kept : (engine : Shards) (shard : ℕ) (event : ShardEvent) (k l : Knows) (outs outs2 : List Out) (result : Result Answer EngineFault)
@@ -111,30 +118,31 @@ done_kept engine shard event k l outs outs2 (Ok answer) d = kept_by d.turned
 done_kept engine shard event k l outs outs2 (Err fault) d = kept_by d.turned
 
 -- an own event of the session at a place of the table, in its shard of so many
-module _ (engine : Shards) (place moment : ℕ) (event : Event) (k l : Knows) (outs2 : List Out) (result : Result Answer EngineFault) (some : 0 < length engine.locks) (first : k.0 ≡ 0)
-    (done : IsDone (Turns (place % length engine.locks) (Own (place / length engine.locks) moment event)) engine k l [] outs2 result) where
-  called : {answer : Answer} → result ≡ Ok answer
-      → IsCall engine (place % length engine.locks) (Own (place / length engine.locks) moment event) k l [] outs2 answer
-  called is = subst (IsDone (Turns (place % length engine.locks) (Own (place / length engine.locks) moment event)) engine k l [] outs2) is done
+module _ (engine : Shards) {n : ℕ} (place moment : ℕ) (event : Event) (k l : Knows) (outs2 : List Out) {result : Result Answer EngineFault} (locks : n ≡ length engine.locks) (first : k.0 ≡ 0)
+    (done : IsDone (Turns (place % n) (Own (place / n) moment event)) engine k l [] outs2 result) where
+  called : {answer : Answer} → result ≡ Ok answer → IsCall engine (place % n) (Own (place / n) moment event) k l [] outs2 answer
+  called is = subst (IsDone (Turns (place % n) (Own (place / n) moment event)) engine k l [] outs2) is done
+
+  went_of : {answer : Answer} → result ≡ Ok answer → (r : ℕ) → Went k l (brought n (Among (Own place moment event)) r) r
+  went_of is r = let d = called is in dite (ℕ_discrete (place % n) r)
+      (λ e. rw (eq-eqb (place % n) r e) (subst (Went k l (Own (place / n) moment event ∷ [])) e (went_here (Own (place / n) moment event) first d.turned)))
+      (λ e. rw (ne_eqb (place % n) r e) (went_same (d.turned.seen_elsewhere r (λ z. e (sym z)))))
 
   pub own_went : {answer : Answer} → result ≡ Ok answer → (r : ℕ) → r < length engine.locks → Went k l (brought (length engine.locks) (Among (Own place moment event)) r) r
-  own_went is r inside = let d = called is in dite (ℕ_discrete (place % length engine.locks) r)
-      (λ e. rw (eq-eqb (place % length engine.locks) r e) (subst (Went k l (Own (place / length engine.locks) moment event ∷ [])) e
-      (went_here (Own (place / length engine.locks) moment event) first d.turned)))
-      (λ e. rw (ne_eqb (place % length engine.locks) r e) (went_same (d.turned.seen_elsewhere r (λ z. e (sym z)))))
+  own_went is r inside = subst (λ m. Went k l (brought m (Among (Own place moment event)) r) r) locks (went_of is r)
 
   pub own_gave : {answer : Answer} → result ≡ Ok answer → Gave engine k l (Among (Own place moment event)) (record { items = outs2; answer = answer })
   own_gave {answer} is one sole =
-      let here : place % length engine.locks ≡ 0 = omega (arith, one) in
-      let same : place / length engine.locks ≡ place = omega (arith, one) in
-      let gave = call_gave engine (place % length engine.locks) (Own (place / length engine.locks) moment event) k l outs2 answer first (called is)
+      let here : place % n ≡ 0 = ap (λ m. place % m) (locks ∙ one) ∙ (let z : place % 1 ≡ 0 = omega arith in z) in
+      let same : place / n ≡ place = ap (λ m. place / m) (locks ∙ one) ∙ (let z : place / 1 ≡ place = omega arith in z) in
+      let gave = call_gave engine (place % n) (Own (place / n) moment event) k l outs2 answer first (called is)
       (subst (λ s. IsSole 0 (seen_at l s)) (sym here) sole) in
-      gave ∙ (ap (λ s. given_after (configs_at engine s) (seen_at k s) (Own (place / length engine.locks) moment event)) here
+      gave ∙ (ap (λ s. given_after (configs_at engine s) (seen_at k s) (Own (place / n) moment event)) here
       ∙ ap (λ p. given_after (configs_at engine 0) (seen_at k 0) (Own p moment event)) same)
 
-  pub own_refused : {fault : EngineFault} → place % length engine.locks < length engine.locks → result ≡ Err fault → IsRefusal fault engine k l
+  pub own_refused : {fault : EngineFault} → place % n < length engine.locks → result ≡ Err fault → IsRefusal fault engine k l
   own_refused {fault} inside is =
-      refused_by fault first inside (subst (IsDone (Turns (place % length engine.locks) (Own (place / length engine.locks) moment event)) engine k l [] outs2) is done)
+      refused_by fault first inside (subst (IsDone (Turns (place % n) (Own (place / n) moment event)) engine k l [] outs2) is done)
 
 -- shard by shard, the same caller: those from a place on are as before
 pub record HasPassed (at : ℕ) (k l : Knows) : Type 0 where

@@ -1,5 +1,5 @@
 -- Events by one caller, and what the closed engine shows of them.
-use Rattle.bfd_replay.proofs.WorkerCommon.{◌≡◌, ◌≢◌, ◌<◌, ◌≤◌, ◌+◌, ◌*◌, ◌%◌, ◌/◌, ◌++◌, ◌∙◌, ◌∷◌, Bool, false, true, ℕ, zero, suc, [], List, length, map, get_or, sym, ap, subst, refl, append-nil, arith, length-append, length-map, Option, None, Some, slice_get, slice_get-get_or, EngineFault, Full, Memory, Spent, Knows, Shards, configs_at, made_at, met_word, seen_at, taken_at, AreClosed, EachJoined, IsClosed, IsNewPass, Among, Apart, Happening, in_shard, IsSole, entries_by, Shard, SessionConfig, Line, Running, started, has, last_tick, later, moved, outcome_of, runs, entry_of, happenings}
+use Rattle.bfd_replay.proofs.WorkerCommon.{◌≡◌, ◌≢◌, ◌<◌, ◌≤◌, ◌+◌, ◌*◌, ◌%◌, ◌/◌, ◌++◌, ◌∙◌, ◌∷◌, Bool, false, true, ℕ, zero, suc, [], List, length, map, get_or, sym, ap, subst, refl, append-nil, arith, length-append, length-map, Option, None, Some, slice_get, slice_get-get_or, EngineFault, Full, Memory, Spent, Knows, Shards, configs_at, made_at, met_word, seen_at, taken_at, AreClosed, EachJoined, IsClosed, IsNewPass, Among, Apart, Happening, in_shard, IsSole, entries_by, Shard, SessionConfig, Running, started, has, last_tick, later, moved, outcome_of, runs, entry_of, happenings}
 use Rattle.std.specs.List.{cons_option, filter_map}
 use Rattle.std.proofs.lemmas.List.Elements.{filter_map-append}
 use Rattle.bfd_session.specs.Alone.{Outcome}
@@ -77,12 +77,12 @@ one_brought h = ap (λ o. cons_option o []) (one_shard h)
 
 -- a refused event
 
-pub cut_short : {engine : Shards} {k : Knows} (l : Knows) (past : List ShardEvent) (most : ℕ) (fault : EngineFault) → length past < most → most ≤ engine.limit
+pub cut_short : (engine : Shards) (k l : Knows) (past : List ShardEvent) (most : ℕ) (fault : EngineFault) → length past < most → most ≤ engine.limit
     → ((r : ℕ) → r < length engine.locks → IsSole 0 (seen_at k r) → seen_at k r ≡ entries_by 0 (history_of (length engine.locks) r past))
     → IsRefusal fault engine k l → IsCutShort fault engine l
-cut_short l past most Memory few limit seen r = tt
-cut_short l past most (Spent at word) few limit seen r = (at, r.0, r.1)
-cut_short {engine} {k} l past most (Full at n) few limit seen r = λ s.
+cut_short engine k l past most Memory few limit seen r = tt
+cut_short engine k l past most (Spent at word) few limit seen r = (at, r.0, r.1)
+cut_short engine k l past most (Full at n) few limit seen r = λ s.
     let w = r.2 in
     let sole = s at r.0 in
     let is : seen_at l at ≡ entries_by 0 (history_of (length engine.locks) at past) = cc (w.seen sole, seen at r.0 (w.sole sole), append-nil (seen_at k at)) in

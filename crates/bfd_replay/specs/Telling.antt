@@ -36,10 +36,9 @@ pub record ToldUpTo (old new : Option (List ℕ)) (before after : Telling) (outc
   pub drops : after.drops + sum_by dropped rest ≡ before.drops + sum_by dropped outcomes
 
 -- the count of a sink's faults before and after: only a write raises it
-abbrev pub HasStopCause : ℕ → ℕ → Result (Unit {0}) Stop → Type 0
-HasStopCause before now (Ok done) = now ≡ before
-HasStopCause before now (Err (Refused fault)) = now ≡ before
-HasStopCause before now (Err (Unwritten fault)) = (let written : Result (Unit {0}) Fault = Err fault in HasCause before now written)
+abbrev pub HasStopCause : ℕ → ℕ → Stop → Type 0
+HasStopCause before now (Refused fault) = now ≡ before
+HasStopCause before now (Unwritten fault) = (let written : Result (Unit {0}) Fault = Err fault in HasCause before now written)
 
 -- why one event's lines weren't told
 abbrev pub IsEventStop : Shards → Knows → Knows → Stop → Type 0

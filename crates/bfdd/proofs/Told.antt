@@ -109,7 +109,7 @@ told_next {engine} {left = left} {rest} {line} {k} {m = m} {number} {told} {text
 -- a line that was refused
 
 pub refused_stopped : {engine : Shards} {lines left : List Line} {k : Knows} (l : Knows) {number told : ℕ} {text : List ℕ} {before g : Group} (fault : EngineFault) → IsTold engine lines left k number told text before g → number ≤ engine.limit → IsRefusal fault engine k l → IsCutShort fault engine l
-refused_stopped {engine} l {number} fault t few r = cut_short l t.past number fault (omega (arith, t.short)) few t.seen r
+refused_stopped {engine} {k = k} l {number} fault t few r = cut_short engine k l t.past number fault (omega (arith, t.short)) few t.seen r
 
 -- .. or whose changes couldn't be had
 pub untaken_stopped : {engine : Shards} {lines left : List Line} (line : Line) {k l m : Knows} {number told : ℕ} {text : List ℕ} {before g : Group} (fault : EngineFault) → IsTold engine lines left k number told text before g → number ≤ engine.limit

@@ -62,7 +62,8 @@ fn tell_line<W: Timers, R: Wait, G: Gate, K: Sink, L: Ledger>(
     ensures front { HasToldFront engine.now (happening engine.now.configs engine.now.pool line) pass.old pass.new
         (K.taken sink.old) (K.taken sink.new) told.old }
     ensures stopped { IfErr result (IsEventStop engine.now pass.old pass.new) }
-    ensures cause { HasStopCause (K.faults sink.old) (K.faults sink.new) result }
+    ensures cause { IfErr result (HasStopCause (K.faults sink.old) (K.faults sink.new)) }
+    ensures calm { OnOk result (K.faults sink.new ≡ K.faults sink.old) }
     ensures room { outs.new.room ≡ outs.old.room }
 {
     let answer = match happen(rt, engine, pass, told.number(), line, outs, steps, gate) {
@@ -109,7 +110,8 @@ fn tell_lines<W: Timers, R: Wait, G: Gate, K: Sink, L: Ledger>(
     ensures front { IsSole 0 (seen_at pass.new 0) → TookFront (K.taken sink.old) (K.taken sink.new) (told.old.text
         ++ lines_from (told.old.events + 1) (outcomes_on engine.now (happenings engine.now.configs engine.now.pool events.items))) }
     ensures stopped { IfErr result (IsStop engine.now pass.new) }
-    ensures cause { HasStopCause (K.faults sink.old) (K.faults sink.new) result }
+    ensures cause { IfErr result (HasStopCause (K.faults sink.old) (K.faults sink.new)) }
+    ensures calm { OnOk result (K.faults sink.new ≡ K.faults sink.old) }
 {
     let mut steps = Steps::<L>::new(blank);
     let mut outs = outs;
