@@ -22,12 +22,12 @@ all_told-requires g c =
     fine_ends (all_closed c.requires.workers.0 c.requires.workers.1 c.requires.long c.in_ok-jobs.ensures
     c.work_all.ensures.long c.work_all.ensures.worked c.in_ok-tolds.ensures.joined c.close-states.ensures.closed c.requires.short c.requires.small) c.in_ok-tolds.ensures.told
 
-pub returns-in_ok-all-clause-states : goal.returns-in_ok-all-clause-states
-returns-in_ok-all-clause-states g c =
+pub returns-clause-states : goal.returns-clause-states
+returns-clause-states g c =
     states (map (λ parts. parts.items) c.in_ok-all.all.items) (all_closed c.requires.workers.0 c.requires.workers.1 c.requires.long c.in_ok-jobs.ensures
     c.work_all.ensures.long c.work_all.ensures.worked c.in_ok-tolds.ensures.joined c.close-states.ensures.closed c.requires.short c.requires.small) (sym c.in_ok-tolds.ensures.told ∙ c.in_ok-all.ensures)
 
-pub returns-in_ok-all-clause-told : goal.returns-in_ok-all-clause-told
-returns-in_ok-all-clause-told g c =
+pub returns-clause-told : goal.returns-clause-told
+returns-clause-told g c =
     told_all (map (λ parts. parts.items) c.in_ok-all.all.items) (all_closed c.requires.workers.0 c.requires.workers.1 c.requires.long c.in_ok-jobs.ensures
     c.work_all.ensures.long c.work_all.ensures.worked c.in_ok-tolds.ensures.joined c.close-states.ensures.closed c.requires.short c.requires.small) (sym c.in_ok-tolds.ensures.told ∙ c.in_ok-all.ensures)
