@@ -1,4 +1,4 @@
--- What an arrival comes to of which no session takes an event, as a route.
+-- What an arrival comes to, as a route.
 use Rattle.bfd_replay.proofs.PlanCommon.{◌≡◌, ℕ, List, [], ◌∷◌, Option, Some, Result, Ok, Err, slice_get, Reflector, SessionConfig, Apart, happening_by, reflecting}
 use Rattle.bfd_packet.specs.declared.arrival.Arrival.{Arrival}
 use Rattle.bfd_packet.specs.declared.arrival.Datagram.{Datagram}
@@ -9,8 +9,9 @@ use Rattle.bfd_sbfd.specs.Reflect.{reflect}
 use Rattle.bfd_session.specs.declared.event.Answer.TheVariants.{Handled, Dropped}
 use Rattle.bfd_session.specs.declared.coming.Coming.TheVariants as coming
 use Rattle.bfd_session.specs.Arrivals.{Destination, Discarded, Reflected, Own}
-use Rattle.bfd_session.specs.Reaching.{IsComing, answered_as}
-use Rattle.bfd_script.specs.Doing.{arriving}
+use Rattle.bfd_session.specs.Reaching.{IsComing, IsTaken, answered_as}
+use Rattle.bfd_session.specs.declared.event.Event.{Event}
+use Rattle.bfd_script.specs.Doing.{Happens, arriving}
 use Rattle.bfd_replay.specs.Planned.{resting}
 
 module _ (cs : List SessionConfig) (pool : List Reflector) (arrival : Arrival) (moment : ℕ) where
@@ -33,3 +34,17 @@ module _ (cs : List SessionConfig) (pool : List Reflector) (arrival : Arrival) (
           → Apart (record { items = out ∷ []; answer = Handled }) ≡ Apart (reflecting (Some h.1.reflector) r)
       by (Err t) e = absurd (cc)
       by (Ok datagram) e = cc (h.1.its)
+
+  -- an own event, which its session takes
+  pub taken : (d : Destination) (place : ℕ) (event : Event) → IsComing cs pool arrival d (coming.Own place event)
+      → (arriving moment arrival d ≡ Happens place moment event) × IsTaken cs place event
+  taken (Discarded t) place event h = absurd (cc)
+  taken (Own p e) place event h =
+      let same : p ≡ place = (let i = h.0 in cc) in
+      let its : e ≡ event = (let i = h.0 in cc) in
+      (cc, rw (← same, ← its) h.1)
+  taken (Reflected p) place event h = absurd (by (reflect pool arrival) h.0)
+    where
+      by : (r : Result Datagram Test) → coming.Own place event ≡ answered_as (fields_of arrival.payload).your r → ⊥
+      by (Err t) e = cc
+      by (Ok datagram) e = cc

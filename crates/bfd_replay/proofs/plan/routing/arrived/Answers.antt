@@ -2,8 +2,7 @@
 use Rattle.bfd_replay.proofs.PlanCommon.{ap, sym, happening_by}
 use Rattle.bfd_session.specs.Arrivals.{comes_to}
 use Rattle.bfd_session.specs.Rows.{table_of}
-use Rattle.bfd_instance.proofs.Comings.{taken}
-use Rattle.bfd_replay.proofs.Comings.{discarded, answered}
+use Rattle.bfd_replay.proofs.Comings.{discarded, answered, taken}
 use Rattle.bfd_replay.proofs.plan.routing.arrived.Goals as goal
 
 pub returns-in-Discarded-clause-route : goal.returns-in-Discarded-clause-route
@@ -17,9 +16,9 @@ returns-in-Answered-clause-route c =
 pub returns-in-Own-clause-route : goal.returns-in-Own-clause-route
 returns-in-Own-clause-route c =
     let t = c.args.table.now in
-    ap (happening_by t.pool) (sym (taken (comes_to (table_of t.configs t.pool) c.args.arrival) t.configs t.pool c.args.arrival c.args.moment c.in-Own.place c.in-Own.event c.in-Own.ensures).0)
+    ap (happening_by t.pool) (sym (taken t.configs t.pool c.args.arrival c.args.moment (comes_to (table_of t.configs t.pool) c.args.arrival) c.in-Own.place c.in-Own.event c.in-Own.ensures).0)
 
 pub returns-in-Own-clause-met : goal.returns-in-Own-clause-met
 returns-in-Own-clause-met c =
     let t = c.args.table.now in
-    (taken (comes_to (table_of t.configs t.pool) c.args.arrival) t.configs t.pool c.args.arrival c.args.moment c.in-Own.place c.in-Own.event c.in-Own.ensures).1
+    (taken t.configs t.pool c.args.arrival c.args.moment (comes_to (table_of t.configs t.pool) c.args.arrival) c.in-Own.place c.in-Own.event c.in-Own.ensures).1
