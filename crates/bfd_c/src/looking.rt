@@ -1,13 +1,13 @@
 //! The call that looks at a session.
 ghost use Rattle.std.specs.Prelude.{◌≡◌};
-ghost use Rattle.bfd_records.specs.Looks.{look_of};
+ghost use Rattle.bfd_c.specs.Looks.{look_of};
 ghost use Rattle.bfd_c.specs.Looking as looking;
 ghost use Rattle.bfd_c.specs.Looking.{state_by, state_read};
 
 use crate::engine::{CLOSED, DONE, Engine, NOT_FOUND};
 use crate::handle::Handle;
 use crate::naming::state_number;
-use bfd_records::Look;
+use crate::records::Look;
 use std::alloc::Global;
 
 /// A look at a session. Intervals and moments are in microseconds; what there is none of is 0.
