@@ -27,9 +27,9 @@ use Rattle.bfd_c.specs.declared.records.kept.Kind.{Kind}
 use Rattle.bfd_c.specs.declared.records.kept.Kind.TheVariants as kinds
 use Rattle.bfd_c.specs.declared.records.kept.Record.{Record}
 
--- one more of what is counted; a count stands still at the greatest number of 64 bits
+-- one more of what is counted; a count stays at the greatest number of 32 bits
 abbrev pub one_counted : ℕ → ℕ
-one_counted count = min (count + 1) (2 ^ 64 - 1)
+one_counted count = min (count + 1) (2 ^ 32 - 1)
 
 -- the number of a test that discards, and its place among the counts of what was dropped
 abbrev pub test_number : Test → ℕ

@@ -63,6 +63,17 @@ fn flag(is_set: bool) -> u8
     if is_set { 1 } else { 0 }
 }
 
+/// Counts for C.
+fn widened(counts: &[u32; 25]) -> [u64; 25]
+    ensures { result ≡ counts.now }
+{
+    let mut wide = [0; 25];
+    for at in 0..25 {
+        wide[at] = u64::from(counts[at]);
+    }
+    wide
+}
+
 /// A look for C.
 fn told_look(look: &Look) -> SessionState
     ensures { result ≡ looking.state_for_c look.now }
@@ -87,11 +98,11 @@ fn told_look(look: &Look) -> SessionState
         detect_end: moment(look.ends),
         heard: moment(look.kept.heard),
         changed: moment(look.kept.changed),
-        received: look.kept.received,
-        sent: look.kept.sent,
-        ups: look.kept.ups,
-        downs: look.kept.downs,
-        dropped: look.kept.dropped,
+        received: u64::from(look.kept.received),
+        sent: u64::from(look.kept.sent),
+        ups: u64::from(look.kept.ups),
+        downs: u64::from(look.kept.downs),
+        dropped: widened(&look.kept.dropped),
     }
 }
 

@@ -29,29 +29,29 @@ pub enum Came {
     Control(u8),
 }
 
-/// What happened to a session since it was made. A count stands still at the greatest number of its type. Moments are in microseconds.
+/// What happened to a session since it was made. A count stays at 4,294,967,295 once it is there. Moments are in microseconds.
 #[derive(Clone, Copy)]
 pub struct Record {
     pub kind: Kind,
-    /// Packets that came to the session, those that it dropped too.
-    pub received: u64,
-    /// Packets that it sent.
-    pub sent: u64,
-    /// Packets that it dropped, by the number of the test.
-    pub dropped: [u64; 25],
-    /// Changes of its state to Up, and to Down.
-    pub ups: u64,
-    pub downs: u64,
     /// The diagnostic in the last control packet that it took.
     pub peer_diag: u8,
-    /// The moment of that packet.
+    /// Packets that came to the session, those that it dropped too.
+    pub received: u32,
+    /// Packets that it sent.
+    pub sent: u32,
+    /// Packets that it dropped, by the number of the test.
+    pub dropped: [u32; 25],
+    /// Changes of its state to Up, and to Down.
+    pub ups: u32,
+    pub downs: u32,
+    /// The moment of the last control packet that it took.
     pub heard: Option<u64>,
     /// The moment of the last change of its state.
     pub changed: Option<u64>,
 }
 
 /// One more of what is counted.
-fn one_counted(count: u64) -> u64
+fn one_counted(count: u32) -> u32
     ensures { result ≡ keeping.one_counted count }
 {
     count.saturating_add(1)
