@@ -137,7 +137,7 @@ pub extern "C" fn bfdd_state(
     match handle.take(alloc) {
         Some(engine) => {
             let code = read_state(&engine, discr, state);
-            *handle = Handle::hold(engine);
+            handle.put(engine);
             code
         }
         None => CLOSED,

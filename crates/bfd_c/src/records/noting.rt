@@ -1,5 +1,7 @@
 //! What an event adds to the records.
-ghost use Rattle.std.specs.Prelude.{◌≡◌, ◌<◌, IfSome, length};
+ghost use Rattle.std.specs.Prelude.{◌≡◌, ◌<◌, IfSome, Some, length, true};
+ghost use Rattle.bfd_session.specs.Kinds.{configs_of};
+ghost use Rattle.bfd_session.specs.Rows.{Ascends, place_of as place_in};
 ghost use Rattle.bfd_c.specs.Records as keeping;
 
 use crate::records::kept::{Came, Record, note_answer, note_output};
@@ -63,15 +65,46 @@ fn note_given<W: Timers>(
     note_output(&mut records[place as usize], out, moment);
 }
 
-/// Each output of the last event is told of the session that it names. The session to which the event came stands at `place`.
-pub(crate) fn note_all<W: Timers>(instance: &Instance<W>, records: &mut Vec<Record>)
+/// Whether the session at a place has this discriminator.
+fn stands_at(sessions: &[Session], place: u32, discr: u32) -> bool
+    requires { Ascends (configs_of sessions.now) }
+    ensures found { result ≡ true → place_in discr (configs_of sessions.now) ≡ Some place }
+    ensures within { result ≡ true → place < length sessions.now }
+{
+    match sessions.get(place as usize) {
+        Some(session) => session.discr() == discr,
+        None => false,
+    }
+}
+
+/// The place of the session with this discriminator, if there is one. Outputs ascend by discriminator, so it mostly is the place of the
+/// output before, or the next.
+fn place_near<W: Timers>(instance: &Instance<W>, near: u32, discr: u32) -> Option<u32>
+    ensures value { result ≡ place_in discr (configs_of instance.now.world.sessions) }
+    ensures within { IfSome result (λ place. place < length instance.now.world.sessions) }
+{
+    let sessions = instance.sessions();
+    if stands_at(sessions, near, discr) {
+        return Some(near);
+    }
+    let next = near.saturating_add(1);
+    if stands_at(sessions, next, discr) {
+        return Some(next);
+    }
+    instance.place_of(discr)
+}
+
+/// Each output of the last event is told of the session that it names. The first is looked for at the place `near`.
+pub(crate) fn note_all<W: Timers>(instance: &Instance<W>, near: u32, records: &mut Vec<Record>)
     requires { length records.old.items ≡ length instance.now.world.sessions }
     ensures { records.new.items ≡ keeping.all_given instance.now.world records.old.items instance.now.items }
 {
     let outs = instance.items();
+    let mut near = near;
     for at in 0..outs.len() {
         let out = &outs[at];
-        let place = instance.place_of(giver(out));
+        let place = place_near(instance, near, giver(out));
         note_given(instance, place, out, records);
+        near = place.unwrap_or(near);
     }
 }

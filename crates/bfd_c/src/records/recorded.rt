@@ -98,7 +98,7 @@ impl<W: Timers> Recorded<W> {
         let came = came_with(&line);
         let (answer, place) = self.instance.happen_placing(line);
         note_came(&self.instance, place, came, &answer, &mut self.records);
-        note_all(&self.instance, &mut self.records);
+        note_all(&self.instance, place.unwrap_or(0), &mut self.records);
         (answer, discr_of_place(&self.instance, place))
     }
 
@@ -111,7 +111,7 @@ impl<W: Timers> Recorded<W> {
         let came = came_on(&arrival);
         let (answer, place) = self.instance.hear(moment, arrival);
         note_came(&self.instance, place, came, &answer, &mut self.records);
-        note_all(&self.instance, &mut self.records);
+        note_all(&self.instance, place.unwrap_or(0), &mut self.records);
         (answer, discr_of_place(&self.instance, place))
     }
 
@@ -121,7 +121,7 @@ impl<W: Timers> Recorded<W> {
         ensures records { self.new.records ≡ keeping.recorded (lines.Tick t) self.old.world self.old.records }
     {
         let answer = self.instance.tick(t);
-        note_all(&self.instance, &mut self.records);
+        note_all(&self.instance, 0, &mut self.records);
         answer
     }
 
