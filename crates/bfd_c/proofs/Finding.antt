@@ -14,23 +14,25 @@ use Rattle.bfd_session.specs.Rows.{Ascends, place_of}
 pub there : {X : Type 0} (xs : List X) (k : ℕ) (x : X) → true ≡ nat_lt k (length xs) → x ≡ get_or xs k x → slice_get xs k ≡ Some x
 there xs k x below is = slice_get_read xs (length xs) k x refl (grind (arith, nat_tests)) is
 
-above : (low : ℕ) (ss : List Running) (place : ℕ) (s : Running) → AllByRecursion (λ later. low < discr_of later) (configs_of ss) → slice_get ss place ≡ Some s
-    → low < discr_of s.config
+above : (low : ℕ) (ss : List Running) (place : ℕ) (s : Running) → AllByRecursion (λ later. low < discr_of later) (configs_of ss)
+    → slice_get ss place ≡ Some s → low < discr_of s.config
 above low [] place s all there = absurd (cc)
 above low (t ∷ ss) zero s all there = (let same : t ≡ s = cc in rw (← same) all.0)
 above low (t ∷ ss) (suc place) s all there = above low ss place s all.1 there
 
-found_from : (ss : List Running) (place n discr : ℕ) (s : Running) → Ascends (configs_of ss) → slice_get ss place ≡ Some s → discr_of s.config ≡ discr
-    → position_from (λ (c : SessionConfig). discr == discr_of c) n (configs_of ss) ≡ Some (n + place)
+found_from : (ss : List Running) (place n discr : ℕ) (s : Running) → Ascends (configs_of ss) → slice_get ss place ≡ Some s
+    → discr_of s.config ≡ discr → position_from (λ (c : SessionConfig). discr == discr_of c) n (configs_of ss) ≡ Some (n + place)
 found_from [] place n discr s up there has = absurd (cc)
 found_from (t ∷ ss) zero n discr s up there has =
     let same : t ≡ s = cc in
     rw (eq-eqb discr (discr_of t.config) (sym has ∙ ap (λ (x : Running). discr_of x.config) (sym same))) (ap Some (omega arith))
 found_from (t ∷ ss) (suc place) n discr s up there has =
     let low : discr_of t.config < discr_of s.config = above (discr_of t.config) ss place s up.0 there in
-    rw (ne_eqb discr (discr_of t.config) (λ e. omega (arith, low, has, e))) (found_from ss place (n + 1) discr s up.1 there has ∙ ap Some (omega arith))
+    rw (ne_eqb discr (discr_of t.config) (λ e. omega (arith, low, has, e)))
+    (found_from ss place (n + 1) discr s up.1 there has ∙ ap Some (omega arith))
 
-pub found : (ss : List Running) (place discr : ℕ) (s : Running) → Ascends (configs_of ss) → slice_get ss place ≡ Some s → discr_of s.config ≡ discr
-    → place_of discr (configs_of ss) ≡ Some place
+pub found : (ss : List Running) (place discr : ℕ) (s : Running) → Ascends (configs_of ss) → slice_get ss place ≡ Some s
+    → discr_of s.config ≡ discr → place_of discr (configs_of ss) ≡ Some place
 found ss place discr s up there has =
-    position_from-zero (λ (c : SessionConfig). discr == discr_of c) (configs_of ss) ∙ found_from ss place 0 discr s up there has ∙ ap Some (omega arith)
+    position_from-zero (λ (c : SessionConfig). discr == discr_of c) (configs_of ss)
+    ∙ found_from ss place 0 discr s up there has ∙ ap Some (omega arith)

@@ -78,7 +78,8 @@ module _ (t : Members) {t2 : Members} (c : SessionConfig) (clear : add_fault (ro
 
   -- its sessions ascend, with that one too
   pub joined_up : (p : ℕ) → Ascends t.configs → (p ≤ length t.configs) × (t2.configs ≡ insert t.configs p c) → Ascends t2.configs
-  joined_up p up put = rw put.1 (up_sessions (insert t.configs p c) (up_inserted discr_of t.configs p c (place_is p put) (sessions_up t.configs up) apart))
+  joined_up p up put =
+      rw put.1 (up_sessions (insert t.configs p c) (up_inserted discr_of t.configs p c (place_is p put) (sessions_up t.configs up) apart))
 
   -- the table from which it is taken out again is as it was
   pub table_undone : {t3 : Members} (discr : ℕ) → discr ≡ discr_of c → t3 ≡ without_session discr t2 → t3 ≡ t
@@ -90,7 +91,8 @@ session_joins ss p c pool last are stands made =
     ap (λ xs. world_of xs pool last) (made ∙ ap (λ n. insert ss n (started c)) (stands ∙ ap (place_for (discr_of c)) are))
 
 pub stage_joins : (ss : List Running) (p : ℕ) (c : SessionConfig) {ss2 : List Running} (table : Members) {table2 : Members} {outs2 : Outputs} → table.configs ≡ configs_of ss
-    → Ascends table2.configs → (p ≤ length table.configs) × (table2.configs ≡ insert table.configs p c) → ss2 ≡ insert ss p (started c) → 5 * (length ss + 1) + 5 ≤ outs2.room → IsStage ss2 table2 outs2
+    → Ascends table2.configs → (p ≤ length table.configs) × (table2.configs ≡ insert table.configs p c)
+    → ss2 ≡ insert ss p (started c) → 5 * (length ss + 1) + 5 ≤ outs2.room → IsStage ss2 table2 outs2
 stage_joins ss p c {ss2} table are up put made room =
     let same : length table.configs ≡ length ss = ap length are ∙ length-map ss (λ s. s.config) in
     record {

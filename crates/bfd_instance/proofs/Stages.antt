@@ -9,7 +9,8 @@ use Rattle.bfd_instance.specs.Stage.{IsStage, IsTable}
 use Rattle.bfd_instance.proofs.SameConfigs.{happens_keeps}
 
 pub stage_opened : (configs : List SessionConfig) (pool : List Reflector) {sessions : List Running} {table : Members} (outs : Outputs)
-    → IsTable configs pool → sessions ≡ map started configs → table ≡ members configs pool → outs.room ≡ 5 * length configs + 5 → IsStage sessions table outs
+    → IsTable configs pool → sessions ≡ map started configs → table ≡ members configs pool → outs.room ≡ 5 * length configs + 5
+    → IsStage sessions table outs
 stage_opened configs pool outs are made is room = record {
   configs = cc (started_configs configs);
   ascends = rw is are.configs.ascends;
