@@ -79,6 +79,14 @@ impl<W: Timers> Engine<W> {
         self.sizes[shard as usize]
     }
 
+    /// The table by which packets, commands and questions find their session or their reflector.
+    pub fn table(&self) -> &Table
+        ensures configs { result.now.configs ≡ self.now.configs }
+        ensures pool { result.now.pool ≡ self.now.pool }
+    {
+        &self.table
+    }
+
     /// One turn of a shard, with an event that its sessions take, for a caller that knows already whose it is. It may wait.
     ///
     /// Its entry is this event, at a place of the shard, whose number is below `shards()`. `outs` has room for five outputs, or at

@@ -1,5 +1,5 @@
 //! The end of passes: joined into that of caller 0, and closed with the engine.
-ghost use Rattle.std.specs.Prelude.{◌≡◌, ◌≢◌, ◌<◌, ℕ, Some, IfOk, IfErr, length, slice_get, map};
+ghost use Rattle.std.specs.Prelude.{◌≡◌, ◌≢◌, ◌<◌, ◌≤◌, ℕ, [], Some, length, slice_get, vec_capacity};
 ghost use Rattle.bfd_turn.specs.Passes.{TableId};
 ghost use Rattle.bfd_engine.specs.Engines.{IsOf, AllThere};
 ghost use Rattle.bfd_engine.specs.Passes.{Joined, GluesAt, EachJoined, AreClosed};
@@ -10,13 +10,6 @@ use crate::locked::Locked;
 use crate::pass::EnginePass;
 use bfd_shard::ShardState;
 use bfd_wheel::Timers;
-use std::alloc::Global;
-
-/// An engine that isn't closed, when out of memory: both are as they were.
-pub struct Unclosed<W: Timers> {
-    pub engine: Engine<W>,
-    pub pass: EnginePass,
-}
 
 impl<W: Timers> Engine<W> {
     /// Takes another pass of one shard into that of caller 0.
@@ -56,18 +49,17 @@ impl<W: Timers> Engine<W> {
         }
     }
 
-    /// The shards, by number, once every pass that was made was joined. Want of memory is the one refusal, and hands all back.
-    pub fn close(self, alloc: Global, pass: EnginePass) -> Result<Vec<ShardState<W>>, Unclosed<W>>
+    /// The shards, by number, once every pass that was made was joined. `shards` is empty and has room for them. Takes no memory.
+    pub fn close(self, pass: EnginePass, shards: Vec<ShardState<W>>) -> Vec<ShardState<W>>
         requires of { IsOf self pass.1 }
         requires there { AllThere pass.1 }
         requires first { pass.0 ≡ 0 }
         requires joined { EachJoined self pass }
-        ensures closed { IfOk result (λ shards. AreClosed self pass shards.items) }
-        ensures back { IfErr result (λ unclosed. (unclosed.engine ≡ self) × (unclosed.pass ≡ pass)) }
+        requires none { shards.items ≡ [] }
+        requires room { length self.locks ≤ vec_capacity shards }
+        ensures closed { AreClosed self pass result.items }
     {
-        let Ok(mut shards) = Vec::with_capacity(alloc, self.locks.len()) else {
-            return Err(Unclosed { engine: self, pass });
-        };
+        let mut shards = shards;
         let mut pass = pass;
         let Engine { locks, .. } = self;
         for lock in locks {
@@ -75,6 +67,6 @@ impl<W: Timers> Engine<W> {
             let Locked { shard } = lock.close(own);
             shards.push_reserved(Box::into_inner(shard));
         }
-        Ok(shards)
+        shards
     }
 }

@@ -38,7 +38,6 @@ pub use beside::{all_there, both, each};
 pub use engine::Engine;
 pub use fault::{EngineFault, OpenFault};
 pub use holding::{Hold, HoldFault};
-pub use joining::Unclosed;
 pub use law::turn_laws;
 pub use locked::{Base, Locked};
 pub use making::make_shards;

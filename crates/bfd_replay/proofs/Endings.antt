@@ -5,6 +5,7 @@ use Rattle.std.proofs.Math.Nat.{mod-lt}
 use Rattle.bfd_turn.specs.Plays.{AllKept}
 use Rattle.bfd_turn.specs.Passes.{last_word}
 use Rattle.bfd_replay.proofs.Soles.{all_calls, front_sole, sole_of}
+use Rattle.bfd_replay.proofs.OneCaller.{closed_at}
 use Rattle.bfd_replay.proofs.Joining.{own_away}
 
 own_here : (workers at s : ℕ) (queue : List Numbered) → s % workers ≡ at → own_queue workers at s queue ≡ queue
@@ -160,11 +161,6 @@ pub record AllClosed (engine : Shards) (queues : List (List Numbered)) (workers 
   pub queues_long : length queues ≡ length engine.locks
   pub short_queues : (s : ℕ) → length (slice_index_or queues s []) ≤ engine.limit
   pub small : engine.limit ≤ 200000
-
-closed_at : {engine : Shards} {l : Knows} (shards : List Shard) {s : ℕ} → AreClosed engine l shards → s < length engine.locks → (shard : Shard) × IsClosed engine l s shard
-closed_at [] closed h = absurd (omega (arith, closed.long, h))
-closed_at (x ∷ shards) {s} closed h =
-    (get_or (x ∷ shards) s x, closed.each s (get_or (x ∷ shards) s x) (slice_get-get_or (x ∷ shards) s x (omega (arith, closed.long, h))))
 
 told_at : (engine : Shards) (queues : List (List Numbered)) (workers : ℕ) (k l : Knows) (works : List Work) (shards : List Shard) (i : ℕ) (v : Work) → AllClosed engine queues workers k l works shards
     → slice_get works i ≡ Some v → (told_is : Result (List (List Piece)) EngineFault) → v.told ≡ told_is → HasToldShards engine queues workers i told_is

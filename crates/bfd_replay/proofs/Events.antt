@@ -1,6 +1,22 @@
 -- One event more is told.
-use Rattle.bfd_replay.proofs.StreamCommon.{◌≡◌, ◌+◌, ◌++◌, ℕ, List, [], ◌∷◌, length, Option, refl, sym, subst, append_assoc, append-nil, arith, Appends, Outcome, done_line, dropped, event_lines, lines_from, packets_sent, report, ToldUpTo, Telling, TookFront, TookUpTo, front_of_longer, took_front, took_of_longer, took_on, took_rest}
-use Rattle.std.specs.Prelude.{sum_by}
+use Rattle.bfd_replay.proofs.StreamCommon.{◌≡◌, ◌+◌, ◌++◌, ◌∙◌, ℕ, List, [], ◌∷◌, length, Option, ap, refl, sym, subst, append_assoc, append-nil, arith, Appends, Line, Outcome, done_line, dropped, event_lines, lines_from, packets_sent, report, Happening, happening, happenings, happening_outcomes, ToldUpTo, Telling, TookFront, TookUpTo, front_of_longer, none_taken, took_front, took_of_longer, took_on, took_rest}
+use Rattle.std.specs.Prelude.{◌<◌, ◌≤◌, sum_by}
+use Rattle.bfd_shard.specs.Dealing.{history_of}
+use Rattle.std.specs.List.{cons_option, filter_map}
+use Rattle.std.proofs.lemmas.List.Sums.{sum_by-cons}
+use Rattle.bfd_shard.specs.declared.entry.ShardEvent.{ShardEvent}
+use Rattle.bfd_shard.specs.History.{last_tick, runs}
+use Rattle.bfd_engine.specs.Engines.{Knows, Shards, configs_at}
+use Rattle.bfd_engine.specs.Calls.{seen_at}
+use Rattle.bfd_engine.specs.Opening.{IsNewPass}
+use Rattle.bfd_replay.specs.Happenings.{Apart, Among, session_event}
+use Rattle.bfd_replay.specs.declared.stream.telling.Stop.{Stop}
+use Rattle.bfd_replay.specs.declared.stream.telling.Stop.TheVariants.{Refused, Unwritten}
+use Rattle.bfd_replay.specs.Telling.{HasBrought, HasToldEvent, HasToldFront, IsEventStop, IsStop, outcomes_on}
+use Rattle.bfd_replay.specs.Turning.{Went, brought, given}
+use Rattle.bfd_replay.specs.Working.{IsSole, entries_by}
+use Rattle.bfd_replay.proofs.Going.{entries_both}
+use Rattle.bfd_replay.proofs.OneCaller.{cut_short, given_past, one_brought, one_history, outcome_first, outcome_in, outcomes_none, past_after, past_few}
 
 -- more was told
 pub told_on : {first next last : Option (List ℕ)} {start told after : Telling} {all some rest : List Outcome}
@@ -12,6 +28,13 @@ told_on {first} {next} {last} {start} {told} {after} {all} {some} {rest} so_far 
   drops = cc;
 }
 
+nothing_told : (now : Option (List ℕ)) (told : Telling) (os : List Outcome) → ToldUpTo now now told told os os
+nothing_told now told os = record { lines = none_taken now _; events = refl; txs = refl; drops = refl }
+
+past_on : (past : List ShardEvent) (h : Happening) (rest : List ShardEvent) → past_after past h ++ rest ≡ past ++ cons_option (session_event h) rest
+past_on past (Apart outcome) rest = cc (append-nil past)
+past_on past (Among event) rest = append_assoc past (event ∷ []) rest
+
 -- an event's lines stand behind the text, before those of the others
 lines_split : (text told : List ℕ) (n : ℕ) (o : Outcome) (all os : List Outcome) → all ≡ o ∷ os → told ≡ text ++ event_lines n o
     → text ++ lines_from n all ≡ told ++ lines_from (n + 1) os
@@ -22,6 +45,96 @@ pub event_front : (old new : Option (List ℕ)) (before told : Telling) {o : Out
 event_front old new before told {o} {all} {os} split text took =
     subst (TookFront old new) (sym (lines_split before.text told.text (before.events + 1) o all os split text))
     (front_of_longer old new _ (lines_from (before.events + 1 + 1) os) took)
+
+pub event_told : (old new : Option (List ℕ)) (before told after : Telling) (o : Outcome) → told.text ≡ before.text ++ event_lines (before.events + 1) o → told.events ≡ before.events + 1
+    → told.txs ≡ before.txs + packets_sent o → told.drops ≡ before.drops + dropped o → after.events ≡ told.events → after.txs ≡ told.txs → after.drops ≡ told.drops
+    → TookUpTo old new told.text after.text → (rest : List Outcome) → ToldUpTo old new before after (o ∷ rest) rest
+event_told old new before told after o text events txs drops events2 txs2 drops2 took rest = record {
+  lines = subst (λ t. TookUpTo old new t (after.text ++ lines_from (after.events + 1) rest)) (sym (lines_split before.text told.text (before.events + 1) o (o ∷ rest) rest refl text))
+      (rw (events2, events) (took_of_longer old new told.text after.text (lines_from (before.events + 1 + 1) rest) took));
+  events = omega (arith, events, events2);
+  txs = omega (arith, txs, txs2, sum_by-cons packets_sent o rest);
+  drops = omega (arith, drops, drops2, sum_by-cons dropped o rest);
+}
+
+-- what was told of a script so far by caller 0 on an engine of one shard, if it is the only one
+pub record IsTelling (engine : Shards) (lines left : List Line) (l : Knows) (old now : Option (List ℕ)) (before after : Telling) : Type 0 where
+  pub past : List ShardEvent
+  pub short : length past + length left ≤ length lines
+  pub whole : past ++ filter_map session_event (happenings engine.configs engine.pool left) ≡ filter_map session_event (happenings engine.configs engine.pool lines)
+  pub seen : IsSole 0 (seen_at l 0) → seen_at l 0 ≡ entries_by 0 past
+  pub told : IsSole 0 (seen_at l 0) → ToldUpTo old now before after (outcomes_on engine (happenings engine.configs engine.pool lines))
+      (happening_outcomes (last_tick past) (happenings engine.configs engine.pool left) (runs past (configs_at engine 0)))
+
+pub telling_none : {engine : Shards} (lines : List Line) {left : List Line} {k : Knows} (now : Option (List ℕ)) (told : Telling) → left ≡ lines → IsNewPass engine k → 0 < length engine.locks
+    → IsTelling engine lines left k now now told told
+telling_none {engine} lines {left} {k} now told same new some = record {
+  past = [];
+  short = omega (arith, ap length same);
+  whole = ap (λ ls. filter_map session_event (happenings engine.configs engine.pool ls)) same;
+  seen = λ s. new.seen 0 some;
+  told = λ s. rw (ap (λ ls. happening_outcomes (last_tick []) (happenings engine.configs engine.pool ls) (runs [] (configs_at engine 0))) same
+      ∙ outcomes_none (configs_at engine 0) (happenings engine.configs engine.pool lines)) (nothing_told now told (outcomes_on engine (happenings engine.configs engine.pool lines)));
+}
+
+module _ {engine : Shards} {lines left rest : List Line} {line : Line} {l : Knows} {old now : Option (List ℕ)} {before told : Telling} (split : left ≡ line ∷ rest)
+    (t : IsTelling engine lines left l old now before told) where
+  abbrev h : Happening
+  h = happening engine.configs engine.pool line
+
+  -- what the lines give that are left when this one was told
+  abbrev later : List Outcome
+  later = happening_outcomes (last_tick (past_after t.past h)) (happenings engine.configs engine.pool rest) (runs (past_after t.past h) (configs_at engine 0))
+
+  outcomes_split : IsSole 0 (seen_at l 0) → given (configs_at engine 0) (seen_at l 0) h ∷ later
+      ≡ happening_outcomes (last_tick t.past) (happenings engine.configs engine.pool left) (runs t.past (configs_at engine 0))
+  outcomes_split s =
+      let is : given (configs_at engine 0) (seen_at l 0) h ≡ outcome_in (last_tick t.past) h (runs t.past (configs_at engine 0)) =
+      ap (λ before. given (configs_at engine 0) before h) (t.seen s) ∙ given_past (configs_at engine 0) t.past h in
+      ap (λ x. x ∷ later) is
+      ∙ (sym (outcome_first (configs_at engine 0) t.past h (happenings engine.configs engine.pool rest))
+      ∙ ap (λ ls. happening_outcomes (last_tick t.past) (happenings engine.configs engine.pool ls) (runs t.past (configs_at engine 0))) (sym split))
+
+  pub telling_next : {m : Knows} {next : Option (List ℕ)} {after : Telling} → Went l m (brought 1 (happening engine.configs engine.pool line) 0) 0
+      → HasToldEvent engine (happening engine.configs engine.pool line) l m now next told after → IsTelling engine lines rest m old next before after
+  telling_next {m} {next} {after} w more = record {
+    past = past_after t.past h;
+    short = omega (arith, t.short, past_few t.past h, ap length split);
+    whole = past_on t.past h (filter_map session_event (happenings engine.configs engine.pool rest))
+        ∙ (ap (λ ls. t.past ++ filter_map session_event (happenings engine.configs engine.pool ls)) (sym split) ∙ t.whole);
+    seen = λ s. cc (w.seen s, t.seen (w.sole s), one_brought h, entries_both t.past (cons_option (session_event h) []));
+    told = λ s. told_on (t.told (w.sole s)) (subst (λ os. ToldUpTo now next told after os later) (outcomes_split (w.sole s)) (more s later));
+  }
+
+  pub telling_front : (m : Knows) (next : Option (List ℕ)) → (IsSole 0 (seen_at m 0) → IsSole 0 (seen_at l 0))
+      → HasToldFront engine (happening engine.configs engine.pool line) l m now next told → IsSole 0 (seen_at m 0)
+      → TookFront old next (before.text ++ lines_from (before.events + 1) (outcomes_on engine (happenings engine.configs engine.pool lines)))
+  telling_front m next earlier more s =
+      took_front old now next _ _ (t.told (earlier s)).lines
+      (subst (λ os. TookFront now next (told.text ++ lines_from (told.events + 1) os)) (outcomes_split (earlier s)) (more s later))
+
+  seen_all : length engine.locks ≡ 1 → (r : ℕ) → r < length engine.locks → IsSole 0 (seen_at l r) → seen_at l r ≡ entries_by 0 (history_of (length engine.locks) r t.past)
+  seen_all one r inside s =
+      let z : r ≡ 0 = omega (arith, inside, one) in
+      let whole : t.past ≡ history_of (length engine.locks) r t.past =
+      sym (one_history t.past) ∙ (ap (λ n. history_of n 0 t.past) (sym one) ∙ ap (λ x. history_of (length engine.locks) x t.past) (sym z)) in
+      ap (seen_at l) z ∙ (t.seen (subst (λ x. IsSole 0 (seen_at l x)) z s) ∙ ap (entries_by 0) whole)
+
+  pub telling_stopped : (m : Knows) (stop : Stop) → length engine.locks ≡ 1 → length lines ≤ engine.limit → IsEventStop engine l m stop → IsStop engine m stop
+  telling_stopped m (Unwritten fault) one limit e = tt
+  telling_stopped m (Refused fault) one limit e = cut_short engine l m t.past (length lines) fault (omega (arith, t.short, ap length split)) limit (seen_all one) e
+
+-- the end: nothing is left
+module _ {engine : Shards} {lines left : List Line} {l : Knows} {old now : Option (List ℕ)} {before told : Telling} (none : left ≡ []) (t : IsTelling engine lines left l old now before told) where
+  pub telling_brought : HasBrought engine (happenings engine.configs engine.pool lines) l
+  telling_brought s = t.seen s ∙ ap (entries_by 0) (sym (append-nil t.past)
+      ∙ (ap (λ ls. t.past ++ filter_map session_event (happenings engine.configs engine.pool ls)) (sym none) ∙ t.whole))
+
+  pub telling_all : IsSole 0 (seen_at l 0) → ToldUpTo old now before told (outcomes_on engine (happenings engine.configs engine.pool lines)) []
+  telling_all s = subst (λ ls. ToldUpTo old now before told (outcomes_on engine (happenings engine.configs engine.pool lines)) (happening_outcomes (last_tick t.past) (happenings engine.configs engine.pool ls) (runs t.past (configs_at engine 0)))) none (t.told s)
+
+  pub telling_end : IsSole 0 (seen_at l 0) → TookFront old now (before.text ++ lines_from (before.events + 1) (outcomes_on engine (happenings engine.configs engine.pool lines)))
+  telling_end s = (told.text ++ lines_from (told.events + 1) [], (telling_all s).lines)
 
 -- the report of all events, where nothing was told at first
 module _ (old mid new : Option (List ℕ)) (start told : Telling) (os : List Outcome) (text : start.text ≡ []) (events : start.events ≡ 0) (txs : start.txs ≡ 0) (drops : start.drops ≡ 0) where

@@ -11,7 +11,7 @@ use Rattle.bfd_script.specs.declared.line.entries.Line.{Line}
 use Rattle.bfd_engine.proofs.Reaching.{dealt_event}
 use Rattle.bfd_replay.specs.Happenings as gather
 use Rattle.bfd_shard.proofs.Sharing.{share_map}
-use Rattle.bfd_replay.specs.Replayed.{HaveReplayed}
+use Rattle.bfd_replay.specs.Replayed.{HaveReplayed, worker_of}
 use Rattle.bfd_replay.proofs.Soles.{events_entries}
 use Rattle.bfd_replay.proofs.Summing.{sum_same, ups_are as counted, ups_shared}
 
@@ -70,7 +70,7 @@ are_parts {shards} {configs} parts some locks is ascends are told_are long each 
 
 -- the states are those of the script
 pub have_replayed : {engine : Shards} (script : Lists) {shards workers : ℕ} {queues : List (List Numbered)} {states : List Shard} → shards ≡ length engine.locks → engine.configs ≡ script.configs
-    → AreQueues shards (happenings script.configs script.pool script.events) queues → AreStates engine queues workers states → HaveReplayed script shards workers states
+    → AreQueues shards (happenings script.configs script.pool script.events) queues → AreStates engine queues workers states → HaveReplayed script shards (worker_of workers) states
 have_replayed script {shards} {workers} {states} locks is are all = record {
   long = cc;
   each = λ s state e. let one = all.each s state e in record {
@@ -80,10 +80,10 @@ have_replayed script {shards} {workers} {states} locks is are all = record {
 }
 
 -- how many sessions are Up
-pub ups_are : {script : Lists} (shards : ℕ) {workers up : ℕ} {states : List Shard} (d : Shard) → 0 < shards → HaveReplayed script shards workers states
+pub ups_are : {script : Lists} (shards workers : ℕ) {up : ℕ} {states : List Shard} (d : Shard) → 0 < shards → HaveReplayed script shards (worker_of workers) states
     → ((k : ℕ) (e : Shard) → k < length states → IsShard (get_or states k e)) → up ≡ sum_to (λ k. sum_by one_up (get_or states k d).sessions) (length states) → up ≡ (totals script).ups
-ups_are zero d some have kept is = absurd (omega (arith, some))
-ups_are {script} (suc n) {workers} {states} d some have kept is = cc (
+ups_are zero workers d some have kept is = absurd (omega (arith, some))
+ups_are {script} (suc n) workers {states = states} d some have kept is = cc (
   sum_same (λ k. sum_by one_up (get_or states k d).sessions) (λ k. ups (share (suc n) k (runs (events_of_table script) script.configs))) (suc n) (λ k h.
       (let inside : k < length states = omega (arith, h, have.long) in
       let state = get_or states k d in

@@ -18,10 +18,13 @@ pub mod Whole
 pub mod PiecesGiven
 pub mod Seams
 mod StreamCommon
-pub mod Routing
-pub mod Events
 mod WorkerCommon
 pub mod Soles
+pub mod Going
+pub mod OneCaller
+pub mod Opening
+pub mod Events
+pub mod Reporting
 pub mod Courses
 pub mod Owning
 pub mod Joining

@@ -32,7 +32,7 @@ sole_of w (x ∷ xs) none = dite (ℕ_discrete (by x) w) (λ same. (same, sole_o
     (λ other. let e = sym (calls_first (by x) x xs refl) ∙ none (by x) other in absurd (cc))
 
 -- nothing came between
-between_none : (w : ℕ) (seen between more : List Entry) → calls by w between ≡ [] → IsSole w ((seen ++ between) ++ more) → seen ++ between ≡ seen
+pub between_none : (w : ℕ) (seen between more : List Entry) → calls by w between ≡ [] → IsSole w ((seen ++ between) ++ more) → seen ++ between ≡ seen
 between_none w seen between more others sole =
     cc (nobody w between (back_sole w seen between (front_sole w (seen ++ between) more sole)) others, append-nil seen)
 
@@ -40,7 +40,7 @@ pub events_entries : (w : ℕ) (es : List ShardEvent) → events_of (entries_by 
 events_entries w [] = refl
 events_entries w (e ∷ es) = cc (events_entries w es)
 
-given_done : (w : ℕ) (cs : List SessionConfig) {before : List Entry} (es : List ShardEvent) (event : ShardEvent) → before ≡ entries_by w es
+pub given_done : (w : ℕ) (cs : List SessionConfig) {before : List Entry} (es : List ShardEvent) (event : ShardEvent) → before ≡ entries_by w es
     → given_after cs before event ≡ outcome_of (last_tick es) event (runs es cs)
 given_done w cs es event is = cc (events_entries w es)
 

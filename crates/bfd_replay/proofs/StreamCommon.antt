@@ -10,7 +10,7 @@ pub use Rattle.bfd_script.specs.Report.{done_line, dropped, event_lines, lines_f
 pub use Rattle.bfd_session.specs.Alone.{Outcome}
 pub use Rattle.bfd_session.specs.Kinds.{Running, configs_of}
 pub use Rattle.bfd_session.specs.declared.event.SessionConfig.{SessionConfig}
-pub use Rattle.bfd_replay.proofs.Written.{front_of_longer, took_front, took_nothing, took_of_longer, took_on, took_rest, when_ok}
+pub use Rattle.bfd_replay.proofs.Written.{front_of_longer, none_taken, took_front, took_nothing, took_of_longer, took_on, took_rest, when_ok}
 pub use Rattle.bfd_sbfd.specs.declared.reflecting.Reflector.{Reflector}
 pub use Rattle.bfd_script.specs.declared.line.entries.Line.{Line}
 pub use Rattle.bfd_session.specs.Step.{started}

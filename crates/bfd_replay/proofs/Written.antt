@@ -4,7 +4,7 @@ use Rattle.std.specs.Prelude.{OnOk}
 use Rattle.std.proofs.lemmas.List.{take-append-drop}
 
 -- before the first call nothing was taken
-none_taken : (known : Option (List ℕ)) (text : List ℕ) → TookUpTo known known text text
+pub none_taken : (known : Option (List ℕ)) (text : List ℕ) → TookUpTo known known text text
 none_taken known text = ([], Appends-nil known, refl)
 
 pub took_nothing : (known : Option (List ℕ)) (text : List ℕ) → TookFront known known text

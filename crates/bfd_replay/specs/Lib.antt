@@ -5,11 +5,11 @@ pub mod Spread
 pub mod Inside
 pub mod Cutting
 pub mod Written
-pub mod Telling
 pub mod Working
+pub mod Turning
+pub mod Telling
 pub mod Jobs
 pub mod Ends
 pub mod Counts
 pub mod Replayed
 pub mod Beginning
-pub mod Held

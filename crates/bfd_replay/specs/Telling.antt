@@ -1,8 +1,24 @@
 -- What was told so far of a replay's events.
-use Rattle.std.specs.Prelude.{◌≡◌, ◌+◌, ◌++◌, ℕ, List, length, sum_by, Option}
+use Rattle.std.specs.Prelude.{◌≡◌, ◌+◌, ◌++◌, [], ◌∷◌, ℕ, List, length, map, slice_get, sum_by, Option, Some, Result, Ok, Err}
+use Rattle.std.specs.List.{filter_map}
+use Rattle.bfd_edge.specs.declared.fault.Fault.{Fault}
+use Rattle.bfd_edge.specs.declared.fault.Fault.TheVariants as sink
+use Rattle.bfd_edge.specs.Faults.{HasCause}
+use Rattle.bfd_engine.specs.declared.fault.EngineFault.{EngineFault}
+use Rattle.bfd_engine.specs.declared.fault.EngineFault.TheVariants.{Memory, Full, Spent}
+use Rattle.bfd_engine.specs.Engines.{Shards, Knows, configs_at}
+use Rattle.bfd_engine.specs.Calls.{seen_at}
 use Rattle.bfd_session.specs.Alone.{Outcome}
+use Rattle.bfd_session.specs.Kinds.{configs_of}
+use Rattle.bfd_session.specs.Step.{started}
+use Rattle.bfd_shard.specs.Shard.{Shard}
 use Rattle.bfd_script.specs.Report.{lines_from, packets_sent, dropped}
-use Rattle.bfd_replay.specs.Written.{TookUpTo}
+use Rattle.bfd_replay.specs.declared.stream.telling.Stop.{Stop}
+use Rattle.bfd_replay.specs.declared.stream.telling.Stop.TheVariants.{Refused, Unwritten}
+use Rattle.bfd_replay.specs.Happenings.{Happening, happening_outcomes, session_event}
+use Rattle.bfd_replay.specs.Turning.{IsCutShort, IsRefusal, given}
+use Rattle.bfd_replay.specs.Working.{IsSole, entries_by}
+use Rattle.bfd_replay.specs.Written.{TookFront, TookUpTo}
 
 -- the text that no sink took yet, and how many events were told, with how many packets that were sent and were dropped in them
 pub record Telling : Type 0 where
@@ -18,3 +34,53 @@ pub record ToldUpTo (old new : Option (List ℕ)) (before after : Telling) (outc
   pub events : after.events + length rest ≡ before.events + length outcomes
   pub txs : after.txs + sum_by packets_sent rest ≡ before.txs + sum_by packets_sent outcomes
   pub drops : after.drops + sum_by dropped rest ≡ before.drops + sum_by dropped outcomes
+
+-- the count of a sink's faults before and after: only a write raises it
+abbrev pub HasStopCause : ℕ → ℕ → Stop → Type 0
+HasStopCause before now (Refused fault) = now ≡ before
+HasStopCause before now (Unwritten fault) = (let written : Result (Unit {0}) Fault = Err fault in HasCause before now written)
+
+-- why one event's lines weren't told
+abbrev pub IsEventStop : Shards → Knows → Knows → Stop → Type 0
+IsEventStop engine k l (Refused fault) = IsRefusal fault engine k l
+IsEventStop engine k l (Unwritten fault) = Unit {0}
+
+-- why the lines of some events weren't told
+abbrev pub IsStop : Shards → Knows → Stop → Type 0
+IsStop engine l (Refused fault) = IsCutShort fault engine l
+IsStop engine l (Unwritten fault) = Unit {0}
+
+-- on an engine of one shard, if caller 0 is its only one, the event's lines were told
+abbrev pub HasToldEvent : Shards → Happening → Knows → Knows → Option (List ℕ) → Option (List ℕ) → Telling → Telling → Type 0
+HasToldEvent engine h k l old new before after = IsSole 0 (seen_at l 0) → (rest : List Outcome)
+    → ToldUpTo old new before after (given (configs_at engine 0) (seen_at k 0) h ∷ rest) rest
+
+-- .. or a prefix of what was told with them
+abbrev pub HasToldFront : Shards → Happening → Knows → Knows → Option (List ℕ) → Option (List ℕ) → Telling → Type 0
+HasToldFront engine h k l old new before = IsSole 0 (seen_at l 0) → (rest : List Outcome)
+    → TookFront old new (before.text ++ lines_from (before.events + 1) (given (configs_at engine 0) (seen_at k 0) h ∷ rest))
+
+-- what events give on a new engine of one shard
+abbrev pub outcomes_on : Shards → List Happening → List Outcome
+outcomes_on engine hs = happening_outcomes 0 hs (map started (configs_at engine 0))
+
+-- the one shard's entries are those of the events, if all are caller 0's
+abbrev pub HasBrought : Shards → List Happening → Knows → Type 0
+HasBrought engine hs l = IsSole 0 (seen_at l 0) → seen_at l 0 ≡ entries_by 0 (filter_map session_event hs)
+
+-- the one shard, once it is closed: its journal has these events, brought by caller 0
+pub record IsClosedAfter (engine : Shards) (hs : List Happening) (states : List Shard) : Type 0 where
+  pub long : length states ≡ 1
+  pub each : (state : Shard) → slice_get states 0 ≡ Some state
+      → (configs_of state.sessions ≡ configs_at engine 0) × (state.journal ≡ entries_by 0 (filter_map session_event hs))
+
+-- no shard refuses the only caller an event but when out of memory
+abbrev pub IsMeant : Stop → Type 0
+IsMeant (Refused Memory) = Unit {0}
+IsMeant (Refused (Full at n)) = ⊥
+IsMeant (Refused (Spent at word)) = ⊥
+IsMeant (Unwritten fault) = Unit {0}
+
+abbrev pub fault_of : Stop → Fault
+fault_of (Refused fault) = sink.Memory
+fault_of (Unwritten fault) = fault

@@ -1,20 +1,22 @@
-//! A script, replayed on one shard, whose report is written as it comes.
+//! A script, replayed by one caller on one shard, whose report is written as it comes.
 //!
-//! Each line of the script is first found to be an event of no session, with its answer, or an event of the shard's sessions.
-//! Then one shard with every session takes the events one by one, in the caller's thread; what each gave is appended to a text
-//! as the lines of a report, and where that has 64 KiB the sink takes it and it begins anew. So no more of the report is held than
-//! that and the lines of one event, and no mark of its pieces; what else is held is the sessions, the events that are left and the
-//! shard's journal of the others. [`report_to`] is all of it.
+//! An engine is opened for the script, and each line is a turn of its shard, in the caller's thread, in the order of the file: [`happen`]
+//! finds what the line is and does it. What it gave is appended to a text as the lines of a report, and a text of 64 KiB goes to the sink
+//! and begins anew. So no more of the report is held than that and the lines of one event. `report_to` is all of it.
 //!
-//! Modules: `routes` says what the lines are, `happening` is one event of the shard, `telling` the text and the counts so far,
-//! `reporting` the whole.
+//! Modules: `opening` opens the engine of a script, `turning` is one line on an engine of any shards, which a watch uses too, `telling` the
+//! text and the counts so far, `reporting` the whole.
 //!
 //! It promises that a sink which doesn't fail takes the report of `bfd_instance`'s `specs/World.antt`, byte for byte, as the replays on
-//! several shards give it too; and that any sink takes a prefix of it.
+//! several shards give it too; that any sink takes a prefix of it; and that the shard, once closed, was made of the script's sessions and
+//! has in its journal their events and every tick, in the order of the script, all brought by this caller. A caller can't know that nobody
+//! else takes a turn: the closed engine shows it.
 
-mod happening;
+mod opening;
 mod reporting;
-mod routes;
 mod telling;
+mod turning;
 
-pub use reporting::report_to;
+pub use opening::opened;
+pub(crate) use reporting::report_to;
+pub use turning::happen;

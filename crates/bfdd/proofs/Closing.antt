@@ -1,14 +1,13 @@
 -- The watches of an engine that was just opened, and the text of one that is closed.
-use Rattle.bfdd.proofs.WatchedTextCommon.{◌≡◌, ◌<◌, ◌≤◌, ◌+◌, ◌*◌, ◌∙◌, ℕ, List, [], length, map, sym, ap, subst, arith, Some, slice_get, Running, Ascends, started, SessionConfig, Reflector, Entry, share, Knows, Shards, configs_at, seen_at, IsNewPass, happening_outcomes, happenings, Group, Watching, watching, watched, AllSole, AreClosed, AreWatched, HasKept}
+use Rattle.bfdd.proofs.WatchedTextCommon.{◌≡◌, ◌<◌, ◌≤◌, ◌+◌, ◌*◌, ◌∙◌, ℕ, List, [], length, map, sym, ap, subst, arith, Some, slice_get, Running, Ascends, started, SessionConfig, Reflector, Entry, share, Knows, Shards, configs_at, seen_at, IsNewPass, happening_outcomes, happenings, Group, Watching, watching, watched, AllSole, AreClosed, AreWatched, HasKept, IsOpenedFor}
 use Rattle.bfd_shard.proofs.Sharing.{few_share}
 use Rattle.bfd_script.specs.Reading.{Lists}
 use Rattle.bfd_script.specs.Sound.{IsScript}
 use Rattle.bfd_instance.specs.World.{world}
 use Rattle.bfd_replay.proofs.Worlds.{world_is}
 use Rattle.bfd_shard.specs.Shard.{Shard}
-use Rattle.bfdd.specs.Following.{IsOpenedFor}
 use Rattle.bfdd.specs.Members.{group_in, watched_of}
-use Rattle.bfdd.proofs.Told.{all_sole}
+use Rattle.bfd_replay.proofs.OneCaller.{all_sole}
 
 same_watching : {cs ds : List SessionConfig} {es fs : List Entry} {m n : ℕ} → cs ≡ ds → es ≡ fs → m ≡ n → Some (watching cs es m) ≡ Some (watching ds fs n)
 same_watching {cs} {ds} {es} {fs} {m} p q r = ap (λ x. Some (watching x es m)) p ∙ (ap (λ x. Some (watching ds x m)) q ∙ ap (λ x. Some (watching ds fs x)) r)

@@ -13,10 +13,8 @@ pub mod Telling
 mod WatchedTextCommon
 mod Shared
 mod Copies
-mod Going
 mod TextLines
 mod Polling
 mod Told
 mod Closing
 pub mod Steps
-pub mod Opening

@@ -10,9 +10,9 @@ use Rattle.bfdd.specs.Following.{IsLeft}
 use Rattle.bfd_shard.specs.Shard.{Shard}
 use Rattle.bfd_shard.proofs.Runs.{last_more, runs_configs, runs_more}
 use Rattle.bfd_script.specs.Doing.{doing}
-use Rattle.bfdd.proofs.Going.{HasPassed, passed_none, passed_on, kept_then, went_nowhere, went_on, went_same}
+use Rattle.bfd_replay.proofs.Going.{HasPassed, kept_by, kept_then, passed_none, passed_on, went_nowhere, went_on, went_same}
 use Rattle.bfdd.proofs.Shared.{same_of}
-use Rattle.bfdd.proofs.TextLines.{shard_tells, all_tell, is_quiet, outcome_in}
+use Rattle.bfdd.proofs.TextLines.{shard_tells, all_tell, is_quiet}
 use Rattle.bfdd.proofs.Steps.{lines_step, group_step, count_step, few_step, end_told}
 
 -- one look at a shard's history
@@ -42,11 +42,7 @@ pub read_went : {k l : Knows} {shard : ℕ} → k.0 ≡ 0 → HasRead k l shard 
 read_went first r = went_nowhere first r.turned
 
 pub kept_read : {k l : Knows} {shard : ℕ} → HasRead k l shard → HasKept 1 k l
-kept_read {k} {l} {shard} r = record {
-  number = r.turned.number;
-  made = r.turned.made;
-  taken = λ s. dite (ℕ_discrete s shard) (λ e. subst (λ x. taken_at l x ≤ taken_at k x + 1) (sym e) r.turned.taken) (λ e. omega (arith, r.turned.taken_elsewhere s e));
-}
+kept_read r = kept_by r.turned
 
 -- the shards before a place were polled, of these watches
 pub record HasPolled (engine : Shards) (limit number at : ℕ) (k l : Knows) (first watches : List Watching) (told : List Change) : Type 0 where

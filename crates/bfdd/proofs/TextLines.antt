@@ -1,38 +1,16 @@
 -- What a line of a script is to an engine's shards, and what all of them tell of it.
-use Rattle.bfdd.proofs.WatchedTextCommon.{◌≡◌, ◌<◌, ◌+◌, ◌*◌, ◌%◌, ◌/◌, ◌==◌, ◌++◌, ◌∙◌, ◌∷◌, max, ℕ, Bool, true, false, [], List, length, drop, map, slice_get, sym, ap, refl, append-nil, arith, mod-lt, eq-eqb, ne_eqb, dite, ℕ_discrete, drop-append_seam, Option, None, Some, Result, Ok, Err, if◌then◌else◌, cons_option, flat_map, Out, Changed, Sent, Outcome, tick_items, Running, configs_of, Ascends, started, SessionConfig, Reflector, Entry, ShardEvent, Own, Tick, share, history_of, event_in, events_of, last_tick, later, runs, moved, outcome_of, Act, Rests, Turns, Shards, by, entry_of, Among, Apart, Happening, happening_outcomes, in_shard, session_event, happening_by, entries_by, events_entries, Change, changes_in, Watching, told_by, watching, brought, merged_of, news, of_event, told_after}
-use Rattle.bfd_packet.specs.declared.arrival.Arrival.{Arrival}
+use Rattle.bfdd.proofs.WatchedTextCommon.{◌≡◌, ◌<◌, ◌+◌, ◌*◌, ◌%◌, ◌/◌, ◌==◌, ◌++◌, ◌∙◌, ◌∷◌, max, ℕ, Bool, true, false, [], List, length, drop, map, slice_get, sym, ap, refl, append-nil, arith, mod-lt, eq-eqb, ne_eqb, dite, ℕ_discrete, drop-append_seam, Option, None, Some, Result, Ok, Err, if◌then◌else◌, cons_option, flat_map, Out, Changed, Sent, Outcome, tick_items, Running, configs_of, Ascends, started, SessionConfig, Reflector, Entry, ShardEvent, Own, Tick, share, history_of, event_in, events_of, last_tick, later, runs, moved, outcome_of, Act, Rests, Turns, Shards, by, entry_of, Among, Apart, Happening, happening_outcomes, in_shard, session_event, happening_by, entries_by, events_entries, Change, changes_in, Watching, told_by, watching, brought, merged_of, news, of_event, outcome_in, told_after}
 use Rattle.bfd_packet.specs.declared.arrival.Datagram.{Datagram}
 use Rattle.bfd_packet.specs.declared.discard.Test.{Test}
 use Rattle.bfd_sbfd.specs.Reflect.{reflect}
 use Rattle.bfd_session.specs.declared.event.Event.{Event}
-use Rattle.bfd_session.specs.Arrivals as arrivals
 use Rattle.bfd_session.proofs.Naming.{tick_named}
 use Rattle.bfd_shard.proofs.Dealing.{last_of_shard}
-use Rattle.bfd_engine.specs.Calls.{ask_act, coming_act, reflect_act}
-use Rattle.bfd_script.specs.Doing.{Doing, Rests as Resting, Reflects, Happens, Passes, arriving, asking}
+use Rattle.bfd_script.specs.Doing.{Doing, Rests as Resting, Reflects, Happens, Passes}
 use Rattle.bfd_replay.proofs.Histories.{runs_share}
 use Rattle.bfd_replay.proofs.Sharing.{own_gives}
 use Rattle.bfd_replay.specs.Planned.{reflecting, resting}
-use Rattle.bfdd.proofs.Going.{Fits}
 use Rattle.bfdd.proofs.Shared.{all_of, same_of, none_of, one_of, changes_flat, changes_own}
-
--- a call by what its line is
-
-reflect_fits : (n : ℕ) (outcome : Outcome) (r : Result Datagram Test) (arrival : Arrival) → Fits n (Apart outcome) (reflect_act r arrival)
-reflect_fits n outcome (Ok datagram) arrival = tt
-reflect_fits n outcome (Err test) arrival = tt
-
-pub arrival_fits : (engine : Shards) (moment : ℕ) (arrival : Arrival) (d : arrivals.Destination)
-    → Fits (length engine.locks) (happening_by engine.pool (arriving moment arrival d)) (coming_act engine moment arrival d)
-arrival_fits engine moment arrival (arrivals.Discarded test) = tt
-arrival_fits engine moment arrival (arrivals.Reflected place) =
-    reflect_fits (length engine.locks) (reflecting (slice_get engine.pool place) (reflect engine.pool arrival)) (reflect engine.pool arrival) arrival
-arrival_fits engine moment arrival (arrivals.Own place event) = (refl, refl)
-
-pub asking_fits : (engine : Shards) (moment : ℕ) (event : Event) (place : Option ℕ)
-    → Fits (length engine.locks) (happening_by engine.pool (asking moment event place)) (ask_act engine moment event place)
-asking_fits engine moment event None = tt
-asking_fits engine moment event (Some place) = (refl, refl)
 
 -- an event of no session tells no change
 
@@ -81,11 +59,6 @@ shard_tells n r number before seen limit past h cs inside was now =
     cc (news_by number (share n r cs) before seen limit (history_of n r past) (in_shard n r h) was now, last_of_shard n r past, runs_share n r past cs inside)
 
 -- what all shards tell
-
--- what it gives, of the whole table's sessions
-abbrev pub outcome_in : ℕ → Happening → List Running → Outcome
-outcome_in last (Apart outcome) sessions = outcome
-outcome_in last (Among event) sessions = outcome_of last event sessions
 
 tick_changes : (number last t : ℕ) (ss : List Running)
     → changes_in number (outcome_of last (Tick t) ss).items ≡ flat_map (λ s. changes_in number (tick_items (max last t) s)) ss

@@ -1,12 +1,11 @@
 -- The text of a script, event by event, and what is known of it once the engine is closed.
-use Rattle.bfdd.proofs.WatchedTextCommon.{◌≡◌, ◌≢◌, ◌<◌, ◌≤◌, ◌+◌, ◌*◌, ◌++◌, ◌∙◌, ◌∷◌, ℕ, suc, true, false, [], List, length, map, sym, ap, subst, refl, append-nil, arith, length-append, length-map, map-append, filter_map-append, slice_index_or, get_or, get_or_from_slice_get, slice_get-get_or, Option, None, Some, cons_option, Outcome, Running, configs_of, Ascends, started, SessionConfig, Line, Entry, ShardEvent, share, history_of, event_in, last_tick, last_from, runs, has, EngineFault, Full, Memory, Spent, Knows, Shards, made_at, met_word, seen_at, taken_at, AreClosed, EachJoined, IsClosed, IsNewPass, by, entry_of, Among, Apart, Happening, happening_outcomes, session_event, in_shard, happening, happenings, IsSole, entries_by, sole_of, left_runs, Change, changes_in, changes_from, Group, group_after, Watching, watching, watched, watched_line, watched_lines, watched_lines_from, AllSole, AreBehind, AreWatched, HasKept, IsRefusal, IsCutShort, IsUntaken, Went, brought, merged_of, news}
-use Rattle.bfd_turn.specs.Passes.{last_word}
-use Rattle.bfd_shard.specs.Shard.{Shard}
-use Rattle.bfd_shard.proofs.Runs.{last_more, runs_configs, runs_more}
+use Rattle.bfdd.proofs.WatchedTextCommon.{◌≡◌, ◌≢◌, ◌<◌, ◌≤◌, ◌+◌, ◌*◌, ◌++◌, ◌∙◌, ◌∷◌, ℕ, suc, true, false, [], List, length, map, sym, ap, subst, refl, append-nil, arith, length-append, length-map, map-append, filter_map-append, slice_index_or, get_or, get_or_from_slice_get, slice_get-get_or, Option, None, Some, cons_option, Outcome, Running, configs_of, Ascends, started, SessionConfig, Line, Entry, ShardEvent, share, history_of, event_in, last_tick, last_from, runs, has, EngineFault, Full, Memory, Spent, Knows, Shards, made_at, met_word, seen_at, taken_at, AreClosed, EachJoined, IsClosed, IsNewPass, by, entry_of, Among, Apart, Happening, happening_outcomes, session_event, in_shard, happening, happenings, IsSole, entries_by, sole_of, left_runs, Change, changes_in, changes_from, Group, group_after, Watching, watching, watched, watched_line, watched_lines, watched_lines_from, AllSole, AreBehind, AreWatched, HasKept, IsRefusal, IsCutShort, IsUntaken, Went, brought, merged_of, news, outcome_in}
+use Rattle.bfd_shard.proofs.Runs.{runs_configs}
 use Rattle.bfd_script.specs.Doing.{doing}
-use Rattle.bfdd.proofs.Going.{went_on, entries_both}
+use Rattle.bfd_replay.proofs.Going.{entries_both, went_on}
+use Rattle.bfd_replay.proofs.OneCaller.{cut_short, history_after, history_few, outcome_first, past_after, past_few}
 use Rattle.bfdd.proofs.Shared.{same_of}
-use Rattle.bfdd.proofs.TextLines.{shard_news, shard_tells, all_tell, is_quiet, outcome_in}
+use Rattle.bfdd.proofs.TextLines.{shard_news, shard_tells, all_tell, is_quiet}
 use Rattle.bfdd.proofs.Steps.{lines_step, group_step, count_step, end_told}
 
 -- what these lines give, after these events of the sessions
@@ -18,31 +17,6 @@ unfolding last_from
 outcomes_start engine lines =
     let e : map started engine.configs ≡ runs [] engine.configs = left_runs [] engine.configs in
     ap (λ ss. happening_outcomes 0 (happenings engine.configs engine.pool lines) ss) (sym e)
-
--- an event more, if it is one of the sessions
-abbrev pub past_after : List ShardEvent → Happening → List ShardEvent
-past_after past h = past ++ cons_option (session_event h) []
-
-outcome_first : (cs : List SessionConfig) (past : List ShardEvent) (h : Happening) (hs : List Happening) → happening_outcomes (last_tick past) (h ∷ hs) (runs past cs)
-    ≡ outcome_in (last_tick past) h (runs past cs) ∷ happening_outcomes (last_tick (past_after past h)) hs (runs (past_after past h) cs)
-outcome_first cs past (Apart outcome) hs = cc (append-nil past)
-outcome_first cs past (Among event) hs = cc (last_more 0 past event, runs_more past event cs)
-
-history_after : (n r : ℕ) (past : List ShardEvent) (h : Happening) → history_of n r (past_after past h) ≡ history_of n r past ++ brought n h r
-history_after n r past (Apart outcome) = cc (append-nil past, append-nil (history_of n r past))
-history_after n r past (Among event) = filter_map-append (event_in n r) past (event ∷ [])
-
-few_by : (o : Option ShardEvent) (es : List ShardEvent) {m : ℕ} → length es ≤ m → length (cons_option o es) ≤ m + 1
-few_by None es h = omega (arith, h)
-few_by (Some e) es h = omega (arith, h)
-
-history_few : (n r : ℕ) (es : List ShardEvent) → length (history_of n r es) ≤ length es
-history_few n r [] = omega arith
-history_few n r (e ∷ es) = omega (arith, few_by (event_in n r e) (history_of n r es) (history_few n r es))
-
-past_few : (past : List ShardEvent) (h : Happening) → length (past_after past h) ≤ length past + 1
-past_few past (Apart outcome) = omega (arith, length-append past [])
-past_few past (Among event) = omega (arith, length-append past (event ∷ []))
 
 -- what was told of a script so far, if caller 0 is the only one
 pub record IsTold (engine : Shards) (lines left : List Line) (k : Knows) (number told : ℕ) (text : List ℕ) (before g : Group) : Type 0 where
@@ -67,9 +41,6 @@ told_none lines g new = record {
 pub told_first : {engine : Shards} {lines left : List Line} {k : Knows} {text : List ℕ} (g : Group) → IsNewPass engine k → left ≡ lines → text ≡ [] → IsTold engine lines left k 1 0 text g g
 told_first {engine} {lines} {left} {k} g new same none =
     subst (λ t. IsTold engine lines left k 1 0 t g g) (sym none) (subst (λ ls. IsTold engine lines ls k 1 0 [] g g) (sym same) (told_none lines g new))
-
-pub kept_same : (times : ℕ) (k : Knows) → HasKept times k k
-kept_same times k = record { number = refl; made = λ r. refl; taken = λ r. omega arith }
 
 -- behind a line the watches lack no more than what it brought
 pub behind_after : {engine : Shards} {limit : ℕ} {k l : Knows} {watches : List Watching} {new : ℕ → List ShardEvent} → AreWatched engine limit k watches
@@ -138,13 +109,7 @@ told_next {engine} {left = left} {rest} {line} {k} {m = m} {number} {told} {text
 -- a line that was refused
 
 pub refused_stopped : {engine : Shards} {lines left : List Line} {k : Knows} (l : Knows) {number told : ℕ} {text : List ℕ} {before g : Group} (fault : EngineFault) → IsTold engine lines left k number told text before g → number ≤ engine.limit → IsRefusal fault engine k l → IsCutShort fault engine l
-refused_stopped l Memory t few r = tt
-refused_stopped l (Spent at word) t few r = (at, r.0, r.1)
-refused_stopped {engine} {k = k} l (Full at n) t few r = λ s.
-    let w = r.2 in
-    let sole = s at r.0 in
-    let is : seen_at l at ≡ entries_by 0 (history_of (length engine.locks) at t.past) = cc (w.seen sole, t.seen at r.0 (w.sole sole), append-nil (seen_at k at)) in
-    absurd (omega (arith, ap length is, length-map (history_of (length engine.locks) at t.past) (entry_of 0), history_few (length engine.locks) at t.past, t.short, r.1, few))
+refused_stopped {engine} {k = k} l {number} fault t few r = cut_short engine k l t.past number fault (omega (arith, t.short)) few t.seen r
 
 -- .. or whose changes couldn't be had
 pub untaken_stopped : {engine : Shards} {lines left : List Line} (line : Line) {k l m : Knows} {number told : ℕ} {text : List ℕ} {before g : Group} (fault : EngineFault) → IsTold engine lines left k number told text before g → number ≤ engine.limit
@@ -166,33 +131,3 @@ pub told_all : {engine : Shards} {lines left : List Line} {k : Knows} {number to
 told_all {engine} {lines} {left} {number = number} {told} {text} {before = before} {g} none t added s =
     end_told text number told (outcomes_from engine lines []) g before (ap (λ ls. outcomes_from engine ls t.past) none) (t.whole s) (t.after s) (t.counted s) added
     ∙ ap (λ os. watched os before) (outcomes_start engine lines)
-
-pub kept_less : {a b : ℕ} {k l : Knows} → a ≤ b → HasKept a k l → HasKept b k l
-kept_less h x = record { number = x.number; made = x.made; taken = λ r. omega (arith, x.taken r, h) }
-
--- the engine is closed
-
-closed_at : {engine : Shards} {l : Knows} (shards : List Shard) {s : ℕ} → AreClosed engine l shards → s < length engine.locks → (shard : Shard) × IsClosed engine l s shard
-closed_at [] closed h = absurd (omega (arith, closed.long, h))
-closed_at (x ∷ shards) {s} closed h =
-    (get_or (x ∷ shards) s x, closed.each s (get_or (x ∷ shards) s x) (slice_get-get_or (x ∷ shards) s x (omega (arith, closed.long, h))))
-
-none_made : {engine : Shards} {times : ℕ} {k l : Knows} → IsNewPass engine k → HasKept times k l → (r : ℕ) → r < length engine.locks → made_at l r ≡ []
-none_made new kept r inside = kept.made r ∙ new.made r inside
-
-pub none_open : {engine : Shards} {times : ℕ} {k l : Knows} → IsNewPass engine k → HasKept times k l → EachJoined engine l
-none_open {l = l} new kept r n inside made = let e : has n (made_at l r) ≡ false = ap (has n) (none_made new kept r inside) in absurd (cc)
-
--- then caller 0 was the only one
-pub all_sole : {engine : Shards} {times : ℕ} {k l : Knows} {shards : List Shard} → IsNewPass engine k → HasKept times k l → AreClosed engine l shards → AllSole (length engine.locks) l
-all_sole {shards = shards} new kept closed r inside =
-    let c = (closed_at shards closed inside).1 in
-    subst (IsSole 0) c.journal (sole_of 0 _ (λ n other. c.unmade n other (ap (has n) (none_made new kept r inside))))
-
--- and it stopped only when out of memory
-pub never_stopped : {engine : Shards} {times : ℕ} {k l : Knows} {shards : List Shard} (fault : EngineFault) → IsNewPass engine k → HasKept times k l → times ≤ 400002
-    → AreClosed engine l shards → IsCutShort fault engine l → fault ≡ Memory
-never_stopped Memory new kept few closed stop = refl
-never_stopped (Full at n) new kept few closed stop = absurd (stop (all_sole new kept closed))
-never_stopped {shards = shards} (Spent at word) new kept few closed stop =
-    absurd (omega (arith, (closed_at shards closed stop.1).1.word, kept.taken stop.0, new.taken stop.0 stop.1, few, stop.2))

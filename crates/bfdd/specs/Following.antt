@@ -1,18 +1,12 @@
--- What clients of an engine's shards are told after an event, and what a caller knows that is the only one.
-use Rattle.std.specs.Prelude.{ℕ, zero, suc, ◌≡◌, ◌≢◌, ◌≤◌, ◌<◌, ◌+◌, ◌*◌, ◌++◌, List, [], ◌∷◌, length, map, drop, slice_get, nat_lt, if◌then◌else◌, Option, Some}
-use Rattle.std.specs.List.{cons_option}
-use Rattle.bfd_sbfd.specs.declared.reflecting.Reflector.{Reflector}
-use Rattle.bfd_session.specs.declared.event.SessionConfig.{SessionConfig}
+-- What clients of an engine's shards are told after an event.
+use Rattle.std.specs.Prelude.{ℕ, zero, suc, ◌≡◌, ◌<◌, ◌++◌, List, [], ◌∷◌, length, map, drop, slice_get, nat_lt, if◌then◌else◌, Option, Some}
 use Rattle.bfd_shard.specs.declared.entry.Entry.{Entry}
-use Rattle.bfd_shard.specs.declared.entry.ShardEvent.{ShardEvent}
 use Rattle.bfd_turn.specs.Lists.{Begins}
 use Rattle.bfd_turn.specs.Passes.{last_word}
 use Rattle.bfd_engine.specs.declared.fault.EngineFault.{EngineFault}
 use Rattle.bfd_engine.specs.declared.fault.EngineFault.TheVariants.{Memory, Full, Spent}
-use Rattle.bfd_engine.specs.Engines.{Shards, Knows, IsOf, AllThere, configs_at}
-use Rattle.bfd_engine.specs.Calls.{seen_at, met_word, taken_at, made_at}
-use Rattle.bfd_replay.specs.Happenings.{Happening, in_shard}
-use Rattle.bfd_replay.specs.Working.{IsSole, entries_by}
+use Rattle.bfd_engine.specs.Engines.{Shards, Knows, configs_at}
+use Rattle.bfd_engine.specs.Calls.{seen_at, met_word}
 use Rattle.bfd_watch.specs.declared.change.Change.{Change}
 use Rattle.bfd_watch.specs.declared.change.WatchFault.{WatchFault}
 use Rattle.bfd_watch.specs.declared.change.WatchFault.TheVariants as watch
@@ -66,34 +60,6 @@ pub record AreWatched (engine : Shards) (limit : ℕ) (k : Knows) (watches : Lis
   pub long : length watches ≡ length engine.locks
   pub each : (r : ℕ) → r < length engine.locks → slice_get watches r ≡ Some (watching (configs_at engine r) (seen_at k r) limit)
 
--- all entries that caller 0 has seen are its own
-abbrev pub AllSole : ℕ → Knows → Type 0
-AllSole n k = (r : ℕ) → r < n → IsSole 0 (seen_at k r)
-
--- on a shard k became l: it has seen what it had, and more behind it; if all entries there are caller 0's, they were, and those of
--- these events were added
-pub record Went (k l : Knows) (new : List ShardEvent) (r : ℕ) : Type 0 where
-  pub begins : Begins (seen_at k r) (seen_at l r)
-  pub sole : IsSole 0 (seen_at l r) → IsSole 0 (seen_at k r)
-  pub seen : IsSole 0 (seen_at l r) → seen_at l r ≡ seen_at k r ++ entries_by 0 new
-
--- caller 0's pass k became l, with at most so many turns of each shard
-pub record HasKept (times : ℕ) (k l : Knows) : Type 0 where
-  pub number : l.0 ≡ k.0
-  pub made : (r : ℕ) → made_at l r ≡ made_at k r
-  pub taken : (r : ℕ) → taken_at l r ≤ taken_at k r + times
-
--- an event as the shard of this number has it, if it has it
-abbrev pub brought : ℕ → Happening → ℕ → List ShardEvent
-brought n h r = cons_option (in_shard n r h) []
-
--- why an event couldn't be carried out: out of memory; with a shard's journal at its limit, to which this caller had added nothing;
--- or with a lock's last word
-abbrev pub IsRefusal : EngineFault → Shards → Knows → Knows → Type 0
-IsRefusal Memory engine k l = Unit {0}
-IsRefusal (Full at n) engine k l = (at < length engine.locks) × (length (seen_at l at) ≡ engine.limit) × Went k l [] at
-IsRefusal (Spent at word) engine k l = (at < length engine.locks) × (met_word l at ≡ last_word)
-
 -- why a watch didn't take all entries that a caller has seen of a shard
 abbrev pub IsUntaken : EngineFault → Shards → ℕ → ℕ → Knows → Type 0
 IsUntaken Memory engine limit shard l = Unit {0}
@@ -104,16 +70,3 @@ IsUntaken (Spent at word) engine limit shard l = (at ≡ shard) × (met_word l s
 abbrev pub IsLeft : WatchFault → Watching → List Entry → Type 0
 IsLeft (watch.Full count) w entries = w.limit < length (w.entries ++ entries)
 IsLeft watch.Memory w entries = Unit {0}
-
--- why the text couldn't be told: out of memory, if caller 0 is the only one and no lock's last word was met
-abbrev pub IsCutShort : EngineFault → Shards → Knows → Type 0
-IsCutShort Memory engine l = Unit {0}
-IsCutShort (Full at n) engine l = AllSole (length engine.locks) l → ⊥
-IsCutShort (Spent at word) engine l = (r : ℕ) × (r < length engine.locks) × (met_word l r ≡ last_word)
-
--- an engine of these sessions and reflectors, on so many shards, whose journals take so many entries
-pub record IsOpenedFor (engine : Shards) (configs : List SessionConfig) (pool : List Reflector) (shards limit : ℕ) : Type 0 where
-  pub shards_are : length engine.locks ≡ shards
-  pub configs_are : engine.configs ≡ configs
-  pub pool_is : engine.pool ≡ pool
-  pub limit_is : engine.limit ≡ limit

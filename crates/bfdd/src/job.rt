@@ -23,4 +23,5 @@ mod status;
 
 pub use answer::{Answer, Text};
 pub use deciding::answer_to_job;
+pub(crate) use replaying::write_replay;
 pub use status::Status;

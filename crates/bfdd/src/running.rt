@@ -21,8 +21,7 @@ use std::sync::Wait;
 use std::thread::Threads;
 
 /// Runs the program: `words` are those after its name, what it reads comes from `source`, and what it writes goes to
-/// `sink`. Where the words ask for workers, each turn of one stands between two calls of `gate`; but a replay on one shard by one worker
-/// needs no turns.
+/// `sink`. Each turn of a replay's or of `serve`'s worker stands between two calls of `gate`.
 ///
 /// `replay` reads a packet file to its end and writes the report of its events. `watch` reads one too, and writes what happens to
 /// a link group. `serve` reads one without packets and ticks, takes packets from links that it opens from `ports` and ticks from
@@ -132,7 +131,7 @@ where
         return Status::Usage;
     };
     match answer_to_job(rt, alloc, &job, source, ports, ticker, gate) {
-        Ok(answer) => write_answer(rt, alloc, answer, sink),
+        Ok(answer) => write_answer(rt, alloc, answer, gate, sink),
         Err(Fault::Failed) => Status::ReadFault,
         Err(Fault::Memory) => Status::Memory,
     }

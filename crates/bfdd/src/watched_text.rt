@@ -8,7 +8,6 @@ mod following;
 mod members;
 mod merging;
 mod telling;
-mod turning;
 
 pub use members::first_unknown;
 pub use telling::watched;

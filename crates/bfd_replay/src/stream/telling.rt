@@ -7,11 +7,21 @@ ghost use Rattle.bfd_replay.specs.Written.{TookFront, TookUpTo};
 
 use crate::report::{dropped, give_on, sent, write_last};
 use bfd_edge::{Fault, Sink};
+use bfd_engine::EngineFault;
 use bfd_rules::Outs;
 use bfd_script::lines;
 use bfd_session::Answer;
 use std::alloc::{AllocError, Global};
 use std::marker::Model;
+
+/// Why a replay broke off.
+#[derive(Drop)]
+pub(crate) enum Stop {
+    /// A shard refused the event.
+    Refused(EngineFault),
+    /// The sink failed, or memory ran out here or there.
+    Unwritten(Fault),
+}
 
 /// The lines that are not written yet, and how many events were told, with how many packets that were sent and were dropped in
 /// them. An event puts out at most five outputs for each of 65,536 sessions and five more, so that the counts fit.
@@ -47,6 +57,14 @@ impl Told {
         }
     }
 
+    /// The number of the next event, from 1.
+    pub(crate) fn number(&self) -> u64
+        requires few { self.now.events < 200000 }
+        ensures { result ≡ self.now.events + 1 }
+    {
+        self.events + 1
+    }
+
     /// Tells what the next event gave. Fails only when out of memory.
     pub(crate) fn tell(&mut self, outs: &Outs, answer: &Answer) -> Result<(), AllocError>
         requires few { self.old.events < 200000 }
@@ -58,7 +76,7 @@ impl Told {
         ensures drops { OnOk result (self.new.drops ≡ self.old.drops + dropped_by answer.now) }
     {
         let items = outs.items();
-        lines(self.events + 1, items, answer, &mut self.text)?;
+        lines(self.number(), items, answer, &mut self.text)?;
         self.events += 1;
         self.txs += sent(items);
         self.drops += dropped(answer);

@@ -1,21 +1,25 @@
 //! A replay on shards, by several workers.
-ghost use Rattle.std.specs.Prelude.{ℕ, ◌≡◌, ◌≤◌, ◌<◌, IfOk, length, map};
-ghost use Rattle.bfd_replay.specs.Happenings.{AreParts};
+ghost use Rattle.std.specs.Prelude.{ℕ, ◌≡◌, ◌≤◌, ◌<◌, List, IfOk, OnOk, length, map};
+ghost use Rattle.std.specs.Io.KnownBytes.{Appends};
+ghost use Rattle.bfd_edge.specs.Faults.{HasCause};
+ghost use Rattle.bfd_replay.specs.Happenings.{AreParts, Happening, happening_outcomes};
 ghost use Rattle.bfd_instance.specs.World.{replayed, totals};
+ghost use Rattle.bfd_script.specs.Report as script;
 ghost use Rattle.bfd_script.specs.Sound.{IsScript};
+ghost use Rattle.bfd_session.specs.Kinds.{Running};
+ghost use Rattle.bfd_replay.specs.Written.{TookFront};
 ghost use Rattle.bfd_session.specs.Step.{started};
 ghost use Rattle.bfd_instance.specs.Stage.{IsTable};
 ghost use Rattle.bfd_replay.specs.Planned.{happenings, script_with};
-ghost use Rattle.bfd_replay.specs.Replayed.{HaveReplayed};
+ghost use Rattle.bfd_replay.specs.Replayed.{HaveReplayed, worker_of};
 
 use crate::plan::{Plan, longest};
-use crate::report::{Part, report, report_at_once};
+use crate::report::{Part, report, report_at_once, report_to, write_each};
 use crate::worker::beginning::begun;
 use crate::worker::counting::{up_all, up_at_last};
 use crate::worker::finish::in_order;
-use crate::worker::in_parts::{Held, ReportInParts};
 use crate::worker::running::run_all;
-use bfd_edge::Gate;
+use bfd_edge::{Fault, Gate, Sink};
 use bfd_engine::Engine;
 use bfd_sbfd::Reflector;
 use bfd_script::Script;
@@ -82,7 +86,7 @@ fn worked<W: Timers + Send, R: Threads + Wait + Sync, G: Gate + Sync>(
     ensures parts { IfOk result (λ r. AreParts shards 1 0 (happenings configs.items pool.items events.items)
         (map started configs.items) r.0.items) }
     ensures states { IfOk result (λ r. HaveReplayed (script_with configs.items pool.items events.items)
-        shards workers r.1.items) }
+        shards (worker_of workers) r.1.items) }
 {
     let at_once = 1 < workers;
     let room = 5 * configs.len() + 5;
@@ -126,7 +130,7 @@ fn replay_lists<W: Timers + Send, R: Threads + Wait + Sync, G: Gate + Sync>(
     ensures up { IfOk result (λ outcome. outcome.up
         ≡ (totals (script_with configs.items pool.items events.items)).ups) }
     ensures states { IfOk result (λ outcome. HaveReplayed (script_with configs.items pool.items events.items)
-        shards workers outcome.states.items) }
+        shards (worker_of workers) outcome.states.items) }
 {
     let count = events.len();
     let (parts, states) = worked(rt, alloc, configs, pool, events, shards, workers, gate)?;
@@ -168,7 +172,7 @@ fn report_lists<W: Timers + Send, R: Threads + Wait + Sync, G: Gate + Sync>(
     ensures up { IfOk result (λ r. r.0.up
         ≡ (totals (script_with configs.items pool.items events.items)).ups) }
     ensures states { IfOk result (λ r. HaveReplayed (script_with configs.items pool.items events.items)
-        shards workers r.1.value.items) }
+        shards (worker_of workers) r.1.value.items) }
 {
     let count = events.len();
     let (parts, states) = worked::<W, R, G>(
@@ -211,7 +215,7 @@ pub fn replay<W: Timers + Send, R: Threads + Wait + Sync, G: Gate + Sync>(
     ensures txs { IfOk result (λ outcome. outcome.txs ≡ (totals script).txs) }
     ensures drops { IfOk result (λ outcome. outcome.drops ≡ (totals script).drops) }
     ensures up { IfOk result (λ outcome. outcome.up ≡ (totals script).ups) }
-    ensures states { IfOk result (λ outcome. HaveReplayed script shards workers outcome.states.items) }
+    ensures states { IfOk result (λ outcome. HaveReplayed script shards (worker_of workers) outcome.states.items) }
 {
     let Script {
         configs,
@@ -240,7 +244,7 @@ pub fn reported<W: Timers + Send, R: Threads + Wait + Sync, G: Gate + Sync>(
     ensures txs { IfOk result (λ r. r.0.txs ≡ (totals script).txs) }
     ensures drops { IfOk result (λ r. r.0.drops ≡ (totals script).drops) }
     ensures up { IfOk result (λ r. r.0.up ≡ (totals script).ups) }
-    ensures states { IfOk result (λ r. HaveReplayed script shards workers r.1.value.items) }
+    ensures states { IfOk result (λ r. HaveReplayed script shards (worker_of workers) r.1.value.items) }
 {
     let Script {
         configs,
@@ -261,49 +265,112 @@ fn free<W: Timers + Send + 'static, R: Threads>(
     freeing.ok()
 }
 
-/// The same replay, whose report is written by whoever holds what this gives. With several workers it is put together here, by up to four
-/// threads in parallel; the shards with their journals are freed then, in a thread that `write_to` waits for, if one is available: they may
-/// still be there when this returns. With one worker they are gone by then, and the report is put together only when it is written. What
-/// the closed shards were stays for clauses. It fails only when out of memory, or when 2^64 packets were sent or dropped, which it reports
-/// as out of memory.
+/// Waits for the thread, if there is one.
+fn join<R: Threads>(rt: &R, thread: Option<JoinHandle<()>>) {
+    if let Some(thread) = thread {
+        thread.join(rt);
+    }
+}
+
+/// Writes the report of so many events, which is put together by up to four threads; the shards are freed meanwhile.
+fn write_at_once<W: Timers + Send + 'static, R: Threads + Sync, K: Sink>(
+    rt: &R,
+    alloc: Global,
+    parts: Vec<Part>,
+    states: Vec<ShardState<W>>,
+    events: u64,
+    sink: &mut K,
+) -> Result<(), Fault>
+    ensures whole { (shards last : ℕ) (happenings : List Happening) (sessions : List Running)
+        → length happenings ≡ events
+        → AreParts shards 1 last happenings sessions parts.items
+        → OnOk result (Appends (K.taken sink.old) (K.taken sink.new)
+        (script.report (happening_outcomes last happenings sessions))) }
+    ensures front { (shards last : ℕ) (happenings : List Happening) (sessions : List Running)
+        → length happenings ≡ events
+        → AreParts shards 1 last happenings sessions parts.items
+        → TookFront (K.taken sink.old) (K.taken sink.new)
+        (script.report (happening_outcomes last happenings sessions)) }
+    ensures cause { HasCause (K.faults sink.old) (K.faults sink.new) result }
+    ensures calm { OnOk result (K.faults sink.new ≡ K.faults sink.old) }
+{
+    let Ok(texts) = report_at_once(rt, alloc, parts, events) else {
+        return Err(Fault::Memory);
+    };
+    let freeing = free(rt, states);
+    let written = write_each(sink, texts.as_slice());
+    join(rt, freeing);
+    written
+}
+
+/// Writes the report of so many events: by several workers put together by several threads first, and by one as it is put together, once
+/// the shards are freed.
+fn write_parts<W: Timers + Send + 'static, R: Threads + Sync, K: Sink>(
+    rt: &R,
+    alloc: Global,
+    workers: u32,
+    parts: Vec<Part>,
+    states: Vec<ShardState<W>>,
+    events: u64,
+    sink: &mut K,
+) -> Result<(), Fault>
+    ensures whole { (shards last : ℕ) (happenings : List Happening) (sessions : List Running)
+        → length happenings ≡ events
+        → AreParts shards 1 last happenings sessions parts.items
+        → OnOk result (Appends (K.taken sink.old) (K.taken sink.new)
+        (script.report (happening_outcomes last happenings sessions))) }
+    ensures front { (shards last : ℕ) (happenings : List Happening) (sessions : List Running)
+        → length happenings ≡ events
+        → AreParts shards 1 last happenings sessions parts.items
+        → TookFront (K.taken sink.old) (K.taken sink.new)
+        (script.report (happening_outcomes last happenings sessions)) }
+    ensures cause { HasCause (K.faults sink.old) (K.faults sink.new) result }
+    ensures calm { OnOk result (K.faults sink.new ≡ K.faults sink.old) }
+{
+    if 1 < workers {
+        return write_at_once(rt, alloc, parts, states, events, sink);
+    }
+    drop(states);
+    report_to(alloc, parts, events, sink)
+}
+
+/// The same replay, whose report is written to the sink. With several workers it is put together by up to four threads first, and the
+/// shards with their journals are freed while it is written. With one worker they are freed first, and it is put together as it is written.
+/// It is refused as Failed where the sink failed, and as Memory when out of memory, here or in the sink, or at 2^64 packets sent or dropped;
+/// the sink took a prefix of the report then. What the closed shards were stays for clauses.
 #[tactic(auto, using(crate::proofs::Worlds::is_table))]
-pub fn reported_in_parts<W: Timers + Send + 'static, R: Threads + Wait + Sync, G: Gate + Sync>(
+pub(crate) fn replay_at_once<W: Timers + Send + 'static, R: Threads + Wait + Sync, G: Gate + Sync, K: Sink>(
     rt: &R,
     alloc: Global,
     script: Script,
     shards: u32,
     workers: u32,
     gate: &G,
-) -> Result<(ReportInParts, ClosedShards<W>), AllocError>
+    sink: &mut K,
+) -> Result<ClosedShards<W>, Fault>
     requires script { IsScript script }
     requires shards { (0 < shards) × (shards ≤ 64) }
     requires workers { (0 < workers) × (workers ≤ 64) }
-    ensures report { IfOk result (λ r. r.0 ≡ replayed script) }
-    ensures states { IfOk result (λ r. HaveReplayed script shards workers r.1.value.items) }
+    ensures whole { OnOk result (Appends (K.taken sink.old) (K.taken sink.new) (replayed script)) }
+    ensures front { TookFront (K.taken sink.old) (K.taken sink.new) (replayed script) }
+    ensures states { IfOk result (λ closed. HaveReplayed script shards (worker_of workers) closed.value.items) }
+    ensures cause { HasCause (K.faults sink.old) (K.faults sink.new) result }
+    ensures calm { OnOk result (K.faults sink.new ≡ K.faults sink.old) }
 {
-    let known = Snapshot::of(&script);
     let Script {
         configs,
         pool,
         events,
     } = script;
     let count = events.len() as u64;
-    let (parts, states) = worked::<W, R, G>(
+    let Ok((parts, states)) = worked::<W, R, G>(
         rt, alloc, configs, pool, events, shards, workers, gate,
-    )?;
-    let closed = Snapshot::of(&states);
-    let at_once = 1 < workers;
-    let held = if at_once {
-        Held::Texts(report_at_once(rt, alloc, parts, count)?, free(rt, states))
-    } else {
-        drop(states);
-        Held::Parts(parts, count)
+    ) else {
+        return Err(Fault::Memory);
     };
-    Ok((
-        ReportInParts {
-            script: known,
-            held,
-        },
-        closed,
-    ))
+    let closed = Snapshot::of(&states);
+    match write_parts(rt, alloc, workers, parts, states, count, sink) {
+        Ok(()) => Ok(closed),
+        Err(fault) => Err(fault),
+    }
 }

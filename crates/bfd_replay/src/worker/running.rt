@@ -11,7 +11,7 @@ use crate::worker::finish::all_told;
 use crate::worker::jobs::work_all;
 use crate::worker::passes::{deal_jobs, join_all};
 use bfd_edge::Gate;
-use bfd_engine::{Engine, EnginePass, Unclosed};
+use bfd_engine::{Engine, EnginePass};
 use bfd_shard::ShardState;
 use bfd_wheel::Timers;
 use std::alloc::{AllocError, Global};
@@ -43,20 +43,12 @@ pub(crate) fn run_all<W: Timers + Send, R: Threads + Wait + Sync, G: Gate + Sync
     ensures told { IfOk result (λ r. AreTold engine queues.items
         workers (map (λ parts. parts.items) r.1.items)) }
 {
+    let states = Vec::with_capacity(alloc, engine.shards() as usize)?;
     let mut first = first;
     let mut jobs = deal_jobs(alloc, &engine, &mut first, queues, workers)?;
     work_all(rt, alloc, &engine, &mut jobs, room, gate);
     let tolds = join_all(alloc, &engine, &mut first, jobs)?;
-    match engine.close(alloc, first) {
-        Ok(states) => {
-            let all = all_told(alloc, tolds)?;
-            Ok((states, all))
-        }
-        Err(
-            Unclosed {
-                engine: _engine,
-                pass: _pass,
-            },
-        ) => Err(AllocError),
-    }
+    let states = engine.close(first, states);
+    let all = all_told(alloc, tolds)?;
+    Ok((states, all))
 }

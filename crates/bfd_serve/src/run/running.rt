@@ -1,5 +1,5 @@
 //! The engine of a run, to its closing.
-ghost use Rattle.std.specs.Prelude.{◌≡◌, ◌<◌, ◌≤◌, false, IfOk, length};
+ghost use Rattle.std.specs.Prelude.{◌≡◌, ◌<◌, ◌≤◌, false, IfOk, OnErr, length};
 ghost use Rattle.std.specs.List.{All};
 ghost use Rattle.bfd_shard.specs.Shard.{IsShard};
 ghost use Rattle.bfd_engine.specs.Opening.{IsNewPass};
@@ -10,7 +10,7 @@ ghost use Rattle.bfd_serve.specs.Runs.{AreClosedShards, HaveRun, history_at, tol
 
 use crate::{End, Limits, Served, serve};
 use bfd_edge::{Gate, Link, Ticker};
-use bfd_engine::{Engine, EnginePass, Unclosed};
+use bfd_engine::{Engine, EnginePass};
 use bfd_script::line::Line;
 use bfd_shard::ShardState;
 use bfd_wheel::Timers;
@@ -35,7 +35,8 @@ pub(crate) struct Closed<W: Timers> {
     pub(crate) lost: u64,
 }
 
-/// Runs the timer and a worker over each link, and closes the engine. The links come back in every case.
+/// Runs the timer and a worker over each link, and closes the engine. The links come back in every case. Fails only when out of
+/// memory, and before any of them is called.
 pub(crate) fn run_all<
     W: Timers + Send,
     L: Link + Send + Drop,
@@ -71,7 +72,12 @@ pub(crate) fn run_all<
     ensures closed { IfOk result.1 (λ closed. AreClosedShards engine closed.states.items) }
     ensures unspent { IfOk result.1 (λ closed. All IsUnspent closed.ends.items) }
     ensures few_ends { IfOk result.1 (λ closed. length closed.ends.items ≤ 65) }
+    ensures idle { OnErr result.1 ((result.0.items ≡ links.items) × (L.told own.new ≡ L.told own.old)
+        × (T.told ticker.new ≡ T.told ticker.old)) }
 {
+    let Ok(states) = Vec::with_capacity(alloc, engine.shards() as usize) else {
+        return (links, Err(AllocError));
+    };
     let mut first = first;
     match serve(
         rt, alloc, &engine, &mut first, own, links, ticker, gate, orders, limits,
@@ -79,18 +85,9 @@ pub(crate) fn run_all<
         Err(links) => (links, Err(AllocError)),
         Ok(served) => {
             let Served { links, ends, lost } = served;
-            match engine.close(alloc, first) {
-                Ok(states) => {
-                    keep(&states);
-                    (links, Ok(Closed { states, ends, lost }))
-                }
-                Err(
-                    Unclosed {
-                        engine: _engine,
-                        pass: _pass,
-                    },
-                ) => (links, Err(AllocError)),
-            }
+            let states = engine.close(first, states);
+            keep(&states);
+            (links, Ok(Closed { states, ends, lost }))
         }
     }
 }

@@ -6,7 +6,7 @@ ghost use Rattle.bfd_thread_tests.specs.Joining.{HasOpen, HasAdded, HasJoined, H
 ghost use Rattle.bfd_thread_tests.specs.Ready.{IsJobReady, number_of};
 
 use crate::embedding::threads::{Call, Job, Saw};
-use bfd_engine::{Engine, EnginePass, Unclosed};
+use bfd_engine::{Engine, EnginePass};
 use bfd_shard::ShardState;
 use bfd_wheel::Timers;
 use std::alloc::{AllocError, Global};
@@ -78,15 +78,8 @@ pub fn finish<W: Timers>(
     ensures shards { IfOk result (λ r. HasClosed engine first jobs.items r.0.items) }
     ensures saw { IfOk result (λ r. map (λ saw. saw.items) r.1.items ≡ map (λ (j : _). j.saw.items) jobs.items) }
 {
+    let shards = Vec::with_capacity(alloc, engine.shards() as usize)?;
     let mut first = first;
     let list = join_all(alloc, &engine, &mut first, jobs)?;
-    match engine.close(alloc, first) {
-        Ok(shards) => Ok((shards, list)),
-        Err(
-            Unclosed {
-                engine: _engine,
-                pass: _pass,
-            },
-        ) => Err(AllocError),
-    }
+    Ok((engine.close(first, shards), list))
 }

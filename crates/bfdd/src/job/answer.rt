@@ -3,11 +3,11 @@ ghost use Rattle.std.specs.Prelude.{◌≡◌, ◌≢◌, [], true, false};
 ghost use Rattle.bfd_instance.specs.World.{replayed};
 ghost use Rattle.bfd_script.specs.Sound.{IsScript};
 ghost use Rattle.bfdd.specs.Held.{held_text};
+ghost use Rattle.bfdd.specs.Ranges.{AreHands};
 ghost use Rattle.bfdd.specs.Text.{bare, done_with, ends};
 
 use crate::job::status::Status;
-use crate::words::Form;
-use bfd_replay::worker::ReportInParts;
+use crate::words::Hands;
 use bfd_script::Script;
 use std::alloc::Global;
 use std::marker::Model;
@@ -18,11 +18,8 @@ pub enum Text {
     /// These bytes.
     Whole(Vec<u8>),
 
-    /// The report of a replay that is made while it is written: the script, and which timers its shard keeps.
-    Report(Script, Form),
-
-    /// The report of a replay that was made on shards: texts, or parts that are put together while they are written.
-    InParts(ReportInParts),
+    /// The report of a replay that is made while it is written: of this script, on these hands.
+    Report(Script, Hands),
 }
 
 impl Text {
@@ -35,7 +32,6 @@ impl Text {
         match self {
             Text::Whole(bytes) => bytes.is_empty(),
             Text::Report(..) => false,
-            Text::InParts(report) => report.is_empty(),
         }
     }
 }
@@ -53,11 +49,11 @@ impl Model for Answer {
 
     ghost Value = { Wanted };
 
-    ghost use Rattle.bfdd.specs.Held.{HasScript, held_text};
+    ghost use Rattle.bfdd.specs.Held.{CanBeMade, held_text};
 
     ghost view = { λ a. ends a.status (held_text a.text) };
 
-    ghost invariant = { λ a. HasScript a.text };
+    ghost invariant = { λ a. CanBeMade a.text };
 }
 
 impl Answer {
@@ -85,24 +81,15 @@ impl Answer {
         Answer::whole(status, Vec::new(alloc))
     }
 
-    /// The report of this script, by a shard with timers of this form. It isn't made yet.
-    pub(crate) fn report(script: Script, timers: Form) -> Answer
-        requires { IsScript script }
+    /// The report of this script, by a replay on these hands. It isn't made yet.
+    pub(crate) fn report(script: Script, hands: Hands) -> Answer
+        requires script { IsScript script }
+        requires hands { AreHands hands }
         ensures { result ≡ done_with (replayed script) }
     {
         Answer {
             status: Status::Done,
-            text: Text::Report(script, timers),
-        }
-    }
-
-    /// This report.
-    pub(crate) fn in_parts(report: ReportInParts) -> Answer
-        ensures { result ≡ done_with report }
-    {
-        Answer {
-            status: Status::Done,
-            text: Text::InParts(report),
+            text: Text::Report(script, hands),
         }
     }
 }

@@ -13,7 +13,7 @@ ghost use Rattle.bfdd.specs.Text.{answer_to, complaint_line, ends, load_line, ov
 ghost use Rattle.bfdd.specs.Words.{serves};
 
 use crate::job::answer::Answer;
-use crate::job::replaying::{replay_by, replay_in_parts};
+use crate::job::replaying::replay_by;
 use crate::job::status::Status;
 use crate::watched_text::{first_unknown, watched};
 use crate::words::{Hands, Job};
@@ -61,40 +61,14 @@ fn script_in(alloc: Global, bytes: Vec<u8>) -> Result<Script, ScriptFault>
     script
 }
 
-/// `replay` of a script. On one shard by one worker there is nothing to deal out, and its report can be made while it is written; on
-/// more shards it is put together then by one worker, and before by several.
-fn replay_script<R: Threads + Wait + Sync, G: Gate + Sync>(
-    rt: &R,
-    alloc: Global,
-    hands: Hands,
-    script: Script,
-    gate: &G,
-) -> Result<Answer, AllocError>
-    requires script { IsScript script }
-    requires hands { AreHands hands }
-    ensures { IfOk result (λ answer. answer ≡ done_with (replayed script)) }
-{
-    if hands.shards == 1 && hands.workers == 1 {
-        return Ok(Answer::report(script, hands.timers));
-    }
-    let (report, _closed) = replay_in_parts(rt, alloc, script, hands, gate)?;
-    Ok(Answer::in_parts(report))
-}
-
-/// `replay` of these bytes.
-fn replay_answer<R: Threads + Wait + Sync, G: Gate + Sync>(
-    rt: &R,
-    alloc: Global,
-    hands: Hands,
-    bytes: Vec<u8>,
-    gate: &G,
-) -> Result<Answer, AllocError>
+/// `replay` of these bytes, whose report is made while it is written.
+fn replay_answer(alloc: Global, hands: Hands, bytes: Vec<u8>) -> Result<Answer, AllocError>
     requires { AreHands hands }
     ensures { IfOk result (λ answer. answer
         ≡ over (λ script. done_with (replayed script)) (script_of false bytes.items)) }
 {
     match script_in(alloc, bytes) {
-        Ok(script) => replay_script(rt, alloc, hands, script, gate),
+        Ok(script) => Ok(Answer::report(script, hands)),
         Err(ScriptFault::Bad(bad)) => complain(alloc, bad),
         Err(ScriptFault::Memory) => Err(AllocError),
     }
@@ -207,7 +181,7 @@ pub(crate) fn answer_to<R: Threads + Wait + Sync, G: Gate + Sync>(
     ensures sound { IfOk result IsAnswer }
 {
     match job {
-        Job::Replay(hands) => replay_answer(rt, alloc, *hands, bytes, gate),
+        Job::Replay(hands) => replay_answer(alloc, *hands, bytes),
         Job::Watch {
             need,
             members,

@@ -1,14 +1,18 @@
 // A replay on the hands that a job asks for.
-ghost use Rattle.std.specs.Prelude.{◌≡◌, IfOk};
+ghost use Rattle.std.specs.Prelude.{◌≡◌, IfOk, OnOk};
+ghost use Rattle.std.specs.Io.KnownBytes.{Appends};
+ghost use Rattle.bfd_edge.specs.Faults.{HasCause};
+ghost use Rattle.bfd_replay.specs.Written.{TookFront};
 ghost use Rattle.bfd_instance.specs.World.{replayed, totals};
 ghost use Rattle.bfd_script.specs.Sound.{IsScript};
 ghost use Rattle.bfdd.specs.Ranges.{AreHands};
-ghost use Rattle.bfdd.specs.Hands.{IsDoneBy};
+ghost use Rattle.bfdd.specs.Hands.{IsDoneBy, IsWrittenBy};
 
 use crate::words::{Form, Hands};
-use bfd_edge::Gate;
+use bfd_edge::{Fault, Gate, Sink};
 use bfd_levels::Levels;
-use bfd_replay::worker::{ClosedShards, Report, ReportInParts, reported, reported_in_parts};
+use bfd_replay::replay_to;
+use bfd_replay::worker::{ClosedShards, Report, reported};
 use bfd_script::Script;
 use bfd_wheel::HashedWheel;
 use std::alloc::{AllocError, Global};
@@ -60,19 +64,23 @@ pub(crate) fn replay_by<R: Threads + Wait + Sync, G: Gate + Sync>(
     }
 }
 
-/// The same replay, whose report is put together by several threads, or with one worker only when it is written. It fails only when out
-/// of memory.
-pub(crate) fn replay_in_parts<R: Threads + Wait + Sync, G: Gate + Sync>(
+/// The same replay, whose report is written to the sink. It fails as Failed where the sink failed, and as Memory when out of memory, here or
+/// in the sink; the sink took a prefix of the report then.
+pub(crate) fn write_replay<R: Threads + Wait + Sync, G: Gate + Sync, K: Sink>(
     rt: &R,
     alloc: Global,
     script: Script,
     hands: Hands,
     gate: &G,
-) -> Result<(ReportInParts, ShardsOf), AllocError>
+    sink: &mut K,
+) -> Result<ShardsOf, Fault>
     requires script { IsScript script }
     requires hands { AreHands hands }
-    ensures report { IfOk result (λ r. r.0 ≡ replayed script) }
-    ensures hands { IfOk result (λ r. IsDoneBy hands script r.1) }
+    ensures whole { OnOk result (Appends (K.taken sink.old) (K.taken sink.new) (replayed script)) }
+    ensures front { TookFront (K.taken sink.old) (K.taken sink.new) (replayed script) }
+    ensures hands { IfOk result (IsWrittenBy hands script) }
+    ensures cause { HasCause (K.faults sink.old) (K.faults sink.new) result }
+    ensures calm { OnOk result (K.faults sink.new ≡ K.faults sink.old) }
 {
     let Hands {
         shards,
@@ -80,17 +88,13 @@ pub(crate) fn replay_in_parts<R: Threads + Wait + Sync, G: Gate + Sync>(
         timers,
     } = hands;
     match timers {
-        Form::Hashed => {
-            let (report, closed) = reported_in_parts::<HashedWheel, R, G>(
-                rt, alloc, script, shards, workers, gate,
-            )?;
-            Ok((report, ShardsOf::Hashed(closed)))
-        }
-        Form::Levels => {
-            let (report, closed) = reported_in_parts::<Levels, R, G>(
-                rt, alloc, script, shards, workers, gate,
-            )?;
-            Ok((report, ShardsOf::Levels(closed)))
-        }
+        Form::Hashed => match replay_to(rt, alloc, script, shards, workers, gate, sink) {
+            Ok(closed) => Ok(ShardsOf::Hashed(closed)),
+            Err(fault) => Err(fault),
+        },
+        Form::Levels => match replay_to(rt, alloc, script, shards, workers, gate, sink) {
+            Ok(closed) => Ok(ShardsOf::Levels(closed)),
+            Err(fault) => Err(fault),
+        },
     }
 }

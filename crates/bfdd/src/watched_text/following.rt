@@ -7,7 +7,8 @@ ghost use Rattle.bfd_engine.specs.Calls.{seen_at};
 ghost use Rattle.bfd_engine.specs.Reads.{AreGiven, HasRead};
 ghost use Rattle.bfd_turn.specs.Lists.{Begins};
 ghost use Rattle.bfd_watch.specs.Watching.{Watching as WatchingIn, watching};
-ghost use Rattle.bfdd.specs.Following.{AreBehind, AreWatched, HasKept, IsLeft, IsUntaken, Went, merged_of, news, told_after};
+ghost use Rattle.bfd_replay.specs.Turning.{HasKept, Went};
+ghost use Rattle.bfdd.specs.Following.{AreBehind, AreWatched, IsLeft, IsUntaken, merged_of, news, told_after};
 
 use crate::watched_text::merging::{merge, renumbered};
 use bfd_engine::{Engine, EngineFault, EnginePass};

@@ -9,19 +9,19 @@ ghost use Rattle.bfd_engine.specs.Opening.{IsNewPass};
 ghost use Rattle.bfd_replay.specs.Happenings.{happening_outcomes};
 ghost use Rattle.bfd_replay.specs.Planned.{happenings};
 ghost use Rattle.bfd_watch.specs.Watched as watch;
-ghost use Rattle.bfdd.specs.Following.{AllSole, AreWatched, HasKept, IsOpenedFor, IsCutShort};
+ghost use Rattle.bfd_replay.specs.Turning.{AllSole, HasKept, IsCutShort};
+ghost use Rattle.bfdd.specs.Following.{AreWatched};
 ghost use Rattle.bfdd.specs.Members.{watched_of};
 
 use crate::watched_text::following::{poll_all, watches};
 use crate::watched_text::members::group;
-use crate::watched_text::turning::happen;
-use bfd_engine::{Engine, EngineFault, EnginePass, OpenFault, Unclosed};
+use bfd_edge::OpenGate;
+use bfd_engine::{Engine, EngineFault, EnginePass};
 use bfd_num::Steps;
+use bfd_replay::stream::{happen, opened};
 use bfd_rules::Outs;
-use bfd_sbfd::Reflector;
 use bfd_script::Script;
 use bfd_script::line::Line;
-use bfd_session::SessionConfig;
 use bfd_watch::{LinkGroup, Watch};
 use bfd_wheel::{HashedWheel, Timers};
 use std::alloc::{AllocError, Global};
@@ -66,8 +66,8 @@ fn tell<W: Timers, R: Wait, L: Ledger>(
     let mut number = 1u64;
     let mut told = 0u64;
     for line in events {
-        match happen(rt, engine, pass, line, &mut outs, &mut steps) {
-            Ok(()) => {}
+        match happen(rt, engine, pass, number, line, &mut outs, &mut steps, &OpenGate) {
+            Ok(_) => {}
             Err(fault) => return Err(fault),
         }
         let changes = match poll_all(rt, alloc, engine, pass, &mut watches, number) {
@@ -85,27 +85,6 @@ fn tell<W: Timers, R: Wait, L: Ledger>(
         return Err(EngineFault::Memory);
     };
     Ok(text)
-}
-
-/// An engine of a script's sessions and reflectors, whose shards' journals have room for all its events.
-#[tactic(auto, using(crate::proofs::Opening::no_fault, crate::proofs::Opening::sorted))]
-fn opened<W: Timers>(
-    alloc: Global,
-    configs: Vec<SessionConfig>,
-    pool: Vec<Reflector>,
-    events: &[Line],
-    shards: u32,
-) -> Result<(Engine<W>, EnginePass), AllocError>
-    requires shards { (0 < shards) × (shards ≤ 64) }
-    requires script { IsScript (record { configs = configs.items; pool = pool.items; events = events.now }) }
-    ensures engine { IfOk result (λ r. IsOpenedFor r.0 configs.items pool.items shards (length events.now)) }
-    ensures pass { IfOk result (λ r. IsNewPass r.0 r.1) }
-{
-    match Engine::open(alloc, configs, pool, shards, events.len()) {
-        Ok(opened) => Ok(opened),
-        Err(OpenFault::Memory) => Err(AllocError),
-        Err(OpenFault::Build(_)) => unreachable!(),
-    }
 }
 
 /// The text, or that memory ran out.
@@ -143,6 +122,7 @@ pub fn watched<R: Wait>(
     let group = group(alloc, need, members, &configs)?;
     let watches = watches::<HashedWheel>(alloc, &configs, shards, events.len())?;
     let outs = Outs::make(alloc, 5 * configs.len() + 5)?;
+    let states = Vec::with_capacity(alloc, shards as usize)?;
     let (engine, mut pass) = opened(alloc, configs, pool, &events, shards)?;
     let told = tell::<HashedWheel, R, Brand>(
         rt,
@@ -155,13 +135,6 @@ pub fn watched<R: Wait>(
         outs,
         Blank::new(1),
     );
-    match engine.close(alloc, pass) {
-        Ok(_states) => text_of(told),
-        Err(
-            Unclosed {
-                engine: _engine,
-                pass: _pass,
-            },
-        ) => Err(AllocError),
-    }
+    let _states = engine.close(pass, states);
+    text_of(told)
 }

@@ -8,11 +8,11 @@ loop-lock-init g c = record {
   can = tt;
   ends = tt;
   all = search rules;
-  long = ap length c.in-Ok.ensures.items;
-  room = search rules;
+  long = ap length c.requires.none;
+  room = c.requires.room;
   number = refl;
-  left = left_whole (length c.in-Ok.shards.items) c.args.pass.1;
-  ended = none_ended c.args.self c.args.pass c.in-Ok.ensures.items;
+  left = left_whole (length c.args.shards.items) c.args.pass.1;
+  ended = none_ended c.args.self c.args.pass c.requires.none;
 }
 
 pub lift-own-requires : goal.lift-own-requires
@@ -20,7 +20,7 @@ lift-own-requires g c =
     let i = c.loop-lock.invariant in
     let n = next_pass c.args.self c.loop-lock.yielded c.next.new.self.rest.items c.in-Some.lock c.args.pass.1 c.loop-lock.pass.1 (length c.loop-lock.shards.items)
     (cc (c.in-Some.ensures.steps.0)) i.long c.requires.of c.requires.there i.left in
-    (n.pass, cc (c.len-in-loop-lock.ensures, c.loop-lock.shards.ok.0))
+    (n.pass, cc (c.len.ensures, c.loop-lock.shards.ok.0))
 
 pub close-shard-requires-clause-pass : goal.close-shard-requires-clause-pass
 close-shard-requires-clause-pass g c =
@@ -28,7 +28,7 @@ close-shard-requires-clause-pass g c =
     let n = next_pass c.args.self c.loop-lock.yielded c.next.new.self.rest.items c.in-Some.lock c.args.pass.1 c.loop-lock.pass.1 (length c.loop-lock.shards.items)
     (cc (c.in-Some.ensures.steps.0)) i.long c.requires.of c.requires.there i.left in (
       (lifted c.args.self c.args.pass.1 c.loop-lock.pass.1 c.in-Some.lock (length c.loop-lock.shards.items) c.lift-own.result n
-          (cc (c.len-in-loop-lock.ensures, c.loop-lock.shards.ok.0))).2,
+          (cc (c.len.ensures, c.loop-lock.shards.ok.0))).2,
       cc,
     )
 
@@ -38,12 +38,12 @@ close-shard-requires-clause-joined g c =
     let n = next_pass c.args.self c.loop-lock.yielded c.next.new.self.rest.items c.in-Some.lock c.args.pass.1 c.loop-lock.pass.1 (length c.loop-lock.shards.items)
     (cc (c.in-Some.ensures.steps.0)) i.long c.requires.of c.requires.there i.left in
     joined_here c.args.self c.args.pass (length c.loop-lock.shards.items) c.lift-own.result (lifted c.args.self c.args.pass.1 c.loop-lock.pass.1 c.in-Some.lock (length c.loop-lock.shards.items) c.lift-own.result n
-    (cc (c.len-in-loop-lock.ensures, c.loop-lock.shards.ok.0))).1 n.within_is c.requires.joined
+    (cc (c.len.ensures, c.loop-lock.shards.ok.0))).1 n.within_is c.requires.joined
 
 pub loop-lock-preserved : goal.loop-lock-preserved
 loop-lock-preserved g c =
     let i = c.loop-lock.invariant in
-    let len : c.len-in-loop-lock.result ≡ length c.loop-lock.shards.items = cc in
+    let len : c.len.result ≡ length c.loop-lock.shards.items = cc in
     let n = next_pass c.args.self c.loop-lock.yielded c.next.new.self.rest.items c.in-Some.lock c.args.pass.1 c.loop-lock.pass.1 (length c.loop-lock.shards.items)
     (cc (c.in-Some.ensures.steps.0)) i.long c.requires.of c.requires.there i.left in
     let own = lifted c.args.self c.args.pass.1 c.loop-lock.pass.1 c.in-Some.lock (length c.loop-lock.shards.items) c.lift-own.result n (cc) in
@@ -61,9 +61,11 @@ loop-lock-preserved g c =
           refl more i.ended;
     }
 
-pub returns-clause-closed : goal.returns-clause-closed
-returns-clause-closed g c =
+pub returns : goal.returns
+returns g c =
     let i = c.loop-lock.invariant in record {
-      long = i.long ∙ none_left c.loop-lock.yielded c.loop-lock.lock-iterator.rest.items i.all (sym c.loop-lock.lock-iterator.rest.ok.0 ∙ c.in-None.ensures.steps.0);
-      each = i.ended.each;
+      closed = record {
+        long = i.long ∙ none_left c.loop-lock.yielded c.loop-lock.lock-iterator.rest.items i.all (sym c.loop-lock.lock-iterator.rest.ok.0 ∙ c.in-None.ensures.steps.0);
+        each = i.ended.each;
+      };
     }

@@ -1,20 +1,43 @@
--- What the events give is what the script's lines give.
-use Rattle.bfd_replay.proofs.StreamCommon.{◌≡◌, List, map, SessionConfig, report, Happening, happening_outcomes, happenings, script_with, took_nothing, when_ok, Reflector, Line, started}
-use Rattle.bfd_script.specs.Reading.{Lists}
+-- What the lines give is the script's report.
+use Rattle.bfd_replay.proofs.StreamCommon.{◌≡◌, subst, script_with, took_nothing}
+use Rattle.std.proofs.Common.{rules}
+use Rattle.std.specs.Io.KnownBytes.{Appends}
 use Rattle.bfd_instance.specs.World.{replayed}
-use Rattle.bfd_replay.proofs.Worlds.{world_is}
+use Rattle.bfd_replay.specs.Written.{TookFront}
+use Rattle.bfd_replay.proofs.Gathered.{room_enough}
+use Rattle.bfd_replay.proofs.Reporting.{calm_cause, cause_as, report_on, replayed_on}
 use Rattle.bfd_replay.proofs.stream.reporting.report_to.Goals as goal
 
-report_is : (configs : List SessionConfig) (pool : List Reflector) (lines : List Line) {hs : List Happening} {script : Lists} → hs ≡ happenings configs pool lines → script_with configs pool lines ≡ script
-    → report (happening_outcomes 0 hs (map started configs)) ≡ replayed script
-report_is configs pool lines are whole = cc (world_is (script_with configs pool lines))
+pub returns-in_default-clause-front : goal.returns-in_default-clause-front
+returns-in_default-clause-front g c = took_nothing (g.K.Sink.taken c.args.sink.now) (replayed c.args.script)
 
-pub returns-in-Ok-clause-whole : goal.returns-in-Ok-clause-whole
-returns-in-Ok-clause-whole g c = when_ok c.tell_all.result (λ now. rw (← report_is c.script.inside.configs.items c.script.inside.pool.items c.script.inside.events.items c.in-Ok.ensures.routes c.script.view_is) now)
-    c.tell_all.ensures.whole
+pub returns-in_default-with_capacity-clause-front : goal.returns-in_default-with_capacity-clause-front
+returns-in_default-with_capacity-clause-front g c = took_nothing (g.K.Sink.taken c.args.sink.now) (replayed c.args.script)
 
-pub returns-in-Ok-clause-front : goal.returns-in-Ok-clause-front
-returns-in-Ok-clause-front g c = rw (← report_is c.script.inside.configs.items c.script.inside.pool.items c.script.inside.events.items c.in-Ok.ensures.routes c.script.view_is) c.tell_all.ensures.front
+pub returns-in_default-opened-clause-front : goal.returns-in_default-opened-clause-front
+returns-in_default-opened-clause-front g c = took_nothing (g.K.Sink.taken c.args.sink.now) (replayed c.args.script)
+
+pub tell_all-requires-clause-room : goal.tell_all-requires-clause-room
+tell_all-requires-clause-room g c = λ shard. room_enough c.in-Ok-opened.engine shard c.in-Ok-opened.ensures.engine.configs_are (search rules)
+
+pub returns-in-Ok-tell_all-clause-whole : goal.returns-in-Ok-tell_all-clause-whole
+returns-in-Ok-tell_all-clause-whole g c =
+    subst (λ t. Appends (g.K.Sink.taken c.args.sink.now) (g.K.Sink.taken c.tell_all.new.sink) t)
+    (report_on (script_with c.script.inside.configs.items c.script.inside.pool.items c.script.inside.events.items) c.in-Ok-opened.ensures.engine c.script.view_is) c.in-Ok-tell_all.ensures.whole
+
+pub returns-in-Ok-tell_all-clause-states : goal.returns-in-Ok-tell_all-clause-states
+returns-in-Ok-tell_all-clause-states g c =
+    rw c.of.ensures (replayed_on (script_with c.script.inside.configs.items c.script.inside.pool.items c.script.inside.events.items) c.in-Ok-opened.ensures.engine c.script.view_is c.in-Ok-tell_all.ensures.states)
+
+pub returns-in-Ok-tell_all-clause-front : goal.returns-in-Ok-tell_all-clause-front
+returns-in-Ok-tell_all-clause-front g c =
+    subst (λ t. TookFront (g.K.Sink.taken c.args.sink.now) (g.K.Sink.taken c.tell_all.new.sink) t)
+    (report_on (script_with c.script.inside.configs.items c.script.inside.pool.items c.script.inside.events.items) c.in-Ok-opened.ensures.engine c.script.view_is) c.tell_all.ensures.front
+
+pub returns-in-Ok-tell_all-clause-cause : goal.returns-in-Ok-tell_all-clause-cause
+returns-in-Ok-tell_all-clause-cause g c = calm_cause _ _ _ c.in-Ok-tell_all.ensures.calm
 
 pub returns-in-Err-clause-front : goal.returns-in-Err-clause-front
-returns-in-Err-clause-front g c = took_nothing (g.K.Sink.taken c.args.sink.now) (replayed c.args.script)
+returns-in-Err-clause-front g c =
+    subst (λ t. TookFront (g.K.Sink.taken c.args.sink.now) (g.K.Sink.taken c.tell_all.new.sink) t)
+    (report_on (script_with c.script.inside.configs.items c.script.inside.pool.items c.script.inside.events.items) c.in-Ok-opened.ensures.engine c.script.view_is) c.tell_all.ensures.front

@@ -1,39 +1,54 @@
--- The lines and the last line are the report.
-use Rattle.bfd_replay.proofs.StreamCommon.{◌≡◌, ℕ, List, map, ap, ◌∙◌, Running, configs_of, report, Happening, happening_outcomes, route_is, took_nothing, when_ok, started}
-use Rattle.bfd_session.proofs.Starting.{started_configs}
+-- The lines and the last line are the report, once the closed engine shows that nobody else took a turn.
+use Rattle.bfd_replay.proofs.StreamCommon.{◌≡◌, ◌∙◌, ap, arith, happenings, Telling}
+use Rattle.bfd_replay.specs.Telling.{outcomes_on}
 use Rattle.bfd_replay.proofs.Events.{lines_front, report_front, report_whole}
+use Rattle.bfd_replay.proofs.OneCaller.{all_sole, none_open}
+use Rattle.bfd_replay.proofs.Reporting.{calm_cause, cause_as, closed_after, meant, stop_cause}
 use Rattle.bfd_replay.proofs.stream.reporting.tell_all.Goals as goal
 
-pub returns-in_default-clause-front : goal.returns-in_default-clause-front
-returns-in_default-clause-front g c = took_nothing (g.K.Sink.taken c.args.sink.now) (report (happening_outcomes 0 (map route_is c.args.routes.items) (map started c.args.configs.items)))
+pub close-states-requires-clause-first : goal.close-states-requires-clause-first
+close-states-requires-clause-first g c = c.tell_lines-end.ensures.kept.number ∙ c.requires.new.number
 
-pub returns-in_default-make-clause-front : goal.returns-in_default-make-clause-front
-returns-in_default-make-clause-front g c = took_nothing (g.K.Sink.taken c.args.sink.now) (report (happening_outcomes 0 (map route_is c.args.routes.items) (map started c.args.configs.items)))
+pub close-states-requires-clause-joined : goal.close-states-requires-clause-joined
+close-states-requires-clause-joined g c = none_open c.requires.new c.tell_lines-end.ensures.kept
 
-pub tell_events-requires-clause-met : goal.tell_events-requires-clause-met
-tell_events-requires-clause-met g c = rw (ap configs_of c.in-Ok-make.ensures.sessions ∙ started_configs c.args.configs.items) c.requires.met
+pub fault_of-requires : goal.fault_of-requires
+fault_of-requires g c = meant c.in-Err.stop c.requires.new c.tell_lines-end.ensures.kept (omega (arith, c.requires.few)) c.close-states.ensures.closed c.in-Err.ensures.stopped
 
--- what the events give of the shard at its start
-starts : (hs : List Happening) {last : ℕ} {sessions made : List Running} → last ≡ 0 → sessions ≡ made → report (happening_outcomes last hs sessions) ≡ report (happening_outcomes 0 hs made)
-starts hs zero same = cc
+pub returns-in-Ok-close-clause-whole : goal.returns-in-Ok-close-clause-whole
+returns-in-Ok-close-clause-whole g c =
+    let sole = all_sole c.requires.new c.tell_lines-end.ensures.kept c.close-states.ensures.closed 0 (omega (arith, c.requires.one)) in
+    report_whole (g.K.Sink.taken c.args.sink.now) (g.K.Sink.taken c.tell_lines-end.new.sink) (g.K.Sink.taken c.close.new.sink) c.new-told.result c.tell_lines-end.new.told
+    (outcomes_on c.args.engine (happenings c.args.engine.configs c.args.engine.pool c.args.events.items)) (ap (λ (t : Telling). t.text) c.new-told.ensures) (ap (λ (t : Telling). t.events) c.new-told.ensures) (ap (λ (t : Telling). t.txs) c.new-told.ensures) (ap (λ (t : Telling). t.drops) c.new-told.ensures) (c.in-Ok.ensures.told sole) c.in-Ok-close.ensures.whole
 
-pub returns-in-Ok-tell_events-clause-whole : goal.returns-in-Ok-tell_events-clause-whole
-returns-in-Ok-tell_events-clause-whole g c =
-    let hs : List Happening = map route_is c.args.routes.items in
-    let new = c.new-told.ensures in
-    when_ok c.close.result (λ now. rw (← starts hs c.in-Ok-make.ensures.last c.in-Ok-make.ensures.sessions) (report_whole (g.K.Sink.taken c.args.sink.now) (g.K.Sink.taken c.tell_events.new.sink) (g.K.Sink.taken c.close.new.sink) c.new-told.result c.tell_events.new.told (happening_outcomes c.in-Ok-make.shard.last hs c.in-Ok-make.shard.sessions)
-    (cc) (cc) (cc) (cc) c.in-Ok-tell_events.ensures.told now)) c.close.ensures.whole
+pub returns-in-Ok-close-clause-states : goal.returns-in-Ok-close-clause-states
+returns-in-Ok-close-clause-states g c =
+    closed_after (happenings c.args.engine.configs c.args.engine.pool c.args.events.items) c.requires.one c.requires.new c.tell_lines-end.ensures.kept c.close-states.ensures.closed c.in-Ok.ensures.brought
 
-pub returns-in-Ok-tell_events-clause-front : goal.returns-in-Ok-tell_events-clause-front
-returns-in-Ok-tell_events-clause-front g c =
-    let hs : List Happening = map route_is c.args.routes.items in
-    let new = c.new-told.ensures in
-    rw (← starts hs c.in-Ok-make.ensures.last c.in-Ok-make.ensures.sessions) (report_front (g.K.Sink.taken c.args.sink.now) (g.K.Sink.taken c.tell_events.new.sink) (g.K.Sink.taken c.close.new.sink) c.new-told.result c.tell_events.new.told (happening_outcomes c.in-Ok-make.shard.last hs c.in-Ok-make.shard.sessions)
-    (cc) (cc) (cc) (cc) c.in-Ok-tell_events.ensures.told c.close.ensures.front)
+pub returns-in-Ok-close-clause-front : goal.returns-in-Ok-close-clause-front
+returns-in-Ok-close-clause-front g c =
+    let sole = all_sole c.requires.new c.tell_lines-end.ensures.kept c.close-states.ensures.closed 0 (omega (arith, c.requires.one)) in
+    report_front (g.K.Sink.taken c.args.sink.now) (g.K.Sink.taken c.tell_lines-end.new.sink) (g.K.Sink.taken c.close.new.sink) c.new-told.result c.tell_lines-end.new.told
+    (outcomes_on c.args.engine (happenings c.args.engine.configs c.args.engine.pool c.args.events.items)) (ap (λ (t : Telling). t.text) c.new-told.ensures) (ap (λ (t : Telling). t.events) c.new-told.ensures) (ap (λ (t : Telling). t.txs) c.new-told.ensures) (ap (λ (t : Telling). t.drops) c.new-told.ensures) (c.in-Ok.ensures.told sole) c.close.ensures.front
 
-pub returns-clause-front : goal.returns-clause-front
-returns-clause-front g c =
-    let hs : List Happening = map route_is c.args.routes.items in
-    let new = c.new-told.ensures in
-    rw (← starts hs c.in-Ok-make.ensures.last c.in-Ok-make.ensures.sessions) (lines_front (g.K.Sink.taken c.args.sink.now) (g.K.Sink.taken c.tell_events.new.sink) (g.K.Sink.taken c.tell_events.new.sink) c.new-told.result c.tell_events.new.told (happening_outcomes c.in-Ok-make.shard.last hs c.in-Ok-make.shard.sessions)
-    (cc) (cc) (cc) (cc) c.tell_events.ensures.front)
+pub returns-in-Ok-close-clause-cause : goal.returns-in-Ok-close-clause-cause
+returns-in-Ok-close-clause-cause g c = calm_cause _ _ _ (c.in-Ok-close.ensures.calm ∙ c.in-Ok.ensures.calm)
+
+pub returns-in-Err-close-clause-front : goal.returns-in-Err-close-clause-front
+returns-in-Err-close-clause-front g c =
+    let sole = all_sole c.requires.new c.tell_lines-end.ensures.kept c.close-states.ensures.closed 0 (omega (arith, c.requires.one)) in
+    report_front (g.K.Sink.taken c.args.sink.now) (g.K.Sink.taken c.tell_lines-end.new.sink) (g.K.Sink.taken c.close.new.sink) c.new-told.result c.tell_lines-end.new.told
+    (outcomes_on c.args.engine (happenings c.args.engine.configs c.args.engine.pool c.args.events.items)) (ap (λ (t : Telling). t.text) c.new-told.ensures) (ap (λ (t : Telling). t.events) c.new-told.ensures) (ap (λ (t : Telling). t.txs) c.new-told.ensures) (ap (λ (t : Telling). t.drops) c.new-told.ensures) (c.in-Ok.ensures.told sole) c.close.ensures.front
+
+pub returns-in-Err-close-clause-cause : goal.returns-in-Err-close-clause-cause
+returns-in-Err-close-clause-cause g c = cause_as c.in-Err-close.fault _ _ _ c.in-Ok.ensures.calm c.in-Err-close.ensures.cause
+
+pub returns-in-Err-clause-front : goal.returns-in-Err-clause-front
+returns-in-Err-clause-front g c =
+    let sole = all_sole c.requires.new c.tell_lines-end.ensures.kept c.close-states.ensures.closed 0 (omega (arith, c.requires.one)) in
+    lines_front (g.K.Sink.taken c.args.sink.now) (g.K.Sink.taken c.tell_lines-end.new.sink) (g.K.Sink.taken c.tell_lines-end.new.sink) c.new-told.result c.tell_lines-end.new.told
+    (outcomes_on c.args.engine (happenings c.args.engine.configs c.args.engine.pool c.args.events.items)) (ap (λ (t : Telling). t.text) c.new-told.ensures) (ap (λ (t : Telling). t.events) c.new-told.ensures) (ap (λ (t : Telling). t.txs) c.new-told.ensures) (ap (λ (t : Telling). t.drops) c.new-told.ensures) (c.tell_lines-end.ensures.front sole)
+
+pub returns-in-Err-clause-cause : goal.returns-in-Err-clause-cause
+returns-in-Err-clause-cause g c = rw c.fault_of.ensures (stop_cause _ _ c.in-Err.stop c.in-Err.ensures.cause
+    (meant c.in-Err.stop c.requires.new c.tell_lines-end.ensures.kept (omega (arith, c.requires.few)) c.close-states.ensures.closed c.in-Err.ensures.stopped))

@@ -23,4 +23,4 @@ returns-clause-drops g c =
     ∙ ap (sum_by dropped) (world_is (script_with c.args.configs.items c.args.pool.items c.args.events.items))
 
 pub returns-clause-up : goal.returns-clause-up
-returns-clause-up g c = ups_are _ none c.requires.shards.0 c.in_ok-parts.ensures.states c.up_all-up.ensures.kept (c.up_all-up.ensures.value none)
+returns-clause-up g c = ups_are _ c.args.workers none c.requires.shards.0 c.in_ok-parts.ensures.states c.up_all-up.ensures.kept (c.up_all-up.ensures.value none)

@@ -13,21 +13,21 @@ join_all-requires-clause-others g c =
     λ i w e. joining (λ s. omega (arith, c.requires.short s, c.requires.small))
     (done_jobs c.work_all.new.jobs.items c.requires.long c.in_ok-jobs.ensures c.work_all.ensures.long c.work_all.ensures.worked i w e)
 
-pub close-requires-clause-joined : goal.close-requires-clause-joined
-close-requires-clause-joined g c =
+pub close-states-requires-clause-joined : goal.close-states-requires-clause-joined
+close-states-requires-clause-joined g c =
     each_joined (at_end c.requires.workers.0 c.requires.workers.1 c.requires.long c.in_ok-jobs.ensures c.work_all.ensures.long c.work_all.ensures.worked c.in_ok-tolds.ensures.joined)
 
 pub all_told-requires : goal.all_told-requires
 all_told-requires g c =
     fine_ends (all_closed c.requires.workers.0 c.requires.workers.1 c.requires.long c.in_ok-jobs.ensures
-    c.work_all.ensures.long c.work_all.ensures.worked c.in_ok-tolds.ensures.joined c.in-Ok.ensures.closed c.requires.short c.requires.small) c.in_ok-tolds.ensures.told
+    c.work_all.ensures.long c.work_all.ensures.worked c.in_ok-tolds.ensures.joined c.close-states.ensures.closed c.requires.short c.requires.small) c.in_ok-tolds.ensures.told
 
-pub returns-in_ok-all-in-Ok-clause-states : goal.returns-in_ok-all-in-Ok-clause-states
-returns-in_ok-all-in-Ok-clause-states g c =
-    states (map (λ parts. parts.items) c.in_ok-all-in-Ok.all.items) (all_closed c.requires.workers.0 c.requires.workers.1 c.requires.long c.in_ok-jobs.ensures
-    c.work_all.ensures.long c.work_all.ensures.worked c.in_ok-tolds.ensures.joined c.in-Ok.ensures.closed c.requires.short c.requires.small) (sym c.in_ok-tolds.ensures.told ∙ c.in_ok-all-in-Ok.ensures)
+pub returns-clause-states : goal.returns-clause-states
+returns-clause-states g c =
+    states (map (λ parts. parts.items) c.in_ok-all.all.items) (all_closed c.requires.workers.0 c.requires.workers.1 c.requires.long c.in_ok-jobs.ensures
+    c.work_all.ensures.long c.work_all.ensures.worked c.in_ok-tolds.ensures.joined c.close-states.ensures.closed c.requires.short c.requires.small) (sym c.in_ok-tolds.ensures.told ∙ c.in_ok-all.ensures)
 
-pub returns-in_ok-all-in-Ok-clause-told : goal.returns-in_ok-all-in-Ok-clause-told
-returns-in_ok-all-in-Ok-clause-told g c =
-    told_all (map (λ parts. parts.items) c.in_ok-all-in-Ok.all.items) (all_closed c.requires.workers.0 c.requires.workers.1 c.requires.long c.in_ok-jobs.ensures
-    c.work_all.ensures.long c.work_all.ensures.worked c.in_ok-tolds.ensures.joined c.in-Ok.ensures.closed c.requires.short c.requires.small) (sym c.in_ok-tolds.ensures.told ∙ c.in_ok-all-in-Ok.ensures)
+pub returns-clause-told : goal.returns-clause-told
+returns-clause-told g c =
+    told_all (map (λ parts. parts.items) c.in_ok-all.all.items) (all_closed c.requires.workers.0 c.requires.workers.1 c.requires.long c.in_ok-jobs.ensures
+    c.work_all.ensures.long c.work_all.ensures.worked c.in_ok-tolds.ensures.joined c.close-states.ensures.closed c.requires.short c.requires.small) (sym c.in_ok-tolds.ensures.told ∙ c.in_ok-all.ensures)

@@ -3,7 +3,7 @@ use Rattle.std.proofs.Common.{rules, [], refl, sym, subst, ◌∙◌, ◌≡◌,
 use Rattle.std.specs.Prelude.{slice_get}
 use Rattle.std.proofs.lemmas.Option.{slice_get-get_or}
 use Rattle.bfdd.specs.Following.{IsUntaken}
-use Rattle.bfdd.proofs.Going.{passed_on}
+use Rattle.bfd_replay.proofs.Going.{passed_on}
 use Rattle.bfdd.proofs.Polling.{polled_first, at_place, behind_at, polled_on, polled_went, polled_told}
 use Rattle.bfdd.proofs.watched_text.following.poll_all.Goals as goal
 

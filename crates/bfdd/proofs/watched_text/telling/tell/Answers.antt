@@ -2,9 +2,9 @@
 use Rattle.std.proofs.Common.{◌≡◌, ◌≤◌, ◌+◌, List, ◌∷◌, length, ap, sym, ◌∙◌, arith, rules}
 use Rattle.std.proofs.lemmas.List.{nil_from_length}
 use Rattle.bfd_watch.specs.declared.change.Change.{Change}
-use Rattle.bfdd.proofs.Going.{kept_then}
+use Rattle.bfd_replay.proofs.Going.{kept_less, kept_same, kept_then}
 use Rattle.bfdd.proofs.Steps.{few_step}
-use Rattle.bfdd.proofs.Told.{told_first, kept_same, kept_less, behind_after, told_next, refused_stopped, untaken_stopped, told_all}
+use Rattle.bfdd.proofs.Told.{told_first, behind_after, told_next, refused_stopped, untaken_stopped, told_all}
 use Rattle.bfdd.proofs.watched_text.telling.tell.Goals as goal
 
 pub loop-line-init : goal.loop-line-init

@@ -1,7 +1,8 @@
 -- What was told so far, and what the events that are left will tell, are the whole text, if caller 0 is the only one.
 use Rattle.std.proofs.Common.{◌≡◌, ◌≤◌, ◌+◌, ◌*◌, ℕ, length}
 use Rattle.bfd_engine.specs.Engines.{IsOf, AllThere, configs_at}
-use Rattle.bfdd.specs.Following.{AreWatched, HasKept}
+use Rattle.bfd_replay.specs.Turning.{HasKept}
+use Rattle.bfdd.specs.Following.{AreWatched}
 use Rattle.bfdd.proofs.Told.{IsTold}
 use Rattle.bfdd.proofs.watched_text.telling.tell.Given as goal
 

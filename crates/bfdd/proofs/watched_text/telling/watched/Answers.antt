@@ -6,9 +6,9 @@ use Rattle.bfd_engine.specs.declared.fault.EngineFault.TheVariants.{Memory}
 use Rattle.bfd_replay.specs.Happenings.{happening_outcomes}
 use Rattle.bfd_replay.specs.Planned.{happenings}
 use Rattle.bfd_watch.specs.Watched as watch
-use Rattle.bfdd.specs.Following.{AllSole, IsCutShort}
+use Rattle.bfd_replay.specs.Turning.{AllSole, IsCutShort}
+use Rattle.bfd_replay.proofs.OneCaller.{never_stopped, none_open}
 use Rattle.bfdd.specs.Members.{group_in, watched_of}
-use Rattle.bfdd.proofs.Told.{none_open, never_stopped}
 use Rattle.bfdd.proofs.Closing.{first_watched, room_enough, in_order, taken_apart, closed_text}
 use Rattle.bfdd.proofs.watched_text.telling.watched.Goals as goal
 
@@ -29,10 +29,10 @@ close-requires-clause-joined g c = none_open c.in_ok-engine.ensures.pass c.tell-
 
 pub text_of-requires : goal.text_of-requires
 text_of-requires g c = IfErr-weaker c.tell-told.result (λ fault. IsCutShort fault c.in_ok-engine.engine c.tell-told.new.pass) (λ fault. fault ≡ Memory)
-    (λ fault. never_stopped fault c.in_ok-engine.ensures.pass c.tell-told.ensures.kept (omega (arith, (taken_apart c.script.view_is c.requires.script).events.few)) c.in-Ok.ensures.closed) c.tell-told.ensures.stopped
+    (λ fault. never_stopped fault c.in_ok-engine.ensures.pass c.tell-told.ensures.kept (omega (arith, (taken_apart c.script.view_is c.requires.script).events.few)) c.close.ensures.closed) c.tell-told.ensures.stopped
 
-pub returns-in-Ok : goal.returns-in-Ok
-returns-in-Ok g c = IfOk-weaker c.text_of.result (λ text. c.tell-told.result ≡ Ok text) (λ text. text.items ≡ watched_of c.args.need c.args.members.now c.args.script)
-    (λ text same. closed_text c.args.members.now c.script.view_is c.in_ok-engine.ensures.engine c.in_ok-engine.ensures.pass c.tell-told.ensures.kept c.in-Ok.ensures.closed
+pub returns : goal.returns
+returns g c = IfOk-weaker c.text_of.result (λ text. c.tell-told.result ≡ Ok text) (λ text. text.items ≡ watched_of c.args.need c.args.members.now c.args.script)
+    (λ text same. closed_text c.args.members.now c.script.view_is c.in_ok-engine.ensures.engine c.in_ok-engine.ensures.pass c.tell-told.ensures.kept c.close.ensures.closed
     (IfOk-at_ok (λ t. AllSole (length c.in_ok-engine.engine.locks) c.tell-told.new.pass → t.items ≡ watch.watched (happening_outcomes 0 (happenings c.in_ok-engine.engine.configs c.in_ok-engine.engine.pool c.script.inside.events.items) (map started c.in_ok-engine.engine.configs)) c.in_ok-group.group) same c.tell-told.ensures.told)
     (c.in_ok-group.ensures ∙ ap (λ cs. group_in c.args.need c.args.members.now (map started cs)) c.deref.ensures.value)) c.text_of.ensures

@@ -1,0 +1,65 @@
+-- The report of a script by one caller, once its engine is closed.
+use Rattle.bfd_replay.proofs.WorkerCommon.{◌≡◌, ◌<◌, ◌≤◌, ◌∙◌, ℕ, [], List, length, map, ap, sym, subst, refl, arith, Some, slice_get, slice_get_within, Result, Ok, Err, Shard, Shards, Knows, configs_at, seen_at, AreClosed, IsNewPass, EngineFault, Full, Memory, Spent, IsSole, entries_by, Happening, happenings, events_of_table, Lists, SessionConfig, Reflector, report, replayed, started, world_is}
+use Rattle.bfd_session.specs.Kinds.{configs_of}
+use Rattle.bfd_edge.specs.declared.fault.Fault.{Fault}
+use Rattle.bfd_edge.specs.declared.fault.Fault.TheVariants as sink
+use Rattle.bfd_edge.specs.Faults.{HasCause, Rose}
+use Rattle.bfd_replay.specs.declared.stream.telling.Stop.{Stop}
+use Rattle.bfd_replay.specs.declared.stream.telling.Stop.TheVariants.{Refused, Unwritten}
+use Rattle.bfd_replay.specs.Replayed.{HaveReplayed, taker_of}
+use Rattle.bfd_replay.specs.Telling.{HasBrought, HasStopCause, IsClosedAfter, IsMeant, IsStop, fault_of, outcomes_on}
+use Rattle.bfd_replay.specs.Turning.{HasKept, IsOpenedFor}
+use Rattle.bfd_replay.proofs.OneCaller.{all_sole, never_stopped, one_history, one_share}
+
+-- no shard refused the only caller an event but when out of memory
+pub meant : {engine : Shards} {times : ℕ} {k l : Knows} {shards : List Shard} (stop : Stop) → IsNewPass engine k → HasKept times k l → times ≤ 400002 → AreClosed engine l shards
+    → IsStop engine l stop → IsMeant stop
+meant (Unwritten fault) new kept few closed stop = tt
+meant (Refused Memory) new kept few closed stop = tt
+meant (Refused (Full at n)) new kept few closed stop = (let e = never_stopped (Full at n) new kept few closed stop in absurd (cc))
+meant (Refused (Spent at word)) new kept few closed stop = (let e = never_stopped (Spent at word) new kept few closed stop in absurd (cc))
+
+pub stop_cause : {T : Type 0} (before now : ℕ) (stop : Stop) → HasStopCause before now stop → IsMeant stop → (let r : Result T Fault = Err (fault_of stop) in HasCause before now r)
+stop_cause {T} before now (Unwritten sink.Failed) h m = record { later = h.later; failed = λ e. h.failed refl; wanted = λ e. absurd (cc) }
+stop_cause {T} before now (Unwritten sink.Memory) h m = record { later = h.later; failed = λ e. absurd (cc); wanted = λ e. h.wanted refl }
+stop_cause before now (Refused Memory) h m = record { later = omega (arith, h); failed = λ e. absurd (cc); wanted = λ e. h }
+stop_cause before now (Refused (Full at n)) h m = absurd m
+stop_cause before now (Refused (Spent at word)) h m = absurd m
+
+pub calm_cause : {T : Type 0} (done : T) (before now : ℕ) → now ≡ before → (let r : Result T Fault = Ok done in HasCause before now r)
+calm_cause done before now calm = record { later = omega (arith, calm); failed = λ e. absurd (cc); wanted = λ e. absurd (cc) }
+
+pub cause_as : {S T : Type 0} (fault : Fault) (before mid now : ℕ) → mid ≡ before → (let r : Result S Fault = Err fault in HasCause mid now r) → (let r : Result T Fault = Err fault in HasCause before now r)
+cause_as sink.Failed before mid now same h = record { later = omega (arith, h.later, same); failed = λ e. subst (λ n. Rose n now) same (h.failed refl); wanted = λ e. absurd (cc) }
+cause_as sink.Memory before mid now same h = record { later = omega (arith, h.later, same); failed = λ e. absurd (cc); wanted = λ e. h.wanted refl ∙ same }
+
+pub closed_after : {engine : Shards} {times : ℕ} {k l : Knows} {states : List Shard} (hs : List Happening) → length engine.locks ≡ 1 → IsNewPass engine k → HasKept times k l → AreClosed engine l states
+    → HasBrought engine hs l → IsClosedAfter engine hs states
+closed_after {engine} hs one new kept closed brought = record {
+  long = closed.long ∙ one;
+  each = λ state e. (let c = closed.each 0 state e in (c.configs, c.journal ∙ brought (all_sole new kept closed 0 (omega (arith, one)))));
+}
+
+module _ (script : Lists) {engine : Shards} {limit : ℕ} {whole : Lists} (o : IsOpenedFor engine script.configs script.pool 1 limit) (same : script ≡ whole) where
+  sessions_are : configs_at engine 0 ≡ script.configs
+  sessions_are = cc (o.shards_are, o.configs_are, one_share script.configs)
+
+  happenings_are : happenings engine.configs engine.pool script.events ≡ happenings script.configs script.pool script.events
+  happenings_are = ap (λ cs. happenings cs engine.pool script.events) o.configs_are ∙ ap (λ p. happenings script.configs p script.events) o.pool_is
+
+  pub report_on : report (outcomes_on engine (happenings engine.configs engine.pool script.events)) ≡ replayed whole
+  report_on = cc (happenings_are, sessions_are, world_is script, same)
+
+  first_only : (states : List Shard) (number : ℕ) (state : Shard) → length states ≡ 1 → slice_get states number ≡ Some state → number ≡ 0
+  first_only states number state long e = omega (arith, long, slice_get_within states number state e)
+
+  pub replayed_on : {states : List Shard} → IsClosedAfter engine (happenings engine.configs engine.pool script.events) states → HaveReplayed whole 1 (taker_of 1 1) states
+  replayed_on {states} c = record {
+    long = c.long;
+    each = λ number state e.
+        let zero_is = first_only states number state c.long e in
+        let h = c.each state (subst (λ n. slice_get states n ≡ Some state) zero_is e) in record {
+          configs = rw zero_is (cc (h.0, sessions_are, same, one_share script.configs));
+          journal = rw zero_is (cc (h.1, happenings_are, same, one_history (events_of_table script)));
+        };
+  }

@@ -1,0 +1,35 @@
+-- The parts' report is the script's.
+use Rattle.bfd_replay.proofs.WorkerCommon.{rules, ◌≡◌, ◌∙◌, List, ap, length, map, subst, Lists, happenings, replayed, report, script_with, started, world_is}
+use Rattle.std.specs.Io.KnownBytes.{Appends}
+use Rattle.bfd_replay.specs.Happenings.{happening_outcomes}
+use Rattle.bfd_replay.specs.Written.{TookFront}
+use Rattle.bfd_replay.proofs.Gathered.{happenings_long}
+use Rattle.bfd_replay.proofs.Written.{took_nothing}
+use Rattle.bfd_replay.proofs.worker.replaying.replay_at_once.Goals as goal
+
+report_is : (script : Lists) {whole : Lists} → script ≡ whole → report (happening_outcomes 0 (happenings script.configs script.pool script.events) (map started script.configs)) ≡ replayed whole
+report_is script same = ap report (world_is script) ∙ ap replayed same
+
+pub returns-in_default-clause-front : goal.returns-in_default-clause-front
+returns-in_default-clause-front g c = took_nothing (g.K.Sink.taken c.args.sink.now) (replayed c.args.script)
+
+pub returns-in-Ok-write_parts-clause-whole : goal.returns-in-Ok-write_parts-clause-whole
+returns-in-Ok-write_parts-clause-whole g c =
+    let script : Lists = script_with c.script.inside.configs.items c.script.inside.pool.items c.script.inside.events.items in
+    let count : length c.script.inside.events.items ≡ c.len-count.result = search rules in
+    subst (λ t. Appends (g.K.Sink.taken c.args.sink.now) (g.K.Sink.taken c.write_parts.new.sink) t) (report_is script c.script.view_is)
+    (c.in-Ok-write_parts.ensures.whole c.args.shards 0 (happenings script.configs script.pool script.events) (map started script.configs) (happenings_long script.configs script.pool script.events ∙ count) c.in-Ok.ensures.parts)
+
+pub returns-in-Ok-write_parts-clause-front : goal.returns-in-Ok-write_parts-clause-front
+returns-in-Ok-write_parts-clause-front g c =
+    let script : Lists = script_with c.script.inside.configs.items c.script.inside.pool.items c.script.inside.events.items in
+    let count : length c.script.inside.events.items ≡ c.len-count.result = search rules in
+    subst (λ t. TookFront (g.K.Sink.taken c.args.sink.now) (g.K.Sink.taken c.write_parts.new.sink) t) (report_is script c.script.view_is)
+    (c.write_parts.ensures.front c.args.shards 0 (happenings script.configs script.pool script.events) (map started script.configs) (happenings_long script.configs script.pool script.events ∙ count) c.in-Ok.ensures.parts)
+
+pub returns-in-Err-clause-front : goal.returns-in-Err-clause-front
+returns-in-Err-clause-front g c =
+    let script : Lists = script_with c.script.inside.configs.items c.script.inside.pool.items c.script.inside.events.items in
+    let count : length c.script.inside.events.items ≡ c.len-count.result = search rules in
+    subst (λ t. TookFront (g.K.Sink.taken c.args.sink.now) (g.K.Sink.taken c.write_parts.new.sink) t) (report_is script c.script.view_is)
+    (c.write_parts.ensures.front c.args.shards 0 (happenings script.configs script.pool script.events) (map started script.configs) (happenings_long script.configs script.pool script.events ∙ count) c.in-Ok.ensures.parts)

@@ -1,0 +1,48 @@
+//! The one call that replays a script to a sink.
+ghost use Rattle.std.specs.Prelude.{◌≡◌, ◌≤◌, ◌<◌, IfOk, OnOk};
+ghost use Rattle.std.specs.Io.KnownBytes.{Appends};
+ghost use Rattle.bfd_edge.specs.Faults.{HasCause};
+ghost use Rattle.bfd_script.specs.Sound.{IsScript};
+ghost use Rattle.bfd_instance.specs.World.{replayed};
+ghost use Rattle.bfd_replay.specs.Replayed.{HaveReplayed, taker_of};
+ghost use Rattle.bfd_replay.specs.Written.{TookFront};
+
+use crate::stream::report_to;
+use crate::worker::{ClosedShards, replay_at_once};
+use bfd_edge::{Fault, Gate, Sink};
+use bfd_script::Script;
+use bfd_wheel::Timers;
+use std::alloc::Global;
+use std::sync::Wait;
+use std::thread::Threads;
+
+/// Replays the script on 1 to 64 shards of an engine, by 1 to 64 workers, and writes its report to the sink: on one shard by one worker as
+/// it comes, and else once all is done. The report is the same, byte for byte. Each turn for event N stands between `gate.before(w, N)` and
+/// `gate.after(w, N)`, where w is the worker's number from 1, or 0 where one worker takes one shard in the caller's thread.
+///
+/// It fails as Failed where the sink failed, and as Memory when out of memory, here or in the sink, or at 2^64 packets sent or dropped; the
+/// sink took a prefix of the report then. What the closed shards were stays for clauses. It may wait.
+pub fn replay_to<W: Timers + Send + 'static, R: Threads + Wait + Sync, G: Gate + Sync, K: Sink>(
+    rt: &R,
+    alloc: Global,
+    script: Script,
+    shards: u32,
+    workers: u32,
+    gate: &G,
+    sink: &mut K,
+) -> Result<ClosedShards<W>, Fault>
+    requires script { IsScript script }
+    requires shards { (0 < shards) × (shards ≤ 64) }
+    requires workers { (0 < workers) × (workers ≤ 64) }
+    ensures whole { OnOk result (Appends (K.taken sink.old) (K.taken sink.new) (replayed script)) }
+    ensures front { TookFront (K.taken sink.old) (K.taken sink.new) (replayed script) }
+    ensures states { IfOk result (λ closed. HaveReplayed script shards (taker_of shards workers) closed.value.items) }
+    ensures cause { HasCause (K.faults sink.old) (K.faults sink.new) result }
+    ensures calm { OnOk result (K.faults sink.new ≡ K.faults sink.old) }
+{
+    if shards == 1 && workers == 1 {
+        report_to(rt, alloc, script, gate, sink)
+    } else {
+        replay_at_once(rt, alloc, script, shards, workers, gate, sink)
+    }
+}

@@ -1,6 +1,0 @@
--- A script's sessions and reflectors stand in order.
-use Rattle.bfdd.proofs.Opening.{sorted}
-use Rattle.bfdd.proofs.watched_text.telling.opened.Goals as goal
-
-pub open-requires-clause-sorted : goal.open-requires-clause-sorted
-open-requires-clause-sorted g c = sorted _ _ _ c.requires.script
