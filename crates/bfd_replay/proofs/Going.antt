@@ -1,5 +1,5 @@
 -- What a caller that may be the only one has seen of a shard, turn by turn.
-use Rattle.bfd_replay.proofs.WorkerCommon.{◌≡◌, ◌≢◌, ◌<◌, ◌≤◌, ◌+◌, ◌%◌, ◌/◌, ◌++◌, ◌∙◌, ◌∷◌, ℕ, [], List, length, sym, ap, subst, refl, append-nil, append_assoc, arith, map-append, eq-eqb, ne_eqb, dite, ℕ_discrete, Result, Ok, Err, Entry, calls, EngineFault, Full, Memory, Spent, Knows, Shards, configs_at, made_at, met_word, seen_at, taken_at, by, entry_of, given_after, Among, Happening, IsSole, entries_by}
+use Rattle.bfd_replay.proofs.WorkerCommon.{◌≡◌, ◌<◌, ◌≤◌, ◌+◌, ◌%◌, ◌/◌, ◌++◌, ◌∙◌, ◌∷◌, ℕ, [], List, length, sym, ap, subst, refl, append-nil, append_assoc, arith, map-append, eq-eqb, ne_eqb, dite, ℕ_discrete, Result, Ok, Err, Entry, calls, EngineFault, Full, Memory, Spent, Knows, Shards, configs_at, met_word, seen_at, taken_at, by, entry_of, given_after, Among, IsSole, entries_by}
 use Rattle.bfd_rules.specs.declared.outputs.Out.{Out}
 use Rattle.bfd_session.specs.Alone.{Outcome}
 use Rattle.bfd_session.specs.declared.event.Answer.{Answer}

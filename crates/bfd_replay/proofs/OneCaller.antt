@@ -1,6 +1,6 @@
 -- Events by one caller, and what the closed engine shows of them.
-use Rattle.bfd_replay.proofs.WorkerCommon.{◌≡◌, ◌≢◌, ◌<◌, ◌≤◌, ◌+◌, ◌*◌, ◌%◌, ◌/◌, ◌++◌, ◌∙◌, ◌∷◌, Bool, false, true, ℕ, zero, suc, [], List, length, map, get_or, sym, ap, subst, refl, append-nil, arith, length-append, length-map, Option, None, Some, slice_get, slice_get-get_or, EngineFault, Full, Memory, Spent, Knows, Shards, configs_at, made_at, met_word, seen_at, taken_at, AreClosed, EachJoined, IsClosed, IsNewPass, Among, Apart, Happening, in_shard, IsSole, entries_by, Shard, SessionConfig, Running, started, has, last_tick, later, moved, outcome_of, runs, entry_of, happenings}
-use Rattle.std.specs.List.{cons_option, filter_map}
+use Rattle.bfd_replay.proofs.WorkerCommon.{◌≡◌, ◌<◌, ◌≤◌, ◌+◌, ◌%◌, ◌/◌, ◌++◌, ◌∙◌, ◌∷◌, false, ℕ, [], List, length, map, get_or, sym, ap, subst, refl, append-nil, arith, length-append, length-map, Option, None, Some, slice_get-get_or, EngineFault, Full, Memory, Spent, Knows, Shards, made_at, seen_at, AreClosed, EachJoined, IsClosed, IsNewPass, Among, Apart, Happening, in_shard, IsSole, entries_by, Shard, SessionConfig, Running, started, has, last_tick, outcome_of, runs, entry_of}
+use Rattle.std.specs.List.{cons_option}
 use Rattle.std.proofs.lemmas.List.Elements.{filter_map-append}
 use Rattle.bfd_session.specs.Alone.{Outcome}
 use Rattle.bfd_shard.specs.declared.entry.ShardEvent.{ShardEvent}
@@ -9,7 +9,6 @@ unfoldable use Rattle.bfd_shard.specs.History.{last_from}
 use Rattle.bfd_shard.specs.Dealing.{event_in, history_of}
 unfoldable use Rattle.bfd_shard.specs.Dealing.{share}
 use Rattle.bfd_shard.proofs.Runs.{last_more, runs_more}
-use Rattle.bfd_turn.specs.Passes.{last_word}
 use Rattle.bfd_replay.specs.Happenings.{happening_outcomes, session_event}
 use Rattle.bfd_replay.specs.Turning.{AllSole, HasKept, IsCutShort, IsRefusal, brought, given}
 use Rattle.bfd_replay.proofs.Histories.{left_runs}

@@ -1,6 +1,5 @@
 -- The report of a script by one caller, once its engine is closed.
-use Rattle.bfd_replay.proofs.WorkerCommon.{◌≡◌, ◌<◌, ◌≤◌, ◌∙◌, ℕ, [], List, length, map, ap, sym, subst, refl, arith, Some, slice_get, slice_get_within, Result, Ok, Err, Shard, Shards, Knows, configs_at, seen_at, AreClosed, IsNewPass, EngineFault, Full, Memory, Spent, IsSole, entries_by, Happening, happenings, events_of_table, Lists, SessionConfig, Reflector, report, replayed, started, world_is}
-use Rattle.bfd_session.specs.Kinds.{configs_of}
+use Rattle.bfd_replay.proofs.WorkerCommon.{◌≡◌, ◌≤◌, ◌∙◌, ℕ, List, length, ap, subst, refl, arith, Some, slice_get, slice_get_within, Result, Ok, Err, Shard, Shards, Knows, configs_at, AreClosed, IsNewPass, Full, Memory, Spent, Happening, happenings, events_of_table, Lists, report, replayed, world_is}
 use Rattle.bfd_edge.specs.declared.fault.Fault.{Fault}
 use Rattle.bfd_edge.specs.declared.fault.Fault.TheVariants as sink
 use Rattle.bfd_edge.specs.Faults.{HasCause, Rose}

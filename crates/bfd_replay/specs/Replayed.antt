@@ -1,5 +1,5 @@
 -- What a replay on shards leaves of each, and tells.
-use Rattle.std.specs.Prelude.{ℕ, ◌≡◌, ◌+◌, ◌%◌, ◌==◌, ◌&&◌, List, length, slice_get, Some, if◌then◌else◌}
+use Rattle.std.specs.Prelude.{ℕ, ◌≡◌, ◌+◌, ◌%◌, ◌==◌, ◌&&◌, Bool, true, false, List, length, slice_get, Some}
 use Rattle.bfd_session.specs.Kinds.{configs_of}
 use Rattle.bfd_shard.specs.Dealing.{history_of, share}
 use Rattle.bfd_shard.specs.Shard.{Shard}
@@ -9,18 +9,22 @@ use Rattle.bfd_replay.specs.Working.{entries_by}
 
 -- the state of this shard: it was made of the sessions that are dealt to it, and its journal is, in the order of the script, the own
 -- events of its sessions and every tick, all brought by the caller that takes the shard
-pub record HasReplayed (script : Lists) (shards : ℕ) (taker : ℕ → ℕ) (number : ℕ) (state : Shard) : Type 0 where
+pub record HasReplayed (script : Lists) (shards : ℕ) (by : ℕ → ℕ) (number : ℕ) (state : Shard) : Type 0 where
   pub configs : configs_of state.sessions ≡ share shards number script.configs
-  pub journal : state.journal ≡ entries_by (taker number) (history_of shards number (events_of_table script))
+  pub journal : state.journal ≡ entries_by (by number) (history_of shards number (events_of_table script))
 
-pub record HaveReplayed (script : Lists) (shards : ℕ) (taker : ℕ → ℕ) (states : List Shard) : Type 0 where
+pub record HaveReplayed (script : Lists) (shards : ℕ) (by : ℕ → ℕ) (states : List Shard) : Type 0 where
   pub long : length states ≡ shards
-  pub each : (number : ℕ) (state : Shard) → slice_get states number ≡ Some state → HasReplayed script shards taker number state
+  pub each : (number : ℕ) (state : Shard) → slice_get states number ≡ Some state → HasReplayed script shards by number state
 
 -- of so many workers the one that takes the shard of this number, counted from 1
 abbrev pub worker_of : ℕ → ℕ → ℕ
 worker_of workers number = 1 + number % workers
 
 -- the caller that takes it: on one shard one worker is the caller that opened the engine
+abbrev pub taker : Bool → ℕ → ℕ → ℕ
+taker true workers number = 0
+taker false workers number = worker_of workers number
+
 abbrev pub taker_of : ℕ → ℕ → ℕ → ℕ
-taker_of shards workers number = if (shards == 1) && (workers == 1) then 0 else worker_of workers number
+taker_of shards workers = taker ((shards == 1) && (workers == 1)) workers

@@ -1,10 +1,9 @@
 -- What was told so far of a replay's events.
-use Rattle.std.specs.Prelude.{◌≡◌, ◌+◌, ◌++◌, [], ◌∷◌, ℕ, List, length, map, slice_get, sum_by, Option, Some, Result, Ok, Err}
+use Rattle.std.specs.Prelude.{◌≡◌, ◌+◌, ◌++◌, ◌∷◌, ℕ, List, length, map, slice_get, sum_by, Option, Some, Result, Err}
 use Rattle.std.specs.List.{filter_map}
 use Rattle.bfd_edge.specs.declared.fault.Fault.{Fault}
 use Rattle.bfd_edge.specs.declared.fault.Fault.TheVariants as sink
 use Rattle.bfd_edge.specs.Faults.{HasCause}
-use Rattle.bfd_engine.specs.declared.fault.EngineFault.{EngineFault}
 use Rattle.bfd_engine.specs.declared.fault.EngineFault.TheVariants.{Memory, Full, Spent}
 use Rattle.bfd_engine.specs.Engines.{Shards, Knows, configs_at}
 use Rattle.bfd_engine.specs.Calls.{seen_at}

@@ -1,11 +1,11 @@
 -- What the lines give is the script's report.
-use Rattle.bfd_replay.proofs.StreamCommon.{◌≡◌, subst, script_with, took_nothing}
+use Rattle.bfd_replay.proofs.StreamCommon.{subst, script_with, took_nothing}
 use Rattle.std.proofs.Common.{rules}
 use Rattle.std.specs.Io.KnownBytes.{Appends}
 use Rattle.bfd_instance.specs.World.{replayed}
 use Rattle.bfd_replay.specs.Written.{TookFront}
 use Rattle.bfd_replay.proofs.Gathered.{room_enough}
-use Rattle.bfd_replay.proofs.Reporting.{calm_cause, cause_as, report_on, replayed_on}
+use Rattle.bfd_replay.proofs.Reporting.{calm_cause, report_on, replayed_on}
 use Rattle.bfd_replay.proofs.stream.reporting.report_to.Goals as goal
 
 pub returns-in_default-clause-front : goal.returns-in_default-clause-front

@@ -1,5 +1,5 @@
 -- The lines and the last line are the report, once the closed engine shows that nobody else took a turn.
-use Rattle.bfd_replay.proofs.StreamCommon.{◌≡◌, ◌∙◌, ap, arith, happenings, Telling}
+use Rattle.bfd_replay.proofs.StreamCommon.{◌∙◌, ap, arith, happenings, Telling}
 use Rattle.bfd_replay.specs.Telling.{outcomes_on}
 use Rattle.bfd_replay.proofs.Events.{lines_front, report_front, report_whole}
 use Rattle.bfd_replay.proofs.OneCaller.{all_sole, none_open}

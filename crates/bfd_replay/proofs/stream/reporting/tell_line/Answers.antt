@@ -1,5 +1,5 @@
 -- The line's text is told, and nothing was taken where it came to none.
-use Rattle.bfd_replay.proofs.StreamCommon.{◌≡◌, ◌+◌, ◌++◌, ◌∷◌, List, refl, subst, lines_from, happening, took_nothing}
+use Rattle.bfd_replay.proofs.StreamCommon.{◌+◌, ◌++◌, ◌∷◌, refl, subst, lines_from, happening, took_nothing}
 use Rattle.bfd_engine.specs.Engines.{configs_at}
 use Rattle.bfd_engine.specs.Calls.{seen_at}
 use Rattle.bfd_session.specs.Alone.{Outcome}

@@ -1,5 +1,5 @@
 -- An own event by its variant.
-use Rattle.std.proofs.Common.{rules, ◌≡◌, ◌≤◌, arith, subst}
+use Rattle.std.proofs.Common.{arith, subst}
 use Rattle.bfd_shard.specs.Shard.{CanHappen}
 use Rattle.bfd_replay.proofs.stream.turning.among.Goals as goal
 

@@ -1,5 +1,5 @@
 -- What the line is to the sessions.
-use Rattle.std.proofs.Common.{rules, ◌≡◌, ◌<◌, IfOk, ap, arith, subst}
+use Rattle.std.proofs.Common.{rules, ◌≡◌, IfOk, ap, arith, subst}
 use Rattle.bfd_replay.specs.Happenings.{Among, Happening}
 use Rattle.bfd_replay.specs.Planned.{happening}
 use Rattle.bfd_replay.specs.Turning.{Gave}

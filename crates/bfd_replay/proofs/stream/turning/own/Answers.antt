@@ -1,6 +1,5 @@
 -- An own event of a session, in its shard.
-use Rattle.std.proofs.Common.{rules, ◌≡◌, ◌<◌, arith}
-use Rattle.bfd_shard.specs.declared.entry.ShardEvent.TheVariants.{Own}
+use Rattle.std.proofs.Common.{rules}
 use Rattle.bfd_engine.proofs.Reaching.{dealt_event}
 use Rattle.bfd_replay.proofs.Going.{done_kept, own_gave, own_refused, own_went}
 use Rattle.bfd_replay.proofs.stream.turning.own.Goals as goal

@@ -1,5 +1,5 @@
 -- The parts' report is the script's.
-use Rattle.bfd_replay.proofs.WorkerCommon.{rules, ◌≡◌, ◌∙◌, List, ap, length, map, subst, Lists, happenings, replayed, report, script_with, started, world_is}
+use Rattle.bfd_replay.proofs.WorkerCommon.{rules, ◌≡◌, ◌∙◌, ap, length, map, subst, Lists, happenings, replayed, report, script_with, started, world_is}
 use Rattle.std.specs.Io.KnownBytes.{Appends}
 use Rattle.bfd_replay.specs.Happenings.{happening_outcomes}
 use Rattle.bfd_replay.specs.Written.{TookFront}

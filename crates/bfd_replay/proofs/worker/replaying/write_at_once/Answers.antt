@@ -1,10 +1,9 @@
 -- The texts are the report, and where memory ran out nothing was taken.
-use Rattle.bfd_replay.proofs.WorkerCommon.{◌≡◌, subst}
-use Rattle.std.specs.Io.KnownBytes.{Appends}
+use Rattle.bfd_replay.proofs.WorkerCommon.{subst}
 use Rattle.bfd_script.specs.Report.{report}
 use Rattle.bfd_replay.specs.Happenings.{happening_outcomes}
 use Rattle.bfd_replay.specs.Written.{TookFront}
-use Rattle.bfd_replay.proofs.Written.{took_nothing, when_ok}
+use Rattle.bfd_replay.proofs.Written.{took_nothing}
 use Rattle.bfd_replay.proofs.worker.replaying.write_at_once.Goals as goal
 
 pub returns-in_default-clause-front : goal.returns-in_default-clause-front
