@@ -13,7 +13,7 @@ use Rattle.bfd_replay.specs.Happenings.{Apart, Among, session_event}
 use Rattle.bfd_replay.specs.declared.stream.telling.Stop.{Stop}
 use Rattle.bfd_replay.specs.declared.stream.telling.Stop.TheVariants.{Refused, Unwritten}
 use Rattle.bfd_replay.specs.Telling.{HasBrought, HasToldEvent, HasToldFront, IsEventStop, IsStop, outcomes_on}
-use Rattle.bfd_replay.specs.Turning.{Went, brought, given}
+use Rattle.bfd_replay.specs.Turning.{Went, brought, outcome_given}
 use Rattle.bfd_replay.specs.Working.{IsSole, entries_by}
 use Rattle.bfd_replay.proofs.Going.{entries_both}
 use Rattle.bfd_replay.proofs.OneCaller.{cut_short, given_past, one_brought, one_history, outcome_first, outcome_in, outcomes_none, past_after, past_few}
@@ -86,11 +86,11 @@ module _ {engine : Shards} {lines left rest : List Line} {line : Line} {l : Know
   abbrev later : List Outcome
   later = happening_outcomes (last_tick (past_after t.past h)) (happenings engine.configs engine.pool rest) (runs (past_after t.past h) (configs_at engine 0))
 
-  outcomes_split : IsSole 0 (seen_at l 0) → given (configs_at engine 0) (seen_at l 0) h ∷ later
+  outcomes_split : IsSole 0 (seen_at l 0) → outcome_given (configs_at engine 0) (seen_at l 0) h ∷ later
       ≡ happening_outcomes (last_tick t.past) (happenings engine.configs engine.pool left) (runs t.past (configs_at engine 0))
   outcomes_split s =
-      let is : given (configs_at engine 0) (seen_at l 0) h ≡ outcome_in (last_tick t.past) h (runs t.past (configs_at engine 0)) =
-      ap (λ before. given (configs_at engine 0) before h) (t.seen s) ∙ given_past (configs_at engine 0) t.past h in
+      let is : outcome_given (configs_at engine 0) (seen_at l 0) h ≡ outcome_in (last_tick t.past) h (runs t.past (configs_at engine 0)) =
+      ap (λ before. outcome_given (configs_at engine 0) before h) (t.seen s) ∙ given_past (configs_at engine 0) t.past h in
       ap (λ x. x ∷ later) is
       ∙ (sym (outcome_first (configs_at engine 0) t.past h (happenings engine.configs engine.pool rest))
       ∙ ap (λ ls. happening_outcomes (last_tick t.past) (happenings engine.configs engine.pool ls) (runs t.past (configs_at engine 0))) (sym split))

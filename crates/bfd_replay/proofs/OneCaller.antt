@@ -10,7 +10,7 @@ use Rattle.bfd_shard.specs.Dealing.{event_in, history_of}
 unfoldable use Rattle.bfd_shard.specs.Dealing.{share}
 use Rattle.bfd_shard.proofs.Runs.{last_more, runs_more}
 use Rattle.bfd_replay.specs.Happenings.{happening_outcomes, session_event}
-use Rattle.bfd_replay.specs.Turning.{AllSole, HasKept, IsCutShort, IsRefusal, brought, given}
+use Rattle.bfd_replay.specs.Turning.{AllSole, HasKept, IsCutShort, IsRefusal, brought, outcome_given}
 use Rattle.bfd_replay.proofs.Histories.{left_runs}
 use Rattle.bfd_replay.proofs.Soles.{given_done, sole_of}
 
@@ -32,7 +32,7 @@ pub outcomes_none : (cs : List SessionConfig) (hs : List Happening) → happenin
 unfolding last_from
 outcomes_none cs hs = let e : map started cs ≡ runs [] cs = left_runs [] cs in ap (λ ss. happening_outcomes 0 hs ss) (sym e)
 
-pub given_past : (cs : List SessionConfig) (past : List ShardEvent) (h : Happening) → given cs (entries_by 0 past) h ≡ outcome_in (last_tick past) h (runs past cs)
+pub given_past : (cs : List SessionConfig) (past : List ShardEvent) (h : Happening) → outcome_given cs (entries_by 0 past) h ≡ outcome_in (last_tick past) h (runs past cs)
 given_past cs past (Apart outcome) = refl
 given_past cs past (Among event) = given_done 0 cs past event refl
 

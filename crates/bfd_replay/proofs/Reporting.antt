@@ -6,7 +6,7 @@ use Rattle.bfd_edge.specs.Faults.{HasCause, Rose}
 use Rattle.bfd_replay.specs.declared.stream.telling.Stop.{Stop}
 use Rattle.bfd_replay.specs.declared.stream.telling.Stop.TheVariants.{Refused, Unwritten}
 use Rattle.bfd_replay.specs.Replayed.{HaveReplayed, taker_of}
-use Rattle.bfd_replay.specs.Telling.{HasBrought, HasStopCause, IsClosedAfter, IsMeant, IsStop, fault_of, outcomes_on}
+use Rattle.bfd_replay.specs.Telling.{HasBrought, HasStopCause, IsClosedAfter, IsMeant, IsStop, reason_of, outcomes_on}
 use Rattle.bfd_replay.specs.Turning.{HasKept, IsOpenedFor}
 use Rattle.bfd_replay.proofs.OneCaller.{all_sole, never_stopped, one_history, one_share}
 
@@ -18,7 +18,7 @@ meant (Refused Memory) new kept few closed stop = tt
 meant (Refused (Full at n)) new kept few closed stop = (let e = never_stopped (Full at n) new kept few closed stop in absurd (cc))
 meant (Refused (Spent at word)) new kept few closed stop = (let e = never_stopped (Spent at word) new kept few closed stop in absurd (cc))
 
-pub stop_cause : {T : Type 0} (before now : ℕ) (stop : Stop) → HasStopCause before now stop → IsMeant stop → (let r : Result T Fault = Err (fault_of stop) in HasCause before now r)
+pub stop_cause : {T : Type 0} (before now : ℕ) (stop : Stop) → HasStopCause before now stop → IsMeant stop → (let r : Result T Fault = Err (reason_of stop) in HasCause before now r)
 stop_cause {T} before now (Unwritten sink.Failed) h m = record { later = h.later; failed = λ e. h.failed refl; wanted = λ e. absurd (cc) }
 stop_cause {T} before now (Unwritten sink.Memory) h m = record { later = h.later; failed = λ e. absurd (cc); wanted = λ e. h.wanted refl }
 stop_cause before now (Refused Memory) h m = record { later = omega (arith, h); failed = λ e. absurd (cc); wanted = λ e. h }

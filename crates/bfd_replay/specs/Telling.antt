@@ -15,7 +15,7 @@ use Rattle.bfd_script.specs.Report.{lines_from, packets_sent, dropped}
 use Rattle.bfd_replay.specs.declared.stream.telling.Stop.{Stop}
 use Rattle.bfd_replay.specs.declared.stream.telling.Stop.TheVariants.{Refused, Unwritten}
 use Rattle.bfd_replay.specs.Happenings.{Happening, happening_outcomes, session_event}
-use Rattle.bfd_replay.specs.Turning.{IsCutShort, IsRefusal, given}
+use Rattle.bfd_replay.specs.Turning.{IsCutShort, IsRefusal, outcome_given}
 use Rattle.bfd_replay.specs.Working.{IsSole, entries_by}
 use Rattle.bfd_replay.specs.Written.{TookFront, TookUpTo}
 
@@ -52,12 +52,12 @@ IsStop engine l (Unwritten fault) = Unit {0}
 -- on an engine of one shard, if caller 0 is its only one, the event's lines were told
 abbrev pub HasToldEvent : Shards → Happening → Knows → Knows → Option (List ℕ) → Option (List ℕ) → Telling → Telling → Type 0
 HasToldEvent engine h k l old new before after = IsSole 0 (seen_at l 0) → (rest : List Outcome)
-    → ToldUpTo old new before after (given (configs_at engine 0) (seen_at k 0) h ∷ rest) rest
+    → ToldUpTo old new before after (outcome_given (configs_at engine 0) (seen_at k 0) h ∷ rest) rest
 
 -- .. or a prefix of what was told with them
 abbrev pub HasToldFront : Shards → Happening → Knows → Knows → Option (List ℕ) → Option (List ℕ) → Telling → Type 0
 HasToldFront engine h k l old new before = IsSole 0 (seen_at l 0) → (rest : List Outcome)
-    → TookFront old new (before.text ++ lines_from (before.events + 1) (given (configs_at engine 0) (seen_at k 0) h ∷ rest))
+    → TookFront old new (before.text ++ lines_from (before.events + 1) (outcome_given (configs_at engine 0) (seen_at k 0) h ∷ rest))
 
 -- what events give on a new engine of one shard
 abbrev pub outcomes_on : Shards → List Happening → List Outcome
@@ -80,6 +80,6 @@ IsMeant (Refused (Full at n)) = ⊥
 IsMeant (Refused (Spent at word)) = ⊥
 IsMeant (Unwritten fault) = Unit {0}
 
-abbrev pub fault_of : Stop → Fault
-fault_of (Refused fault) = sink.Memory
-fault_of (Unwritten fault) = fault
+abbrev pub reason_of : Stop → Fault
+reason_of (Refused fault) = sink.Memory
+reason_of (Unwritten fault) = fault

@@ -59,10 +59,10 @@ pub record IsOpenedFor (engine : Shards) (configs : List SessionConfig) (pool : 
   pub limit_is : engine.limit ≡ limit
 
 -- what an event gives: one of no session its own outcome, and one of the sessions what they give after these entries
-abbrev pub given : List SessionConfig → List Entry → Happening → Outcome
-given configs before (Apart outcome) = outcome
-given configs before (Among event) = given_after configs before event
+abbrev pub outcome_given : List SessionConfig → List Entry → Happening → Outcome
+outcome_given configs before (Apart outcome) = outcome
+outcome_given configs before (Among event) = given_after configs before event
 
 -- the event gave this, on an engine of one shard whose only caller is caller 0
 abbrev pub Gave : Shards → Knows → Knows → Happening → Outcome → Type 0
-Gave engine k l h outcome = length engine.locks ≡ 1 → IsSole 0 (seen_at l 0) → outcome ≡ given (configs_at engine 0) (seen_at k 0) h
+Gave engine k l h outcome = length engine.locks ≡ 1 → IsSole 0 (seen_at l 0) → outcome ≡ outcome_given (configs_at engine 0) (seen_at k 0) h

@@ -1,5 +1,5 @@
 -- The watches of an engine that was just opened, and the text of one that is closed.
-use Rattle.bfdd.proofs.WatchedTextCommon.{◌≡◌, ◌<◌, ◌≤◌, ◌+◌, ◌*◌, ◌∙◌, ℕ, List, [], length, map, sym, ap, subst, arith, Some, slice_get, Running, Ascends, started, SessionConfig, Reflector, Entry, share, Knows, Shards, configs_at, seen_at, IsNewPass, happening_outcomes, happenings, Group, Watching, watching, watched, AllSole, AreClosed, AreWatched, HasKept, IsOpenedFor}
+use Rattle.bfdd.proofs.WatchedTextCommon.{◌≡◌, ◌<◌, ◌≤◌, ◌+◌, ◌*◌, ◌∙◌, ℕ, List, [], length, map, sym, ap, subst, arith, Some, slice_get, Ascends, started, SessionConfig, Reflector, Entry, share, Knows, Shards, configs_at, IsNewPass, happening_outcomes, happenings, Group, Watching, watching, watched, AllSole, AreClosed, AreWatched, HasKept, IsOpenedFor}
 use Rattle.bfd_shard.proofs.Sharing.{few_share}
 use Rattle.bfd_script.specs.Reading.{Lists}
 use Rattle.bfd_script.specs.Sound.{IsScript}

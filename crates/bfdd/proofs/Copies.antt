@@ -1,5 +1,5 @@
 -- A shard's sessions, copied one by one, and a watch of each shard.
-use Rattle.bfdd.proofs.WatchedTextCommon.{◌≡◌, ◌<◌, ◌≤◌, ◌+◌, ◌++◌, ℕ, List, [], ◌∷◌, length, drop, get_or, sym, ap, ◌∙◌, subst, append_assoc, append-nil, arith, length-append, dite, ℕ_discrete, slice_get, Some, share, SessionConfig, Watching, watching}
+use Rattle.bfdd.proofs.WatchedTextCommon.{◌≡◌, ◌<◌, ◌≤◌, ◌+◌, ◌++◌, ℕ, List, [], ◌∷◌, length, drop, get_or, sym, ap, ◌∙◌, subst, append_assoc, append-nil, arith, dite, ℕ_discrete, slice_get, Some, share, SessionConfig, Watching, watching}
 use Rattle.std.proofs.lemmas.List.{drop_all}
 use Rattle.bfd_shard.proofs.Sharing.{share_next, share_nothing}
 use Rattle.bfd_engine.proofs.Places.{front_here, last_here}

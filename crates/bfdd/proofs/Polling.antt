@@ -1,19 +1,13 @@
 -- Polls, shard by shard, and the text event by event.
-use Rattle.bfdd.proofs.WatchedTextCommon.{◌≡◌, ◌≢◌, ◌<◌, ◌≤◌, ◌+◌, ◌*◌, ◌++◌, ◌∙◌, ◌∷◌, ℕ, zero, suc, false, [], List, length, drop, map, sym, ap, subst, refl, append-nil, append_assoc, arith, length-append, length-map, length-set, set, same_Some, slice_index_or, get_or_from_slice_get, slice_get-get_or, dite, ℕ_discrete, drop-append_seam, slice_get, Option, None, Some, cons_option, Outcome, Running, configs_of, Ascends, started, SessionConfig, Reflector, Line, Entry, ShardEvent, share, history_of, last_tick, later, runs, moved, outcome_of, calls, has, EngineFault, Full, Memory, Spent, AllThere, IsOf, Knows, Shards, configs_at, made_at, met_word, seen_at, taken_at, AreClosed, EachJoined, IsClosed, HasRead, IsNewPass, by, entry_of, Among, Apart, Happening, happening_outcomes, in_shard, session_event, happening, happenings, IsSole, entries_by, sole_of, Change, changes_in, changes_from, Group, group_after, Watching, watching, watched, watched_line, watched_lines, watched_lines_from, AllSole, AreBehind, AreWatched, HasKept, IsRefusal, IsCutShort, IsUntaken, Went, brought, merged, merged_of, news}
+use Rattle.bfdd.proofs.WatchedTextCommon.{◌≡◌, ◌≢◌, ◌<◌, ◌≤◌, ◌+◌, ◌++◌, ◌∙◌, ℕ, suc, [], List, length, drop, sym, ap, subst, refl, append-nil, arith, length-set, set, same_Some, slice_index_or, get_or_from_slice_get, slice_get-get_or, dite, ℕ_discrete, drop-append_seam, slice_get, Some, SessionConfig, Entry, Knows, Shards, configs_at, seen_at, HasRead, Change, Watching, watching, AreBehind, AreWatched, HasKept, Went, merged, merged_of, news}
 use Rattle.bfd_turn.specs.Lists.{Begins}
-use Rattle.bfd_turn.specs.Passes.{last_word}
 use Rattle.bfd_turn.proofs.Beginnings.{begins_through}
 use Rattle.bfd_engine.proofs.Places.{set_else, set_here}
 use Rattle.bfd_watch.specs.declared.change.WatchFault.{WatchFault}
 use Rattle.bfd_watch.specs.declared.change.WatchFault.TheVariants as watch
 use Rattle.bfdd.specs.Following.{IsLeft}
-use Rattle.bfd_shard.specs.Shard.{Shard}
-use Rattle.bfd_shard.proofs.Runs.{last_more, runs_configs, runs_more}
-use Rattle.bfd_script.specs.Doing.{doing}
-use Rattle.bfd_replay.proofs.Going.{HasPassed, kept_by, kept_then, passed_none, passed_on, went_nowhere, went_on, went_same}
+use Rattle.bfd_replay.proofs.Going.{HasPassed, kept_by, passed_none, passed_on, went_nowhere, went_on, went_same}
 use Rattle.bfdd.proofs.Shared.{same_of}
-use Rattle.bfdd.proofs.TextLines.{shard_tells, all_tell, is_quiet}
-use Rattle.bfdd.proofs.Steps.{lines_step, group_step, count_step, few_step, end_told}
 
 -- one look at a shard's history
 

@@ -1,5 +1,5 @@
 -- What shards tell, each in the order of its own sessions, is as one list what the whole table tells.
-use Rattle.bfdd.proofs.WatchedTextCommon.{◌≡◌, ◌≢◌, ◌⊎◌, inl, inr, ◌<◌, ◌≤◌, ◌+◌, ◌-◌, ◌==◌, ◌++◌, ℕ, zero, suc, Bool, true, false, List, [], ◌∷◌, map, refl, sym, ap, append-nil, append_assoc, arith, nat_lt, if◌then◌else◌, AllByRecursion, flat_map, filter_map-append, lt-ltb, le-ltb, eq-eqb, ne_eqb, cases_lt, dite, ℕ_discrete, Out, Changed, Sent, named, discr_of, configs_of, Running, Ascends, share, Change, changes_in, lower, not_lower, merged, merged_of}
+use Rattle.bfdd.proofs.WatchedTextCommon.{◌≡◌, ◌≢◌, ◌⊎◌, inl, inr, ◌<◌, ◌≤◌, ◌+◌, ◌-◌, ◌==◌, ◌++◌, ℕ, zero, suc, Bool, true, false, List, [], ◌∷◌, refl, sym, ap, append_assoc, arith, nat_lt, if◌then◌else◌, AllByRecursion, flat_map, filter_map-append, lt-ltb, le-ltb, eq-eqb, ne_eqb, cases_lt, dite, ℕ_discrete, Out, Changed, Sent, named, discr_of, configs_of, Running, Ascends, share, Change, changes_in, lower, not_lower, merged, merged_of}
 
 -- changes of one session, and of sessions behind it
 

@@ -1,5 +1,5 @@
 -- What a line of a script is to an engine's shards, and what all of them tell of it.
-use Rattle.bfdd.proofs.WatchedTextCommon.{◌≡◌, ◌<◌, ◌+◌, ◌*◌, ◌%◌, ◌/◌, ◌==◌, ◌++◌, ◌∙◌, ◌∷◌, max, ℕ, Bool, true, false, [], List, length, drop, map, slice_get, sym, ap, refl, append-nil, arith, mod-lt, eq-eqb, ne_eqb, dite, ℕ_discrete, drop-append_seam, Option, None, Some, Result, Ok, Err, if◌then◌else◌, cons_option, flat_map, Out, Changed, Sent, Outcome, tick_items, Running, configs_of, Ascends, started, SessionConfig, Reflector, Entry, ShardEvent, Own, Tick, share, history_of, event_in, events_of, last_tick, later, runs, moved, outcome_of, Act, Rests, Turns, Shards, by, entry_of, Among, Apart, Happening, happening_outcomes, in_shard, session_event, happening_by, entries_by, events_entries, Change, changes_in, Watching, told_by, watching, brought, merged_of, news, of_event, outcome_in, told_after}
+use Rattle.bfdd.proofs.WatchedTextCommon.{◌≡◌, ◌<◌, ◌+◌, ◌*◌, ◌%◌, ◌==◌, ◌++◌, ◌∙◌, ◌∷◌, max, ℕ, [], List, length, drop, map, sym, ap, refl, append-nil, mod-lt, eq-eqb, ne_eqb, dite, ℕ_discrete, drop-append_seam, Option, None, Some, Result, Ok, Err, if◌then◌else◌, cons_option, flat_map, Out, Changed, Sent, tick_items, Running, configs_of, Ascends, SessionConfig, Reflector, Entry, ShardEvent, Own, Tick, share, history_of, event_in, events_of, last_tick, runs, outcome_of, entry_of, Among, Apart, Happening, in_shard, happening_by, entries_by, events_entries, Change, changes_in, told_by, watching, brought, merged_of, news, of_event, outcome_in}
 use Rattle.bfd_packet.specs.declared.arrival.Datagram.{Datagram}
 use Rattle.bfd_packet.specs.declared.discard.Test.{Test}
 use Rattle.bfd_sbfd.specs.Reflect.{reflect}
@@ -9,7 +9,7 @@ use Rattle.bfd_shard.proofs.Dealing.{last_of_shard}
 use Rattle.bfd_script.specs.Doing.{Doing, Rests as Resting, Reflects, Happens, Passes}
 use Rattle.bfd_replay.proofs.Histories.{runs_share}
 use Rattle.bfd_replay.proofs.Sharing.{own_gives}
-use Rattle.bfd_replay.specs.Planned.{reflecting, resting}
+use Rattle.bfd_replay.specs.Planned.{reflecting}
 use Rattle.bfdd.proofs.Shared.{all_of, same_of, none_of, one_of, changes_flat, changes_own}
 
 -- an event of no session tells no change

@@ -1,5 +1,5 @@
 -- The text of a script, event by event, and what is known of it once the engine is closed.
-use Rattle.bfdd.proofs.WatchedTextCommon.{◌≡◌, ◌≢◌, ◌<◌, ◌≤◌, ◌+◌, ◌*◌, ◌++◌, ◌∙◌, ◌∷◌, ℕ, suc, true, false, [], List, length, map, sym, ap, subst, refl, append-nil, arith, length-append, length-map, map-append, filter_map-append, slice_index_or, get_or, get_or_from_slice_get, slice_get-get_or, Option, None, Some, cons_option, Outcome, Running, configs_of, Ascends, started, SessionConfig, Line, Entry, ShardEvent, share, history_of, event_in, last_tick, last_from, runs, has, EngineFault, Full, Memory, Spent, Knows, Shards, made_at, met_word, seen_at, taken_at, AreClosed, EachJoined, IsClosed, IsNewPass, by, entry_of, Among, Apart, Happening, happening_outcomes, session_event, in_shard, happening, happenings, IsSole, entries_by, sole_of, left_runs, Change, changes_in, changes_from, Group, group_after, Watching, watching, watched, watched_line, watched_lines, watched_lines_from, AllSole, AreBehind, AreWatched, HasKept, IsRefusal, IsCutShort, IsUntaken, Went, brought, merged_of, news, outcome_in}
+use Rattle.bfdd.proofs.WatchedTextCommon.{◌≡◌, ◌<◌, ◌≤◌, ◌+◌, ◌++◌, ◌∙◌, ◌∷◌, ℕ, [], List, length, map, sym, ap, subst, refl, arith, length-map, slice_index_or, get_or_from_slice_get, Outcome, Ascends, started, Line, ShardEvent, share, history_of, last_tick, last_from, runs, EngineFault, Full, Memory, Spent, Knows, Shards, seen_at, IsNewPass, entry_of, happening_outcomes, in_shard, happening, happenings, IsSole, entries_by, left_runs, Change, changes_in, changes_from, Group, group_after, Watching, watching, watched, watched_line, watched_lines, watched_lines_from, AllSole, AreBehind, AreWatched, IsRefusal, IsCutShort, IsUntaken, Went, brought, merged_of, news, outcome_in}
 use Rattle.bfd_shard.proofs.Runs.{runs_configs}
 use Rattle.bfd_script.specs.Doing.{doing}
 use Rattle.bfd_replay.proofs.Going.{entries_both, went_on}

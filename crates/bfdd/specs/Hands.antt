@@ -1,7 +1,6 @@
 -- That a replay was made on the hands that were asked for.
 use Rattle.std.specs.Prelude.{◌≡◌}
 use Rattle.bfd_script.specs.Reading.{Lists}
-use Rattle.bfdd.specs.declared.words.job.Form.{Form}
 use Rattle.bfdd.specs.declared.words.job.Form.TheVariants as form
 use Rattle.bfdd.specs.declared.words.job.Hands.{Hands}
 use Rattle.bfd_replay.specs.Replayed.{HaveReplayed, taker_of, worker_of}

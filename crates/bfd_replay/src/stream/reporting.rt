@@ -10,7 +10,7 @@ ghost use Rattle.bfd_script.specs.Sound.{IsScript};
 ghost use Rattle.bfd_instance.specs.World.{replayed};
 ghost use Rattle.bfd_replay.specs.Planned.{happening, happenings};
 ghost use Rattle.bfd_replay.specs.Replayed.{HaveReplayed, taker_of};
-ghost use Rattle.bfd_replay.specs.Telling.{HasBrought, HasStopCause, HasToldEvent, HasToldFront, IsClosedAfter, IsEventStop, IsMeant, IsStop, ToldUpTo, fault_of, outcomes_on};
+ghost use Rattle.bfd_replay.specs.Telling.{HasBrought, HasStopCause, HasToldEvent, HasToldFront, IsClosedAfter, IsEventStop, IsMeant, IsStop, ToldUpTo, reason_of, outcomes_on};
 ghost use Rattle.bfd_replay.specs.Turning.{HasKept, Went, brought};
 ghost use Rattle.bfd_replay.specs.Working.{IsSole};
 ghost use Rattle.bfd_replay.specs.Written.{TookFront};
@@ -116,7 +116,9 @@ fn tell_lines<W: Timers, R: Wait, G: Gate, K: Sink, L: Ledger>(
     let mut steps = Steps::<L>::new(blank);
     let mut outs = outs;
     for line in events {
-        match tell_line(rt, engine, pass, line, &mut outs, told, &mut steps, gate, sink) {
+        match tell_line(
+            rt, engine, pass, line, &mut outs, told, &mut steps, gate, sink,
+        ) {
             Ok(()) => {}
             Err(stop) => return Err(stop),
         }
@@ -125,9 +127,9 @@ fn tell_lines<W: Timers, R: Wait, G: Gate, K: Sink, L: Ledger>(
 }
 
 /// What broke a replay off that took place.
-fn fault_of(stop: Stop) -> Fault
+fn reason_of(stop: Stop) -> Fault
     requires { IsMeant stop }
-    ensures { result ≡ fault_of stop }
+    ensures { result ≡ reason_of stop }
 {
     match stop {
         Stop::Unwritten(fault) => fault,
@@ -183,7 +185,7 @@ fn tell_all<W: Timers, R: Wait, G: Gate, K: Sink>(
             Ok(()) => Ok(states),
             Err(fault) => Err(fault),
         },
-        Err(stop) => Err(fault_of(stop)),
+        Err(stop) => Err(reason_of(stop)),
     }
 }
 

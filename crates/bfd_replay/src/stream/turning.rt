@@ -121,7 +121,17 @@ fn own<W: Timers, R: Wait, G: Gate, L: Ledger>(
         moment,
         event,
     };
-    match turn(rt, engine, pass, number, place % shards, own, outs, steps, gate) {
+    match turn(
+        rt,
+        engine,
+        pass,
+        number,
+        place % shards,
+        own,
+        outs,
+        steps,
+        gate,
+    ) {
         Ok(answer) => Ok(answer),
         Err(fault) => Err(fault),
     }
@@ -159,7 +169,9 @@ fn among<W: Timers, R: Wait, G: Gate, L: Ledger>(
             place,
             moment,
             event,
-        } => own(rt, engine, pass, number, place, moment, event, outs, steps, gate),
+        } => own(
+            rt, engine, pass, number, place, moment, event, outs, steps, gate,
+        ),
         ShardEvent::Tick(t) => tick(rt, engine, pass, number, t, outs, steps, gate),
     }
 }

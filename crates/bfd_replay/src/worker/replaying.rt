@@ -339,7 +339,12 @@ fn write_parts<W: Timers + Send + 'static, R: Threads + Sync, K: Sink>(
 /// It is refused as Failed where the sink failed, and as Memory when out of memory, here or in the sink, or at 2^64 packets sent or dropped;
 /// the sink took a prefix of the report then. What the closed shards were stays for clauses.
 #[tactic(auto, using(crate::proofs::Worlds::is_table))]
-pub(crate) fn replay_at_once<W: Timers + Send + 'static, R: Threads + Wait + Sync, G: Gate + Sync, K: Sink>(
+pub(crate) fn replay_at_once<
+    W: Timers + Send + 'static,
+    R: Threads + Wait + Sync,
+    G: Gate + Sync,
+    K: Sink,
+>(
     rt: &R,
     alloc: Global,
     script: Script,

@@ -12,8 +12,8 @@ close-states-requires-clause-first g c = c.tell_lines-end.ensures.kept.number 鈭
 pub close-states-requires-clause-joined : goal.close-states-requires-clause-joined
 close-states-requires-clause-joined g c = none_open c.requires.new c.tell_lines-end.ensures.kept
 
-pub fault_of-requires : goal.fault_of-requires
-fault_of-requires g c = meant c.in-Err.stop c.requires.new c.tell_lines-end.ensures.kept (omega (arith, c.requires.few)) c.close-states.ensures.closed c.in-Err.ensures.stopped
+pub reason_of-requires : goal.reason_of-requires
+reason_of-requires g c = meant c.in-Err.stop c.requires.new c.tell_lines-end.ensures.kept (omega (arith, c.requires.few)) c.close-states.ensures.closed c.in-Err.ensures.stopped
 
 pub returns-in-Ok-close-clause-whole : goal.returns-in-Ok-close-clause-whole
 returns-in-Ok-close-clause-whole g c =
@@ -50,5 +50,5 @@ returns-in-Err-clause-front g c =
     (outcomes_on c.args.engine (happenings c.args.engine.configs c.args.engine.pool c.args.events.items)) (ap (位 (t : Telling). t.text) c.new-told.ensures) (ap (位 (t : Telling). t.events) c.new-told.ensures) (ap (位 (t : Telling). t.txs) c.new-told.ensures) (ap (位 (t : Telling). t.drops) c.new-told.ensures) (c.tell_lines-end.ensures.front sole)
 
 pub returns-in-Err-clause-cause : goal.returns-in-Err-clause-cause
-returns-in-Err-clause-cause g c = rw c.fault_of.ensures (stop_cause _ _ c.in-Err.stop c.in-Err.ensures.cause
+returns-in-Err-clause-cause g c = rw c.reason_of.ensures (stop_cause _ _ c.in-Err.stop c.in-Err.ensures.cause
     (meant c.in-Err.stop c.requires.new c.tell_lines-end.ensures.kept (omega (arith, c.requires.few)) c.close-states.ensures.closed c.in-Err.ensures.stopped))

@@ -1,9 +1,7 @@
 -- What a look leaves for the watch to take.
-use Rattle.std.proofs.Common.{refl, ap, ◌∙◌, ◌≡◌, List, length, drop}
-use Rattle.bfd_shard.specs.declared.entry.Entry.{Entry}
-use Rattle.bfd_watch.specs.Watching.{watching}
+use Rattle.std.proofs.Common.{refl, ◌∙◌}
 use Rattle.bfd_engine.specs.Calls.{seen_at}
-use Rattle.bfdd.proofs.Polling.{entries_are, read_begins, rest_of, full_left, all_taken}
+use Rattle.bfdd.proofs.Polling.{entries_are, read_begins, full_left, all_taken}
 use Rattle.bfdd.proofs.watched_text.following.poll.Goals as goal
 
 pub returns-in-Err-Full-clause-untaken : goal.returns-in-Err-Full-clause-untaken

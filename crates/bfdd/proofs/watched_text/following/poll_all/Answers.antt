@@ -1,7 +1,5 @@
 -- One shard more, and at the end all.
-use Rattle.std.proofs.Common.{rules, [], refl, sym, subst, ◌∙◌, ◌≡◌, arith, length, Some}
-use Rattle.std.specs.Prelude.{slice_get}
-use Rattle.std.proofs.lemmas.Option.{slice_get-get_or}
+use Rattle.std.proofs.Common.{rules, [], refl, subst}
 use Rattle.bfdd.specs.Following.{IsUntaken}
 use Rattle.bfd_replay.proofs.Going.{passed_on}
 use Rattle.bfdd.proofs.Polling.{polled_first, at_place, behind_at, polled_on, polled_went, polled_told}
@@ -29,6 +27,9 @@ returns-in-Err-clause-untaken g c = (
   subst (λ n. IsUntaken c.in-Err.fault c.args.engine.now n c.loop-shard.shard c.poll.new.pass)
       (behind_at c.args.engine.now c.args.engine.now.limit c.args.number c.loop-shard.shard c.args.pass.now c.loop-shard.pass c.args.watches.now.items c.loop-shard.watches.items c.loop-shard.told.items c.index_mut-watch.result.now c.requires.behind c.loop-shard.invariant.polled (search rules) (at_place c.loop-shard.watches.items c.loop-shard.invariant.polled.long (search rules) c.index_mut-watch.ensures.value)).1 c.in-Err.ensures.untaken,
 )
+
+pub returns-in-Err-merge-clause-kept : goal.returns-in-Err-merge-clause-kept
+returns-in-Err-merge-clause-kept g c = (passed_on c.loop-shard.invariant.polled.passed c.poll.ensures.read.turned).kept
 
 pub returns-in-Err-merge-clause-went : goal.returns-in-Err-merge-clause-went
 returns-in-Err-merge-clause-went g c = polled_went c.args.engine.now c.args.engine.now.limit c.args.number c.loop-shard.shard c.args.pass.now c.loop-shard.pass c.args.watches.now.items c.loop-shard.watches.items c.loop-shard.told.items c.index_mut-watch.result.now c.poll.new.pass [] [] [] c.index_mut-watch.result.now c.requires.number c.loop-shard.invariant.polled c.poll.ensures.read

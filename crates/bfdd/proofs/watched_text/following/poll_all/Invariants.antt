@@ -1,5 +1,4 @@
 -- The shards so far were polled.
-use Rattle.std.proofs.Common.{◌≡◌}
 use Rattle.bfd_engine.specs.Engines.{IsOf, AllThere}
 use Rattle.bfdd.proofs.Polling.{HasPolled}
 use Rattle.bfdd.proofs.watched_text.following.poll_all.Given as goal

@@ -1,5 +1,5 @@
 -- One event more is told, and at the end the whole is.
-use Rattle.std.proofs.Common.{◌≡◌, ◌≤◌, ◌+◌, List, ◌∷◌, length, ap, sym, ◌∙◌, arith, rules}
+use Rattle.std.proofs.Common.{◌≡◌, List, ◌∷◌, length, ap, sym, ◌∙◌, arith, rules}
 use Rattle.std.proofs.lemmas.List.{nil_from_length}
 use Rattle.bfd_watch.specs.declared.change.Change.{Change}
 use Rattle.bfd_replay.proofs.Going.{kept_less, kept_same, kept_then}

@@ -21,18 +21,18 @@ tell-told-requires-clause-watched g c = first_watched c.in_ok-engine.ensures.eng
 pub tell-told-requires-clause-room : goal.tell-told-requires-clause-room
 tell-told-requires-clause-room g c = room_enough c.in_ok-engine.ensures.engine (search rules)
 
-pub close-requires-clause-first : goal.close-requires-clause-first
-close-requires-clause-first g c = c.tell-told.ensures.kept.number ∙ c.in_ok-engine.ensures.pass.number
+pub close-states-requires-clause-first : goal.close-states-requires-clause-first
+close-states-requires-clause-first g c = c.tell-told.ensures.kept.number ∙ c.in_ok-engine.ensures.pass.number
 
-pub close-requires-clause-joined : goal.close-requires-clause-joined
-close-requires-clause-joined g c = none_open c.in_ok-engine.ensures.pass c.tell-told.ensures.kept
+pub close-states-requires-clause-joined : goal.close-states-requires-clause-joined
+close-states-requires-clause-joined g c = none_open c.in_ok-engine.ensures.pass c.tell-told.ensures.kept
 
 pub text_of-requires : goal.text_of-requires
 text_of-requires g c = IfErr-weaker c.tell-told.result (λ fault. IsCutShort fault c.in_ok-engine.engine c.tell-told.new.pass) (λ fault. fault ≡ Memory)
-    (λ fault. never_stopped fault c.in_ok-engine.ensures.pass c.tell-told.ensures.kept (omega (arith, (taken_apart c.script.view_is c.requires.script).events.few)) c.close.ensures.closed) c.tell-told.ensures.stopped
+    (λ fault. never_stopped fault c.in_ok-engine.ensures.pass c.tell-told.ensures.kept (omega (arith, (taken_apart c.script.view_is c.requires.script).events.few)) c.close-states.ensures.closed) c.tell-told.ensures.stopped
 
 pub returns : goal.returns
 returns g c = IfOk-weaker c.text_of.result (λ text. c.tell-told.result ≡ Ok text) (λ text. text.items ≡ watched_of c.args.need c.args.members.now c.args.script)
-    (λ text same. closed_text c.args.members.now c.script.view_is c.in_ok-engine.ensures.engine c.in_ok-engine.ensures.pass c.tell-told.ensures.kept c.close.ensures.closed
+    (λ text same. closed_text c.args.members.now c.script.view_is c.in_ok-engine.ensures.engine c.in_ok-engine.ensures.pass c.tell-told.ensures.kept c.close-states.ensures.closed
     (IfOk-at_ok (λ t. AllSole (length c.in_ok-engine.engine.locks) c.tell-told.new.pass → t.items ≡ watch.watched (happening_outcomes 0 (happenings c.in_ok-engine.engine.configs c.in_ok-engine.engine.pool c.script.inside.events.items) (map started c.in_ok-engine.engine.configs)) c.in_ok-group.group) same c.tell-told.ensures.told)
     (c.in_ok-group.ensures ∙ ap (λ cs. group_in c.args.need c.args.members.now (map started cs)) c.deref.ensures.value)) c.text_of.ensures
