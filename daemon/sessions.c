@@ -6,6 +6,7 @@
  * is tried again after each packet of the session and each second. */
 #include "daemon.h"
 
+#include <arpa/inet.h>
 #include <sys/random.h>
 
 enum { BUCKETS = 4096, CHANGEABLE = 4, NAME = 160, CAUSE = 160, CHANGE = 480, LEAST_INTERVAL = 10000, GREATEST_INTERVAL = 60000000 };
@@ -49,6 +50,12 @@ static void enter(struct session *s, bool is_in) {
     }
 }
 
+static uint32_t get32(const uint8_t *at) {
+    uint32_t number;
+    memcpy(&number, at, sizeof number);
+    return ntohl(number);
+}
+
 typedef void session_act(struct session *s, uint64_t now);
 
 /* Does this to each session, which it may close. */
@@ -71,7 +78,7 @@ static struct session *find_for(const struct arrivals *arrivals, size_t i) {
     const bfdd_packet *packet = &arrivals->packets[i].packet;
     struct session *any = NULL;
     if (arrivals->packets[i].length < 24) return NULL;
-    uint32_t discr = dp_get32(arrivals->packets[i].payload + 8);
+    uint32_t discr = get32(arrivals->packets[i].payload + 8);
     struct session *s = discr ? sessions_find(discr) : *bucket_of_peer(&packet->src);
     for (; s; s = discr ? NULL : s->next[BY_PEER]) {
         bool is_exact = is_multihop(s) || s->path.ifindex == arrivals->ifindex[i];
@@ -173,10 +180,10 @@ static void keep_peer(struct session *s, const uint8_t *payload, size_t length) 
     s->state.diagnostic = payload[0] & 31;
     s->state.peer_flags = c * DP_PEER_C | d * DP_PEER_DEMAND | m * DP_PEER_MULTIPOINT;
     s->state.peer_mult = payload[2];
-    s->state.peer_discr = dp_get32(payload + 4);
-    s->state.peer_tx = dp_get32(payload + 12);
-    s->state.peer_rx = dp_get32(payload + 16);
-    s->state.peer_echo_rx = dp_get32(payload + 20);
+    s->state.peer_discr = get32(payload + 4);
+    s->state.peer_tx = get32(payload + 12);
+    s->state.peer_rx = get32(payload + 16);
+    s->state.peer_echo_rx = get32(payload + 20);
     s->packets_in++;
     s->bytes_in += length;
 }
