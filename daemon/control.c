@@ -109,8 +109,9 @@ static void accept_link(uint32_t number, uint64_t now) {
 
 static void answer_counters(struct link *link, uint16_t id, uint32_t discr) {
     const struct session *s = sessions_find(discr);
-    struct dp_message answer = {.type = DP_COUNTERS, .id = id, .body.counters.discr = discr};
-    if (s) answer.body.counters = (struct dp_counters){discr, 0, s->bytes_in, s->packets_in, s->bytes_out, s->packets_out, {0}};
+    struct dp_message answer = {.type = DP_COUNTERS, .id = id};
+    if (s) answer.body.counters = s->counters;
+    answer.body.counters.discr = discr;
     put(link, &answer);
 }
 

@@ -90,37 +90,27 @@ void loop_end(void);
 
 /* sockets: control packets over a single hop (UDP port 3784) and over several (4784), IPv4 and IPv6, in and out ------------ */
 
-/* Packets are received and sent many at a time, without an allocation. One socket of each port receives on every interface, and
- * one sends; IPv4 addresses are mapped ones there (RFC 4291 section 2.5.5.2), so the system has to know IPv6, if only that. The
- * kernel gives a packet's interface, address, TTL and time beside it. An interface in a VRF has sockets of its own, which are
+/* Nothing is allocated for a packet. One socket of each port receives on every interface, and one sends; IPv4 addresses are mapped ones
+ * there (RFC 4291 section 2.5.5.2), so the system has to know IPv6, if only that. An interface in a VRF has sockets of its own, which are
  * bound to a device: over a single hop to the interface, over several to the VRF. */
-
-/* Packets that came to one socket, but for their `iface`, which is the engine's number and not the system's. */
-struct arrivals {
-    size_t count;
-    uint32_t device; /* that the socket is bound to; 0: none */
-    bfdd_arrival packets[BFDD_MANY];
-    uint32_t ifindex[BFDD_MANY];
-};
-
-typedef void arrivals_taker(struct arrivals *arrivals);
 
 /* What a session sends by. */
 struct path {
     uint32_t ifindex; /* 0: none */
     uint32_t device;  /* that its sockets are bound to; 0: none */
-    uint32_t sender;  /* the number of the socket */
+    int sender;       /* the socket */
 };
 
+/* Is given a packet, whose `iface` isn't set; the ifindex of its interface; and the device of its socket, 0 for none. */
+typedef void packet_taker(bfdd_arrival *arrival, uint32_t ifindex, uint32_t device);
+
 /* Opens the sockets that are bound to no device, or ends the program; the loop hands over from now on what comes to any. */
-void sockets_open(arrivals_taker *take);
+void sockets_open(packet_taker *take);
 
 /* Finds the sockets of a session with this interface, and opens those for a VRF. False with errno. */
 bool sockets_find(bool is_multihop, uint32_t ifindex, struct path *path);
 
-/* Queues a packet. The queue is sent when it is full, and by sockets_flush. */
 void sockets_send(const bfdd_output *out, const struct path *path);
-void sockets_flush(void);
 
 /* The address from which the system would send to this one, by its routing table. False where it has no route. */
 bool sockets_source(const bfdd_address *to, const struct path *path, bfdd_address *source);
@@ -140,8 +130,8 @@ struct record {
 void record_in(const char *folder);
 bool record_is_on(void);
 
-/* Each of these says in a line what fails, and then records no more of the session. A verb is an enum bfdd_verb, or 0 for a
- * question; record_flush hands over to the system what was recorded so far. */
+/* Each of these says in a line what fails, and then records no more of the session. A verb is an enum bfdd_verb. record_flush hands
+ * over to the system what was recorded so far. */
 void record_begin(struct record *record, const bfdd_session *session, uint64_t now);
 void record_packet(struct record *record, const bfdd_arrival *arrival);
 void record_tick(struct record *record, uint64_t ms);
@@ -184,7 +174,7 @@ struct session {
     uint8_t peer_state;
     uint64_t since;                                        /* when the own state was last changed, or the session opened */
     uint64_t heard;                                        /* when the last packet came that the engine took; 0: none did */
-    uint64_t bytes_in, packets_in, bytes_out, packets_out; /* control packets that were taken and sent */
+    struct dp_counters counters;                           /* control packets that were taken and sent */
     uint64_t ups, up_for; /* how often it came Up, and how long it was Up, but for the time since it last came Up */
     struct record record;
 };
@@ -200,8 +190,8 @@ struct session_change {
  * the owner has no room for that now; then it is tried again in a second. */
 typedef bool session_teller(const struct session *s, const struct session_change *change);
 
-/* Is given a session, and what it shows: NULL where it hasn't begun. */
-typedef void session_viewer(FILE *file, const struct session *s, const bfdd_answered *shown, uint64_t now);
+/* Is given a session, and what the engine has of it: NULL where it hasn't begun. */
+typedef void session_viewer(FILE *file, const struct session *s, const bfdd_session_state *shown, uint64_t now);
 
 /* Begins without a session, with the sockets, or ends the program. `keep` is for how long sessions go on without a connection. */
 void sessions_open(session_teller *tell, uint64_t keep);

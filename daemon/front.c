@@ -59,7 +59,6 @@ void front_view(uint64_t now) {
 
 static uint64_t pass_time(uint64_t now) {
     uint64_t due = sessions_pass(now), other = also ? also(now) : UINT64_MAX;
-    sockets_flush();
     return due < other ? due : other;
 }
 
@@ -68,5 +67,4 @@ void front_run(loop_round *round, bool is_viewed) {
     loop_run(pass_time);
     if (is_viewed) front_view(clock_now());
     sessions_close(clock_now());
-    sockets_flush();
 }

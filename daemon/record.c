@@ -113,9 +113,8 @@ void record_tick(struct record *record, uint64_t ms) {
 void record_command(struct record *record, uint64_t moment, uint32_t discr, uint32_t verb, uint64_t value) {
     static const char *const verbs[] = {"", "disable", "enable", "reset", "path", "tx", "rx", "mult", "demand", "echo", "key"};
     if (!has_room(record)) return;
-    if (verb == 0) bfdd_show(&record->alone, moment, discr);
-    else bfdd_command(&record->alone, moment, discr, verb, value);
-    fprintf(record->file, verb ? "cmd %" PRIu64 " %" PRIu32 " %s" : "show %" PRIu64 " %" PRIu32 "%s", moment, discr, verbs[verb]);
+    bfdd_command(&record->alone, moment, discr, verb, value);
+    fprintf(record->file, "cmd %" PRIu64 " %" PRIu32 " %s", moment, discr, verbs[verb]);
     if (verb >= BFDD_PATH) fprintf(record->file, " %" PRIu64, value);
     fputc('\n', record->file);
 }

@@ -10,7 +10,7 @@ static double seconds_up(const struct session *s, uint64_t now) {
     return seconds(s->up_for + (s->state.state == BFDD_UP ? now - s->since : 0));
 }
 
-void view_text(FILE *file, const struct session *s, const bfdd_answered *shown, uint64_t now) {
+void view_text(FILE *file, const struct session *s, const bfdd_session_state *shown, uint64_t now) {
     char since[MOMENT_TEXT];
     if (!shown) {
         fprintf(file, "%s: not begun\n", session_name(s));
@@ -23,7 +23,7 @@ void view_text(FILE *file, const struct session *s, const bfdd_answered *shown, 
         fprintf(file, "peer's tx %g ms, rx %g ms, Detect Mult %u, diagnostic %u (%s), heard %.3f s ago; ", ms(s->state.peer_tx),
                 ms(s->state.peer_rx), s->state.peer_mult, s->state.diagnostic, diagnostic_text(s->state.diagnostic),
                 seconds(now - s->heard));
-    fprintf(file, "packets %" PRIu64 " in %" PRIu64 " out; Up %" PRIu64 " times, %.3f of %.3f s\n", s->packets_in, s->packets_out,
+    fprintf(file, "packets %" PRIu64 " in %" PRIu64 " out; Up %" PRIu64 " times, %.3f of %.3f s\n", s->counters.packets_in, s->counters.packets_out,
             s->ups, seconds_up(s, now), seconds(now - s->begun));
 }
 
@@ -43,7 +43,7 @@ static void put_names(FILE *file, const struct session *s) {
     put_string(file, "interface", s->wanted.ifname);
 }
 
-static void put_shown(FILE *file, const struct session *s, const bfdd_answered *shown) {
+static void put_shown(FILE *file, const struct session *s, const bfdd_session_state *shown) {
     char text[MOMENT_TEXT];
     fprintf(file, "\"state\":\"%s\",\"since\":\"%s\",", state_text(shown->state), moment_text(s->since, text));
     fprintf(file, "\"diagnostic\":%u,\"diagnostic-text\":\"%s\",", shown->diag, diagnostic_text(shown->diag));
@@ -58,12 +58,12 @@ static void put_shown(FILE *file, const struct session *s, const bfdd_answered *
             s->state.peer_tx, s->state.peer_rx, s->state.peer_mult);
 }
 
-void view_json(FILE *file, const struct session *s, const bfdd_answered *shown, uint64_t now) {
+void view_json(FILE *file, const struct session *s, const bfdd_session_state *shown, uint64_t now) {
     fputc('{', file);
     put_names(file, s);
     if (shown) put_shown(file, s, shown);
-    fprintf(file, "\"bytes-in\":%" PRIu64 ",\"packets-in\":%" PRIu64 ",\"bytes-out\":%" PRIu64 ",\"packets-out\":%" PRIu64 ",", s->bytes_in,
-            s->packets_in, s->bytes_out, s->packets_out);
+    fprintf(file, "\"bytes-in\":%" PRIu64 ",\"packets-in\":%" PRIu64 ",\"bytes-out\":%" PRIu64 ",\"packets-out\":%" PRIu64 ",", s->counters.bytes_in,
+            s->counters.packets_in, s->counters.bytes_out, s->counters.packets_out);
     fprintf(file, "\"ups\":%" PRIu64 ",\"seconds-up\":%.6f,\"seconds\":%.6f}\n", s->ups, seconds_up(s, now), seconds(now - s->begun));
 }
 
