@@ -10,7 +10,6 @@
 
 #include <bfdd.h>
 #include <errno.h>
-#include <getopt.h>
 #include <inttypes.h>
 #include <net/if.h>
 #include <stdio.h>
@@ -19,6 +18,8 @@
 #include <sys/epoll.h>
 #include <sys/socket.h>
 #include <unistd.h>
+
+#define COUNT(array) (sizeof(array) / sizeof *(array))
 
 /* words: lines on standard error, the clocks, and names, addresses and moments as text ----------------------------------- */
 
@@ -69,7 +70,7 @@ int endpoint_listen(const struct endpoint *endpoint);
 
 /* Whose events they are. Those of a kind go to one function, and those of packets first, so that a late awakening takes no session
  * down whose packet is there. */
-enum loop_kind { LOOP_PACKETS, LOOP_TIMER, LOOP_SIGNALS, LOOP_LISTENER, LOOP_LINK, LOOP_VIEW, LOOP_ASKER, LOOP_KEY, LOOP_KINDS };
+enum loop_kind { LOOP_PACKETS, LOOP_SIGNALS, LOOP_LISTENER, LOOP_LINK, LOOP_VIEW, LOOP_KEY, LOOP_KINDS };
 
 /* An event of the descriptor that was given with this number. */
 typedef void loop_act(uint32_t number, uint64_t now);
@@ -87,6 +88,9 @@ void loop_await(int fd, enum loop_kind kind, uint32_t number, uint32_t events, l
 /* Runs until it is ended. A round lets time pass, sleeps until the next moment or an event, and carries the events out. */
 void loop_run(loop_round *round);
 void loop_end(void);
+
+/* As fork, but that the child has its signals again. */
+pid_t loop_fork(void);
 
 /* sockets: control packets over a single hop (UDP port 3784) and over several (4784), IPv4 and IPv6, in and out ------------ */
 
@@ -190,9 +194,6 @@ struct session_change {
  * the owner has no room for that now; then it is tried again in a second. */
 typedef bool session_teller(const struct session *s, const struct session_change *change);
 
-/* Is given a session, and what the engine has of it: NULL where it hasn't begun. */
-typedef void session_viewer(FILE *file, const struct session *s, const bfdd_session_state *shown, uint64_t now);
-
 /* Begins without a session, with the sockets, or ends the program. `keep` is for how long sessions go on without a connection. */
 void sessions_open(session_teller *tell, uint64_t keep);
 
@@ -215,16 +216,16 @@ uint64_t sessions_pass(uint64_t now);
 /* NULL where no session has the discriminator. */
 struct session *sessions_find(uint32_t discr);
 
-void sessions_view(session_viewer *view, FILE *file, uint64_t now);
+void sessions_view(FILE *file, bool is_json, uint64_t now);
 
 /* A session as a line names it, as "session 7 to 10.0.0.2 on eth0", until the next call. */
 const char *session_name(const struct session *s);
 
 /* view: what a session shows, as text for a person and as JSON for a program ------------------------------------------------ */
 
-/* Each writes one line. */
-session_viewer view_text, view_json;
-void view_change(FILE *file, bool json, const struct session *s, const struct session_change *change);
+/* Each writes one line. What the engine has of a session counts for nothing where it isn't open. */
+void view_session(FILE *file, bool is_json, const struct session *s, const bfdd_session_state *shown, uint64_t now);
+void view_change(FILE *file, bool is_json, const struct session *s, const struct session_change *change);
 
 /* Listens on a unix socket at this path: whoever connects gets a line of JSON for each of the sessions. It ends the program where
  * that fails. */
@@ -243,25 +244,26 @@ uint64_t control_round(uint64_t now);
 
 /* front: what both programs have in common, from the options to the last AdminDown ------------------------------------------- */
 
-/* The last of the options that a front knows, and their lines of its usage. */
-#define FRONT_OPTIONS \
-    {"record", required_argument, NULL, 'R'}, {"control", required_argument, NULL, 'C'}, {"log", required_argument, NULL, 'L'}, \
-    {"help", no_argument, NULL, 'H'}, {"version", no_argument, NULL, 'V'}, {0}
-#define FRONT_USAGE(level) \
-    "  --record FOLDER  write each session's life to a packet file of its own there, for bfdd replay\n" \
-    "  --control PATH   a unix socket that answers whoever connects with a line of JSON for each session\n" \
-    "  --log LEVEL      error, warning, info or debug, to standard error; " level " if not given\n" \
-    "  --help           this text\n" \
-    "  --version        the version\n"
+/* An option: its value, if it has one, goes to the one of `flag`, `text` and `number` that isn't NULL, a number if it is in the range. */
+struct choice {
+    const char *name, *value, *help; /* `value` is what the usage calls it; NULL: the option has none */
+    bool *flag;
+    const char **text;
+    uint64_t *number, least, greatest;
+};
 
-/* Carries out an option of the front's own. False where its value is wrong. */
-typedef bool front_option(int option, const char *value);
+/* What a usage has above and below the options, and those that are the program's own. */
+struct program {
+    const char *above, *below;
+    const struct choice *choices;
+    size_t count;
+};
 
 /* Reads the options. It ends the program by --help and --version, and where one is wrong. */
-void front_read(int count, char **words, const struct option *known, front_option *take, const char *usage);
+void front_read(int count, char **words, const struct program *program);
 
 /* Writes the usage to standard error and ends the program. */
-_Noreturn void front_fault(const char *usage);
+_Noreturn void front_fault(void);
 
 /* Begins without a session, as sessions_open does. SIGUSR1 views them to `views`, as JSON or as text. */
 void front_open(session_teller *tell, uint64_t keep, FILE *views, bool json);

@@ -404,12 +404,12 @@ uint64_t sessions_pass(uint64_t now) {
     return is_due && due * 1000 < next_chores ? due * 1000 : next_chores;
 }
 
-void sessions_view(session_viewer *view, FILE *file, uint64_t now) {
+void sessions_view(FILE *file, bool is_json, uint64_t now) {
     for (size_t i = 0; i < BUCKETS; i++) {
         for (struct session *s = tables[BY_DISCR][i]; s; s = s->next[BY_DISCR]) {
             bfdd_session_state state = {0};
-            bool is_there = s->is_open && bfdd_state(&engine, s->wanted.discr, &state) == BFDD_DONE;
-            view(file, s, is_there ? &state : NULL, now);
+            if (s->is_open) bfdd_state(&engine, s->wanted.discr, &state);
+            view_session(file, is_json, s, &state, now);
         }
     }
 }

@@ -45,7 +45,7 @@ static bfdd_address unmapped(const struct in6_addr *in6) {
 static bool set(int fd, int level, int option, int value) { return setsockopt(fd, level, option, &value, sizeof value) == 0; }
 
 static bool set_options(int fd) {
-    for (size_t i = 0; i < sizeof options / sizeof *options; i++)
+    for (size_t i = 0; i < COUNT(options); i++)
         if (!set(fd, options[i].level, options[i].option, options[i].value)) return false;
     return true;
 }
