@@ -148,7 +148,7 @@ void record_end(struct record *record);
 /* The owner gives additions, removals, packets and the time. What the sessions send goes to the sockets; changes of state go to the
  * teller. */
 
-enum { NO_OWNER = 0, BY_DISCR = 0, BY_PEER, TABLES };
+enum { NO_OWNER = 0, BY_DISCR = 0, BY_PEER, ALL, TABLES };
 
 /* What FRR's protocol doesn't carry: the Auth Type (RFC 5880 section 4.1), 0 for none, and its key. */
 struct session_key {

@@ -22,16 +22,16 @@ static bfdd_handle engine = BFDD_HANDLE_INIT;
 static uint64_t ticked; /* the engine's last tick, milliseconds */
 static uint64_t next_chores, keep;
 static session_teller *teller;
-static struct session *tables[TABLES][BUCKETS];
+static struct session *by_discr[BUCKETS], *by_peer[BUCKETS], *all;
 
 /* Finding -------------------------------------------------------------------------------------------------------------- */
 
-static struct session **bucket_of_discr(uint32_t discr) { return &tables[BY_DISCR][(discr * 2654435769u) >> 20]; }
+static struct session **bucket_of_discr(uint32_t discr) { return &by_discr[(discr * 2654435769u) >> 20]; }
 
 static struct session **bucket_of_peer(const bfdd_address *peer) {
     uint32_t sum = 2166136261u;
     for (size_t i = 0; i < sizeof peer->bytes; i++) sum = (sum ^ peer->bytes[i]) * 16777619u;
-    return &tables[BY_PEER][sum % BUCKETS];
+    return &by_peer[sum % BUCKETS];
 }
 
 struct session *sessions_find(uint32_t discr) {
@@ -40,9 +40,9 @@ struct session *sessions_find(uint32_t discr) {
     return s;
 }
 
-/* Puts a session into both tables, or takes it out of them. */
+/* Puts a session into the tables, or takes it out of them. */
 static void enter(struct session *s, bool is_in) {
-    struct session **buckets[TABLES] = {bucket_of_discr(s->wanted.discr), bucket_of_peer(&s->remote)};
+    struct session **buckets[TABLES] = {bucket_of_discr(s->wanted.discr), bucket_of_peer(&s->remote), &all};
     for (int table = 0; table < TABLES; table++) {
         struct session **at = buckets[table];
         while (!is_in && *at != s) at = &(*at)->next[table];
@@ -55,18 +55,6 @@ static uint32_t get32(const uint8_t *at) {
     uint32_t number;
     memcpy(&number, at, sizeof number);
     return ntohl(number);
-}
-
-typedef void session_act(struct session *s, uint64_t now);
-
-/* Does this to each session, which it may close. */
-static void for_each(session_act *act, uint64_t now) {
-    for (size_t i = 0; i < BUCKETS; i++) {
-        for (struct session *s = tables[BY_DISCR][i], *next; s; s = next) {
-            next = s->next[BY_DISCR];
-            act(s, now);
-        }
-    }
 }
 
 static bool is_multihop(const struct session *s) { return (s->wanted.flags & DP_MULTIHOP) != 0; }
@@ -278,8 +266,7 @@ static void end_session(struct session *s, uint64_t now) {
     say(LOG_INFO, "%s ends", session_name(s));
 }
 
-static void free_session(struct session *s, uint64_t now) {
-    (void)now;
+static void free_session(struct session *s) {
     record_end(&s->record);
     enter(s, false);
     free(s);
@@ -288,7 +275,7 @@ static void free_session(struct session *s, uint64_t now) {
 static void close_session(struct session *s, uint64_t now) {
     end_session(s, now);
     remove_from_engine(s);
-    free_session(s, now);
+    free_session(s);
 }
 
 /* Additions and removals ----------------------------------------------------------------------------------------------- */
@@ -357,12 +344,10 @@ void sessions_remove(uint32_t discr, uint64_t now) {
 
 /* Its sessions end in the next round, or later if they are kept. */
 void sessions_lost(uint32_t owner, uint64_t now) {
-    for (size_t i = 0; i < BUCKETS; i++) {
-        for (struct session *s = tables[BY_DISCR][i]; s; s = s->next[BY_DISCR]) {
-            if (s->owner != owner) continue;
-            s->owner = NO_OWNER;
-            s->ends = now + keep;
-        }
+    for (struct session *s = all; s; s = s->next[ALL]) {
+        if (s->owner != owner) continue;
+        s->owner = NO_OWNER;
+        s->ends = now + keep;
     }
     next_chores = now;
 }
@@ -381,15 +366,10 @@ static void second(struct session *s, uint64_t now) {
     if (s->told_at && (!s->is_told || (is_up && now - s->told_at >= TELL_AGAIN))) tell(s, NULL, now);
 }
 
-static void record_one(struct session *s, uint64_t now) {
-    (void)now;
-    record_tick(&s->record, ticked);
-}
-
 static void tick(uint64_t now) {
     if (bfdd_tick(&engine, now / 1000) != BFDD_DONE) return;
     ticked = now / 1000;
-    if (record_is_on()) for_each(record_one, now);
+    for (struct session *s = record_is_on() ? all : NULL; s; s = s->next[ALL]) record_tick(&s->record, ticked);
     take_outputs(TICK, now);
 }
 
@@ -398,19 +378,20 @@ uint64_t sessions_pass(uint64_t now) {
     if (bfdd_due(&engine, &due) == BFDD_DONE && due <= now / 1000) tick(now);
     if (next_chores <= now) {
         next_chores = now + SECOND;
-        for_each(second, now);
+        for (struct session *s = all, *next; s; s = next) {
+            next = s->next[ALL];
+            second(s, now);
+        }
     }
     bool is_due = bfdd_due(&engine, &due) == BFDD_DONE;
     return is_due && due * 1000 < next_chores ? due * 1000 : next_chores;
 }
 
 void sessions_view(FILE *file, bool is_json, uint64_t now) {
-    for (size_t i = 0; i < BUCKETS; i++) {
-        for (struct session *s = tables[BY_DISCR][i]; s; s = s->next[BY_DISCR]) {
-            bfdd_session_state state = {0};
-            if (s->is_open) bfdd_state(&engine, s->wanted.discr, &state);
-            view_session(file, is_json, s, &state, now);
-        }
+    for (struct session *s = all; s; s = s->next[ALL]) {
+        bfdd_session_state state = {0};
+        if (s->is_open) bfdd_state(&engine, s->wanted.discr, &state);
+        view_session(file, is_json, s, &state, now);
     }
 }
 
@@ -425,7 +406,7 @@ void sessions_open(session_teller *tell_owner, uint64_t keep_for) {
 
 /* All say AdminDown; then the engine is closed at once, since a removal takes time by the number of sessions. */
 void sessions_close(uint64_t now) {
-    for_each(end_session, now);
+    for (struct session *s = all; s; s = s->next[ALL]) end_session(s, now);
     bfdd_close(&engine);
-    for_each(free_session, now);
+    while (all) free_session(all);
 }
