@@ -13,9 +13,9 @@ static const uint64_t NEVER = UINT64_MAX, PAUSE = 1000000;
 
 /* A connection. Its place is its number for the loop, and one more than that is the owner of its sessions. */
 static struct link {
-    int fd;             /* -1: closed */
-    bool is_open;       /* FRR has sent something */
-    bool has_sessions;  /* some of which were additions */
+    int fd;              /* -1: closed */
+    bool is_open;        /* FRR has sent something */
+    bool has_sessions;   /* some of which were additions */
     size_t unread, rest; /* bytes that wait to be carried out, and to be sent */
     uint8_t in[BUFFER], out[BUFFER];
 } links[LINKS];
@@ -92,10 +92,11 @@ static void begin(int fd, bool is_open, uint64_t now) {
 }
 
 static void open_link(uint64_t now) {
-    int fd = socket(peer.address.ss_family, SOCK_STREAM | SOCK_NONBLOCK | SOCK_CLOEXEC, 0);
+    const struct sockaddr *address = (const struct sockaddr *)&peer.address;
+    int fd = socket(address->sa_family, SOCK_STREAM | SOCK_NONBLOCK | SOCK_CLOEXEC, 0);
     connect_at = NEVER;
     received = 0;
-    if (fd >= 0 && (connect(fd, (const struct sockaddr *)&peer.address, peer.length) == 0 || errno == EINPROGRESS)) return begin(fd, false, now);
+    if (fd >= 0 && (connect(fd, address, peer.length) == 0 || errno == EINPROGRESS)) return begin(fd, false, now);
     refuse(strerror(errno), now);
     if (fd >= 0) close(fd);
 }

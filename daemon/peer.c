@@ -109,7 +109,8 @@ static void take_line(const char *line) {
     if (sscanf(line, "p2p %" SCNu32 " %7s %" SCNu32 " %47s %47s %7s %" SCNu32 " %" SCNu32 " %" SCNu32 " %" SCNu32, &s->discr, hops,
                &s->ifindex, local, remote, mode, &s->tx, &s->rx, &detect, &echo) == 10) {
         read_address(local, s->source);
-        s->flags = read_address(remote, s->destination) | (*hops == 'm' ? DP_MULTIHOP : 0u) | (echo ? DP_ECHO : 0u) | (*mode == 'p' ? DP_PASSIVE : 0u);
+        s->flags = read_address(remote, s->destination) | (*hops == 'm' ? DP_MULTIHOP : 0u) | (*mode == 'p' ? DP_PASSIVE : 0u)
+                   | (echo ? DP_ECHO : 0u);
         s->mult = (uint8_t)detect;
         if (s->ifindex && !if_indextoname(s->ifindex, s->ifname)) fail(line, "no interface has this number");
         add_entry(&entry);

@@ -10,7 +10,9 @@
 #include <stdint.h>
 
 /* An addition is also the change of a session that is there. */
-enum dp_type { DP_ECHO_REQUEST, DP_ECHO_REPLY, DP_ADD_SESSION, DP_DELETE_SESSION, DP_STATE_CHANGE, DP_REQUEST_COUNTERS, DP_COUNTERS, DP_TYPES };
+enum dp_type {
+    DP_ECHO_REQUEST, DP_ECHO_REPLY, DP_ADD_SESSION, DP_DELETE_SESSION, DP_STATE_CHANGE, DP_REQUEST_COUNTERS, DP_COUNTERS, DP_TYPES
+};
 
 /* Lengths of the header, of the longest message that is written, and of what another version may have. */
 enum dp_length { DP_HEADER = 8, DP_SESSION_LENGTH = 140, DP_LONGEST_WRITTEN = 80, DP_LONGEST = 65535 };

@@ -92,9 +92,10 @@ static bool has_room(struct record *record) {
 
 void record_packet(struct record *record, const bfdd_arrival *arrival) {
     const bfdd_packet *packet = &arrival->packet;
+    const char *port = packet->port == BFDD_PORT_MULTI ? "multi" : "single";
     if (!has_room(record)) return;
     bfdd_receive(&record->alone, packet, arrival->payload, arrival->length);
-    fprintf(record->file, "rx %" PRIu64 " %s %" PRIu32 " ", packet->moment, packet->port == BFDD_PORT_MULTI ? "multi" : "single", packet->iface);
+    fprintf(record->file, "rx %" PRIu64 " %s %" PRIu32 " ", packet->moment, port, packet->iface);
     put_address(record->file, &packet->src);
     put_address(record->file, &packet->dst);
     fprintf(record->file, "%u ", packet->ttl);

@@ -68,12 +68,12 @@ void view_session(FILE *file, bool is_json, const struct session *s, const bfdd_
     const struct field own[] = {
         {"state", STATE, shown->state}, {"since", MOMENT, s->since}, {"diagnostic", NUMBER, shown->diag},
         {"diagnostic-text", DIAGNOSTIC, shown->diag}, {"advertised-transmit-interval", INTERVAL, shown->adv_tx},
-        {"transmit-interval", INTERVAL, shown->used_tx}, {"receive-interval", INTERVAL, shown->used_rx}, {"detection-time", INTERVAL, shown->detect},
-        {"detect-multiplier", NUMBER, s->wanted.mult}, {"poll", NUMBER, shown->poll},
+        {"transmit-interval", INTERVAL, shown->used_tx}, {"receive-interval", INTERVAL, shown->used_rx},
+        {"detection-time", INTERVAL, shown->detect}, {"detect-multiplier", NUMBER, s->wanted.mult}, {"poll", NUMBER, shown->poll},
         {"remote-state", STATE, shown->remote_state}, {"remote-id", NUMBER, shown->remote_discr}};
     const struct field peers[] = {
-        {"heard", MOMENT, s->heard}, {"remote-diagnostic", NUMBER, shown->peer_diag},
-        {"remote-diagnostic-text", DIAGNOSTIC, shown->peer_diag},
+        {"heard", MOMENT, s->heard},
+        {"remote-diagnostic", NUMBER, shown->peer_diag}, {"remote-diagnostic-text", DIAGNOSTIC, shown->peer_diag},
         {"remote-transmit-interval", INTERVAL, shown->peer_tx}, {"remote-receive-interval", INTERVAL, shown->peer_rx},
         {"remote-detect-multiplier", NUMBER, shown->peer_mult}};
     uint64_t up_for = s->up_for + (s->state.state == BFDD_UP ? now - s->since : 0);
