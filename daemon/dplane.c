@@ -21,8 +21,8 @@ static const struct program dplane = {
     "ADDRESS is unix:PATH, ipv4:A[:PORT] or ipv6:[A][:PORT]; the port is 50700 where none is given.\n"
     "\n",
     "\n"
-    "SIGUSR1 writes a line for each session, SIGHUP turns the level debug on and off, SIGTERM and SIGINT end the program,\n"
-    "after each session has sent AdminDown. See bfdd-dplane(8).\n",
+    "LEVEL is info if not given. SIGUSR1 writes a line for each session, SIGHUP turns the level debug on and off, SIGTERM and\n"
+    "SIGINT end the program, after each session has sent AdminDown. See bfdd-dplane(8).\n",
     choices, COUNT(choices)};
 
 /* Says to systemd that the program is ready, where it asks for that. */

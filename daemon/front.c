@@ -4,7 +4,7 @@
 #include <getopt.h>
 #include <signal.h>
 
-enum { MOST_CHOICES = 24, COLUMN = 24 };
+enum { MOST_CHOICES = 24, COLUMN = 26 };
 
 static const struct program *program;
 static const char *folder, *control, *level_name;

@@ -43,7 +43,7 @@ static const struct program peer = {
     "line for each change of a session's state, and goes on until SIGINT or SIGTERM; then each session sends AdminDown.\n"
     "\n",
     "\n"
-    "SIGUSR1, or Enter at a terminal, writes a line for each session. See bfdd-peer(1).\n",
+    "LEVEL is warning if not given. SIGUSR1, or Enter at a terminal, writes a line for each session. See bfdd-peer(1).\n",
     choices, COUNT(choices)};
 
 /* Sessions ------------------------------------------------------------------------------------------------------------- */
