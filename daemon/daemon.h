@@ -90,8 +90,8 @@ pid_t loop_fork(void);
 /* sockets: control packets over a single hop (UDP port 3784) and over several (4784), IPv4 and IPv6, in and out ------------ */
 
 /* Nothing is allocated for a packet. One socket of each port receives on every interface, and one sends; IPv4 addresses are mapped ones
- * there (RFC 4291 section 2.5.5.2), so the system has to know IPv6, if only that. An interface in a VRF has sockets of its own, which are
- * bound to a device: over a single hop to the interface, over several to the VRF. */
+ * there (RFC 4291 section 2.5.5.2), so the system has to know IPv6, if only that. Beside these there are sockets that are bound to a
+ * device: to an interface in a VRF, and over several hops to the VRF, or to the interface that a session was given. */
 struct path {
     uint32_t ifindex; /* by which a session sends; 0: none */
     uint32_t device;  /* that its sockets are bound to; 0: none */
@@ -104,7 +104,7 @@ typedef void packet_taker(bfdd_arrival *arrival, uint32_t ifindex, uint32_t devi
 /* Opens the sockets that are bound to no device. The loop hands over from now on what comes to any. */
 void sockets_open(packet_taker *take);
 
-/* Finds the sockets of a session with this interface, and opens those for a VRF. False with errno. */
+/* Finds the sockets of a session with this interface, and opens those for a device. False with errno. */
 bool sockets_find(bool is_multihop, uint32_t ifindex, struct path *path);
 
 /* The address from which the system would send to this one, by its routing table. False where it has no route. */

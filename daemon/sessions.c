@@ -240,7 +240,7 @@ static void add_to_engine(struct session *s, uint64_t now) {
     memcpy(s->given, (const uint32_t[CHANGEABLE]){config.tx, config.rx, config.mult, 0}, sizeof s->given);
     record_begin(&s->record, &config, now);
     const char *device = s->path.device ? if_indextoname(s->path.device, interface) : NULL;
-    say(LOG_INFO, "%s begins%s%s", session_name(s), device ? ", in a VRF, by sockets bound to " : "", device ? device : "");
+    say(LOG_INFO, "%s begins%s%s", session_name(s), device ? ", by sockets bound to " : "", device ? device : "");
     give_changes(s, now);
 }
 

@@ -107,25 +107,25 @@ void sockets_open(packet_taker *take) {
     }
 }
 
-/* The ifindex of the VRF that a file of this interface in /sys describes; 0 where it describes none. */
-static uint32_t vrf_in(const char *interface, const char *file) {
-    char path[64], text[256] = "";
-    snprintf(path, sizeof path, "/sys/class/net/%s/%s", interface, file);
-    FILE *it = fopen(path, "re");
-    if (!it) return 0;
-    text[fread(text, 1, sizeof text - 1, it)] = 0;
-    fclose(it);
-    const char *index = strstr(text, "DEVTYPE=vrf") ? strstr(text, "IFINDEX=") : NULL;
-    return index ? (uint32_t)strtoul(index + strlen("IFINDEX="), NULL, 10) : 0;
+/* The master of an interface, as the VRF that it is in; 0 where it has none. */
+static uint32_t master_of(uint32_t ifindex) {
+    char interface[IF_NAMESIZE], path[64];
+    uint32_t master = 0;
+    if (!if_indextoname(ifindex, interface)) return 0;
+    snprintf(path, sizeof path, "/sys/class/net/%s/master/ifindex", interface);
+    FILE *file = fopen(path, "re");
+    if (!file) return 0;
+    if (fscanf(file, "%" SCNu32, &master) != 1) master = 0;
+    fclose(file);
+    return master;
 }
 
-/* The device that a session's sockets are bound to: 0 where its interface is in no VRF. */
+/* The device that a session's sockets are bound to, 0 for none: where its interface has a master, over a single hop the interface and
+ * over several the master, which for both is how packets of a VRF come; else over several hops the interface. */
 static uint32_t device_of(uint32_t ifindex, bool is_multihop) {
-    char interface[IF_NAMESIZE];
-    if (!if_indextoname(ifindex, interface)) return 0;
-    if (vrf_in(interface, "uevent")) return ifindex;
-    uint32_t master = vrf_in(interface, "master/uevent");
-    return master && !is_multihop ? ifindex : master;
+    uint32_t master = master_of(ifindex);
+    if (is_multihop) return master ? master : ifindex;
+    return master ? ifindex : 0;
 }
 
 bool sockets_find(bool is_multihop, uint32_t ifindex, struct path *path) {
