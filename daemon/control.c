@@ -73,7 +73,8 @@ static bool put(struct link *link, const struct dp_message *message) {
     return true;
 }
 
-/* A connection of this socket. It begins with a question, behind whose answer all has come that FRR had to add at once. */
+/* A connection of this socket, which may not be connected yet. It begins with a question, behind whose answer all has come that FRR
+ * had to add at once. */
 static void begin(int fd, bool is_open, uint64_t now) {
     const struct dp_message question = {.type = DP_ECHO_REQUEST, .body.echo.data_plane_time = now};
     struct link *link = links;
@@ -87,8 +88,9 @@ static void begin(int fd, bool is_open, uint64_t now) {
     link->fd = fd;
     link->is_open = is_open;
     link->has_sessions = false;
-    link->unread = link->rest = 0;
-    put(link, &question);
+    link->unread = 0;
+    link->rest = dp_write(link->out, &question); /* which goes once it is connected */
+    await(link);
 }
 
 static void open_link(uint64_t now) {
