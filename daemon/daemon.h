@@ -66,7 +66,7 @@ int endpoint_listen(const struct endpoint *endpoint);
 
 /* Whose events they are. Those of a kind go to one function, and those of packets first, so that a late awakening takes no session
  * down whose packet is there. */
-enum loop_kind { LOOP_PACKETS, LOOP_SIGNALS, LOOP_LISTENER, LOOP_LINK, LOOP_VIEW, LOOP_KEY, LOOP_KINDS };
+enum loop_kind { LOOP_PACKETS, LOOP_TIMER, LOOP_SIGNALS, LOOP_LISTENER, LOOP_LINK, LOOP_VIEW, LOOP_KEY, LOOP_KINDS };
 
 /* Takes an event of the descriptor that was given with this number. */
 typedef void loop_act(uint32_t number, uint64_t now);

@@ -1,14 +1,14 @@
 /* loop: one thread that sleeps until a descriptor has an event or a moment has come. */
 #include "daemon.h"
 
-#include <poll.h>
 #include <signal.h>
 #include <sys/signalfd.h>
+#include <sys/timerfd.h>
 #include <time.h>
 
 enum { EVENTS = 64, TICK = 1000 /* microseconds */ };
 
-static int epoll, signals;
+static int epoll, signals, timer;
 static loop_act *acts[LOOP_KINDS];
 static loop_act *take_signal;
 static bool is_ended;
@@ -31,6 +31,9 @@ static void take_signals(uint32_t number, uint64_t now) {
     }
 }
 
+/* The timer only ends the sleep. */
+static void awake(uint32_t number, uint64_t now) { (void)number, (void)now; }
+
 void loop_open(loop_act *take) {
     static const int taken[] = {SIGTERM, SIGINT, SIGPIPE, SIGHUP, SIGUSR1};
     sigset_t set;
@@ -40,7 +43,9 @@ void loop_open(loop_act *take) {
     take_signal = take;
     epoll = epoll_create1(EPOLL_CLOEXEC);
     signals = signalfd(-1, &set, SFD_NONBLOCK | SFD_CLOEXEC);
+    timer = timerfd_create(CLOCK_MONOTONIC, TFD_NONBLOCK | TFD_CLOEXEC);
     loop_await(signals, LOOP_SIGNALS, 0, EPOLLIN, take_signals);
+    loop_await(timer, LOOP_TIMER, 0, EPOLLIN, awake);
 }
 
 pid_t loop_fork(void) {
@@ -51,11 +56,12 @@ pid_t loop_fork(void) {
     return child;
 }
 
-/* Sleeps until there is an event or this moment has come, to the microsecond, which epoll_wait can't do. */
-static void sleep_until(uint64_t moment) {
-    struct pollfd any = {.fd = epoll, .events = POLLIN};
+/* Sets the timer for this moment: it has no event before, and then one until it is set again. */
+static void set_timer(uint64_t moment) {
     uint64_t now = clock_now(), left = moment > now ? moment - now : 0;
-    ppoll(&any, 1, &(struct timespec){(time_t)(left / 1000000), (long)(left % 1000000) * 1000}, NULL);
+    struct itimerspec time = {.it_value = {(time_t)(left / 1000000), (long)(left % 1000000) * 1000}};
+    if (left == 0) time.it_value.tv_nsec = 1; /* 0 would stop it */
+    timerfd_settime(timer, 0, &time, NULL);
 }
 
 static void carry_out(const struct epoll_event *events, int count, bool are_packets) {
@@ -75,11 +81,11 @@ void loop_run(loop_round *round) {
     struct epoll_event events[EVENTS];
     uint64_t last = 0;
     while (!is_ended) {
-        uint64_t now = clock_now(), due = round(now);
+        uint64_t now = clock_now();
+        set_timer(round(now));
         gather(last);
         last = now;
-        sleep_until(due);
-        int count = epoll_wait(epoll, events, EVENTS, 0);
+        int count = epoll_wait(epoll, events, EVENTS, -1);
         carry_out(events, count, true);
         carry_out(events, count, false);
     }
