@@ -89,27 +89,32 @@ pid_t loop_fork(void);
 
 /* sockets: control packets over a single hop (UDP port 3784) and over several (4784), IPv4 and IPv6, in and out ------------ */
 
-/* Nothing is allocated for a packet. One socket of each port receives on every interface, and one sends; IPv4 addresses are mapped ones
- * there (RFC 4291 section 2.5.5.2), so the system has to know IPv6, if only that. Beside these there are sockets that are bound to a
- * device: to an interface in a VRF, and over several hops to the VRF, or to the interface that a session was given. */
+/* Up to 64 packets are received or sent by a call, and nothing is allocated for them. One socket of each port receives on every
+ * interface, and one sends; IPv4 addresses are mapped ones there (RFC 4291 section 2.5.5.2), so the system has to know IPv6, if only
+ * that. Beside these there are sockets that are bound to a device: to an interface in a VRF, and over several hops to the VRF, or to the
+ * interface that a session was given. */
 struct path {
     uint32_t ifindex; /* by which a session sends; 0: none */
     uint32_t device;  /* that its sockets are bound to; 0: none */
     int sender;
 };
 
-/* Takes a packet, whose `iface` isn't set; the ifindex of its interface; and the device of its socket, 0 for none. */
-typedef void packet_taker(bfdd_arrival *arrival, uint32_t ifindex, uint32_t device);
+/* Takes packets that came to one socket, at most BFDD_MANY, whose `iface` is the system's ifindex; and the device of the socket, 0 for
+ * none. It may change them. */
+typedef void packets_taker(bfdd_arrival *arrivals, size_t count, uint32_t device);
 
 /* Opens the sockets that are bound to no device. The loop hands over from now on what comes to any. */
-void sockets_open(packet_taker *take);
+void sockets_open(packets_taker *take);
 
 /* Finds the sockets of a session with this interface, and opens those for a device. False with errno. */
 bool sockets_find(bool is_multihop, uint32_t ifindex, struct path *path);
 
 /* The address from which the system would send to this one, by its routing table. False where it has no route. */
 bool sockets_source(const bfdd_address *to, const struct path *path, bfdd_address *source);
+
+/* Queues a packet. The queue is sent by sockets_flush, when it is full, and before a packet of another socket. */
 void sockets_send(const bfdd_output *out, const struct path *path);
+void sockets_flush(void);
 
 /* record: the life of one session as a packet file (docs/FORMATS.md), from which `bfdd replay` makes the same outputs ------- */
 

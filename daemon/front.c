@@ -87,6 +87,7 @@ void front_view(uint64_t now) {
 
 static uint64_t pass_time(uint64_t now) {
     uint64_t due = sessions_pass(now), other = also ? also(now) : UINT64_MAX;
+    sockets_flush();
     return due < other ? due : other;
 }
 
@@ -95,4 +96,5 @@ void front_run(loop_round *round, bool is_viewed) {
     loop_run(pass_time);
     if (is_viewed) front_view(clock_now());
     sessions_close(clock_now());
+    sockets_flush();
 }

@@ -61,24 +61,24 @@ static bool is_multihop(const struct session *s) { return (s->wanted.flags & DP_
 
 static bool is_same_address(const bfdd_address *a, const bfdd_address *b) { return memcmp(a, b, sizeof *a) == 0; }
 
-/* Whether a packet of this interface, at a socket of this device, may be for a session. */
-static bool may_be_for(const struct session *s, const bfdd_packet *packet, uint32_t ifindex, uint32_t device) {
-    bool is_its_interface = is_multihop(s) || s->path.ifindex == 0 || s->path.ifindex == ifindex;
+/* Whether a packet at a socket of this device may be for a session. */
+static bool may_be_for(const struct session *s, const bfdd_packet *packet, uint32_t device) {
+    bool is_its_interface = is_multihop(s) || s->path.ifindex == 0 || s->path.ifindex == packet->iface;
     return s->is_open && is_its_interface && s->path.device == device && is_multihop(s) == (packet->port == BFDD_PORT_MULTI);
 }
 
 /* The session that a packet is for, by its Your Discriminator, or where that is 0 by addresses and interface. The engine
  * selects once more: a fault here can only lose a packet. */
-static struct session *find_for(const bfdd_arrival *arrival, uint32_t ifindex, uint32_t device) {
+static struct session *find_for(const bfdd_arrival *arrival, uint32_t device) {
     const bfdd_packet *packet = &arrival->packet;
     struct session *any = NULL;
     if (arrival->length < LEAST_PACKET) return NULL;
     uint32_t discr = get32(arrival->payload + 8);
     struct session *named = sessions_find(discr);
-    if (discr) return named && may_be_for(named, packet, ifindex, device) ? named : NULL;
+    if (discr) return named && may_be_for(named, packet, device) ? named : NULL;
     for (struct session *s = *bucket_of_peer(&packet->src); s; s = s->next[BY_PEER]) {
         if (!is_same_address(&s->remote, &packet->src) || !is_same_address(&s->local, &packet->dst)) continue;
-        if (!may_be_for(s, packet, ifindex, device)) continue;
+        if (!may_be_for(s, packet, device)) continue;
         if (s->path.ifindex) return s;
         any = s;
     }
@@ -132,20 +132,22 @@ static void changed(struct session *s, const bfdd_output *out, enum event event,
 
 /* Events --------------------------------------------------------------------------------------------------------------- */
 
-/* Passes on what an event gave, which goes to the session that its discriminator names. */
+/* An output goes to the session that its discriminator names. */
+static void take_output(const bfdd_output *out, enum event event, uint64_t now) {
+    struct session *s = sessions_find(out->discr);
+    if (!s) return; /* never: who removes a session reads its outputs first */
+    if (out->kind == BFDD_CHANGED) return changed(s, out, event, now);
+    s->counters.packets_out++;
+    s->counters.bytes_out += out->len;
+    sockets_send(out, &s->path);
+}
+
+/* Passes on what an event gave. */
 static void take_outputs(enum event event, uint64_t now) {
-    bfdd_output out = {0};
-    while (bfdd_next(&engine, &out) == BFDD_DONE) {
-        struct session *s = sessions_find(out.discr);
-        if (!s) continue; /* never: who removes a session reads its outputs first */
-        if (out.kind == BFDD_CHANGED) {
-            changed(s, &out, event, now);
-            continue;
-        }
-        s->counters.packets_out++;
-        s->counters.bytes_out += out.len;
-        sockets_send(&out, &s->path);
-    }
+    static bfdd_output outs[BFDD_MANY];
+    size_t count = 0;
+    while (bfdd_outputs(&engine, outs, BFDD_MANY, &count) == BFDD_DONE)
+        for (size_t i = 0; i < count; i++) take_output(&outs[i], event, now);
 }
 
 /* Gives a command. False where the engine refuses it for a cause that passes. */
@@ -186,30 +188,53 @@ static void say_dropped(const bfdd_arrival *arrival, const char *cause) {
     if (log_greatest == LOG_DEBUG) say(LOG_DEBUG, "a packet from %s was dropped: %s", address_text(&arrival->packet.src, from), cause);
 }
 
-/* A packet came, of which the engine is to take its session's interface and no moment before its last tick. */
-static void receive(bfdd_arrival *arrival, uint32_t ifindex, uint32_t device) {
-    struct session *s = find_for(arrival, ifindex, device);
+/* The session that takes a packet, which gets the session's interface and no moment before the engine's last tick. NULL: none does. */
+static struct session *session_for(bfdd_arrival *arrival, uint32_t device) {
+    struct session *s = find_for(arrival, device);
     bfdd_packet *packet = &arrival->packet;
-    bfdd_answered answer = {0};
-    size_t handled = 0;
-    if (!s) return say_dropped(arrival, "no session");
-    if (is_multihop(s) && packet->ttl < s->wanted.least_ttl) return say_dropped(arrival, "TTL below the least one");
+    bool is_far = s && is_multihop(s) && packet->ttl < s->wanted.least_ttl;
+    if (!s || is_far) {
+        say_dropped(arrival, is_far ? "TTL below the least one" : "no session");
+        return NULL;
+    }
     packet->iface = (uint16_t)s->path.ifindex;
     if (packet->moment < ticked * 1000) packet->moment = ticked * 1000;
-    if (bfdd_packets(&engine, arrival, 1, &answer, 1, &handled) != BFDD_DONE) return say_dropped(arrival, "not received by the engine");
+    return s;
+}
+
+/* The engine has handled a packet. Of several only the last one may have left outputs. */
+static void handled(struct session *s, const bfdd_arrival *arrival, const bfdd_answered *answer, bool is_last) {
+    uint64_t moment = arrival->packet.moment;
+    bool is_taken = answer->kind == BFDD_HANDLED;
     record_packet(&s->record, arrival);
-    bool is_taken = answer.kind == BFDD_HANDLED;
     if (is_taken) {
         keep_peer(s, arrival->payload);
         s->counters.packets_in++;
         s->counters.bytes_in += arrival->length;
     } else {
-        say_dropped(arrival, answer.name);
+        say_dropped(arrival, answer->name);
     }
-    take_outputs(PACKET, packet->moment);
-    if (is_taken) s->heard = packet->moment;
-    if (s->state.state == BFDD_UP && memcmp(&s->told, &s->state, sizeof s->told) != 0) tell(s, NULL, packet->moment);
-    give_changes(s, clock_now());
+    if (is_last) take_outputs(PACKET, moment);
+    if (is_taken) s->heard = moment;
+    if (s->state.state == BFDD_UP && memcmp(&s->told, &s->state, sizeof s->told) != 0) tell(s, NULL, moment);
+}
+
+/* Packets came. Those of sessions go to the engine, which stops behind each that leaves outputs. */
+static void receive(bfdd_arrival *arrivals, size_t count, uint32_t device) {
+    static bfdd_answered answers[BFDD_MANY];
+    struct session *whose[BFDD_MANY];
+    size_t kept = 0, done = 0;
+    for (size_t i = 0; i < count; i++) {
+        arrivals[kept] = arrivals[i];
+        whose[kept] = session_for(&arrivals[kept], device);
+        if (whose[kept]) kept++;
+    }
+    for (size_t at = 0; at < kept; at += done) {
+        uint32_t code = bfdd_packets(&engine, arrivals + at, kept - at, answers, kept - at, &done);
+        for (size_t i = 0; i < done; i++) handled(whose[at + i], &arrivals[at + i], &answers[i], i + 1 == done);
+        if (code != BFDD_DONE) say_dropped(&arrivals[at + done++], "not received by the engine");
+    }
+    for (size_t i = 0; i < kept; i++) give_changes(whose[i], clock_now());
 }
 
 /* Opening and closing -------------------------------------------------------------------------------------------------- */

@@ -1,11 +1,11 @@
-/* sockets: the UDP sockets of BFD. */
+/* sockets: the UDP sockets of BFD, and batches of packets in and out. */
 #include "daemon.h"
 
 #include <arpa/inet.h>
 #include <netinet/in.h>
 #include <time.h>
 
-enum { SINGLE, MULTI, SENDER, KINDS, MOST_SOCKETS = 1024, MOST_READ = 4096, PAYLOAD_ROOM = 256, CONTROL_ROOM = 128 };
+enum { SINGLE, MULTI, SENDER, KINDS, MOST_SOCKETS = 1024, MOST_BATCHES = 64, PAYLOAD_ROOM = 256, CONTROL_ROOM = 128 };
 enum { TTL = 255, TOS = 0xc0, BUFFER = 4 << 20, PAUSE = 30000000 /* microseconds between warnings of packets that weren't sent */ };
 
 /* The ports of each kind, of which the first free one is taken; a sender's are those of RFC 5881 section 4. FRR's bfdd holds one for
@@ -25,7 +25,18 @@ static struct udp_socket {
     uint64_t drained; /* when it was read empty: what comes later has come after it */
 } all[MOST_SOCKETS];
 static uint32_t count;
-static packet_taker *take_packet;
+static packets_taker *take_packets;
+
+/* The packets of one call, each with the peer's address, its payload, and what the kernel says or is told beside it. */
+static struct batch {
+    struct mmsghdr messages[BFDD_MANY];
+    struct sockaddr_in6 peers[BFDD_MANY];
+    struct iovec parts[BFDD_MANY];
+    uint8_t payloads[BFDD_MANY][PAYLOAD_ROOM];
+    _Alignas(struct cmsghdr) char controls[BFDD_MANY][CONTROL_ROOM];
+} incoming, outgoing;
+static unsigned queued; /* packets of `outgoing`, */
+static int sender;      /* which go by this socket */
 
 static struct in6_addr mapped(const bfdd_address *address) {
     struct in6_addr in6 = {.s6_addr = {[10] = 255, [11] = 255}};
@@ -98,8 +109,18 @@ static struct udp_socket *socket_of(int kind, uint32_t device) {
     return it;
 }
 
-void sockets_open(packet_taker *take) {
-    take_packet = take;
+static void begin_batch(struct batch *batch, size_t control_room) {
+    for (int i = 0; i < BFDD_MANY; i++) {
+        batch->parts[i] = (struct iovec){batch->payloads[i], PAYLOAD_ROOM};
+        batch->messages[i].msg_hdr = (struct msghdr){.msg_name = &batch->peers[i], .msg_namelen = sizeof batch->peers[i],
+                .msg_iov = &batch->parts[i], .msg_iovlen = 1, .msg_control = batch->controls[i], .msg_controllen = control_room};
+    }
+}
+
+void sockets_open(packets_taker *take) {
+    take_packets = take;
+    begin_batch(&incoming, CONTROL_ROOM);
+    begin_batch(&outgoing, CMSG_SPACE(sizeof(struct in6_pktinfo)));
     for (int kind = 0; kind < KINDS; kind++) {
         char text[20];
         snprintf(text, sizeof text, "UDP port %u", ports[kind].first);
@@ -146,10 +167,10 @@ bool sockets_source(const bfdd_address *to, const struct path *path, bfdd_addres
     return found;
 }
 
-/* Packets -------------------------------------------------------------------------------------------------------------- */
+/* Receiving ------------------------------------------------------------------------------------------------------------ */
 
 /* What the kernel says of a packet: TTL, interface, own address, and the time of day at which it came, 0 where it says none. */
-static uint64_t read_control(struct msghdr *message, bfdd_packet *packet, uint32_t *ifindex) {
+static uint64_t read_control(struct msghdr *message, bfdd_packet *packet) {
     uint64_t stamp = 0;
     for (struct cmsghdr *c = CMSG_FIRSTHDR(message); c; c = CMSG_NXTHDR(message, c)) {
         struct in6_pktinfo info;
@@ -160,7 +181,7 @@ static uint64_t read_control(struct msghdr *message, bfdd_packet *packet, uint32
             stamp = (uint64_t)time.tv_sec * 1000000 + (uint64_t)time.tv_nsec / 1000;
         } else if (c->cmsg_level == IPPROTO_IPV6 && c->cmsg_type == IPV6_PKTINFO) {
             memcpy(&info, CMSG_DATA(c), sizeof info);
-            *ifindex = info.ipi6_ifindex;
+            packet->iface = info.ipi6_ifindex;
             packet->dst = unmapped(&info.ipi6_addr);
         } else if (c->cmsg_level == IPPROTO_IP ? c->cmsg_type == IP_TTL : c->cmsg_type == IPV6_HOPLIMIT) {
             memcpy(&ttl, CMSG_DATA(c), sizeof ttl);
@@ -170,51 +191,66 @@ static uint64_t read_control(struct msghdr *message, bfdd_packet *packet, uint32
     return stamp;
 }
 
-/* Hands over the packets that have come to this socket. A packet's moment is that at which the kernel received it, so that a late
- * reading takes no session down; the clock of that time may be set, so it counts only between the last reading of the socket and now. */
-static void receive(uint32_t number, uint64_t now) {
-    struct udp_socket *it = &all[number];
-    uint64_t wall = clock_wall();
-    for (int i = 0; i < MOST_READ; i++) {
-        _Alignas(struct cmsghdr) char control[CONTROL_ROOM];
-        uint8_t payload[PAYLOAD_ROOM];
-        struct sockaddr_in6 from = {0};
-        struct iovec part = {payload, sizeof payload};
-        struct msghdr message = {.msg_name = &from, .msg_namelen = sizeof from, .msg_iov = &part, .msg_iovlen = 1,
-                                 .msg_control = control, .msg_controllen = sizeof control};
-        ssize_t length = recvmsg(it->fd, &message, 0);
-        if (length < 0) {
-            it->drained = now;
-            return;
-        }
-        bfdd_arrival arrival = {.packet = {.port = ports[it->kind].port, .src = unmapped(&from.sin6_addr), .dst.family = 4,
-                                           .sport = ntohs(from.sin6_port)}, .payload = payload, .length = (size_t)length};
-        uint32_t ifindex = 0;
-        uint64_t stamp = read_control(&message, &arrival.packet, &ifindex), age = stamp > 0 && stamp < wall ? wall - stamp : 0;
-        arrival.packet.moment = age < now - it->drained ? now - age : it->drained;
-        take_packet(&arrival, ifindex, it->device);
-    }
+/* The packet of this number that has come to a socket. Its moment is that at which the kernel received it, so that a late reading takes
+ * no session down; the clock of that time may be set, so it counts only between the last reading of the socket and now. */
+static bfdd_arrival arrival_of(const struct udp_socket *it, int i, uint64_t now, uint64_t wall) {
+    struct msghdr *message = &incoming.messages[i].msg_hdr;
+    const struct sockaddr_in6 *peer = &incoming.peers[i];
+    bfdd_packet packet = {.port = ports[it->kind].port, .src = unmapped(&peer->sin6_addr), .sport = ntohs(peer->sin6_port),
+                          .dst.family = 4};
+    uint64_t stamp = read_control(message, &packet), age = stamp > 0 && stamp < wall ? wall - stamp : 0;
+    packet.moment = age < now - it->drained ? now - age : it->drained;
+    message->msg_controllen = CONTROL_ROOM; /* of which the kernel has written what it used */
+    return (bfdd_arrival){packet, incoming.payloads[i], incoming.messages[i].msg_len};
 }
 
+/* Hands over the packets that have come to this socket. */
+static void receive(uint32_t number, uint64_t now) {
+    static bfdd_arrival arrivals[BFDD_MANY];
+    struct udp_socket *it = &all[number];
+    int got = BFDD_MANY;
+    for (int batch = 0; got == BFDD_MANY && batch < MOST_BATCHES; batch++) {
+        uint64_t wall = clock_wall();
+        now = clock_now();
+        got = recvmmsg(it->fd, incoming.messages, BFDD_MANY, 0, NULL);
+        for (int i = 0; i < got; i++) arrivals[i] = arrival_of(it, i, now, wall);
+        if (got > 0) take_packets(arrivals, (size_t)got, it->device);
+    }
+    if (got < BFDD_MANY) it->drained = now;
+}
+
+/* Sending -------------------------------------------------------------------------------------------------------------- */
+
 /* Says that a packet wasn't sent: a warning once in a while, since each packet to a peer may fail. */
-static void say_unsent(const bfdd_address *to, const char *cause) {
+static void say_unsent(const struct sockaddr_in6 *peer, const char *cause) {
     static uint64_t next;
     char text[ADDRESS_TEXT];
     bool warns = clock_now() >= next;
-    say(warns ? LOG_WARNING : LOG_DEBUG, "a packet to %s wasn't sent: %s", address_text(to, text), cause);
+    bfdd_address to = unmapped(&peer->sin6_addr);
+    say(warns ? LOG_WARNING : LOG_DEBUG, "a packet to %s wasn't sent: %s", address_text(&to, text), cause);
     if (warns) next = clock_now() + PAUSE;
+}
+
+void sockets_flush(void) {
+    for (unsigned at = 0; at < queued;) {
+        int sent = sendmmsg(sender, outgoing.messages + at, queued - at, 0);
+        if (sent < 0) say_unsent(&outgoing.peers[at], strerror(errno));
+        at += sent > 0 ? (unsigned)sent : 1;
+    }
+    queued = 0;
 }
 
 void sockets_send(const bfdd_output *out, const struct path *path) {
     const struct in6_pktinfo from = {.ipi6_addr = mapped(&out->src), .ipi6_ifindex = path->ifindex};
-    struct sockaddr_in6 to = {.sin6_family = AF_INET6, .sin6_port = htons(out->dport), .sin6_addr = mapped(&out->dst)};
-    _Alignas(struct cmsghdr) char control[CMSG_SPACE(sizeof from)] = {0};
-    struct iovec part = {(void *)out->bytes, out->len};
-    struct msghdr message = {.msg_name = &to, .msg_namelen = sizeof to, .msg_iov = &part, .msg_iovlen = 1, .msg_control = control,
-                             .msg_controllen = sizeof control};
-    struct cmsghdr *c = CMSG_FIRSTHDR(&message);
-    if (IN6_IS_ADDR_LINKLOCAL(&to.sin6_addr)) to.sin6_scope_id = path->ifindex;
+    if (queued == BFDD_MANY || sender != path->sender) sockets_flush();
+    sender = path->sender;
+    unsigned i = queued++;
+    struct cmsghdr *c = outgoing.messages[i].msg_hdr.msg_control;
+    struct sockaddr_in6 *to = &outgoing.peers[i];
+    *to = (struct sockaddr_in6){.sin6_family = AF_INET6, .sin6_port = htons(out->dport), .sin6_addr = mapped(&out->dst)};
+    if (IN6_IS_ADDR_LINKLOCAL(&to->sin6_addr)) to->sin6_scope_id = path->ifindex;
     *c = (struct cmsghdr){.cmsg_level = IPPROTO_IPV6, .cmsg_type = IPV6_PKTINFO, .cmsg_len = CMSG_LEN(sizeof from)};
     memcpy(CMSG_DATA(c), &from, sizeof from);
-    if (sendmsg(path->sender, &message, 0) < 0) say_unsent(&out->dst, strerror(errno));
+    memcpy(outgoing.payloads[i], out->bytes, out->len);
+    outgoing.parts[i].iov_len = out->len;
 }
