@@ -104,14 +104,18 @@ void view_change(FILE *file, bool is_json, const struct session *s, const struct
     end(line);
 }
 
+enum { LONGEST_ANSWER = 10 /* seconds */ };
+
 static int listener;
 
-/* Answers whoever connects in a child, so that a slow reader delays nothing. */
+/* Answers whoever connects in a child, so that a slow reader delays nothing. The child has the program's sockets too, so it ends soon even
+ * where nobody reads. */
 static void answer(uint32_t number, uint64_t now) {
     (void)number;
     int asker = accept4(listener, NULL, NULL, SOCK_CLOEXEC);
     pid_t child = asker >= 0 ? loop_fork() : -1;
     if (child == 0) {
+        alarm(LONGEST_ANSWER);
         FILE *file = fdopen(asker, "w");
         if (!file) _exit(1);
         sessions_view(file, true, now);
