@@ -6,8 +6,8 @@
 //! shards. [`worker`] has the sessions in an engine, whose shards take their queues' events, each by its one worker. [`report`] puts
 //! what the shards told together as one report. [`stream`] is a replay on one shard whose report is written as it comes.
 //!
-//! Lowest first: `report`, `plan`, and on both `stream` and `worker`, of which [`replay_to`] takes one. Each promises the report of `bfd_instance`'s
-//! `specs/World.antt`, which knows of no shard, no worker and no lock.
+//! Lowest first: `report`, `plan`, and on both `stream` and `worker`, of which [`replay_to`] takes one. Each promises the report of
+//! `bfd_instance`'s `specs/World.antt`, which knows of no shard, no worker and no lock.
 //!
 //! It stands on `bfd_engine` for the turns, on `bfd_instance` for that definition, on `bfd_script` and on `bfd_edge` for gate and sink.
 #![tactic(auto)]

@@ -15,6 +15,7 @@ ghost use Rattle.bfd_replay.specs.Turning.{HasKept, Went, brought};
 ghost use Rattle.bfd_replay.specs.Working.{IsSole};
 ghost use Rattle.bfd_replay.specs.Written.{TookFront};
 
+use crate::plan::next_of;
 use crate::stream::opening::opened;
 use crate::stream::telling::{Stop, Told};
 use crate::stream::turning::happen;
@@ -79,7 +80,7 @@ fn tell_line<W: Timers, R: Wait, G: Gate, K: Sink, L: Ledger>(
     }
 }
 
-/// Tells the lines of a script one by one; `told` keeps what isn't written yet.
+/// Tells the lines of a script one by one; `told` keeps what isn't written yet. Their list frees its memory while the journal grows.
 fn tell_lines<W: Timers, R: Wait, G: Gate, K: Sink, L: Ledger>(
     rt: &R,
     engine: &Engine<W>,
@@ -115,7 +116,9 @@ fn tell_lines<W: Timers, R: Wait, G: Gate, K: Sink, L: Ledger>(
 {
     let mut steps = Steps::<L>::new(blank);
     let mut outs = outs;
-    for line in events {
+    let mut left = events;
+    left.reverse();
+    'lines: while let Some(line) = next_of(&mut left) {
         match tell_line(
             rt, engine, pass, line, &mut outs, told, &mut steps, gate, sink,
         ) {
@@ -190,8 +193,8 @@ fn tell_all<W: Timers, R: Wait, G: Gate, K: Sink>(
 }
 
 /// Replays the script on one shard, in the caller's thread, and writes its report to the sink as it comes. Each turn for event N stands
-/// between `gate.before(0, N)` and `gate.after(0, N)`. It is refused as Failed where the sink failed, and as Memory when out of memory, here
-/// or in the sink; the sink took a prefix of the report then. What the closed shard was stays for clauses. It may wait.
+/// between `gate.before(0, N)` and `gate.after(0, N)`. It is refused as Failed where the sink failed, and as Memory when out of memory,
+/// here or in the sink; the sink took a prefix of the report then. What the closed shard was stays for clauses. It may wait.
 pub(crate) fn report_to<W: Timers, R: Wait, G: Gate, K: Sink>(
     rt: &R,
     alloc: Global,

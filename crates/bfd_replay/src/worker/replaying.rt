@@ -336,8 +336,8 @@ fn write_parts<W: Timers + Send + 'static, R: Threads + Sync, K: Sink>(
 
 /// The same replay, whose report is written to the sink. With several workers it is put together by up to four threads first, and the
 /// shards with their journals are freed while it is written. With one worker they are freed first, and it is put together as it is written.
-/// It is refused as Failed where the sink failed, and as Memory when out of memory, here or in the sink, or at 2^64 packets sent or dropped;
-/// the sink took a prefix of the report then. What the closed shards were stays for clauses.
+/// It is refused as Failed where the sink failed, and as Memory when out of memory, here or in the sink, or at 2^64 packets sent or
+/// dropped; the sink took a prefix of the report then. What the closed shards were stays for clauses.
 #[tactic(auto, using(crate::proofs::Worlds::is_table))]
 pub(crate) fn replay_at_once<
     W: Timers + Send + 'static,

@@ -64,8 +64,8 @@ pub(crate) fn replay_by<R: Threads + Wait + Sync, G: Gate + Sync>(
     }
 }
 
-/// The same replay, whose report is written to the sink. It fails as Failed where the sink failed, and as Memory when out of memory, here or
-/// in the sink; the sink took a prefix of the report then.
+/// The same replay, whose report is written to the sink. It fails as Failed where the sink failed, and as Memory when out of memory, here
+/// or in the sink; the sink took a prefix of the report then.
 pub(crate) fn write_replay<R: Threads + Wait + Sync, G: Gate + Sync, K: Sink>(
     rt: &R,
     alloc: Global,

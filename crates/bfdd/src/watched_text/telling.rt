@@ -66,7 +66,9 @@ fn tell<W: Timers, R: Wait, L: Ledger>(
     let mut number = 1u64;
     let mut told = 0u64;
     for line in events {
-        match happen(rt, engine, pass, number, line, &mut outs, &mut steps, &OpenGate) {
+        match happen(
+            rt, engine, pass, number, line, &mut outs, &mut steps, &OpenGate,
+        ) {
             Ok(_) => {}
             Err(fault) => return Err(fault),
         }

@@ -1,18 +1,21 @@
--- The lines so far were told.
-use Rattle.bfd_replay.proofs.StreamCommon.{◌≡◌, ◌≤◌, ◌+◌, ◌*◌, ℕ, length}
+-- The lines so far were told; those that are left stand in reverse.
+use Rattle.bfd_replay.proofs.StreamCommon.{◌≡◌, ◌≤◌, ◌+◌, ◌*◌, ℕ, length, reverse}
 use Rattle.bfd_engine.specs.Engines.{IsOf, AllThere, configs_at}
 use Rattle.bfd_replay.specs.Turning.{HasKept}
 use Rattle.bfd_replay.proofs.Events.{IsTelling}
 use Rattle.bfd_replay.proofs.stream.reporting.tell_lines.Given as goal
 
-abbrev pub invariant-loop-line : goal.invariant-loop-line
-invariant-loop-line g l = record {
+abbrev pub invariant-lines : goal.invariant-lines
+invariant-lines g l = record {
   of : IsOf l.engine l.pass.1;
   there : AllThere l.pass.1;
   kept : HasKept l.told.events l.initial.pass l.pass;
   room : (shard : ℕ) → 5 * length (configs_at l.engine shard) + 5 ≤ l.outs.room;
   small : l.outs.room ≤ 327685;
-  telling : IsTelling l.engine l.fn.events.items l.line-iterator.rest.items l.pass (g.K.Sink.taken l.initial.sink) (g.K.Sink.taken l.sink) l.initial.told l.told;
-  numbers : l.told.events + length l.line-iterator.rest.items ≡ length l.fn.events.items;
+  telling : IsTelling l.engine l.fn.events.items (reverse l.left.items) l.pass (g.K.Sink.taken l.initial.sink) (g.K.Sink.taken l.sink) l.initial.told l.told;
+  numbers : l.told.events + length l.left.items ≤ length l.fn.events.items;
   calm : g.K.Sink.faults l.sink ≡ g.K.Sink.faults l.initial.sink;
 }
+
+abbrev pub decreases-lines : goal.decreases-lines
+decreases-lines g l = length l.left.items
