@@ -1,6 +1,7 @@
 /* What the modules of bfdd-dplane and bfdd-peer offer each other, lowest first; each has a file of its name.
  *
- * One thread does everything. Moments are microseconds of clock_now, and the engine's clock is the same. */
+ * One thread does everything. Moments are microseconds of clock_now, and the engine's clock is the same. What opens or makes
+ * something at the start ends the program where it can't. */
 #ifndef BFDD_DAEMON_H
 #define BFDD_DAEMON_H
 
@@ -10,7 +11,6 @@
 
 #include <bfdd.h>
 #include <errno.h>
-#include <getopt.h>
 #include <inttypes.h>
 #include <net/if.h>
 #include <stdio.h>
@@ -20,6 +20,8 @@
 #include <sys/socket.h>
 #include <unistd.h>
 
+#define COUNT(array) (sizeof(array) / sizeof *(array))
+
 /* words: lines on standard error, the clocks, and names, addresses and moments as text ----------------------------------- */
 
 enum { ADDRESS_TEXT = 46, MOMENT_TEXT = 28 };
@@ -27,15 +29,12 @@ enum log_level { LOG_ERROR, LOG_WARNING, LOG_INFO, LOG_DEBUG };
 
 /* Lines above this level aren't written. It begins as LOG_INFO. */
 extern enum log_level log_greatest;
-
-/* The level of this name: error, warning, info or debug. */
 bool log_level_named(const char *name, enum log_level *level);
 
 /* Writes one line: the program's name, the level, and this text. `fail` ends the program behind it, with status 1. */
 void say(enum log_level level, const char *format, ...) __attribute__((format(printf, 2, 3)));
 _Noreturn void fail(const char *what, const char *cause);
 
-/* Reads a decimal number of this range. */
 bool read_number(const char *text, uint64_t least, uint64_t greatest, uint64_t *number);
 
 /* Microseconds of a clock that doesn't go back, since shortly before the first call, and of the time of day. */
@@ -56,29 +55,26 @@ struct endpoint {
     socklen_t length;
 };
 
-/* Reads unix:PATH, ipv4:A[:PORT] or ipv6:[A][:PORT]; the port is 50700 where none is given. */
+/* Read unix:PATH, ipv4:A[:PORT] or ipv6:[A][:PORT], and a path alone. The port is 50700 where none is given. */
 bool endpoint_parse(const char *text, struct endpoint *endpoint);
-
-/* The unix socket at this path; false where the path is empty or too long. */
 bool endpoint_unix(const char *path, struct endpoint *endpoint);
 
-/* A socket that listens there. A unix socket that stands there is replaced. It ends the program where that fails. */
+/* A socket that listens there. A unix socket that stands there is replaced. */
 int endpoint_listen(const struct endpoint *endpoint);
 
 /* loop: sleeping until a descriptor has an event or a moment has come ----------------------------------------------------- */
 
 /* Whose events they are. Those of a kind go to one function, and those of packets first, so that a late awakening takes no session
  * down whose packet is there. */
-enum loop_kind { LOOP_PACKETS, LOOP_TIMER, LOOP_SIGNALS, LOOP_LISTENER, LOOP_LINK, LOOP_VIEW, LOOP_ASKER, LOOP_KEY, LOOP_KINDS };
+enum loop_kind { LOOP_PACKETS, LOOP_TIMER, LOOP_SIGNALS, LOOP_LISTENER, LOOP_LINK, LOOP_VIEW, LOOP_KEY, LOOP_KINDS };
 
-/* An event of the descriptor that was given with this number. */
+/* Takes an event of the descriptor that was given with this number. */
 typedef void loop_act(uint32_t number, uint64_t now);
 
-/* Lets time pass up to now. The moment at which that is to be done next, UINT64_MAX for none. */
+/* Lets time pass up to now, and returns the moment at which that is to be done next; UINT64_MAX is never. */
 typedef uint64_t loop_round(uint64_t now);
 
-/* Makes the loop. SIGTERM, SIGINT and SIGPIPE end it, and SIGHUP and SIGUSR1 go to `take`, as numbers. It ends the program where
- * that fails, and so does loop_await. */
+/* Makes the loop. SIGTERM, SIGINT and SIGPIPE end it, and SIGHUP and SIGUSR1 go to `take`, as numbers. */
 void loop_open(loop_act *take);
 
 /* Awaits these epoll events of a descriptor, and no longer others that were awaited; 0 is none. */
@@ -88,42 +84,37 @@ void loop_await(int fd, enum loop_kind kind, uint32_t number, uint32_t events, l
 void loop_run(loop_round *round);
 void loop_end(void);
 
+/* As fork, but that the child has its signals again. */
+pid_t loop_fork(void);
+
 /* sockets: control packets over a single hop (UDP port 3784) and over several (4784), IPv4 and IPv6, in and out ------------ */
 
-/* Packets are received and sent many at a time, without an allocation. One socket of each port receives on every interface, and
- * one sends; IPv4 addresses are mapped ones there (RFC 4291 section 2.5.5.2), so the system has to know IPv6, if only that. The
- * kernel gives a packet's interface, address, TTL and time beside it. An interface in a VRF has sockets of its own, which are
- * bound to a device: over a single hop to the interface, over several to the VRF. */
-
-/* Packets that came to one socket, but for their `iface`, which is the engine's number and not the system's. */
-struct arrivals {
-    size_t count;
-    uint32_t device; /* that the socket is bound to; 0: none */
-    bfdd_arrival packets[BFDD_MANY];
-    uint32_t ifindex[BFDD_MANY];
-};
-
-typedef void arrivals_taker(struct arrivals *arrivals);
-
-/* What a session sends by. */
+/* Up to 64 packets are received or sent by a call, and nothing is allocated for them. One socket of each port receives on every
+ * interface, and one sends; IPv4 addresses are mapped ones there (RFC 4291 section 2.5.5.2), so the system has to know IPv6, if only
+ * that. Beside these there are sockets that are bound to a device: to an interface in a VRF, and over several hops to the VRF, or to the
+ * interface that a session was given. */
 struct path {
-    uint32_t ifindex; /* 0: none */
+    uint32_t ifindex; /* by which a session sends; 0: none */
     uint32_t device;  /* that its sockets are bound to; 0: none */
-    uint32_t sender;  /* the number of the socket */
+    int sender;
 };
 
-/* Opens the sockets that are bound to no device, or ends the program; the loop hands over from now on what comes to any. */
-void sockets_open(arrivals_taker *take);
+/* Takes packets that came to one socket, at most BFDD_MANY, whose `iface` is the system's ifindex; and the device of the socket, 0 for
+ * none. It may change them. */
+typedef void packets_taker(bfdd_arrival *arrivals, size_t count, uint32_t device);
 
-/* Finds the sockets of a session with this interface, and opens those for a VRF. False with errno. */
+/* Opens the sockets that are bound to no device. The loop hands over from now on what comes to any. */
+void sockets_open(packets_taker *take);
+
+/* Finds the sockets of a session with this interface, and opens those for a device. False with errno. */
 bool sockets_find(bool is_multihop, uint32_t ifindex, struct path *path);
-
-/* Queues a packet. The queue is sent when it is full, and by sockets_flush. */
-void sockets_send(const bfdd_output *out, const struct path *path);
-void sockets_flush(void);
 
 /* The address from which the system would send to this one, by its routing table. False where it has no route. */
 bool sockets_source(const bfdd_address *to, const struct path *path, bfdd_address *source);
+
+/* Queues a packet. The queue is sent by sockets_flush, when it is full, and before a packet of another socket. */
+void sockets_send(const bfdd_output *out, const struct path *path);
+void sockets_flush(void);
 
 /* record: the life of one session as a packet file (docs/FORMATS.md), from which `bfdd replay` makes the same outputs ------- */
 
@@ -136,12 +127,12 @@ struct record {
     bfdd_handle alone;
 };
 
-/* Sessions that begin from now on are recorded in this folder, which is made if it is missing. It ends the program if it can't be. */
+/* Sessions that begin from now on are recorded in this folder, which is made if it is missing. */
 void record_in(const char *folder);
 bool record_is_on(void);
 
-/* Each of these says in a line what fails, and then records no more of the session. A verb is an enum bfdd_verb, or 0 for a
- * question; record_flush hands over to the system what was recorded so far. */
+/* Each of these says in a line what fails, and then records no more of the session. A verb is an enum bfdd_verb. record_flush hands
+ * over to the system what was recorded so far. */
 void record_begin(struct record *record, const bfdd_session *session, uint64_t now);
 void record_packet(struct record *record, const bfdd_arrival *arrival);
 void record_tick(struct record *record, uint64_t ms);
@@ -151,10 +142,7 @@ void record_end(struct record *record);
 
 /* sessions: all on one engine, each found by its discriminator ------------------------------------------------------------- */
 
-/* The owner gives additions, removals, packets and the time. What the sessions send goes to the sockets; changes of state go to the
- * teller. */
-
-enum { NO_OWNER = 0, BY_DISCR = 0, BY_PEER, TABLES };
+enum { NO_OWNER = 0, BY_DISCR = 0, BY_PEER, ALL, TABLES };
 
 /* What FRR's protocol doesn't carry: the Auth Type (RFC 5880 section 4.1), 0 for none, and its key. */
 struct session_key {
@@ -165,6 +153,11 @@ struct session_key {
 /* A session, whose fields are for sessions.c to write. */
 struct session {
     struct session *next[TABLES];
+    struct dp_session wanted; /* by its owner */
+    struct session_key key;
+    uint32_t owner;
+    struct path path;
+    bfdd_address local, remote;
     bool is_open;    /* the engine has it */
     bool is_refused; /* that it couldn't be opened was said */
     bool is_told;    /* its owner has an account of it; false at first, when the owner takes it as Down */
@@ -173,19 +166,14 @@ struct session {
     uint64_t begun;  /* when it was added */
     uint64_t starts; /* when its hold time has passed */
     uint64_t ends;   /* when it is removed, unless a connection takes it: UINT64_MAX while it has one */
-    uint32_t owner;
-    struct dp_session wanted;
-    struct session_key key;
-    struct path path;
-    bfdd_address local, remote;
+    uint64_t since;  /* when the own state was last changed, or the session opened */
+    uint64_t heard;  /* when the last packet came that the engine took; 0: none did */
     uint32_t given[4];     /* what the engine has of the values that commands change */
     uint32_t active;       /* 1, or 0 for passive: as the engine was given it */
     struct dp_state state; /* the own state and what the peer last sent */
     uint8_t peer_state;
-    uint64_t since;                                        /* when the own state was last changed, or the session opened */
-    uint64_t heard;                                        /* when the last packet came that the engine took; 0: none did */
-    uint64_t bytes_in, packets_in, bytes_out, packets_out; /* control packets that were taken and sent */
-    uint64_t ups, up_for; /* how often it came Up, and how long it was Up, but for the time since it last came Up */
+    struct dp_counters counters; /* control packets that were taken and sent */
+    uint64_t ups, up_for;        /* how often it came Up, and how long it was Up, but for the time since it last came Up */
     struct record record;
 };
 
@@ -200,87 +188,68 @@ struct session_change {
  * the owner has no room for that now; then it is tried again in a second. */
 typedef bool session_teller(const struct session *s, const struct session_change *change);
 
-/* Is given a session, and what it shows: NULL where it hasn't begun. */
-typedef void session_viewer(FILE *file, const struct session *s, const bfdd_answered *shown, uint64_t now);
-
-/* Begins without a session, with the sockets, or ends the program. `keep` is for how long sessions go on without a connection. */
+/* Begins without a session, with the sockets. `keep` is for how long sessions go on without a connection. */
 void sessions_open(session_teller *tell, uint64_t keep);
 
 /* Adds a session, or changes the one of the same discriminator to these values. What is refused is reported in a line. A key
  * counts for a new session alone; NULL is none. */
 void sessions_add(uint32_t owner, const struct dp_session *wanted, const struct session_key *key, uint64_t now);
 
-/* Removes the session of this discriminator, which sends AdminDown first. */
+/* Each session that ends sends AdminDown first: the one of this discriminator, those whose owner's connection was lost, or all. */
 void sessions_remove(uint32_t discr, uint64_t now);
-
-/* The connection of this owner was lost. */
 void sessions_lost(uint32_t owner, uint64_t now);
-
-/* Ends all, each of which sends AdminDown first. */
 void sessions_close(uint64_t now);
 
-/* Lets time pass up to now. The moment at which that is to be done next. */
-uint64_t sessions_pass(uint64_t now);
-
-/* NULL where no session has the discriminator. */
+uint64_t sessions_pass(uint64_t now); /* a loop_round */
 struct session *sessions_find(uint32_t discr);
-
-void sessions_view(session_viewer *view, FILE *file, uint64_t now);
+void sessions_view(FILE *file, bool is_json, uint64_t now);
 
 /* A session as a line names it, as "session 7 to 10.0.0.2 on eth0", until the next call. */
 const char *session_name(const struct session *s);
 
 /* view: what a session shows, as text for a person and as JSON for a program ------------------------------------------------ */
 
-/* Each writes one line. */
-session_viewer view_text, view_json;
-void view_change(FILE *file, bool json, const struct session *s, const struct session_change *change);
+/* Each writes one line. What the engine has of a session counts for nothing where it isn't open. */
+void view_session(FILE *file, bool is_json, const struct session *s, const bfdd_session_state *shown, uint64_t now);
+void view_change(FILE *file, bool is_json, const struct session *s, const struct session_change *change);
 
-/* Listens on a unix socket at this path: whoever connects gets a line of JSON for each of the sessions. It ends the program where
- * that fails. */
+/* Listens on a unix socket at this path: whoever connects gets a line of JSON for each of the sessions. */
 void view_listen(const char *path);
 
 /* control: the connections to FRR's bfdd ------------------------------------------------------------------------------------ */
 
-/* The teller of the sessions. */
-session_teller control_tell;
-
-/* Connects to the endpoint, or listens there, which ends the program where it fails. */
+/* Connects to the endpoint, or listens there. Then it has its round, and tells the sessions' changes. */
 void control_open(const struct endpoint *endpoint, bool listens);
-
-/* Opens what has to be opened. The moment at which that is to be done next. */
 uint64_t control_round(uint64_t now);
+session_teller control_tell;
 
 /* front: what both programs have in common, from the options to the last AdminDown ------------------------------------------- */
 
-/* The last of the options that a front knows, and their lines of its usage. */
-#define FRONT_OPTIONS \
-    {"record", required_argument, NULL, 'R'}, {"control", required_argument, NULL, 'C'}, {"log", required_argument, NULL, 'L'}, \
-    {"help", no_argument, NULL, 'H'}, {"version", no_argument, NULL, 'V'}, {0}
-#define FRONT_USAGE(level) \
-    "  --record FOLDER  write each session's life to a packet file of its own there, for bfdd replay\n" \
-    "  --control PATH   a unix socket that answers whoever connects with a line of JSON for each session\n" \
-    "  --log LEVEL      error, warning, info or debug, to standard error; " level " if not given\n" \
-    "  --help           this text\n" \
-    "  --version        the version\n"
+/* An option: its value, if it has one, goes to the one of `flag`, `text` and `number` that isn't NULL, a number if it is in the range. */
+struct choice {
+    const char *name, *value, *help; /* `value` is what the usage calls it; NULL: the option has none */
+    bool *flag;
+    const char **text;
+    uint64_t *number, least, greatest;
+};
 
-/* Carries out an option of the front's own. False where its value is wrong. */
-typedef bool front_option(int option, const char *value);
+/* What a usage has above and below the options, and those that are the program's own. */
+struct program {
+    const char *above, *below;
+    const struct choice *choices;
+    size_t count;
+};
 
-/* Reads the options. It ends the program by --help and --version, and where one is wrong. */
-void front_read(int count, char **words, const struct option *known, front_option *take, const char *usage);
+/* Reads the options, and ends the program by --help and --version. A fault ends it with the usage on standard error. */
+void front_read(int count, char **words, const struct program *program);
+_Noreturn void front_fault(void);
 
-/* Writes the usage to standard error and ends the program. */
-_Noreturn void front_fault(const char *usage);
-
-/* Begins without a session, as sessions_open does. SIGUSR1 views them to `views`, as JSON or as text. */
-void front_open(session_teller *tell, uint64_t keep, FILE *views, bool json);
-
-/* Views the sessions, as by SIGUSR1. */
+/* Begins without a session, as sessions_open does. SIGUSR1, and front_view, view them to `views`, as JSON or as text. */
+void front_open(session_teller *tell, uint64_t keep, FILE *views, bool is_json);
 void front_view(uint64_t now);
 
-/* Runs until SIGTERM or SIGINT, with this in each round too, if it isn't NULL; then ends the sessions, which send AdminDown. Before
- * that they are viewed once more, if `views`. */
-void front_run(loop_round *also, bool views);
+/* Runs until SIGTERM or SIGINT, with this in each round too, if it isn't NULL; then ends the sessions. Before that they are viewed
+ * once more, if `is_viewed`. */
+void front_run(loop_round *also, bool is_viewed);
 
 #endif

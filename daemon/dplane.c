@@ -7,28 +7,23 @@
 
 #include <sys/un.h>
 
-enum { LONGEST_KEEP = 86400 };
+static bool listens;
+static uint64_t keep; /* seconds */
 
-static const char usage[] =
+static const struct choice choices[] = {
+    {"listen", NULL, "wait for FRR to connect, where it is started with unixc:, ipv4c: or ipv6c:", .flag = &listens},
+    {"keep", "SECONDS", "let sessions go on so long after the connection to FRR was lost; 0 if not given", .number = &keep, 0, 86400}};
+
+static const struct program dplane = {
     "usage: bfdd-dplane [OPTION].. ADDRESS\n"
     "\n"
     "A data plane for FRR: it runs the BFD sessions of FRR's bfdd, which is started with --dplaneaddr ADDRESS.\n"
     "ADDRESS is unix:PATH, ipv4:A[:PORT] or ipv6:[A][:PORT]; the port is 50700 where none is given.\n"
+    "\n",
     "\n"
-    "  --listen         wait for FRR to connect, where it is started with unixc:, ipv4c: or ipv6c:\n"
-    "  --keep SECONDS   let sessions go on so long after the connection to FRR was lost; 0, the default, ends them at once\n"
-    FRONT_USAGE("info")
-    "\n"
-    "SIGUSR1 writes a line for each session, SIGHUP turns the level debug on and off, SIGTERM and SIGINT end the program,\n"
-    "after each session has sent AdminDown. See bfdd-dplane(8).\n";
-
-static bool listens;
-static uint64_t keep; /* seconds */
-
-static bool take_option(int option, const char *value) {
-    if (option == 'l') return listens = true;
-    return read_number(value, 0, LONGEST_KEEP, &keep);
-}
+    "LEVEL is info if not given. SIGUSR1 writes a line for each session, SIGHUP turns the level debug on and off, SIGTERM and\n"
+    "SIGINT end the program, after each session has sent AdminDown. See bfdd-dplane(8).\n",
+    choices, COUNT(choices)};
 
 /* Says to systemd that the program is ready, where it asks for that. */
 static void notify_ready(void) {
@@ -44,11 +39,9 @@ static void notify_ready(void) {
 }
 
 int main(int count, char **words) {
-    static const struct option known[] = {
-        {"listen", no_argument, NULL, 'l'}, {"keep", required_argument, NULL, 'k'}, FRONT_OPTIONS};
     struct endpoint endpoint;
-    front_read(count, words, known, take_option, usage);
-    if (optind + 1 != count || !endpoint_parse(words[optind], &endpoint)) front_fault(usage);
+    front_read(count, words, &dplane);
+    if (optind + 1 != count || !endpoint_parse(words[optind], &endpoint)) front_fault();
     front_open(control_tell, keep * 1000000, stderr, false);
     control_open(&endpoint, listens);
     notify_ready();

@@ -36,12 +36,12 @@ bool endpoint_parse(const char *text, struct endpoint *endpoint) {
 }
 
 int endpoint_listen(const struct endpoint *endpoint) {
-    int on = 1, fd = socket(endpoint->address.ss_family, SOCK_STREAM | SOCK_NONBLOCK | SOCK_CLOEXEC, 0);
     const struct sockaddr *at = (const struct sockaddr *)&endpoint->address;
     const char *path = ((const struct sockaddr_un *)at)->sun_path;
     struct stat found;
+    int on = 1, fd = socket(at->sa_family, SOCK_STREAM | SOCK_NONBLOCK | SOCK_CLOEXEC, 0);
+    setsockopt(fd, SOL_SOCKET, SO_REUSEADDR, &on, sizeof on);
     if (at->sa_family == AF_UNIX && lstat(path, &found) == 0 && S_ISSOCK(found.st_mode)) unlink(path); /* an earlier run's */
-    if (fd < 0 || setsockopt(fd, SOL_SOCKET, SO_REUSEADDR, &on, sizeof on) != 0 || bind(fd, at, endpoint->length) != 0 || listen(fd, 8) != 0)
-        fail("can't listen", strerror(errno));
+    if (bind(fd, at, endpoint->length) != 0 || listen(fd, 8) != 0) fail("can't listen", strerror(errno));
     return fd;
 }

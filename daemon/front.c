@@ -1,39 +1,66 @@
-/* front: what both programs have in common. */
+/* front: what both programs have in common, from their options to the last AdminDown. */
 #include "daemon.h"
 
+#include <getopt.h>
 #include <signal.h>
 
-static const char *folder, *control;
-static enum log_level level;
-static session_viewer *viewer;
-static FILE *views;
-static loop_round *also;
-static bool at_terminal;
+enum { MOST_CHOICES = 24, COLUMN = 26 };
 
-void front_fault(const char *usage) {
-    fputs(usage, stderr);
+static const struct program *program;
+static const char *folder, *control, *level_name;
+static bool wants_help, wants_version;
+static enum log_level level;
+static FILE *views;
+static bool is_json, at_terminal;
+static loop_round *also;
+
+static const struct choice common[] = {
+    {"record", "FOLDER", "write each session's life to a packet file of its own there, for bfdd replay", .text = &folder},
+    {"control", "PATH", "a unix socket that answers whoever connects with a line of JSON for each session", .text = &control},
+    {"log", "LEVEL", "write lines up to error, warning, info or debug to standard error", .text = &level_name},
+    {"help", NULL, "this text", .flag = &wants_help},
+    {"version", NULL, "the version", .flag = &wants_version}};
+
+/* The choice of this number, of the program's own and then the common ones; NULL behind the last. */
+static const struct choice *choice_of(size_t number) {
+    if (number < program->count) return &program->choices[number];
+    return number - program->count < COUNT(common) ? &common[number - program->count] : NULL;
+}
+
+static void print_usage(FILE *file) {
+    const struct choice *choice;
+    fputs(program->above, file);
+    for (size_t i = 0; (choice = choice_of(i)); i++) {
+        int width = fprintf(file, "  --%s %s", choice->name, choice->value ? choice->value : "");
+        fprintf(file, "%*s%s\n", COLUMN - width, "", choice->help);
+    }
+    fputs(program->below, file);
+}
+
+void front_fault(void) {
+    print_usage(stderr);
     exit(1);
 }
 
-static void print_version(const char *program) {
-    const char *slash = strrchr(program, '/');
-    printf("%s %u.%u\n", slash ? slash + 1 : program, bfdd_version() >> 16, bfdd_version() & 0xffff);
-    exit(0);
+static bool take(const struct choice *choice, const char *value) {
+    if (choice->flag) *choice->flag = true;
+    if (choice->text) *choice->text = value;
+    return !choice->number || read_number(value, choice->least, choice->greatest, choice->number);
 }
 
-void front_read(int count, char **words, const struct option *known, front_option *take, const char *usage) {
-    bool is_good = true;
+void front_read(int count, char **words, const struct program *it) {
+    struct option known[MOST_CHOICES] = {0};
+    const struct choice *choice;
+    program = it;
+    for (size_t i = 0; (choice = choice_of(i)); i++)
+        known[i] = (struct option){choice->name, choice->value ? required_argument : no_argument, NULL, (int)i};
+    for (int option; (option = getopt_long(count, words, "", known, NULL)) >= 0;)
+        if (option == '?' || !take(choice_of((size_t)option), optarg)) front_fault();
+    if (level_name && !log_level_named(level_name, &log_greatest)) front_fault();
     level = log_greatest;
-    for (int option; is_good && (option = getopt_long(count, words, "", known, NULL)) >= 0;) {
-        if (option == 'R') folder = optarg;
-        else if (option == 'C') control = optarg;
-        else if (option == 'L') is_good = log_level_named(optarg, &level);
-        else if (option == 'H') fputs(usage, stdout), exit(0);
-        else if (option == 'V') print_version(words[0]);
-        else is_good = option != '?' && take(option, optarg);
-    }
-    if (!is_good) front_fault(usage);
-    log_greatest = level;
+    if (wants_help) print_usage(stdout);
+    if (wants_version) printf("%s %u.%u\n", program_invocation_short_name, bfdd_version() >> 16, bfdd_version() & 0xffff);
+    if (wants_help || wants_version) exit(0);
 }
 
 static void take_signal(uint32_t signal, uint64_t now) {
@@ -44,8 +71,9 @@ static void take_signal(uint32_t signal, uint64_t now) {
 
 void front_open(session_teller *tell, uint64_t keep, FILE *file, bool json) {
     views = file;
-    viewer = json ? view_json : view_text;
+    is_json = json;
     at_terminal = isatty(STDIN_FILENO);
+    signal(SIGCHLD, SIG_IGN); /* nobody waits for a child */
     if (folder) record_in(folder);
     loop_open(take_signal);
     sessions_open(tell, keep);
@@ -53,7 +81,7 @@ void front_open(session_teller *tell, uint64_t keep, FILE *file, bool json) {
 }
 
 void front_view(uint64_t now) {
-    sessions_view(viewer, views, now);
+    sessions_view(views, is_json, now);
     fflush(views);
 }
 

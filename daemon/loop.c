@@ -9,7 +9,6 @@
 enum { EVENTS = 64, TICK = 1000 /* microseconds */ };
 
 static int epoll, signals, timer;
-static uint64_t armed = UINT64_MAX; /* the moment for which the timer is set */
 static loop_act *acts[LOOP_KINDS];
 static loop_act *take_signal;
 static bool is_ended;
@@ -32,14 +31,14 @@ static void take_signals(uint32_t number, uint64_t now) {
     }
 }
 
-/* The timer only ends the sleep: it stays readable until it is set again. */
+/* The timer only ends the sleep. */
 static void awake(uint32_t number, uint64_t now) { (void)number, (void)now; }
 
 void loop_open(loop_act *take) {
-    static const int awaited[] = {SIGTERM, SIGINT, SIGPIPE, SIGHUP, SIGUSR1};
+    static const int taken[] = {SIGTERM, SIGINT, SIGPIPE, SIGHUP, SIGUSR1};
     sigset_t set;
     sigemptyset(&set);
-    for (size_t i = 0; i < sizeof awaited / sizeof *awaited; i++) sigaddset(&set, awaited[i]);
+    for (size_t i = 0; i < COUNT(taken); i++) sigaddset(&set, taken[i]);
     sigprocmask(SIG_BLOCK, &set, NULL);
     take_signal = take;
     epoll = epoll_create1(EPOLL_CLOEXEC);
@@ -49,36 +48,43 @@ void loop_open(loop_act *take) {
     loop_await(timer, LOOP_TIMER, 0, EPOLLIN, awake);
 }
 
-static void set_timer(uint64_t due, uint64_t now) {
-    uint64_t left = due > now ? due - now : 0;
-    struct itimerspec time = {.it_value = {.tv_sec = (time_t)(left / 1000000), .tv_nsec = (long)(left % 1000000) * 1000}};
-    if (due == armed) return;
-    if (left == 0) time.it_value.tv_nsec = 1; /* 0 would stop it */
-    if (due == UINT64_MAX) time.it_value = (struct timespec){0};
-    timerfd_settime(timer, 0, &time, NULL);
-    armed = due;
+pid_t loop_fork(void) {
+    sigset_t none;
+    pid_t child = fork();
+    sigemptyset(&none);
+    if (child == 0) sigprocmask(SIG_SETMASK, &none, NULL);
+    return child;
 }
 
-static void carry_out(const struct epoll_event *events, int count, bool packets) {
+/* Sets the timer for this moment: it has no event before, and then one until it is set again. */
+static void set_timer(uint64_t moment) {
+    uint64_t now = clock_now(), left = moment > now ? moment - now : 0;
+    struct itimerspec time = {.it_value = {(time_t)(left / 1000000), (long)(left % 1000000) * 1000}};
+    if (left == 0) time.it_value.tv_nsec = 1; /* 0 would stop it */
+    timerfd_settime(timer, 0, &time, NULL);
+}
+
+static void carry_out(const struct epoll_event *events, int count, bool are_packets) {
     for (int i = 0; i < count; i++) {
         enum loop_kind kind = (enum loop_kind)(events[i].data.u64 >> 32);
-        if ((kind == LOOP_PACKETS) == packets) acts[kind]((uint32_t)events[i].data.u64, clock_now());
+        if ((kind == LOOP_PACKETS) == are_packets) acts[kind]((uint32_t)events[i].data.u64, clock_now());
     }
 }
 
 /* Rounds come at most once in a millisecond, the engine's tick: what comes meanwhile is gathered. */
-static void gather(uint64_t last) {
+static void gather(uint64_t last_round) {
     uint64_t now = clock_now();
-    if (now - last < TICK) nanosleep(&(struct timespec){.tv_nsec = (long)(TICK - now % TICK) * 1000}, NULL);
+    if (now - last_round < TICK) nanosleep(&(struct timespec){.tv_nsec = (long)(TICK - now % TICK) * 1000}, NULL);
 }
 
 void loop_run(loop_round *round) {
     struct epoll_event events[EVENTS];
-    uint64_t now = clock_now();
+    uint64_t last = 0;
     while (!is_ended) {
-        uint64_t last = now, due = round(now = clock_now());
-        set_timer(due, clock_now());
+        uint64_t now = clock_now();
+        set_timer(round(now));
         gather(last);
+        last = now;
         int count = epoll_wait(epoll, events, EVENTS, -1);
         carry_out(events, count, true);
         carry_out(events, count, false);

@@ -7,74 +7,62 @@
 
 #include <arpa/inet.h>
 #include <fcntl.h>
+#include <netinet/in.h>
 #include <signal.h>
 #include <sys/random.h>
 
 enum { OWNER = 1, WORD = 48, TYPED = 256 };
 
-static const char usage[] =
+/* A session that is to be run. */
+static struct entry {
+    struct dp_session wanted;
+    struct session_key key;
+} *entries;
+static size_t count_entries;
+
+static bool is_multihop, is_passive, is_json;
+static const char *interface, *auth, *command;
+static uint64_t tx = 300, rx = 300, mult = 3;
+
+static const struct choice choices[] = {
+    {"multihop", NULL, "over several hops (port 4784), not one (port 3784)", .flag = &is_multihop},
+    {"interface", "IF", "the interface, which a link-local address needs", .text = &interface},
+    {"tx", "MS", "Desired Min TX Interval, 10 to 60000 milliseconds; 300 if not given", .number = &tx, 10, 60000},
+    {"rx", "MS", "Required Min RX Interval, likewise", .number = &rx, 10, 60000},
+    {"mult", "N", "Detect Mult, 1 to 255; 3 if not given", .number = &mult, 1, 255},
+    {"passive", NULL, "send nothing before the peer is heard", .flag = &is_passive},
+    {"auth", "TYPE:ID:KEYFILE", "authenticate by the Auth Type 1 to 5, the key's number 0 to 255, and the key in this file", .text = &auth},
+    {"json", NULL, "write lines of JSON", .flag = &is_json},
+    {"on-change", "COMMAND", "run this by the shell at each change; BFDD_PEER, BFDD_STATE and others tell it which", .text = &command}};
+
+static const struct program peer = {
     "usage: bfdd-peer [OPTION].. LOCAL REMOTE\n"
     "       bfdd-peer [OPTION].. TABLE\n"
     "\n"
     "Runs the BFD session of these two IPv4 or IPv6 addresses, or those of a table: a packet file without events. It writes a\n"
     "line for each change of a session's state, and goes on until SIGINT or SIGTERM; then each session sends AdminDown.\n"
+    "\n",
     "\n"
-    "  --multihop       over several hops (port 4784), not one (port 3784)\n"
-    "  --interface IF   the interface, which a link-local address needs\n"
-    "  --tx MS          Desired Min TX Interval, 10 to 60000 milliseconds; 300 if not given\n"
-    "  --rx MS          Required Min RX Interval, likewise\n"
-    "  --mult N         Detect Mult, 1 to 255; 3 if not given\n"
-    "  --passive        send nothing before the peer is heard\n"
-    "  --auth TYPE:ID:KEYFILE  authenticate by the Auth Type 1 to 5, the key's number 0 to 255, and the key in this file\n"
-    "  --json           write lines of JSON\n"
-    "  --on-change COMMAND  run this by the shell at each change; BFDD_PEER, BFDD_STATE and others tell it which\n"
-    FRONT_USAGE("warning")
-    "\n"
-    "SIGUSR1, or Enter at a terminal, writes a line for each session. See bfdd-peer(1).\n";
+    "LEVEL is warning if not given. SIGUSR1, or Enter at a terminal, writes a line for each session. See bfdd-peer(1).\n",
+    choices, COUNT(choices)};
 
-/* A session that is to be run. */
-static struct entry {
-    struct dp_session wanted;
-    struct session_key key;
-} given = {.wanted = {.tx = 300000, .rx = 300000, .mult = 3}}, *entries; /* as the options have it; and all */
-static size_t count_entries;
-static bool json;
-static const char *command;
+/* Sessions ------------------------------------------------------------------------------------------------------------- */
 
 /* Reads TYPE:ID:KEYFILE. A line's end behind the key isn't part of it. */
-static bool read_auth(const char *text, struct session_key *key) {
+static bool read_auth(struct session_key *key) {
     uint8_t bytes[sizeof key->bytes + 2];
     int end = 0;
-    if (sscanf(text, "%1" SCNu32 ":%3" SCNu32 ":%n", &key->type, &key->id, &end) != 2 || end == 0) return false;
+    if (sscanf(auth, "%1" SCNu32 ":%3" SCNu32 ":%n", &key->type, &key->id, &end) != 2 || end == 0) return false;
     if (key->type < 1 || key->type > 5 || key->id > 255) return false;
-    FILE *file = fopen(text + end, "re");
-    if (!file) fail(text + end, strerror(errno));
+    FILE *file = fopen(auth + end, "re");
+    if (!file) fail(auth + end, strerror(errno));
     key->length = (uint32_t)fread(bytes, 1, sizeof bytes, file);
     fclose(file);
     if (key->length > 0 && bytes[key->length - 1] == '\n') key->length--;
     if (key->length < 1 || key->length > (key->type < 4 ? 16 : 20)) return false;
-    return memcpy(key->bytes, bytes, key->length);
+    memcpy(key->bytes, bytes, key->length);
+    return true;
 }
-
-static bool take_option(int option, const char *value) {
-    struct dp_session *s = &given.wanted;
-    uint64_t number = 0;
-    switch (option) {
-    case 'm': return s->flags |= DP_MULTIHOP;
-    case 'p': return s->flags |= DP_PASSIVE;
-    case 't': return read_number(value, 10, 60000, &number) && (s->tx = (uint32_t)number * 1000);
-    case 'r': return read_number(value, 10, 60000, &number) && (s->rx = (uint32_t)number * 1000);
-    case 'n': return read_number(value, 1, 255, &number) && (s->mult = (uint8_t)number);
-    case 'a': return read_auth(value, &given.key);
-    case 'j': return json = true;
-    case 'c': return (command = value);
-    default:
-        if ((s->ifindex = if_nametoindex(value)) == 0) fail(value, "no such interface");
-        return snprintf(s->ifname, sizeof s->ifname, "%s", value) > 0;
-    }
-}
-
-/* Sessions ------------------------------------------------------------------------------------------------------------- */
 
 static void add_entry(const struct entry *entry) {
     entries = realloc(entries, (count_entries + 1) * sizeof *entries);
@@ -82,17 +70,22 @@ static void add_entry(const struct entry *entry) {
     entries[count_entries++] = *entry;
 }
 
-/* The session of two addresses of one family. */
+/* The session of the options, and of two addresses of one family. */
 static bool take_words(const char *local, const char *remote) {
-    struct dp_session *s = &given.wanted;
-    if (strchr(remote, ':')) s->flags |= DP_IPV6;
-    int family = s->flags & DP_IPV6 ? AF_INET6 : AF_INET;
+    struct entry entry = {.wanted = {.tx = (uint32_t)tx * 1000, .rx = (uint32_t)rx * 1000, .mult = (uint8_t)mult}};
+    struct dp_session *s = &entry.wanted;
+    int family = strchr(remote, ':') ? AF_INET6 : AF_INET;
+    s->flags = (is_multihop ? DP_MULTIHOP : 0u) | (is_passive ? DP_PASSIVE : 0u) | (family == AF_INET6 ? DP_IPV6 : 0u);
+    if (interface && (s->ifindex = if_nametoindex(interface)) == 0) fail(interface, "no such interface");
+    if (interface) snprintf(s->ifname, sizeof s->ifname, "%s", interface);
     if (inet_pton(family, local, s->source) != 1 || inet_pton(family, remote, s->destination) != 1) return false;
-    if (s->destination[0] == 0xfe && (s->destination[1] & 0xc0) == 0x80 && family == AF_INET6 && s->ifindex == 0)
+    if (family == AF_INET6 && IN6_IS_ADDR_LINKLOCAL((struct in6_addr *)s->destination) && !interface)
         fail(remote, "a link-local address needs --interface");
+    if (auth && !read_auth(&entry.key)) return false;
     while (s->discr == 0)
         if (getrandom(&s->discr, sizeof s->discr, 0) != sizeof s->discr) fail("getrandom", strerror(errno));
-    return add_entry(&given), true;
+    add_entry(&entry);
+    return true;
 }
 
 static size_t read_hex(const char *text, uint8_t *bytes, size_t room) {
@@ -112,12 +105,13 @@ static void take_line(const char *line) {
     struct dp_session *s = &entry.wanted;
     struct session_key key = {0};
     char hops[8], local[WORD], remote[WORD], mode[8], secret[WORD];
-    uint32_t mult, echo, discr;
+    uint32_t detect, echo, discr;
     if (sscanf(line, "p2p %" SCNu32 " %7s %" SCNu32 " %47s %47s %7s %" SCNu32 " %" SCNu32 " %" SCNu32 " %" SCNu32, &s->discr, hops,
-               &s->ifindex, local, remote, mode, &s->tx, &s->rx, &mult, &echo) == 10) {
+               &s->ifindex, local, remote, mode, &s->tx, &s->rx, &detect, &echo) == 10) {
         read_address(local, s->source);
-        s->flags = read_address(remote, s->destination) | (*hops == 'm' ? DP_MULTIHOP : 0u) | (echo ? DP_ECHO : 0u) | (*mode == 'p' ? DP_PASSIVE : 0u);
-        s->mult = (uint8_t)mult;
+        s->flags = read_address(remote, s->destination) | (*hops == 'm' ? DP_MULTIHOP : 0u) | (*mode == 'p' ? DP_PASSIVE : 0u)
+                   | (echo ? DP_ECHO : 0u);
+        s->mult = (uint8_t)detect;
         if (s->ifindex && !if_indextoname(s->ifindex, s->ifname)) fail(line, "no interface has this number");
         add_entry(&entry);
     } else if (sscanf(line, "auth %" SCNu32 " %" SCNu32 " %" SCNu32 " %47s", &discr, &key.type, &key.id, secret) == 4) {
@@ -157,19 +151,19 @@ static void run_command(const struct session *s, const struct session_change *ch
         {"BFDD_TIME", moment_text(change->moment, time)}, {"BFDD_LOCAL", address_text(&s->local, local)},
         {"BFDD_PEER", address_text(&s->remote, remote)}, {"BFDD_INTERFACE", s->wanted.ifname}, {"BFDD_WAS", state_text(change->was)},
         {"BFDD_STATE", state_text(change->state)}, {"BFDD_DIAGNOSTIC", diagnostic_text(change->diagnostic)}, {"BFDD_CAUSE", change->cause}};
-    sigset_t none;
-    pid_t child = fork();
+    pid_t child = loop_fork();
     if (child < 0) say(LOG_ERROR, "%s: %s", command, strerror(errno));
     if (child != 0) return;
-    for (size_t i = 0; i < sizeof variables / sizeof *variables; i++) setenv(variables[i][0], variables[i][1], 1);
-    sigemptyset(&none), sigprocmask(SIG_SETMASK, &none, NULL), signal(SIGCHLD, SIG_DFL);
-    dup2(open("/dev/null", O_RDONLY), 0), dup2(2, 1);
+    for (size_t i = 0; i < COUNT(variables); i++) setenv(variables[i][0], variables[i][1], 1);
+    signal(SIGCHLD, SIG_DFL);
+    dup2(open("/dev/null", O_RDONLY), STDIN_FILENO);
+    dup2(STDERR_FILENO, STDOUT_FILENO);
     execl("/bin/sh", "sh", "-c", command, (char *)NULL);
     _exit(127);
 }
 
 static bool report_change(const struct session *s, const struct session_change *change) {
-    if (change) view_change(stdout, json, s, change);
+    if (change) view_change(stdout, is_json, s, change);
     if (change && command) run_command(s, change);
     return true;
 }
@@ -183,18 +177,13 @@ static void take_key(uint32_t number, uint64_t now) {
 }
 
 int main(int count, char **words) {
-    static const struct option known[] = {{"multihop", no_argument, NULL, 'm'}, {"interface", required_argument, NULL, 'i'},
-                                          {"tx", required_argument, NULL, 't'}, {"rx", required_argument, NULL, 'r'},
-                                          {"mult", required_argument, NULL, 'n'}, {"passive", no_argument, NULL, 'p'},
-                                          {"auth", required_argument, NULL, 'a'}, {"json", no_argument, NULL, 'j'},
-                                          {"on-change", required_argument, NULL, 'c'}, FRONT_OPTIONS};
     log_greatest = LOG_WARNING;
     setvbuf(stdout, NULL, _IOLBF, 0);
-    signal(SIGCHLD, SIG_IGN), signal(SIGTTIN, SIG_IGN);
-    front_read(count, words, known, take_option, usage);
+    signal(SIGTTIN, SIG_IGN);
+    front_read(count, words, &peer);
     if (optind + 1 == count) take_table(words[optind]);
-    else if (optind + 2 != count || !take_words(words[optind], words[optind + 1])) front_fault(usage);
-    front_open(report_change, 0, stdout, json);
+    else if (optind + 2 != count || !take_words(words[optind], words[optind + 1])) front_fault();
+    front_open(report_change, 0, stdout, is_json);
     for (size_t i = 0; i < count_entries; i++) sessions_add(OWNER, &entries[i].wanted, &entries[i].key, clock_now());
     if (isatty(STDIN_FILENO)) loop_await(STDIN_FILENO, LOOP_KEY, 0, EPOLLIN, take_key);
     front_run(NULL, true);

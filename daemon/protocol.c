@@ -1,94 +1,80 @@
-/* FRR's data plane protocol: see protocol.h. Offsets below are those of the message, its header of 8 bytes included. */
+/* FRR's data plane protocol: see protocol.h. */
 #include "protocol.h"
 
+#include <arpa/inet.h>
 #include <string.h>
 
-enum { VERSION = 1 };
+enum { VERSION = 1, MOST_NUMBERS = 8 };
 
-/* Numbers of so many bytes. */
-static uint64_t get(const uint8_t *at, size_t bytes) {
-    uint64_t value = 0;
-    for (size_t i = 0; i < bytes; i++) value = value << 8 | at[i];
-    return value;
-}
+/* A number of a message: its place, and how many bytes it has. */
+struct number {
+    uint8_t place, bytes;
+};
 
-uint32_t dp_get32(const uint8_t *at) { return (uint32_t)get(at, 4); }
+#define NUMBER(field) {offsetof(struct dp_message, field), sizeof((struct dp_message *)0)->field}
+#define ECHO {24, true, {NUMBER(body.echo.data_plane_time), NUMBER(body.echo.control_time)}}
+#define SESSION \
+    {DP_SESSION_LENGTH, true, \
+     {NUMBER(body.session.flags), NUMBER(body.session.discr), NUMBER(body.session.tx), NUMBER(body.session.rx), \
+      NUMBER(body.session.echo_tx), NUMBER(body.session.echo_rx), NUMBER(body.session.hold_ms), NUMBER(body.session.ifindex)}}
 
-static void put(uint8_t *at, size_t bytes, uint64_t value) {
-    for (size_t i = 0; i < bytes; i++) at[i] = (uint8_t)(value >> 8 * (bytes - 1 - i));
-}
+static const struct number header[] = {NUMBER(type), NUMBER(id), NUMBER(length)};
 
-/* The length of a type that FRR may send, 0 for any other. */
-static uint16_t length_of(uint16_t type) {
-    if (type == DP_ECHO_REQUEST || type == DP_ECHO_REPLY) return DP_ECHO_LENGTH;
-    if (type == DP_ADD_SESSION || type == DP_DELETE_SESSION) return DP_SESSION_LENGTH;
-    return type == DP_REQUEST_COUNTERS ? DP_REQUEST_LENGTH : 0;
-}
+/* Each type, with the numbers of its body. */
+static const struct {
+    uint16_t length;
+    bool is_from_frr;
+    struct number numbers[MOST_NUMBERS];
+} types[DP_TYPES] = {
+    [DP_ECHO_REQUEST] = ECHO,
+    [DP_ECHO_REPLY] = ECHO,
+    [DP_ADD_SESSION] = SESSION,
+    [DP_DELETE_SESSION] = SESSION,
+    [DP_STATE_CHANGE] = {36, false,
+                         {NUMBER(body.state.discr), NUMBER(body.state.peer_discr), NUMBER(body.state.peer_flags),
+                          NUMBER(body.state.peer_tx), NUMBER(body.state.peer_rx), NUMBER(body.state.peer_echo_rx)}},
+    [DP_REQUEST_COUNTERS] = {12, true, {NUMBER(body.discr)}},
+    [DP_COUNTERS] = {80, false,
+                     {NUMBER(body.counters.discr), NUMBER(body.counters.bytes_in), NUMBER(body.counters.packets_in),
+                      NUMBER(body.counters.bytes_out), NUMBER(body.counters.packets_out)}}};
 
-static void read_session(const uint8_t *at, struct dp_session *session) {
-    session->flags = dp_get32(at + 8);
-    memcpy(session->source, at + 12, sizeof session->source);
-    memcpy(session->destination, at + 28, sizeof session->destination);
-    session->discr = dp_get32(at + 44);
-    session->tx = dp_get32(at + 48);
-    session->rx = dp_get32(at + 52);
-    session->echo_tx = dp_get32(at + 56);
-    session->echo_rx = dp_get32(at + 60);
-    session->hold_ms = dp_get32(at + 64);
-    session->least_ttl = at[68];
-    session->mult = at[69];
-    session->ifindex = dp_get32(at + 72);
-    memcpy(session->ifname, at + 76, 64);
-    session->ifname[64] = 0;
+_Static_assert(sizeof(struct dp_session) == DP_SESSION_LENGTH - DP_HEADER, "the layout of a session");
+_Static_assert(sizeof(struct dp_counters) == 72 && sizeof(struct dp_state) == 28, "the layouts of what is written");
+
+/* Turns these numbers of a message from the one order to the other. */
+static void turn(struct dp_message *message, const struct number *numbers, size_t count) {
+    if (htons(1) == 1) return; /* the machine's order is the network's */
+    for (size_t i = 0; i < count; i++) {
+        uint8_t *bytes = (uint8_t *)message + numbers[i].place, copy[8];
+        memcpy(copy, bytes, numbers[i].bytes);
+        for (size_t at = 0; at < numbers[i].bytes; at++) bytes[at] = copy[numbers[i].bytes - 1 - at];
+    }
 }
 
 enum dp_reading dp_read(const uint8_t *bytes, size_t count, struct dp_message *message, size_t *used) {
     *used = 0;
     memset(message, 0, sizeof *message);
-    if (count < DP_HEADER_LENGTH) return DP_PARTIAL;
-    message->version = bytes[0];
-    message->type = (uint16_t)get(bytes + 2, 2);
-    message->id = (uint16_t)get(bytes + 4, 2);
-    message->length = (uint16_t)get(bytes + 6, 2);
-    if (message->length < DP_HEADER_LENGTH) return DP_LOST;
+    if (count < DP_HEADER) return DP_PARTIAL;
+    memcpy(message, bytes, DP_HEADER);
+    turn(message, header, 3);
+    if (message->length < DP_HEADER) return DP_LOST;
     if (count < message->length) return DP_PARTIAL;
     *used = message->length;
-    if (message->version != VERSION) return DP_UNKNOWN_VERSION;
-    if (length_of(message->type) == 0) return DP_UNKNOWN_TYPE;
-    if (length_of(message->type) != message->length) return DP_WRONG_LENGTH;
-    if (message->length == DP_ECHO_LENGTH) message->body.echo = (struct dp_echo){get(bytes + 8, 8), get(bytes + 16, 8)};
-    else if (message->length == DP_REQUEST_LENGTH) message->body.discr = dp_get32(bytes + 8);
-    else read_session(bytes, &message->body.session);
+    bool is_known = message->version == VERSION && message->type < DP_TYPES && types[message->type].is_from_frr;
+    if (!is_known || message->length != types[message->type].length) return DP_SKIPPED;
+    memcpy(&message->body, bytes + DP_HEADER, message->length - DP_HEADER);
+    turn(message, types[message->type].numbers, MOST_NUMBERS);
+    if (message->length == DP_SESSION_LENGTH) message->body.session.ifname[63] = 0;
     return DP_READ;
 }
 
-static void write_header(uint8_t *out, enum dp_type type, uint16_t id, uint16_t length) {
-    memset(out, 0, length);
-    out[0] = VERSION;
-    put(out + 2, 2, type);
-    put(out + 4, 2, id);
-    put(out + 6, 2, length);
-}
-
-size_t dp_write_echo(uint8_t out[DP_ECHO_LENGTH], enum dp_type type, uint16_t id, const struct dp_echo *echo) {
-    write_header(out, type, id, DP_ECHO_LENGTH);
-    put(out + 8, 8, echo->data_plane_time);
-    put(out + 16, 8, echo->control_time);
-    return DP_ECHO_LENGTH;
-}
-
-size_t dp_write_state(uint8_t out[DP_STATE_LENGTH], const struct dp_state *state) {
-    write_header(out, DP_STATE_CHANGE, 0, DP_STATE_LENGTH);
-    const uint32_t words[] = {state->discr, state->peer_discr, state->peer_flags, state->peer_tx, state->peer_rx, state->peer_echo_rx};
-    for (size_t i = 0; i < sizeof words / sizeof *words; i++) put(out + 8 + 4 * i, 4, words[i]);
-    out[32] = state->state, out[33] = state->diagnostic, out[34] = state->peer_mult;
-    return DP_STATE_LENGTH;
-}
-
-size_t dp_write_counters(uint8_t out[DP_COUNTERS_LENGTH], uint16_t id, uint32_t discr, const struct dp_counters *counters) {
-    write_header(out, DP_COUNTERS, id, DP_COUNTERS_LENGTH);
-    put(out + 8, 4, discr);
-    const uint64_t counts[] = {counters->bytes_in, counters->packets_in, counters->bytes_out, counters->packets_out};
-    for (size_t i = 0; i < sizeof counts / sizeof *counts; i++) put(out + 16 + 8 * i, 8, counts[i]); /* those of echo packets stay 0 */
-    return DP_COUNTERS_LENGTH;
+size_t dp_write(uint8_t *out, const struct dp_message *message) {
+    struct dp_message turned = *message;
+    size_t length = types[message->type].length;
+    turned.version = VERSION;
+    turned.length = types[message->type].length;
+    turn(&turned, header, 3);
+    turn(&turned, types[message->type].numbers, MOST_NUMBERS);
+    memcpy(out, &turned, length);
+    return length;
 }

@@ -5,13 +5,15 @@
 #include <sys/resource.h>
 #include <sys/stat.h>
 
-enum { MOST_EVENTS = 200000, MOST_PAYLOAD = 256, PATH = 512 };
+enum { MOST_EVENTS = 200000, MOST_PAYLOAD = 256, PATH = 4096 };
 
 static const char *folder;
 
 void record_in(const char *path) {
     struct rlimit files; /* each record is an open file */
-    if (getrlimit(RLIMIT_NOFILE, &files) == 0) files.rlim_cur = files.rlim_max, setrlimit(RLIMIT_NOFILE, &files);
+    getrlimit(RLIMIT_NOFILE, &files);
+    files.rlim_cur = files.rlim_max;
+    setrlimit(RLIMIT_NOFILE, &files);
     if (mkdir(path, 0777) != 0 && errno != EEXIST) fail(path, strerror(errno));
     folder = path;
 }
@@ -20,16 +22,19 @@ bool record_is_on(void) { return folder != NULL; }
 
 /* A new file that this user alone may read, since it has the session's key. */
 static FILE *create(const char *path) {
-    int fd = open(path, O_WRONLY | O_CREAT | O_EXCL | O_CLOEXEC, 0600);
-    FILE *file = fd >= 0 ? fdopen(fd, "w") : NULL;
+    mode_t former = umask(077);
+    FILE *file = fopen(path, "wxe");
     if (!file) say(LOG_ERROR, "%s: %s; its session isn't recorded", path, strerror(errno));
-    if (!file && fd >= 0) close(fd);
+    umask(former);
     return file;
 }
 
 static void put_bytes(FILE *file, const uint8_t *bytes, size_t length) {
     if (length == 0) fputc('-', file);
-    for (size_t i = 0; i < length; i++) fputc("0123456789abcdef"[bytes[i] >> 4], file), fputc("0123456789abcdef"[bytes[i] & 15], file);
+    for (size_t i = 0; i < length; i++) {
+        fputc("0123456789abcdef"[bytes[i] >> 4], file);
+        fputc("0123456789abcdef"[bytes[i] & 15], file);
+    }
 }
 
 static void put_address(FILE *file, const bfdd_address *address) {
@@ -53,27 +58,20 @@ static void put_table(FILE *file, const bfdd_session *s) {
     fputs("run\n", file);
 }
 
-/* The path of a session's record: the time of day without its hyphens and colons, and the discriminator. */
-static bool name_file(char path[PATH], uint64_t now, uint32_t discr) {
-    char text[MOMENT_TEXT];
-    int length = snprintf(path, PATH, "%s/", folder);
-    if (length < 0 || length + MOMENT_TEXT + 30 > PATH) return say(LOG_ERROR, "%s: too long a path", folder), false;
-    for (const char *at = moment_text(now, text); *at; at++)
-        if (*at != '-' && *at != ':') path[length++] = *at;
-    snprintf(path + length, (size_t)(PATH - length), "-%" PRIu32 ".script", discr);
-    return true;
-}
-
+/* The path of a session's record has the time of day and the discriminator, as FOLDER/20261130T101500.123456Z-7.script. */
 void record_begin(struct record *record, const bfdd_session *session, uint64_t now) {
-    char text[MOMENT_TEXT], path[PATH];
+    char t[MOMENT_TEXT], path[PATH];
     *record = (struct record){0};
-    if (!folder || !name_file(path, now, session->discr) || bfdd_open_session(&record->alone, session) != BFDD_DONE) return;
-    if (!(record->file = create(path))) return bfdd_close(&record->alone);
+    if (!folder) return;
+    moment_text(now, t);
+    snprintf(path, sizeof path, "%s/%.4s%.2s%.5s%.2s%s-%" PRIu32 ".script", folder, t, t + 5, t + 8, t + 14, t + 17, session->discr);
+    if (bfdd_open_session(&record->alone, session) == BFDD_DONE) record->file = create(path);
+    if (!record->file) return bfdd_close(&record->alone);
     put_table(record->file, session);
-    strcat(path, ".start");
+    strncat(path, ".start", sizeof path - strlen(path) - 1);
     FILE *start = create(path);
     if (!start) return;
-    fprintf(start, "start %s\n", moment_text(0, text));
+    fprintf(start, "start %s\n", moment_text(0, t));
     fclose(start);
 }
 
@@ -88,14 +86,16 @@ static bool has_room(struct record *record) {
     if (!record->file) return false;
     if (record->events++ < MOST_EVENTS) return true;
     record_end(record);
-    return say(LOG_WARNING, "a session's record ends with its event %d, the most that a packet file has", MOST_EVENTS), false;
+    say(LOG_WARNING, "a session's record ends with its event %d, the most that a packet file has", MOST_EVENTS);
+    return false;
 }
 
 void record_packet(struct record *record, const bfdd_arrival *arrival) {
     const bfdd_packet *packet = &arrival->packet;
+    const char *port = packet->port == BFDD_PORT_MULTI ? "multi" : "single";
     if (!has_room(record)) return;
     bfdd_receive(&record->alone, packet, arrival->payload, arrival->length);
-    fprintf(record->file, "rx %" PRIu64 " %s %" PRIu32 " ", packet->moment, packet->port == BFDD_PORT_MULTI ? "multi" : "single", packet->iface);
+    fprintf(record->file, "rx %" PRIu64 " %s %" PRIu32 " ", packet->moment, port, packet->iface);
     put_address(record->file, &packet->src);
     put_address(record->file, &packet->dst);
     fprintf(record->file, "%u ", packet->ttl);
@@ -113,9 +113,8 @@ void record_tick(struct record *record, uint64_t ms) {
 void record_command(struct record *record, uint64_t moment, uint32_t discr, uint32_t verb, uint64_t value) {
     static const char *const verbs[] = {"", "disable", "enable", "reset", "path", "tx", "rx", "mult", "demand", "echo", "key"};
     if (!has_room(record)) return;
-    if (verb == 0) bfdd_show(&record->alone, moment, discr);
-    else bfdd_command(&record->alone, moment, discr, verb, value);
-    fprintf(record->file, verb ? "cmd %" PRIu64 " %" PRIu32 " %s" : "show %" PRIu64 " %" PRIu32 "%s", moment, discr, verbs[verb]);
+    bfdd_command(&record->alone, moment, discr, verb, value);
+    fprintf(record->file, "cmd %" PRIu64 " %" PRIu32 " %s", moment, discr, verbs[verb]);
     if (verb >= BFDD_PATH) fprintf(record->file, " %" PRIu64, value);
     fputc('\n', record->file);
 }

@@ -6,30 +6,32 @@
  * is tried again after each packet of the session and each second. */
 #include "daemon.h"
 
+#include <arpa/inet.h>
 #include <sys/random.h>
 
-enum { BUCKETS = 4096, CHANGEABLE = 4, NAME = 160, CAUSE = 160, CHANGE = 480, LEAST_INTERVAL = 10000, GREATEST_INTERVAL = 60000000 };
+enum { BUCKETS = 4096, CHANGEABLE = 4, NAME = 160, CAUSE = 160, CHANGE = 480 };
+enum { LEAST_PACKET = 24, LEAST_INTERVAL = 10000, GREATEST_INTERVAL = 60000000 };
 static const uint64_t SECOND = 1000000, TELL_AGAIN = 5000000;
 static const uint32_t changeable[CHANGEABLE] = {BFDD_TX, BFDD_RX, BFDD_MULT, BFDD_DEMAND};
 static const uint8_t no_address[16];
 
 /* What the event was that an output came of. */
-enum event { PACKET, TICK, SHOWN, SHUT, ENABLED, ENDED };
+enum event { PACKET, TICK, SHUT, ENABLED, ENDED };
 
 static bfdd_handle engine = BFDD_HANDLE_INIT;
 static uint64_t ticked; /* the engine's last tick, milliseconds */
 static uint64_t next_chores, keep;
 static session_teller *teller;
-static struct session *tables[TABLES][BUCKETS];
+static struct session *by_discr[BUCKETS], *by_peer[BUCKETS], *all;
 
 /* Finding -------------------------------------------------------------------------------------------------------------- */
 
-static struct session **bucket_of_discr(uint32_t discr) { return &tables[BY_DISCR][(discr * 2654435769u) >> 20]; }
+static struct session **bucket_of_discr(uint32_t discr) { return &by_discr[(discr * 2654435769u) >> 20]; }
 
 static struct session **bucket_of_peer(const bfdd_address *peer) {
     uint32_t sum = 2166136261u;
     for (size_t i = 0; i < sizeof peer->bytes; i++) sum = (sum ^ peer->bytes[i]) * 16777619u;
-    return &tables[BY_PEER][sum % BUCKETS];
+    return &by_peer[sum % BUCKETS];
 }
 
 struct session *sessions_find(uint32_t discr) {
@@ -38,9 +40,9 @@ struct session *sessions_find(uint32_t discr) {
     return s;
 }
 
-/* Puts a session into both tables, or takes it out of them. */
+/* Puts a session into the tables, or takes it out of them. */
 static void enter(struct session *s, bool is_in) {
-    struct session **buckets[TABLES] = {bucket_of_discr(s->wanted.discr), bucket_of_peer(&s->remote)};
+    struct session **buckets[TABLES] = {bucket_of_discr(s->wanted.discr), bucket_of_peer(&s->remote), &all};
     for (int table = 0; table < TABLES; table++) {
         struct session **at = buckets[table];
         while (!is_in && *at != s) at = &(*at)->next[table];
@@ -49,36 +51,36 @@ static void enter(struct session *s, bool is_in) {
     }
 }
 
-typedef void session_act(struct session *s, uint64_t now);
-
-/* Does this to each session, which it may close. */
-static void for_each(session_act *act, uint64_t now) {
-    for (size_t i = 0; i < BUCKETS; i++) {
-        for (struct session *s = tables[BY_DISCR][i], *next; s; s = next) {
-            next = s->next[BY_DISCR];
-            act(s, now);
-        }
-    }
+static uint32_t get32(const uint8_t *at) {
+    uint32_t number;
+    memcpy(&number, at, sizeof number);
+    return ntohl(number);
 }
 
 static bool is_multihop(const struct session *s) { return (s->wanted.flags & DP_MULTIHOP) != 0; }
 
 static bool is_same_address(const bfdd_address *a, const bfdd_address *b) { return memcmp(a, b, sizeof *a) == 0; }
 
+/* Whether a packet at a socket of this device may be for a session. */
+static bool may_be_for(const struct session *s, const bfdd_packet *packet, uint32_t device) {
+    bool is_its_interface = is_multihop(s) || s->path.ifindex == 0 || s->path.ifindex == packet->iface;
+    return s->is_open && is_its_interface && s->path.device == device && is_multihop(s) == (packet->port == BFDD_PORT_MULTI);
+}
+
 /* The session that a packet is for, by its Your Discriminator, or where that is 0 by addresses and interface. The engine
  * selects once more: a fault here can only lose a packet. */
-static struct session *find_for(const struct arrivals *arrivals, size_t i) {
-    const bfdd_packet *packet = &arrivals->packets[i].packet;
+static struct session *find_for(const bfdd_arrival *arrival, uint32_t device) {
+    const bfdd_packet *packet = &arrival->packet;
     struct session *any = NULL;
-    if (arrivals->packets[i].length < 24) return NULL;
-    uint32_t discr = dp_get32(arrivals->packets[i].payload + 8);
-    struct session *s = discr ? sessions_find(discr) : *bucket_of_peer(&packet->src);
-    for (; s; s = discr ? NULL : s->next[BY_PEER]) {
-        bool is_exact = is_multihop(s) || s->path.ifindex == arrivals->ifindex[i];
-        if (!s->is_open || is_multihop(s) != (packet->port == BFDD_PORT_MULTI) || s->path.device != arrivals->device) continue;
-        if (!discr && !(is_same_address(&s->remote, &packet->src) && is_same_address(&s->local, &packet->dst))) continue;
-        if (is_exact) return s;
-        if (s->path.ifindex == 0) any = s;
+    if (arrival->length < LEAST_PACKET) return NULL;
+    uint32_t discr = get32(arrival->payload + 8);
+    struct session *named = sessions_find(discr);
+    if (discr) return named && may_be_for(named, packet, device) ? named : NULL;
+    for (struct session *s = *bucket_of_peer(&packet->src); s; s = s->next[BY_PEER]) {
+        if (!is_same_address(&s->remote, &packet->src) || !is_same_address(&s->local, &packet->dst)) continue;
+        if (!may_be_for(s, packet, device)) continue;
+        if (s->path.ifindex) return s;
+        any = s;
     }
     return any;
 }
@@ -104,11 +106,14 @@ static void tell(struct session *s, const struct session_change *change, uint64_
 static const char *cause_of(const struct session *s, const bfdd_output *out, enum event event, uint64_t now, char text[CAUSE]) {
     static const char *const causes[] = {[SHUT] = "shut down here", [ENABLED] = "no longer shut down here", [ENDED] = "ended here"};
     uint8_t diagnostic = s->state.diagnostic;
-    if (event == TICK || event == SHOWN || (out->state == BFDD_DOWN && out->diag == 1))
+    if (event == TICK || (out->state == BFDD_DOWN && out->diag == 1))
         snprintf(text, CAUSE, "no packet came for %.3f ms", (double)(now - s->heard) / 1000);
-    else if (event >= SHUT) return causes[event];
-    else if (diagnostic == 0) snprintf(text, CAUSE, "the peer sent %s", state_text(s->peer_state));
-    else snprintf(text, CAUSE, "the peer sent %s, diagnostic %u (%s)", state_text(s->peer_state), diagnostic, diagnostic_text(diagnostic));
+    else if (event >= SHUT)
+        return causes[event];
+    else if (diagnostic == 0)
+        snprintf(text, CAUSE, "the peer sent %s", state_text(s->peer_state));
+    else
+        snprintf(text, CAUSE, "the peer sent %s, diagnostic %u (%s)", state_text(s->peer_state), diagnostic, diagnostic_text(diagnostic));
     return text;
 }
 
@@ -127,23 +132,22 @@ static void changed(struct session *s, const bfdd_output *out, enum event event,
 
 /* Events --------------------------------------------------------------------------------------------------------------- */
 
-/* Passes on what an event gave, which goes to the session that its discriminator names. */
+/* An output goes to the session that its discriminator names. */
+static void take_output(const bfdd_output *out, enum event event, uint64_t now) {
+    struct session *s = sessions_find(out->discr);
+    if (!s) return; /* never: who removes a session reads its outputs first */
+    if (out->kind == BFDD_CHANGED) return changed(s, out, event, now);
+    s->counters.packets_out++;
+    s->counters.bytes_out += out->len;
+    sockets_send(out, &s->path);
+}
+
+/* Passes on what an event gave. */
 static void take_outputs(enum event event, uint64_t now) {
     static bfdd_output outs[BFDD_MANY];
     size_t count = 0;
-    while (bfdd_outputs(&engine, outs, BFDD_MANY, &count) == BFDD_DONE) {
-        for (size_t i = 0; i < count; i++) {
-            struct session *s = sessions_find(outs[i].discr);
-            if (!s) continue; /* never: who removes a session reads its outputs first */
-            if (outs[i].kind == BFDD_CHANGED) {
-                changed(s, &outs[i], event, now);
-                continue;
-            }
-            s->packets_out++;
-            s->bytes_out += outs[i].len;
-            sockets_send(&outs[i], &s->path);
-        }
-    }
+    while (bfdd_outputs(&engine, outs, BFDD_MANY, &count) == BFDD_DONE)
+        for (size_t i = 0; i < count; i++) take_output(&outs[i], event, now);
 }
 
 /* Gives a command. False where the engine refuses it for a cause that passes. */
@@ -167,18 +171,16 @@ static void give_changes(struct session *s, uint64_t now) {
 }
 
 /* Keeps what the owner is told of the peer, from a control packet that the engine has taken (RFC 5880 section 4.1). */
-static void keep_peer(struct session *s, const uint8_t *payload, size_t length) {
+static void keep_peer(struct session *s, const uint8_t *payload) {
     uint32_t c = payload[1] >> 3 & 1u, d = payload[1] >> 1 & 1u, m = payload[1] & 1u;
     s->peer_state = payload[1] >> 6;
     s->state.diagnostic = payload[0] & 31;
     s->state.peer_flags = c * DP_PEER_C | d * DP_PEER_DEMAND | m * DP_PEER_MULTIPOINT;
     s->state.peer_mult = payload[2];
-    s->state.peer_discr = dp_get32(payload + 4);
-    s->state.peer_tx = dp_get32(payload + 12);
-    s->state.peer_rx = dp_get32(payload + 16);
-    s->state.peer_echo_rx = dp_get32(payload + 20);
-    s->packets_in++;
-    s->bytes_in += length;
+    s->state.peer_discr = get32(payload + 4);
+    s->state.peer_tx = get32(payload + 12);
+    s->state.peer_rx = get32(payload + 16);
+    s->state.peer_echo_rx = get32(payload + 20);
 }
 
 static void say_dropped(const bfdd_arrival *arrival, const char *cause) {
@@ -186,42 +188,53 @@ static void say_dropped(const bfdd_arrival *arrival, const char *cause) {
     if (log_greatest == LOG_DEBUG) say(LOG_DEBUG, "a packet from %s was dropped: %s", address_text(&arrival->packet.src, from), cause);
 }
 
-/* A packet was handed in. Of several only the last one may have left outputs. */
-static void received(struct session *s, const bfdd_arrival *arrival, const bfdd_answered *answer, bool is_last) {
-    uint64_t now = arrival->packet.moment;
-    bool is_taken = answer->kind == BFDD_HANDLED;
-    if (is_taken) keep_peer(s, arrival->payload, arrival->length);
-    else say_dropped(arrival, answer->name);
-    record_packet(&s->record, arrival);
-    if (is_last) take_outputs(PACKET, now);
-    if (is_taken) s->heard = now;
-    if (s->state.state == BFDD_UP && memcmp(&s->told, &s->state, sizeof s->told) != 0) tell(s, NULL, now);
+/* The session that takes a packet, which gets the session's interface and no moment before the engine's last tick. NULL: none does. */
+static struct session *session_for(bfdd_arrival *arrival, uint32_t device) {
+    struct session *s = find_for(arrival, device);
+    bfdd_packet *packet = &arrival->packet;
+    bool is_far = s && is_multihop(s) && packet->ttl < s->wanted.least_ttl;
+    if (!s || is_far) {
+        say_dropped(arrival, is_far ? "TTL below the least one" : "no session");
+        return NULL;
+    }
+    packet->iface = (uint16_t)s->path.ifindex;
+    if (packet->moment < ticked * 1000) packet->moment = ticked * 1000;
+    return s;
 }
 
-static void receive(struct arrivals *arrivals) {
+/* The engine has handled a packet. Of several only the last one may have left outputs. */
+static void handled(struct session *s, const bfdd_arrival *arrival, const bfdd_answered *answer, bool is_last) {
+    uint64_t moment = arrival->packet.moment;
+    bool is_taken = answer->kind == BFDD_HANDLED;
+    record_packet(&s->record, arrival);
+    if (is_taken) {
+        keep_peer(s, arrival->payload);
+        s->counters.packets_in++;
+        s->counters.bytes_in += arrival->length;
+    } else {
+        say_dropped(arrival, answer->name);
+    }
+    if (is_last) take_outputs(PACKET, moment);
+    if (is_taken) s->heard = moment;
+    if (s->state.state == BFDD_UP && memcmp(&s->told, &s->state, sizeof s->told) != 0) tell(s, NULL, moment);
+}
+
+/* Packets came. Those of sessions go to the engine, which stops behind each that leaves outputs. */
+static void receive(bfdd_arrival *arrivals, size_t count, uint32_t device) {
     static bfdd_answered answers[BFDD_MANY];
     struct session *whose[BFDD_MANY];
-    bfdd_arrival *packets = arrivals->packets;
-    size_t count = 0, handled = 0;
-    uint64_t now = clock_now();
-    for (size_t i = 0; i < arrivals->count; i++) {
-        struct session *s = find_for(arrivals, i);
-        bool is_far = s && is_multihop(s) && packets[i].packet.ttl < s->wanted.least_ttl;
-        if (!s || is_far) {
-            say_dropped(&packets[i], s ? "TTL below the least one" : "no session");
-            continue;
-        }
-        packets[count] = packets[i];
-        packets[count].packet.iface = (uint16_t)s->path.ifindex;
-        if (packets[count].packet.moment < ticked * 1000) packets[count].packet.moment = ticked * 1000; /* as the engine has it */
-        whose[count++] = s;
+    size_t kept = 0, done = 0;
+    for (size_t i = 0; i < count; i++) {
+        arrivals[kept] = arrivals[i];
+        whose[kept] = session_for(&arrivals[kept], device);
+        if (whose[kept]) kept++;
     }
-    for (size_t at = 0; at < count; at += handled) {
-        uint32_t code = bfdd_packets(&engine, packets + at, count - at, answers, count - at, &handled);
-        for (size_t i = 0; i < handled; i++) received(whose[at + i], &packets[at + i], &answers[i], i + 1 == handled);
-        for (size_t i = 0; i < handled; i++) give_changes(whose[at + i], now);
-        if (code != BFDD_DONE) say_dropped(&packets[at + handled++], "not received by the engine");
+    for (size_t at = 0; at < kept; at += done) {
+        uint32_t code = bfdd_packets(&engine, arrivals + at, kept - at, answers, kept - at, &done);
+        for (size_t i = 0; i < done; i++) handled(whose[at + i], &arrivals[at + i], &answers[i], i + 1 == done);
+        if (code != BFDD_DONE) say_dropped(&arrivals[at + done++], "not received by the engine");
     }
+    for (size_t i = 0; i < kept; i++) give_changes(whose[i], clock_now());
 }
 
 /* Opening and closing -------------------------------------------------------------------------------------------------- */
@@ -252,7 +265,7 @@ static void add_to_engine(struct session *s, uint64_t now) {
     memcpy(s->given, (const uint32_t[CHANGEABLE]){config.tx, config.rx, config.mult, 0}, sizeof s->given);
     record_begin(&s->record, &config, now);
     const char *device = s->path.device ? if_indextoname(s->path.device, interface) : NULL;
-    say(LOG_INFO, "%s begins%s%s", session_name(s), device ? ", in a VRF, by sockets bound to " : "", device ? device : "");
+    say(LOG_INFO, "%s begins%s%s", session_name(s), device ? ", by sockets bound to " : "", device ? device : "");
     give_changes(s, now);
 }
 
@@ -278,11 +291,16 @@ static void end_session(struct session *s, uint64_t now) {
     say(LOG_INFO, "%s ends", session_name(s));
 }
 
+static void free_session(struct session *s) {
+    record_end(&s->record);
+    enter(s, false);
+    free(s);
+}
+
 static void close_session(struct session *s, uint64_t now) {
     end_session(s, now);
     remove_from_engine(s);
-    enter(s, false);
-    free(s);
+    free_session(s);
 }
 
 /* Additions and removals ----------------------------------------------------------------------------------------------- */
@@ -349,15 +367,14 @@ void sessions_remove(uint32_t discr, uint64_t now) {
     else say(LOG_DEBUG, "no session has the discriminator %" PRIu32, discr);
 }
 
-static void close_ended(struct session *s, uint64_t now) {
-    if (s->ends <= now) close_session(s, now);
-}
-
+/* Its sessions end in the next round, or later if they are kept. */
 void sessions_lost(uint32_t owner, uint64_t now) {
-    for (size_t i = 0; i < BUCKETS; i++)
-        for (struct session *s = tables[BY_DISCR][i]; s; s = s->next[BY_DISCR])
-            if (s->owner == owner) s->owner = NO_OWNER, s->ends = now + keep;
-    for_each(close_ended, now);
+    for (struct session *s = all; s; s = s->next[ALL]) {
+        if (s->owner != owner) continue;
+        s->owner = NO_OWNER;
+        s->ends = now + keep;
+    }
+    next_chores = now;
 }
 
 /* Time ----------------------------------------------------------------------------------------------------------------- */
@@ -365,6 +382,7 @@ void sessions_lost(uint32_t owner, uint64_t now) {
 /* What a second may have changed for a session: a route to its peer, its mode, room to tell its owner. FRR sets a session Down on
  * its own side when one of several users leaves it, so Up is told again every few seconds. */
 static void second(struct session *s, uint64_t now) {
+    if (s->ends <= now) return close_session(s, now);
     bool is_up = s->state.state == BFDD_UP, is_active = (s->wanted.flags & DP_PASSIVE) == 0;
     if (s->is_open && s->state.state == BFDD_DOWN && is_active != (s->active == 1)) remove_from_engine(s);
     if (!s->is_open && s->starts <= now) return open_session(s, now);
@@ -373,15 +391,10 @@ static void second(struct session *s, uint64_t now) {
     if (s->told_at && (!s->is_told || (is_up && now - s->told_at >= TELL_AGAIN))) tell(s, NULL, now);
 }
 
-static void record_one(struct session *s, uint64_t now) {
-    (void)now;
-    record_tick(&s->record, ticked);
-}
-
 static void tick(uint64_t now) {
     if (bfdd_tick(&engine, now / 1000) != BFDD_DONE) return;
     ticked = now / 1000;
-    if (record_is_on()) for_each(record_one, now);
+    for (struct session *s = record_is_on() ? all : NULL; s; s = s->next[ALL]) record_tick(&s->record, ticked);
     take_outputs(TICK, now);
 }
 
@@ -389,26 +402,21 @@ uint64_t sessions_pass(uint64_t now) {
     uint64_t due = 0;
     if (bfdd_due(&engine, &due) == BFDD_DONE && due <= now / 1000) tick(now);
     if (next_chores <= now) {
-        for_each(close_ended, now);
         next_chores = now + SECOND;
-        for_each(second, now);
+        for (struct session *s = all, *next; s; s = next) {
+            next = s->next[ALL];
+            second(s, now);
+        }
     }
     bool is_due = bfdd_due(&engine, &due) == BFDD_DONE;
     return is_due && due * 1000 < next_chores ? due * 1000 : next_chores;
 }
 
-void sessions_view(session_viewer *view, FILE *file, uint64_t now) {
-    for (size_t i = 0; i < BUCKETS; i++) {
-        for (struct session *s = tables[BY_DISCR][i]; s; s = s->next[BY_DISCR]) {
-            bfdd_answered shown = {0};
-            bool is_shown = s->is_open && bfdd_show(&engine, now, s->wanted.discr) == BFDD_DONE;
-            if (is_shown) {
-                record_command(&s->record, now, s->wanted.discr, 0, 0);
-                bfdd_answer(&engine, &shown);
-                take_outputs(SHOWN, now);
-            }
-            view(file, s, is_shown ? &shown : NULL, now);
-        }
+void sessions_view(FILE *file, bool is_json, uint64_t now) {
+    for (struct session *s = all; s; s = s->next[ALL]) {
+        bfdd_session_state state = {0};
+        if (s->is_open) bfdd_state(&engine, s->wanted.discr, &state);
+        view_session(file, is_json, s, &state, now);
     }
 }
 
@@ -423,13 +431,7 @@ void sessions_open(session_teller *tell_owner, uint64_t keep_for) {
 
 /* All say AdminDown; then the engine is closed at once, since a removal takes time by the number of sessions. */
 void sessions_close(uint64_t now) {
-    for_each(end_session, now);
+    for (struct session *s = all; s; s = s->next[ALL]) end_session(s, now);
     bfdd_close(&engine);
-    for (size_t i = 0; i < BUCKETS; i++) {
-        for (struct session *s; (s = tables[BY_DISCR][i]);) {
-            record_end(&s->record);
-            enter(s, false);
-            free(s);
-        }
-    }
+    while (all) free_session(all);
 }

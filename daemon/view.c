@@ -1,121 +1,133 @@
-/* view: what a session shows. */
+/* view: what a session shows, by one table of fields, as text for a person or as JSON for a program. */
 #include "daemon.h"
 
-static double seconds(uint64_t us) { return (double)us / 1000000; }
+/* Where a line goes, and its form. */
+struct line {
+    FILE *file;
+    bool is_json;
+};
 
-static double ms(uint64_t us) { return (double)us / 1000; }
+enum kind { NUMBER, INTERVAL, SECONDS, MOMENT, STATE, DIAGNOSTIC };
 
-/* How long a session was Up until now. */
-static double seconds_up(const struct session *s, uint64_t now) {
-    return seconds(s->up_for + (s->state.state == BFDD_UP ? now - s->since : 0));
-}
+struct field {
+    const char *name;
+    enum kind kind;
+    uint64_t value;
+};
 
-void view_text(FILE *file, const struct session *s, const bfdd_answered *shown, uint64_t now) {
-    char since[MOMENT_TEXT];
-    if (!shown) {
-        fprintf(file, "%s: not begun\n", session_name(s));
-        return;
+static void put_name(struct line line, const char *name) { fprintf(line.file, line.is_json ? ",\"%s\":" : ", %s ", name); }
+
+static void put_text(struct line line, const char *name, const char *text) {
+    put_name(line, name);
+    if (line.is_json) fputc('"', line.file);
+    for (; *text; text++) {
+        bool is_special = (unsigned char)*text < ' ' || *text == '"' || *text == '\\';
+        fprintf(line.file, line.is_json && is_special ? "\\u%04x" : "%c", (unsigned char)*text);
     }
-    fprintf(file, "%s: %s, peer %s, diagnostic %u (%s), since %s; sends every %g ms, takes every %g ms, Detection Time %g ms; ",
-            session_name(s), state_text(shown->state), state_text(shown->remote_state), shown->diag, diagnostic_text(shown->diag),
-            moment_text(s->since, since), ms(shown->used_tx), ms(shown->used_rx), ms(shown->detect));
-    if (s->heard)
-        fprintf(file, "peer's tx %g ms, rx %g ms, Detect Mult %u, diagnostic %u (%s), heard %.3f s ago; ", ms(s->state.peer_tx),
-                ms(s->state.peer_rx), s->state.peer_mult, s->state.diagnostic, diagnostic_text(s->state.diagnostic),
-                seconds(now - s->heard));
-    fprintf(file, "packets %" PRIu64 " in %" PRIu64 " out; Up %" PRIu64 " times, %.3f of %.3f s\n", s->packets_in, s->packets_out,
-            s->ups, seconds_up(s, now), seconds(now - s->begun));
+    if (line.is_json) fputc('"', line.file);
 }
 
-/* Writes a text as JSON has it, and a comma. */
-static void put_string(FILE *file, const char *name, const char *text) {
-    fprintf(file, "\"%s\":\"", name);
-    for (; *text; text++) fprintf(file, (unsigned char)*text < ' ' || *text == '"' || *text == '\\' ? "\\u%04x" : "%c", (unsigned char)*text);
-    fputs("\",", file);
+/* Intervals are microseconds, and in text milliseconds. */
+static void put_number(struct line line, const struct field *field) {
+    double seconds = (double)field->value / 1000000;
+    put_name(line, field->name);
+    if (field->kind == SECONDS) fprintf(line.file, "%.6f", seconds);
+    else if (field->kind == INTERVAL && !line.is_json) fprintf(line.file, "%g ms", seconds * 1000);
+    else fprintf(line.file, "%" PRIu64, field->value);
 }
 
-/* Which session it is. */
-static void put_names(FILE *file, const struct session *s) {
+static void put_fields(struct line line, const struct field *fields, size_t count) {
+    for (size_t i = 0; i < count; i++) {
+        const struct field *field = &fields[i];
+        char moment[MOMENT_TEXT];
+        switch (field->kind) {
+        case MOMENT: put_text(line, field->name, moment_text(field->value, moment)); break;
+        case STATE: put_text(line, field->name, state_text((uint32_t)field->value)); break;
+        case DIAGNOSTIC: put_text(line, field->name, diagnostic_text((uint32_t)field->value)); break;
+        default: put_number(line, field);
+        }
+    }
+}
+
+/* Begins a line with the session's name, in JSON by its parts. */
+static void begin(struct line line, const struct session *s) {
     char text[ADDRESS_TEXT];
-    fprintf(file, "\"id\":%" PRIu32 ",", s->wanted.discr);
-    if (s->is_open) fprintf(file, "\"local\":\"%s\",", address_text(&s->local, text));
-    fprintf(file, "\"peer\":\"%s\",\"multihop\":%s,", address_text(&s->remote, text), s->wanted.flags & DP_MULTIHOP ? "true" : "false");
-    put_string(file, "interface", s->wanted.ifname);
-}
-
-static void put_shown(FILE *file, const struct session *s, const bfdd_answered *shown) {
-    char text[MOMENT_TEXT];
-    fprintf(file, "\"state\":\"%s\",\"since\":\"%s\",", state_text(shown->state), moment_text(s->since, text));
-    fprintf(file, "\"diagnostic\":%u,\"diagnostic-text\":\"%s\",", shown->diag, diagnostic_text(shown->diag));
-    fprintf(file, "\"advertised-transmit-interval\":%" PRIu32 ",\"transmit-interval\":%" PRIu32 ",\"receive-interval\":%" PRIu32 ",",
-            shown->adv_tx, shown->used_tx, shown->used_rx);
-    fprintf(file, "\"detection-time\":%" PRIu64 ",\"detect-multiplier\":%u,\"poll\":%u,", shown->detect, s->wanted.mult, shown->poll);
-    fprintf(file, "\"remote-state\":\"%s\",\"remote-id\":%" PRIu32 ",", state_text(shown->remote_state), shown->remote_discr);
-    if (s->heard == 0) return;
-    fprintf(file, "\"heard\":\"%s\",\"remote-diagnostic\":%u,\"remote-diagnostic-text\":\"%s\",", moment_text(s->heard, text),
-            s->state.diagnostic, diagnostic_text(s->state.diagnostic));
-    fprintf(file, "\"remote-transmit-interval\":%" PRIu32 ",\"remote-receive-interval\":%" PRIu32 ",\"remote-detect-multiplier\":%u,",
-            s->state.peer_tx, s->state.peer_rx, s->state.peer_mult);
-}
-
-void view_json(FILE *file, const struct session *s, const bfdd_answered *shown, uint64_t now) {
-    fputc('{', file);
-    put_names(file, s);
-    if (shown) put_shown(file, s, shown);
-    fprintf(file, "\"bytes-in\":%" PRIu64 ",\"packets-in\":%" PRIu64 ",\"bytes-out\":%" PRIu64 ",\"packets-out\":%" PRIu64 ",", s->bytes_in,
-            s->packets_in, s->bytes_out, s->packets_out);
-    fprintf(file, "\"ups\":%" PRIu64 ",\"seconds-up\":%.6f,\"seconds\":%.6f}\n", s->ups, seconds_up(s, now), seconds(now - s->begun));
-}
-
-void view_change(FILE *file, bool json, const struct session *s, const struct session_change *change) {
-    char moment[MOMENT_TEXT];
-    moment_text(change->moment, moment);
-    if (!json) {
-        fprintf(file, "%s %s\n", moment, change->line);
+    if (!line.is_json) {
+        fputs(session_name(s), line.file);
         return;
     }
-    fprintf(file, "{\"time\":\"%s\",", moment);
-    put_names(file, s);
-    fprintf(file, "\"was\":\"%s\",\"state\":\"%s\",\"cause\":\"%s\",", state_text(change->was), state_text(change->state), change->cause);
-    fprintf(file, "\"diagnostic-text\":\"%s\",\"diagnostic\":%u}\n", diagnostic_text(change->diagnostic), change->diagnostic);
+    fprintf(line.file, "{\"id\":%" PRIu32 ",\"multihop\":%s", s->wanted.discr, s->wanted.flags & DP_MULTIHOP ? "true" : "false");
+    if (s->is_open) put_text(line, "local", address_text(&s->local, text));
+    put_text(line, "peer", address_text(&s->remote, text));
+    put_text(line, "interface", s->wanted.ifname);
 }
 
-/* The socket at which whoever connects is answered, one after another, and what of the answer isn't sent yet. */
-static int listener, asker;
-static char *answer;
-static size_t length, sent;
+static void end(struct line line) { fputs(line.is_json ? "}\n" : "\n", line.file); }
 
-static void accept_asker(uint32_t number, uint64_t now);
-
-/* Sends what the asker takes, and closes when all is sent or the asker has gone; then the next one is awaited. */
-static void answer_asker(uint32_t number, uint64_t now) {
-    (void)number, (void)now;
-    ssize_t took = length > sent ? send(asker, answer + sent, length - sent, MSG_NOSIGNAL) : 0;
-    if (took > 0) sent += (size_t)took;
-    if (sent < length && (took > 0 || errno == EAGAIN || errno == EINTR)) return;
-    close(asker);
-    free(answer);
-    loop_await(listener, LOOP_VIEW, 0, EPOLLIN, accept_asker);
+void view_session(FILE *file, bool is_json, const struct session *s, const bfdd_session_state *shown, uint64_t now) {
+    const struct field own[] = {
+        {"state", STATE, shown->state}, {"since", MOMENT, s->since}, {"diagnostic", NUMBER, shown->diag},
+        {"diagnostic-text", DIAGNOSTIC, shown->diag}, {"advertised-transmit-interval", INTERVAL, shown->adv_tx},
+        {"transmit-interval", INTERVAL, shown->used_tx}, {"receive-interval", INTERVAL, shown->used_rx},
+        {"detection-time", INTERVAL, shown->detect}, {"detect-multiplier", NUMBER, s->wanted.mult}, {"poll", NUMBER, shown->poll},
+        {"remote-state", STATE, shown->remote_state}, {"remote-id", NUMBER, shown->remote_discr}};
+    const struct field peers[] = {
+        {"heard", MOMENT, s->heard},
+        {"remote-diagnostic", NUMBER, shown->peer_diag}, {"remote-diagnostic-text", DIAGNOSTIC, shown->peer_diag},
+        {"remote-transmit-interval", INTERVAL, shown->peer_tx}, {"remote-receive-interval", INTERVAL, shown->peer_rx},
+        {"remote-detect-multiplier", NUMBER, shown->peer_mult}};
+    uint64_t up_for = s->up_for + (s->state.state == BFDD_UP ? now - s->since : 0);
+    const struct field counts[] = {
+        {"bytes-in", NUMBER, s->counters.bytes_in}, {"packets-in", NUMBER, s->counters.packets_in},
+        {"bytes-out", NUMBER, s->counters.bytes_out}, {"packets-out", NUMBER, s->counters.packets_out},
+        {"ups", NUMBER, s->ups}, {"seconds-up", SECONDS, up_for}, {"seconds", SECONDS, now - s->begun}};
+    struct line line = {file, is_json};
+    begin(line, s);
+    put_fields(line, own, s->is_open ? COUNT(own) : 0);
+    put_fields(line, peers, s->heard ? COUNT(peers) : 0);
+    put_fields(line, counts, COUNT(counts));
+    end(line);
 }
 
-static void accept_asker(uint32_t number, uint64_t now) {
-    (void)number;
-    asker = accept4(listener, NULL, NULL, SOCK_NONBLOCK | SOCK_CLOEXEC);
-    FILE *file = asker >= 0 ? open_memstream(&answer, &length) : NULL;
-    if (!file) {
-        if (asker >= 0) close(asker);
-        return say(LOG_WARNING, "a question wasn't answered: %s", strerror(errno));
+void view_change(FILE *file, bool is_json, const struct session *s, const struct session_change *change) {
+    const struct field fields[] = {{"time", MOMENT, change->moment}, {"was", STATE, change->was}, {"state", STATE, change->state},
+                                   {"diagnostic", NUMBER, change->diagnostic}, {"diagnostic-text", DIAGNOSTIC, change->diagnostic}};
+    struct line line = {file, is_json};
+    char moment[MOMENT_TEXT];
+    if (!is_json) {
+        fprintf(file, "%s %s\n", moment_text(change->moment, moment), change->line);
+        return;
     }
-    sessions_view(view_json, file, now);
-    fclose(file);
-    sent = 0;
-    loop_await(listener, LOOP_VIEW, 0, 0, accept_asker);
-    loop_await(asker, LOOP_ASKER, 0, EPOLLOUT, answer_asker);
+    begin(line, s);
+    put_fields(line, fields, COUNT(fields));
+    put_text(line, "cause", change->cause);
+    end(line);
+}
+
+enum { LONGEST_ANSWER = 10 /* seconds */ };
+
+static int listener;
+
+/* Answers whoever connects in a child, so that a slow reader delays nothing. The child has the program's sockets too, so it ends soon even
+ * where nobody reads. */
+static void answer(uint32_t number, uint64_t now) {
+    (void)number;
+    int asker = accept4(listener, NULL, NULL, SOCK_CLOEXEC);
+    pid_t child = asker >= 0 ? loop_fork() : -1;
+    if (child == 0) {
+        alarm(LONGEST_ANSWER);
+        FILE *file = fdopen(asker, "w");
+        if (!file) _exit(1);
+        sessions_view(file, true, now);
+        _exit(fclose(file) != 0);
+    }
+    if (child < 0) say(LOG_WARNING, "a question wasn't answered: %s", strerror(errno));
+    if (asker >= 0) close(asker);
 }
 
 void view_listen(const char *path) {
     struct endpoint endpoint;
     if (!endpoint_unix(path, &endpoint)) fail(path, "no path of a socket");
     listener = endpoint_listen(&endpoint);
-    loop_await(listener, LOOP_VIEW, 0, EPOLLIN, accept_asker);
+    loop_await(listener, LOOP_VIEW, 0, EPOLLIN, answer);
 }

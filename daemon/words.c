@@ -9,8 +9,11 @@ static const char *const names[] = {"error", "warning", "info", "debug"};
 enum log_level log_greatest = LOG_INFO;
 
 bool log_level_named(const char *name, enum log_level *level) {
-    for (unsigned i = 0; i < sizeof names / sizeof *names; i++)
-        if (strcmp(name, names[i]) == 0) return *level = (enum log_level)i, true;
+    for (unsigned i = 0; i < COUNT(names); i++) {
+        if (strcmp(name, names[i]) != 0) continue;
+        *level = (enum log_level)i;
+        return true;
+    }
     return false;
 }
 

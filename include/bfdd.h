@@ -275,7 +275,7 @@ typedef struct {
 } bfdd_session_state;
 
 /* A look at the session of this discriminator, as it stands after the last event. It is no event: nothing is settled, and the outputs
- * and the answer stay. Counts stand still at the greatest number. BFDD_CLOSED, BFDD_NOT_FOUND. */
+ * and the answer stay. A count stays at 4,294,967,295 once it is there. BFDD_CLOSED, BFDD_NOT_FOUND. */
 uint32_t bfdd_state(bfdd_handle *handle, uint32_t discr, bfdd_session_state *state);
 
 enum bfdd_output_kind { BFDD_CHANGED = 1, BFDD_SENT = 2 };

@@ -14,7 +14,8 @@ def message(kind, body, number=0, version=1, length=None):
     return struct.pack("!BBHHH", version, 0, kind, number, 8 + len(body) if length is None else length) + body
 
 
-def session(discr, peer, source=None, flags=0, tx=100000, rx=100000, mult=3, hold=0, ttl=0, ifindex=0, name="", kind=ADD):
+# The Detect Mult is great, so that no session goes down where the machine stands still.
+def session(discr, peer, source=None, flags=0, tx=100000, rx=100000, mult=30, hold=0, ttl=0, ifindex=0, name="", kind=ADD):
     far = ipaddress.ip_address(peer)
     flags |= IPV6 if far.version == 6 else 0
     near = ipaddress.ip_address(source).packed if source else b""

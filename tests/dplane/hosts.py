@@ -50,7 +50,7 @@ class Network:
 
     def __init__(self):
         self.holders = {name: subprocess.Popen(["unshare", "-n", "sleep", "900"]) for name in "abr"}
-        time.sleep(0.3)
+        until(lambda: all(holder.poll() is not None or self.is_apart(holder) for holder in self.holders.values()), "network namespaces")
         if any(holder.poll() is not None for holder in self.holders.values()):
             self.close()
             raise Skip("no network namespace may be made")
@@ -66,6 +66,11 @@ class Network:
         self.run("r", "sysctl", "-qw", "net.ipv4.ip_forward=1")
         self.run("a", "ip", "route", "add", "10.9.2.0/24", "via", "10.9.1.254")
         self.run("b", "ip", "route", "add", "10.9.1.0/24", "via", "10.9.2.254")
+
+    @staticmethod
+    def is_apart(holder):
+        """Whether its process is in a network namespace of its own."""
+        return os.readlink(f"/proc/{holder.pid}/ns/net") != os.readlink("/proc/self/ns/net")
 
     def inside(self, name, *words):
         return ["nsenter", "-n", "-t", str(self.holders[name].pid), *[str(word) for word in words]]
@@ -91,8 +96,8 @@ BIRD = """router id 10.9.0.2;
 protocol device {{}}
 protocol static {{ ipv4; route 10.77.0.0/16 blackhole; }}
 protocol bfd {{
-  interface "b0" {{ min rx interval 300 ms; min tx interval 300 ms; multiplier 3; }};
-  multihop {{ min rx interval 300 ms; min tx interval 300 ms; multiplier 3; }};
+  interface "b0" {{ min rx interval 300 ms; min tx interval 300 ms; multiplier {multiplier}; }};
+  multihop {{ min rx interval 300 ms; min tx interval 300 ms; multiplier {multiplier}; }};
 {neighbors}}}
 template bgp peer {{ local as 65002; bfd on; connect retry time 1; error wait time 1, 2; connect delay time 1; hold time 180; }}
 {protocols}
@@ -102,6 +107,7 @@ bfd
  profile quick
   transmit-interval 300
   receive-interval 300
+  detect-multiplier {multiplier}
 {peers}
 """
 FRR_BGP = """{ospf}router bgp 65001
@@ -113,15 +119,17 @@ FRR_BGP = """{ospf}router bgp 65001
 
 
 class Hosts:
-    """FRR with our data plane on a, BIRD on b. With `own`, FRR with its own BFD on b and nothing else; without `frr`, BIRD alone."""
+    """FRR with our data plane on a, BIRD on b. With `own`, FRR with its own BFD on b and nothing else; without `frr`, BIRD alone.
+    `multiplier` is the Detect Mult of BIRD and of FRR's profile `quick`."""
 
-    def __init__(self, room, network, neighbors="", peers="", protocols="", bird_neighbors="", ospf="", own=False, frr=True):
+    def __init__(self, room, network, neighbors="", peers="", protocols="", bird_neighbors="", ospf="", own=False, frr=True, multiplier=3):
         self.room, self.network, self.started, self.processes = Path(tempfile.mkdtemp(dir=room)), network, [], {}
         self.room.chmod(0o777)
         self.program = room / "bfdd-dplane"
         self.socket = f"unix:{self.room}/dplane.sock"
-        (self.room / "frr.conf").write_text(FRR_CONF.format(peers=peers) + ("" if own else FRR_BGP.format(neighbors=neighbors, ospf=ospf)))
-        (self.room / "bird.conf").write_text(BIRD.format(protocols=protocols, neighbors=bird_neighbors))
+        (self.room / "frr.conf").write_text(FRR_CONF.format(peers=peers, multiplier=multiplier)
+                                            + ("" if own else FRR_BGP.format(neighbors=neighbors, ospf=ospf)))
+        (self.room / "bird.conf").write_text(BIRD.format(protocols=protocols, neighbors=bird_neighbors, multiplier=multiplier))
         self.log = self.room / "dplane.log"
         self.log.touch()
         self.ours = self.bird = None
@@ -255,7 +263,9 @@ class Sniffer:
         until(lambda: os.fstat(self.out.fileno()).st_size, "the sniffer is there")
 
     def ends(self):
-        time.sleep(0.3)
+        size = -1
+        while size != (size := os.fstat(self.out.fileno()).st_size):  # until nothing more is written
+            time.sleep(0.5)
         self.process.terminate()
         self.process.wait()
         self.out.seek(0)

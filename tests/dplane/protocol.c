@@ -70,7 +70,7 @@ static void reads_session(void) {
     uint8_t full[140];
     memcpy(full, add, sizeof full);
     memset(full + 76, 'x', 64);
-    check(dp_read(full, sizeof full, &m, &used) == DP_READ && strlen(s->ifname) == 64, "a name of 64 bytes without an end");
+    check(dp_read(full, sizeof full, &m, &used) == DP_READ && strlen(s->ifname) == 63, "a name without an end is cut");
     full[3] = 3;
     check(dp_read(full, sizeof full, &m, &used) == DP_READ && m.type == DP_DELETE_SESSION && s->discr == 0xdeadbeef, "a removal");
 }
@@ -109,15 +109,15 @@ static const struct {
     size_t used;
     const char *what;
 } faults[] = {
-    {{2, 0, 0, 2, 0, 0, 0, 140}, 140, DP_UNKNOWN_VERSION, 140, "version 2 is skipped"},
-    {{0, 0, 0, 0, 0, 0, 0, 24}, 24, DP_UNKNOWN_VERSION, 24, "version 0 is skipped"},
+    {{2, 0, 0, 2, 0, 0, 0, 140}, 140, DP_SKIPPED, 140, "version 2 is skipped"},
+    {{0, 0, 0, 0, 0, 0, 0, 24}, 24, DP_SKIPPED, 24, "version 0 is skipped"},
     {{2, 0, 0, 2, 0, 0, 0xff, 0xff}, 140, DP_PARTIAL, 0, "version 2 is awaited whole"},
-    {{1, 0, 0, 7, 0, 0, 0, 9}, 9, DP_UNKNOWN_TYPE, 9, "type 7 is skipped"},
-    {{1, 0, 0, 4, 0, 0, 0, 36}, 36, DP_UNKNOWN_TYPE, 36, "a change of state is none of FRR's messages"},
-    {{1, 0, 1, 2, 0, 0, 0, 140}, 140, DP_UNKNOWN_TYPE, 140, "type 258 is skipped"},
-    {{1, 0, 0, 2, 0, 0, 0, 139}, 140, DP_WRONG_LENGTH, 139, "a short addition is skipped"},
-    {{1, 0, 0, 2, 0, 0, 0, 141}, 141, DP_WRONG_LENGTH, 141, "a long addition is skipped"},
-    {{1, 0, 0, 5, 0, 0, 0, 8}, 8, DP_WRONG_LENGTH, 8, "an empty question is skipped"},
+    {{1, 0, 0, 7, 0, 0, 0, 9}, 9, DP_SKIPPED, 9, "type 7 is skipped"},
+    {{1, 0, 0, 4, 0, 0, 0, 36}, 36, DP_SKIPPED, 36, "a change of state is none of FRR's messages"},
+    {{1, 0, 1, 2, 0, 0, 0, 140}, 140, DP_SKIPPED, 140, "type 258 is skipped"},
+    {{1, 0, 0, 2, 0, 0, 0, 139}, 140, DP_SKIPPED, 139, "a short addition is skipped"},
+    {{1, 0, 0, 2, 0, 0, 0, 141}, 141, DP_SKIPPED, 141, "a long addition is skipped"},
+    {{1, 0, 0, 5, 0, 0, 0, 8}, 8, DP_SKIPPED, 8, "an empty question is skipped"},
     {{1, 0, 0, 0, 0, 0, 0, 7}, 140, DP_LOST, 0, "a length of 7 ends the stream"},
     {{1, 0, 0, 0, 0, 0, 0, 0}, 8, DP_LOST, 0, "a length of 0 ends the stream"},
 };
@@ -134,14 +134,15 @@ static void reads_faults(void) {
 }
 
 static void writes(void) {
-    uint8_t out[80];
-    struct dp_state state = {.discr = 0xdeadbeef, .peer_discr = 0x01020304, .peer_flags = DP_PEER_C | DP_PEER_DEMAND,
-                             .peer_tx = 1000000, .peer_rx = 300000, .peer_echo_rx = 50000, .state = 3, .diagnostic = 1, .peer_mult = 5};
-    check(dp_write_state(out, &state) == 36 && !memcmp(out, state_change, 36), "a change of state is written");
-    struct dp_counters counted = {576, 24, 1ull << 32, 25};
-    check(dp_write_counters(out, 9, 256, &counted) == 80 && !memcmp(out, counters, 80), "counters are written");
-    struct dp_echo echo = {0x1112131415161718, 0x0102030405060708};
-    check(dp_write_echo(out, DP_ECHO_REPLY, 0x1234, &echo) == 24 && !memcmp(out, echo_reply, 24), "an echo reply is written");
+    uint8_t out[DP_LONGEST_WRITTEN];
+    struct dp_message m = {.type = DP_STATE_CHANGE};
+    m.body.state = (struct dp_state){.discr = 0xdeadbeef, .peer_discr = 0x01020304, .peer_flags = DP_PEER_C | DP_PEER_DEMAND,
+                                     .peer_tx = 1000000, .peer_rx = 300000, .peer_echo_rx = 50000, .state = 3, .diagnostic = 1, .peer_mult = 5};
+    check(dp_write(out, &m) == 36 && !memcmp(out, state_change, 36), "a change of state is written");
+    m = (struct dp_message){.type = DP_COUNTERS, .id = 9, .body.counters = {256, 0, 576, 24, 1ull << 32, 25, {0}}};
+    check(dp_write(out, &m) == 80 && !memcmp(out, counters, 80), "counters are written");
+    m = (struct dp_message){.type = DP_ECHO_REPLY, .id = 0x1234, .body.echo = {0x1112131415161718, 0x0102030405060708}};
+    check(dp_write(out, &m) == 24 && !memcmp(out, echo_reply, 24), "an echo reply is written");
 }
 
 /* Random bytes, and valid messages of which random bytes were changed, read to their end: each reading moves on or stops,

@@ -8,7 +8,7 @@ use Rattle.bfd_demux.specs.declared.fault.AddFault.TheVariants.{TooMany, ZeroDis
 use Rattle.bfd_demux.specs.declared.row.Row.{Row}
 use Rattle.bfd_demux.specs.Rows.{add_fault, same_addresses, same_discr}
 use Rattle.bfd_instance.specs.World.{World}
-use Rattle.bfd_records.specs.declared.records.Record.{Record}
+use Rattle.bfd_c.specs.declared.records.kept.Record.{Record}
 use Rattle.bfd_c.specs.Engines.{Instance}
 use Rattle.bfd_c.specs.Joining.{add_code, unless}
 

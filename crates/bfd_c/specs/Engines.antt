@@ -13,8 +13,8 @@ use Rattle.bfd_script.specs.declared.line.entries.Line.{Line}
 use Rattle.bfd_script.specs.declared.fields.fault.BadLine.{BadLine}
 use Rattle.bfd_script.specs.Reading.{Lists}
 use Rattle.bfd_instance.specs.World.{World, discr_reached, happens, opened}
-use Rattle.bfd_records.specs.declared.records.Record.{Record}
-use Rattle.bfd_records.specs.Records.{fresh, recorded}
+use Rattle.bfd_c.specs.declared.records.kept.Record.{Record}
+use Rattle.bfd_c.specs.Records.{fresh, recorded}
 
 -- an engine: its sessions and reflectors with the greatest tick so far, the outputs of the last event that are left to be read,
 -- what it was answered, the discriminator of the session to which it came, or 0, and what is kept of each session

@@ -7,8 +7,8 @@ use Rattle.bfd_demux.specs.declared.fault.AddFault.TheVariants.{TooMany, ZeroDis
 use Rattle.bfd_sbfd.specs.declared.reflecting.Reflector.{Reflector}
 use Rattle.bfd_session.specs.declared.event.SessionConfig.{SessionConfig}
 use Rattle.bfd_instance.specs.World.{World, session_fault, knows_reflector, knows_session, reflector_fault, world_with_reflector, world_with, world_without_reflector, world_without}
-use Rattle.bfd_records.specs.declared.records.Record.{Record}
-use Rattle.bfd_records.specs.Records.{records_with, records_without}
+use Rattle.bfd_c.specs.declared.records.kept.Record.{Record}
+use Rattle.bfd_c.specs.Records.{records_with, records_without}
 use Rattle.bfd_c.specs.Engines.{Instance}
 
 -- the code of what keeps a session or a reflector out

@@ -1,3 +1,5 @@
+pub mod Records
+pub mod Looks
 pub mod Owning
 pub mod Engines
 pub mod Wire

@@ -1,8 +1,8 @@
 -- What C reads of a session at a look, field by field. What there is none of is 0.
 use Rattle.std.specs.Prelude.{ℕ, Bool, true, false, Option, None, Some}
 use Rattle.bfd_packet.specs.Layout.{state_number}
-use Rattle.bfd_records.specs.declared.looking.Look.{Look}
-use Rattle.bfd_records.specs.Looks.{look_of}
+use Rattle.bfd_c.specs.declared.records.looking.Look.{Look}
+use Rattle.bfd_c.specs.Looks.{look_of}
 use Rattle.bfd_c.specs.declared.looking.SessionState.{SessionState}
 use Rattle.bfd_c.specs.Engines.{Instance}
 

@@ -1,7 +1,5 @@
 -- What C reads of an output, of an answer and of a fault, field by field. What a kind doesn't use is 0.
 use Rattle.std.specs.Prelude.{ℕ, ◌-◌, ◌++◌, List, length, replicate}
-use Rattle.bfd_packet.specs.declared.discard.Test.{Test}
-use Rattle.bfd_packet.specs.declared.discard.Test.TheVariants.{Short, Version, LengthMin, LengthOver, DetectMult, Multipoint, MyDiscr, YourUnknown, YourZeroState, NoSession, Ttl, AuthUnexpected, AuthMissing, AuthType, AuthKey, AuthLen, AuthSeq, AuthDigest, AdminDown, NotDemand, MultipointYour, NoTail, EchoForm, EchoStale}
 use Rattle.bfd_packet.specs.Layout.{state_number}
 use Rattle.bfd_packet.specs.TestNames.{name_of}
 use Rattle.bfd_rules.specs.declared.commands.Refusal.{Refusal}
@@ -20,6 +18,7 @@ use Rattle.bfd_c.specs.declared.telling.Output.{Output}
 use Rattle.bfd_c.specs.declared.telling.Answered.{Answered}
 use Rattle.bfd_c.specs.declared.wire.Address.{Address}
 use Rattle.bfd_c.specs.Wire.{address_for_c}
+use Rattle.bfd_c.specs.Records.{test_number}
 
 -- bytes with zeros behind them
 abbrev pub zero_filled : ℕ → List ℕ → List ℕ
@@ -65,33 +64,6 @@ output_of (Sent discr d) = record {
   len = length d.bytes;
   bytes = zero_filled 52 d.bytes;
 }
-
--- the number of a test that discards
-abbrev pub test_number : Test → ℕ
-test_number Short = 1
-test_number Version = 2
-test_number LengthMin = 3
-test_number LengthOver = 4
-test_number DetectMult = 5
-test_number Multipoint = 6
-test_number MyDiscr = 7
-test_number YourUnknown = 8
-test_number YourZeroState = 9
-test_number NoSession = 10
-test_number Ttl = 11
-test_number AuthUnexpected = 12
-test_number AuthMissing = 13
-test_number AuthType = 14
-test_number AuthKey = 15
-test_number AuthLen = 16
-test_number AuthSeq = 17
-test_number AuthDigest = 18
-test_number AdminDown = 19
-test_number NotDemand = 20
-test_number MultipointYour = 21
-test_number NoTail = 22
-test_number EchoForm = 23
-test_number EchoStale = 24
 
 -- the number of a refusal
 abbrev pub refusal_number : Refusal → ℕ

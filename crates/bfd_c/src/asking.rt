@@ -64,7 +64,7 @@ fn call(alloc: Global, handle: &mut Handle, line: Option<Line>) -> u32
         Some(engine) => {
             let mut engine = engine;
             let code = engine.ask(line);
-            *handle = Handle::hold(engine);
+            handle.put(engine);
             code
         }
         None => CLOSED,
@@ -124,7 +124,7 @@ pub extern "C" fn bfdd_receive(
         Some(engine) => {
             let mut engine = engine;
             let code = hear(alloc, &mut engine, packet, payload);
-            *handle = Handle::hold(engine);
+            handle.put(engine);
             code
         }
         None => CLOSED,
@@ -143,7 +143,7 @@ pub extern "C" fn bfdd_tick(alloc: Global, handle: &mut Handle, ms: u64) -> u32
         Some(engine) => {
             let mut engine = engine;
             let code = pass(&mut engine, ms);
-            *handle = Handle::hold(engine);
+            handle.put(engine);
             code
         }
         None => CLOSED,

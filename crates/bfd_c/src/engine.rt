@@ -3,16 +3,16 @@ ghost use Rattle.std.specs.Prelude.{◌≡◌, ◌≢◌, IfOk, Some, drop};
 ghost use Rattle.std.specs.Option.{option_copied};
 ghost use Rattle.bfd_session.specs.Step.{IsFit};
 ghost use Rattle.bfd_instance.specs.Stage.{IsTable};
-ghost use Rattle.bfd_records.specs.Looks.{look_of};
+ghost use Rattle.bfd_c.specs.Looks.{look_of};
 ghost use Rattle.bfd_c.specs.Engines.{instance_after, asked, first_of, soonest, new_instance};
 ghost use Rattle.bfd_c.specs.Joining as joining;
 ghost use Rattle.bfd_script.specs.declared.line.entries.Line.TheVariants as lines;
 
+use crate::records::{Look, Recorded as World};
 use bfd_demux::AddFault;
 use bfd_levels::ByCount;
 use bfd_num::{Moment, Tick};
 use bfd_packet::Arrival;
-use bfd_records::{Look, Recorded as World};
 use bfd_rules::Out;
 use bfd_sbfd::Reflector;
 use bfd_script::line::Line;

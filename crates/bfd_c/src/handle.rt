@@ -35,6 +35,15 @@ impl Handle {
         }
     }
 
+    /// Opens a closed handle with this engine.
+    pub(crate) fn put(&mut self, engine: Box<Engine>)
+        requires { self.old.kept.held ≡ None }
+        ensures { self.new.kept.held ≡ Some engine.value }
+    {
+        self.kept = Owned::of_apart(Apart::of(engine));
+        self.is_open = true;
+    }
+
     /// The engine, if the handle is open.
     pub(crate) fn into_engine(self) -> Option<Box<Engine>>
         ensures { option_map (λ b. b.value) result ≡ self.kept.held }

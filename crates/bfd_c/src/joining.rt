@@ -42,7 +42,7 @@ pub extern "C" fn bfdd_add(alloc: Global, handle: &mut Handle, fields: &Fields) 
         Some(engine) => {
             let mut engine = engine;
             let code = join(alloc, &mut engine, config(fields));
-            *handle = Handle::hold(engine);
+            handle.put(engine);
             code
         }
         None => CLOSED,
@@ -61,7 +61,7 @@ pub extern "C" fn bfdd_remove(alloc: Global, handle: &mut Handle, discr: u32) ->
         Some(engine) => {
             let mut engine = engine;
             let code = engine.remove(discr);
-            *handle = Handle::hold(engine);
+            handle.put(engine);
             code
         }
         None => CLOSED,
@@ -118,7 +118,7 @@ pub extern "C" fn bfdd_add_reflector(
         Some(engine) => {
             let mut engine = engine;
             let code = join_reflector(&mut engine, reflector(discr, rx, up));
-            *handle = Handle::hold(engine);
+            handle.put(engine);
             code
         }
         None => CLOSED,
@@ -137,7 +137,7 @@ pub extern "C" fn bfdd_remove_reflector(alloc: Global, handle: &mut Handle, disc
         Some(engine) => {
             let mut engine = engine;
             let code = engine.remove_reflector(discr);
-            *handle = Handle::hold(engine);
+            handle.put(engine);
             code
         }
         None => CLOSED,

@@ -1,13 +1,13 @@
 //! The call that looks at a session.
 ghost use Rattle.std.specs.Prelude.{◌≡◌};
-ghost use Rattle.bfd_records.specs.Looks.{look_of};
+ghost use Rattle.bfd_c.specs.Looks.{look_of};
 ghost use Rattle.bfd_c.specs.Looking as looking;
 ghost use Rattle.bfd_c.specs.Looking.{state_by, state_read};
 
 use crate::engine::{CLOSED, DONE, Engine, NOT_FOUND};
 use crate::handle::Handle;
 use crate::naming::state_number;
-use bfd_records::Look;
+use crate::records::Look;
 use std::alloc::Global;
 
 /// A look at a session. Intervals and moments are in microseconds; what there is none of is 0.
@@ -63,6 +63,17 @@ fn flag(is_set: bool) -> u8
     if is_set { 1 } else { 0 }
 }
 
+/// Counts for C.
+fn widened(counts: &[u32; 25]) -> [u64; 25]
+    ensures { result ≡ counts.now }
+{
+    let mut wide = [0; 25];
+    for at in 0..25 {
+        wide[at] = u64::from(counts[at]);
+    }
+    wide
+}
+
 /// A look for C.
 fn told_look(look: &Look) -> SessionState
     ensures { result ≡ looking.state_for_c look.now }
@@ -87,11 +98,11 @@ fn told_look(look: &Look) -> SessionState
         detect_end: moment(look.ends),
         heard: moment(look.kept.heard),
         changed: moment(look.kept.changed),
-        received: look.kept.received,
-        sent: look.kept.sent,
-        ups: look.kept.ups,
-        downs: look.kept.downs,
-        dropped: look.kept.dropped,
+        received: u64::from(look.kept.received),
+        sent: u64::from(look.kept.sent),
+        ups: u64::from(look.kept.ups),
+        downs: u64::from(look.kept.downs),
+        dropped: widened(&look.kept.dropped),
     }
 }
 
@@ -126,7 +137,7 @@ pub extern "C" fn bfdd_state(
     match handle.take(alloc) {
         Some(engine) => {
             let code = read_state(&engine, discr, state);
-            *handle = Handle::hold(engine);
+            handle.put(engine);
             code
         }
         None => CLOSED,

@@ -110,7 +110,7 @@ pub extern "C" fn bfdd_packets(
             if arrivals.len() <= MOST && arrivals.len() <= answers.len() {
                 (*handled, code) = hand_in(alloc, &mut engine, arrivals, answers);
             }
-            *handle = Handle::hold(engine);
+            handle.put(engine);
             code
         }
         None => CLOSED,
@@ -148,7 +148,7 @@ pub extern "C" fn bfdd_outputs(
             if !places.is_empty() && places.len() <= MOST {
                 (*count, code) = read_many(&mut engine, places);
             }
-            *handle = Handle::hold(engine);
+            handle.put(engine);
             code
         }
         None => CLOSED,

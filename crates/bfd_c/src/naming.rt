@@ -1,8 +1,9 @@
 //! Names and numbers of what an event may be answered.
-ghost use Rattle.std.specs.Prelude.{◌≡◌, ◌≤◌, length};
+ghost use Rattle.std.specs.Prelude.{◌≡◌, ◌<◌, ◌≤◌, length};
 ghost use Rattle.bfd_packet.specs.TestNames.{name_of};
 ghost use Rattle.bfd_packet.specs.Layout.{state_number as number_of_state};
 ghost use Rattle.bfd_rules.specs.Names as names;
+ghost use Rattle.bfd_c.specs.Records.{test_number};
 ghost use Rattle.bfd_c.specs.Telling as telling;
 
 use crate::packing::packed_name;
@@ -18,7 +19,8 @@ pub(crate) fn state_number(state: State) -> u8
 
 /// The number of a test that discards.
 pub(crate) fn test_number(test: Test) -> u32
-    ensures { result ≡ telling.test_number test }
+    ensures value { result ≡ test_number test }
+    ensures below { result < 25 }
 {
     test as u32
 }

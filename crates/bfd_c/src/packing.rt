@@ -11,12 +11,11 @@ pub(crate) fn packed_name(from: &[u8]) -> [u8; 16]
     bytes
 }
 
-/// The bytes of a packet, and zeros behind them.
-pub(crate) fn packed_wire(from: &[u8]) -> [u8; 52]
+/// Writes the bytes of a packet, and zeros behind them.
+pub(crate) fn pack_wire(from: &[u8], bytes: &mut [u8; 52])
     requires { length from.now ≤ 52 }
-    ensures { result ≡ from.now ++ replicate (52 - length from.now) 0 }
+    ensures { bytes.new ≡ from.now ++ replicate (52 - length from.now) 0 }
 {
-    let mut bytes = [0; 52];
+    *bytes = [0; 52];
     bytes[..from.len()].copy_from_slice(from);
-    bytes
 }

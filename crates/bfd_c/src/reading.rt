@@ -5,7 +5,7 @@ ghost use Rattle.bfd_c.specs.Reading.{answer_read, due_read, due_read_by, next_r
 
 use crate::engine::{CLOSED, DONE, END, Engine};
 use crate::handle::Handle;
-use crate::telling::{Answered, Output, told_answer, told_output};
+use crate::telling::{Answered, Output, tell_output, told_answer};
 use std::alloc::Global;
 
 /// The next output that wasn't read.
@@ -15,7 +15,7 @@ pub(crate) fn read_next(engine: &mut Engine, output: &mut Output) -> u32
 {
     match engine.first() {
         Some(out) => {
-            *output = told_output(out);
+            tell_output(out, output);
             engine.read_on();
             DONE
         }
@@ -36,7 +36,7 @@ pub extern "C" fn bfdd_next(alloc: Global, handle: &mut Handle, output: &mut Out
         Some(engine) => {
             let mut engine = engine;
             let code = read_next(&mut engine, output);
-            *handle = Handle::hold(engine);
+            handle.put(engine);
             code
         }
         None => CLOSED,
@@ -54,7 +54,7 @@ pub extern "C" fn bfdd_answer(alloc: Global, handle: &mut Handle, answer: &mut A
     match handle.take(alloc) {
         Some(engine) => {
             *answer = told_answer(engine.discr(), engine.answer());
-            *handle = Handle::hold(engine);
+            handle.put(engine);
             DONE
         }
         None => CLOSED,
@@ -86,7 +86,7 @@ pub extern "C" fn bfdd_due(alloc: Global, handle: &mut Handle, ms: &mut u64) -> 
     match handle.take(alloc) {
         Some(engine) => {
             let code = read_due(&engine, ms);
-            *handle = Handle::hold(engine);
+            handle.put(engine);
             code
         }
         None => CLOSED,

@@ -3,8 +3,8 @@ ghost use Rattle.std.specs.Prelude.{◌≡◌, replicate};
 ghost use Rattle.bfd_c.specs.Telling as telling;
 
 use crate::naming::{refusal_name, refusal_number, state_number, test_name, test_number};
-use crate::packing::packed_wire;
-use crate::wire::{Address, told_address};
+use crate::packing::pack_wire;
+use crate::wire::{Address, tell_address};
 use bfd_packet::{Datagram, State};
 use bfd_rules::Out;
 use bfd_session::{Answer, Shown};
@@ -56,15 +56,15 @@ pub struct Answered {
     pub detect: u64,
 }
 
-/// A change of state for C.
-fn changed(discr: u32, was: State, state: State, diag: u8) -> Output
-    ensures { result ≡ telling.output_of (Out.Changed discr was state diag) }
+/// Writes a change of state for C.
+fn tell_change(discr: u32, was: State, state: State, diag: u8, output: &mut Output)
+    ensures { output.new ≡ telling.output_of (Out.Changed discr was state diag) }
 {
     let nowhere = Address {
         family: 0,
         bytes: [0; 16],
     };
-    Output {
+    *output = Output {
         kind: 1,
         discr,
         was: state_number(was),
@@ -78,34 +78,32 @@ fn changed(discr: u32, was: State, state: State, diag: u8) -> Output
         dst: nowhere,
         len: 0,
         bytes: [0; 52],
-    }
+    };
 }
 
-/// A packet to send for C.
-fn sent(discr: u32, datagram: &Datagram) -> Output
-    ensures { result ≡ telling.output_of (Out.Sent discr datagram.now) }
+/// Writes a packet to send for C, in place: of the addresses and the bytes there is no copy.
+fn tell_packet(discr: u32, datagram: &Datagram, output: &mut Output)
+    ensures { output.new ≡ telling.output_of (Out.Sent discr datagram.now) }
 {
     let wire = datagram.bytes.as_slice();
-    Output {
-        kind: 2,
-        discr,
-        was: 0,
-        state: 0,
-        diag: 0,
-        ttl: datagram.ttl,
-        iface: datagram.iface,
-        sport: datagram.sport,
-        dport: datagram.dport,
-        src: told_address(datagram.src),
-        dst: told_address(datagram.dst),
-        len: wire.len() as u32,
-        bytes: packed_wire(wire),
-    }
+    output.kind = 2;
+    output.discr = discr;
+    output.was = 0;
+    output.state = 0;
+    output.diag = 0;
+    output.ttl = datagram.ttl;
+    output.iface = datagram.iface;
+    output.sport = datagram.sport;
+    output.dport = datagram.dport;
+    tell_address(&datagram.src, &mut output.src);
+    tell_address(&datagram.dst, &mut output.dst);
+    output.len = wire.len() as u32;
+    pack_wire(wire, &mut output.bytes);
 }
 
-/// The output for C.
-pub(crate) fn told_output(out: &Out) -> Output
-    ensures { result ≡ telling.output_of out.now }
+/// Writes the output for C.
+pub(crate) fn tell_output(out: &Out, output: &mut Output)
+    ensures { output.new ≡ telling.output_of out.now }
 {
     match out {
         Out::Changed {
@@ -113,8 +111,8 @@ pub(crate) fn told_output(out: &Out) -> Output
             old,
             new,
             diag,
-        } => changed(*discr, *old, *new, *diag),
-        Out::Sent { discr, datagram } => sent(*discr, datagram),
+        } => tell_change(*discr, *old, *new, *diag, output),
+        Out::Sent { discr, datagram } => tell_packet(*discr, datagram, output),
     }
 }
 

@@ -45,22 +45,20 @@ pub(crate) fn read_address(address: &Address) -> Option<Addr>
     }
 }
 
-/// The address for C.
-pub(crate) fn told_address(addr: Addr) -> Address
-    ensures { result ≡ address_for_c addr }
+/// Writes the address for C.
+pub(crate) fn tell_address(addr: &Addr, address: &mut Address)
+    ensures { address.new ≡ address_for_c addr.now }
 {
     match addr {
         Addr::V4(n) => {
             let [a, b, c, d] = n.to_be_bytes();
-            Address {
-                family: 4,
-                bytes: [a, b, c, d, 0, 0, 0, 0, 0, 0, 0, 0, 0, 0, 0, 0],
-            }
+            address.family = 4;
+            address.bytes = [a, b, c, d, 0, 0, 0, 0, 0, 0, 0, 0, 0, 0, 0, 0];
         }
-        Addr::V6(n) => Address {
-            family: 6,
-            bytes: n.number().to_be_bytes(),
-        },
+        Addr::V6(n) => {
+            address.family = 6;
+            address.bytes = n.number().to_be_bytes();
+        }
     }
 }
 

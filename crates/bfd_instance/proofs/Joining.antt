@@ -9,9 +9,9 @@ use Rattle.bfd_demux.specs.Rows.{add_fault}
 use Rattle.bfd_demux.proofs.Indexing.{fits}
 use Rattle.bfd_demux.proofs.Lookups.{length-filter-le}
 use Rattle.bfd_session.specs.Changes.{place_for, with_session, without_pooled, without_session}
-use Rattle.bfd_session.specs.Rows.{place_of, row_of, row_of_reflector, rows_of}
+use Rattle.bfd_session.specs.Rows.{Ascends, place_of, row_of, row_of_reflector, rows_of}
 use Rattle.bfd_session.specs.Tables.{Members, members}
-use Rattle.bfd_session.proofs.Changes.{map_inserted, map_removed}
+use Rattle.bfd_session.proofs.Changes.{Up, map_inserted, map_removed, sessions_up, up_inserted}
 use Rattle.bfd_instance.specs.Stage.{IsStage}
 use Rattle.bfd_instance.specs.World.{without_at, world_with, world_without}
 
@@ -60,6 +60,10 @@ taken_out (suc p) c (d ∷ cs) o =
     let other : (discr_of d == discr_of c) ≡ false = number_turned (discr_of d) (discr_of c) ∙ o.0 in
     rw other (ap (λ xs. d ∷ xs) (taken_out p c cs o.1))
 
+up_sessions : (cs : List SessionConfig) → Up discr_of cs → Ascends cs
+up_sessions [] up = tt
+up_sessions (c ∷ cs) up = (up.0, up_sessions cs up.1)
+
 module _ (t : Members) {t2 : Members} (c : SessionConfig) (clear : add_fault (row_of c) (table_of t.configs t.pool) ≡ None) (grown : t2 ≡ with_session c t) where
   apart : Others (discr_of c) t.configs
   apart =
@@ -72,6 +76,11 @@ module _ (t : Members) {t2 : Members} (c : SessionConfig) (clear : add_fault (ro
       stands_once p (place_for (discr_of c) t.configs) c t.configs put.0 (length-filter-le (λ (d : SessionConfig). nat_lt (discr_of d) (discr_of c)) t.configs) apart
       (sym put.1 ∙ ap (λ (m : Members). m.configs) grown)
 
+  -- its sessions ascend, with that one too
+  pub joined_up : (p : ℕ) → Ascends t.configs → (p ≤ length t.configs) × (t2.configs ≡ insert t.configs p c) → Ascends t2.configs
+  joined_up p up put =
+      rw put.1 (up_sessions (insert t.configs p c) (up_inserted discr_of t.configs p c (place_is p put) (sessions_up t.configs up) apart))
+
   -- the table from which it is taken out again is as it was
   pub table_undone : {t3 : Members} (discr : ℕ) → discr ≡ discr_of c → t3 ≡ without_session discr t2 → t3 ≡ t
   table_undone discr same taken = rw (taken, same, grown) (ap (λ cs. members cs t.pool) (taken_out (place_for (discr_of c) t.configs) c t.configs apart))
@@ -82,10 +91,12 @@ session_joins ss p c pool last are stands made =
     ap (λ xs. world_of xs pool last) (made ∙ ap (λ n. insert ss n (started c)) (stands ∙ ap (place_for (discr_of c)) are))
 
 pub stage_joins : (ss : List Running) (p : ℕ) (c : SessionConfig) {ss2 : List Running} (table : Members) {table2 : Members} {outs2 : Outputs} → table.configs ≡ configs_of ss
-    → (p ≤ length table.configs) × (table2.configs ≡ insert table.configs p c) → ss2 ≡ insert ss p (started c) → 5 * (length ss + 1) + 5 ≤ outs2.room → IsStage ss2 table2 outs2
-stage_joins ss p c {ss2} table are put made room =
+    → Ascends table2.configs → (p ≤ length table.configs) × (table2.configs ≡ insert table.configs p c)
+    → ss2 ≡ insert ss p (started c) → 5 * (length ss + 1) + 5 ≤ outs2.room → IsStage ss2 table2 outs2
+stage_joins ss p c {ss2} table are up put made room =
     let same : length table.configs ≡ length ss = ap length are ∙ length-map ss (λ s. s.config) in
     record {
+      ascends = up;
       configs = put.1 ∙ ap (λ cs. insert cs p c) are ∙ sym (map_inserted (λ (s : Running). s.config) ss p (started c)) ∙ ap configs_of (sym made);
       room_for_all = omega (arith, room, ap length made, length-insert ss p (started c) (omega (arith, same, put.0)));
     }
@@ -93,10 +104,23 @@ stage_joins ss p c {ss2} table are put made room =
 pub stage_same : {ss ss2 : List Running} {table table2 : Members} {outs outs2 : Outputs} → IsStage ss table outs → ss2 ≡ ss → table2 ≡ table → outs.room ≤ outs2.room → IsStage ss2 table2 outs2
 stage_same {ss} {ss2} {table} {table2} stage sessions same room = record {
   configs = cc;
+  ascends = rw same stage.ascends;
   room_for_all = omega (arith, stage.room_for_all, ap length sessions, room);
 }
 
 -- a session that was taken out
+
+each_removed : (P : SessionConfig → Type 0) (cs : List SessionConfig) (p : ℕ) → AllByRecursion P cs → AllByRecursion P (remove cs p)
+each_removed P [] zero all = tt
+each_removed P [] (suc p) all = tt
+each_removed P (c ∷ cs) zero all = all.1
+each_removed P (c ∷ cs) (suc p) all = (all.0, each_removed P cs p all.1)
+
+removed_up : (cs : List SessionConfig) (p : ℕ) → Ascends cs → Ascends (remove cs p)
+removed_up [] zero up = tt
+removed_up [] (suc p) up = tt
+removed_up (c ∷ cs) zero up = up.1
+removed_up (c ∷ cs) (suc p) up = (each_removed (λ later. discr_of c < discr_of later) cs p up.0, removed_up cs p up.1)
 
 one_out : {X : Type 0} (xs : List X) (p : ℕ) → take p xs ++ drop (p + 1) xs ≡ remove xs p
 one_out xs p = rw add-one refl
@@ -116,6 +140,7 @@ stage_leaves ss p {ss2} {table} stage cut made =
     let left : ss2 ≡ remove ss p = made ∙ one_out ss p in
     let same : length table.configs ≡ length ss = ap length stage.configs ∙ length-map ss (λ s. s.config) in
     record {
+      ascends = rw cut.1 (removed_up table.configs p stage.ascends);
       configs = cut.1 ∙ ap (λ cs. remove cs p) stage.configs ∙ sym (map_removed (λ (s : Running). s.config) ss p) ∙ ap configs_of (sym left);
       room_for_all = omega (arith, stage.room_for_all, ap length left, length-remove ss p (omega (arith, same, cut.0)));
     }

@@ -9,9 +9,11 @@ use Rattle.bfd_instance.specs.Stage.{IsStage, IsTable}
 use Rattle.bfd_instance.proofs.SameConfigs.{happens_keeps}
 
 pub stage_opened : (configs : List SessionConfig) (pool : List Reflector) {sessions : List Running} {table : Members} (outs : Outputs)
-    → sessions ≡ map started configs → table ≡ members configs pool → outs.room ≡ 5 * length configs + 5 → IsStage sessions table outs
-stage_opened configs pool outs made is room = record {
+    → IsTable configs pool → sessions ≡ map started configs → table ≡ members configs pool → outs.room ≡ 5 * length configs + 5
+    → IsStage sessions table outs
+stage_opened configs pool outs are made is room = record {
   configs = cc (started_configs configs);
+  ascends = rw is are.configs.ascends;
   room_for_all = omega (arith, room, ap length made, length-map configs started);
 }
 
@@ -27,5 +29,6 @@ stage_kept olds news table before after line last now answer stage e room =
     let few : length news ≡ length olds = cc (length-map news (λ s. s.config), length-map olds (λ s. s.config)) in
     record {
       configs = stage.configs ∙ sym same;
+      ascends = stage.ascends;
       room_for_all = omega (arith, stage.room_for_all, few, room);
     }

@@ -4,7 +4,7 @@ ghost use Rattle.bfd_lanes.specs.Places.{least};
 ghost use Rattle.bfd_session.specs.Due.{due as due_tick};
 ghost use Rattle.bfd_session.specs.Changes.{place_for};
 ghost use Rattle.bfd_session.specs.Kinds.{configs_of, discr_of};
-ghost use Rattle.bfd_session.specs.Rows.{place_of as place_in};
+ghost use Rattle.bfd_session.specs.Rows.{Ascends, place_of as place_in};
 ghost use Rattle.bfd_session.specs.Step.{IsFit, started};
 ghost use Rattle.bfd_session.specs.Tables.{members};
 ghost use Rattle.bfd_instance.specs.Stage.{IsTable};
@@ -253,8 +253,10 @@ impl<W: Timers> Instance<W> {
 
     /// The sessions, by ascending discriminator.
     pub fn sessions(&self) -> &[Session]
-        ensures { result.now ≡ self.now.world.sessions }
+        ensures value { result.now ≡ self.now.world.sessions }
+        ensures ascends { Ascends (configs_of result.now) }
     {
+        let _ = &self.table;
         self.sessions.sessions()
     }
 }

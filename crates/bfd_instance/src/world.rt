@@ -1,21 +1,24 @@
 //! The events of a world.
-ghost use Rattle.std.specs.Prelude.{◌≡◌, ◌<◌, ◌≤◌, ◌+◌, ◌*◌, IfSome, List, [], length};
+ghost use Rattle.std.specs.Prelude.{ℕ, ◌≡◌, ◌<◌, ◌≤◌, ◌+◌, ◌*◌, IfOk, IfSome, MatchResult, Some, List, [], length, slice_get};
 ghost use Rattle.bfd_session.specs.declared.event.SessionConfig.{SessionConfig};
-ghost use Rattle.bfd_session.specs.Arrivals.{comes_to};
-ghost use Rattle.bfd_session.specs.Reaching.{IsTaken};
-ghost use Rattle.bfd_session.specs.Kinds.{configs_of};
-ghost use Rattle.bfd_session.specs.Rows.{table_of, place_of as place_in};
+ghost use Rattle.bfd_session.specs.Arrivals.{Discarded, comes_to, coming_to};
+ghost use Rattle.bfd_session.specs.Reaching.{IsNamed, IsTaken, Reaches};
+ghost use Rattle.bfd_session.specs.Kinds.{Running, configs_of};
+ghost use Rattle.bfd_session.specs.Rows.{Ascends, table_of, place_of as place_in};
 ghost use Rattle.bfd_session.specs.Step.{CanTake};
+ghost use Rattle.bfd_sbfd.specs.Reflect as reflecting;
 ghost use Rattle.bfd_sbfd.specs.declared.reflecting.Reflector.{Reflector};
 ghost use Rattle.bfd_script.specs.Doing.{arriving, asking};
 ghost use Rattle.bfd_instance.specs.World.{turned};
 ghost use Rattle.bfd_instance.specs.World as world;
 
+use bfd_demux::Target;
 use bfd_num::{Moment, Steps, Tick};
-use bfd_packet::Arrival;
-use bfd_rules::{Outs, Refusal};
+use bfd_packet::{Arrival, Test};
+use bfd_rules::{Out, Outs, Refusal};
+use bfd_sbfd::reflect;
 use bfd_script::line::Line;
-use bfd_session::{Answer, Event, Reached, Table};
+use bfd_session::{Answer, Event, Table};
 use bfd_shard::{Sessions, ShardEvent};
 use bfd_wheel::Timers;
 use std::marker::Brand;
@@ -64,7 +67,45 @@ fn own<W: Timers, L: Ledger>(
     sessions.apply_own(place, moment, event, outs, &mut Steps::<L>::new(blank))
 }
 
+/// Whom an arrival is for, or the test up to selection that discards it, by a counter of steps of its own.
+#[tactic(auto, using(bfd_session::proofs::Reach::reaches))]
+fn screened<L: Ledger>(table: &Table, arrival: &Arrival, blank: Blank) -> Result<Target, Test>
+    requires ascends { Ascends table.now.configs }
+    requires name { blank.name ≡ L.name }
+    requires parts { blank.parts ≡ L.parts }
+    requires some { 0 < blank.parts }
+    ensures coming { MatchResult result
+        (λ target. comes_to (table_of table.now.configs table.now.pool) arrival.now ≡ coming_to (Some target) arrival.now)
+        (λ test. comes_to (table_of table.now.configs table.now.pool) arrival.now ≡ Discarded test) }
+    ensures reaches { IfOk result (λ target. Reaches table.now.configs table.now.pool arrival.now target) }
+{
+    let _pool = table.pool();
+    table.screen(arrival, &mut Steps::<L>::new(blank))
+}
+
+/// An arrival for the reflector at this place.
+fn answered(table: &Table, place: u32, arrival: &Arrival, outs: &mut Outs) -> Answer
+    requires named { IsNamed table.now.pool place arrival.now }
+    requires room { 5 ≤ outs.old.spare }
+    requires empty { outs.old.items ≡ [] }
+    ensures turn { (sessions : List Running) (last : ℕ) → turned sessions table.now.pool last outs.new.items result
+        ≡ world.reflected (slice_get table.now.pool place) (reflecting.reflect table.now.pool arrival.now)
+        (world.world_of sessions table.now.pool last) }
+    ensures room { outs.new.room ≡ outs.old.room }
+{
+    let pool = table.pool();
+    match reflect(pool, arrival) {
+        Ok(datagram) => {
+            let discr = pool[place as usize].discr;
+            outs.push(Out::Sent { discr, datagram });
+            Answer::Handled
+        }
+        Err(test) => Answer::Dropped(test),
+    }
+}
+
 /// An arrival, and the place of the session to which it came, if to one.
+#[inline(always)]
 pub fn arrive<W: Timers>(
     table: &Table,
     sessions: &mut Sessions<W>,
@@ -73,6 +114,7 @@ pub fn arrive<W: Timers>(
     outs: &mut Outs,
 ) -> (Answer, Option<u32>)
     requires configs { table.now.configs ≡ configs_of sessions.old.sessions }
+    requires ascends { Ascends table.now.configs }
     requires room { 5 ≤ outs.old.spare }
     requires empty { outs.old.items ≡ [] }
     ensures turn { turned sessions.new.sessions table.now.pool sessions.new.last outs.new.items result.0
@@ -83,22 +125,19 @@ pub fn arrive<W: Timers>(
     ensures within { IfSome result.1 (λ place. place < length sessions.old.sessions) }
     ensures room { outs.new.room ≡ outs.old.room }
 {
-    match table.reach_uncounted(&arrival) {
-        Reached::Discarded(test) => (Answer::Dropped(test), None),
-        Reached::Answered(out) => {
-            outs.push(out);
-            (Answer::Handled, None)
-        }
-        Reached::Packet(place) => {
+    match screened::<Brand>(table, &arrival, Blank::new(1)) {
+        Ok(Target::Session(place)) => {
             let packet = Event::Packet(arrival);
             let answer = own::<W, Brand>(sessions, place, moment, &packet, outs, Blank::new(1));
             (answer, Some(place))
         }
-        Reached::Returned(place, sequence) => {
+        Ok(Target::Echo(place, sequence)) => {
             let returned = Event::Returned(sequence);
             let answer = own::<W, Brand>(sessions, place, moment, &returned, outs, Blank::new(1));
             (answer, Some(place))
         }
+        Ok(Target::Reflector(place)) => (answered(table, place, &arrival, outs), None),
+        Err(test) => (Answer::Dropped(test), None),
     }
 }
 
@@ -140,6 +179,7 @@ pub fn happen<W: Timers>(
     outs: &mut Outs,
 ) -> (Answer, Option<u32>)
     requires configs { table.now.configs ≡ configs_of sessions.old.sessions }
+    requires ascends { Ascends table.now.configs }
     requires room { 5 * length sessions.old.sessions + 5 ≤ outs.old.spare }
     requires empty { outs.old.items ≡ [] }
     ensures turn { turned sessions.new.sessions table.now.pool sessions.new.last outs.new.items result.0

@@ -10,14 +10,14 @@ use bfd_rules::{Cmd, Config, Outs, Refusal, Role};
 use bfd_session::Answer;
 use std::alloc::Global;
 
-const FIRST: Addr = Addr::V4(0x0a00_0001);
+pub(crate) const FIRST: Addr = Addr::V4(0x0a00_0001);
 
-const SECOND: Addr = Addr::V4(0x0a00_0002);
+pub(crate) const SECOND: Addr = Addr::V4(0x0a00_0002);
 
 const THIRD: Addr = Addr::V4(0x0a00_0003);
 
 /// An active session over a single hop that asks for this interval, in microseconds.
-fn config(discr: u32, local: Addr, remote: Addr, interval: u32, seed: u32) -> Config
+pub(crate) fn config(discr: u32, local: Addr, remote: Addr, interval: u32, seed: u32) -> Config
     requires some { 0 < discr }
     requires least { 10000 ≤ interval }
     requires most { interval ≤ 60000000 }

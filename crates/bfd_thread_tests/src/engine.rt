@@ -11,7 +11,7 @@ ghost use Rattle.bfd_thread_tests.specs.Joining.{HasOpen};
 use crate::eight::packet;
 use bfd_demux::BuildFault;
 use bfd_engine::{Engine, EngineFault, EnginePass, HoldFault, OpenFault};
-use bfd_num::{Moment, Steps};
+use bfd_num::{Moment, Steps, Tick};
 use bfd_packet::{Addr, Arrival, Test};
 use bfd_rules::{Cmd, Config, Outs, Refusal, Role};
 use bfd_session::{Answer, SessionConfig};
@@ -19,6 +19,7 @@ use bfd_shard::{Entry, ShardState};
 use bfd_wheel::PlainTimers;
 use std::alloc::{AllocError, Global};
 use std::marker::Brand;
+use std::process::Abort;
 use std::sync::Wait;
 use std::sync::ledger::{Blank, Ledger};
 
@@ -276,6 +277,67 @@ fn fills<R: Wait>(rt: &R, alloc: Global) -> Option<bool> {
 #[test]
 fn a_full_journal(rt: HostRuntime) {
     assert!(rt; fills(&rt, rt.alloc()) == Some(true));
+}
+
+/// How many packets the first shard sends at a tick.
+fn sent_at<R: Wait + Abort, L: Ledger>(
+    rt: &R,
+    engine: &Plain,
+    pass: &mut EnginePass,
+    tick: Tick,
+    outs: &mut Outs,
+    steps: &mut Steps<L>,
+) -> usize
+    requires of { IsOf engine.now pass.old.1 }
+    requires there { AllThere pass.old.1 }
+    requires shards { length engine.now.locks ≡ 3 }
+    ensures of { IsOf engine.now pass.new.1 }
+    ensures there { AllThere pass.new.1 }
+{
+    outs.clear();
+    assert!(*rt; engine.sessions(0) <= outs.spare() / 5);
+    let answer = engine.advance(rt, pass, 0, tick, outs, steps);
+    assert!(*rt; answer == Ok(Answer::Ticked));
+    outs.items().len()
+}
+
+/// It sends a packet of each of its two sessions at the late tick, and nothing more at the early one and at the late one again.
+fn sends_once<R: Wait + Abort, L: Ledger>(
+    rt: &R,
+    engine: &Plain,
+    pass: &mut EnginePass,
+    ticks: (Tick, Tick),
+    outs: &mut Outs,
+    blank: Blank,
+)
+    requires of { IsOf engine.now pass.old.1 }
+    requires there { AllThere pass.old.1 }
+    requires shards { length engine.now.locks ≡ 3 }
+    requires name { blank.name ≡ L.name }
+    requires parts { blank.parts ≡ L.parts }
+    requires some { 0 < blank.parts }
+{
+    let mut steps = Steps::<L>::new(blank);
+    let (early, late) = ticks;
+    assert!(*rt; sent_at(rt, engine, pass, late, outs, &mut steps) == 2);
+    assert!(*rt; sent_at(rt, engine, pass, early, outs, &mut steps) == 0);
+    assert!(*rt; sent_at(rt, engine, pass, late, outs, &mut steps) == 0);
+}
+
+#[test]
+fn a_tick_below_the_last(rt: HostRuntime) {
+    let (engine, mut pass) = opened(rt.alloc(), 100).expect(&rt, "memory");
+    let mut outs = Outs::make(rt.alloc(), 10).expect(&rt, "memory");
+    let early = Tick::new(1000).expect(&rt, "tick");
+    let late = Tick::new(2000).expect(&rt, "tick");
+    sends_once::<HostRuntime, Brand>(
+        &rt,
+        &engine,
+        &mut pass,
+        (early, late),
+        &mut outs,
+        Blank::new(1),
+    );
 }
 
 /// What a session that is there twice comes to.

@@ -3,7 +3,7 @@ use Rattle.bfd_c.proofs.Common.{sym, ◌∙◌}
 use Rattle.bfd_session.specs.Kinds.{configs_of}
 use Rattle.bfd_session.specs.Rows.{row_of, table_of}
 use Rattle.bfd_instance.specs.World.{session_fault, world_with}
-use Rattle.bfd_records.specs.Records.{records_with}
+use Rattle.bfd_c.specs.Records.{records_with}
 use Rattle.bfd_c.proofs.Faults.{memory_last, no_memory}
 use Rattle.bfd_c.proofs.engine.Engine.add.Goals as goal
 

@@ -36,9 +36,9 @@ use Rattle.bfd_shard.proofs.sessions.Sessions.TheSendSync as sessions
 use Rattle.bfd_session.proofs.event.Answer.TheSendSync as answer
 use Rattle.bfd_instance.specs.contracts.instance.Instance as World
 use Rattle.bfd_instance.specs.contracts.instance.Instance.TheInside as world
-use Rattle.bfd_records.proofs.records.Record.TheSendSync as kept
-use Rattle.bfd_records.specs.contracts.recorded.Recorded
-use Rattle.bfd_records.specs.contracts.recorded.Recorded.TheInside as recorded
+use Rattle.bfd_c.proofs.records.kept.Record.TheSendSync as kept
+use Rattle.bfd_c.specs.contracts.records.recorded.Recorded
+use Rattle.bfd_c.specs.contracts.records.recorded.Recorded.TheInside as recorded
 use Rattle.bfd_c.specs.Owning.{kept_owns}
 use Rattle.bfd_c.specs.contracts.engine.Engine as Held
 use Rattle.bfd_c.specs.contracts.engine.Engine.TheInside as inside

@@ -2,12 +2,15 @@
 use Rattle.bfd_instance.proofs.Common.{ap}
 use Rattle.bfd_session.specs.Tables.{Members}
 use Rattle.bfd_shard.specs.Sessions.{Timed}
-use Rattle.bfd_instance.proofs.Joining.{place_is, session_joins, stage_joins, stage_same, table_undone}
+use Rattle.bfd_instance.proofs.Joining.{joined_up, place_is, session_joins, stage_joins, stage_same, table_undone}
 use Rattle.bfd_instance.proofs.instance.Instance.add.Goals as goal
 
 pub invariant_of-self-in-Ok : goal.invariant_of-self-in-Ok
 invariant_of-self-in-Ok g c =
-    stage_joins c.self.inside.sessions.sessions c.in_ok-place.place c.args.config c.self.inside.table c.self.invariant.configs c.in_ok-place.ensures.place
+    stage_joins c.self.inside.sessions.sessions c.in_ok-place.place c.args.config c.self.inside.table c.self.invariant.configs
+    (let e = c.in_ok-place.ensures in
+    joined_up c.self.inside.table c.args.config e.fault e.table c.in_ok-place.place c.self.invariant.ascends e.place)
+    c.in_ok-place.ensures.place
     c.in-Ok.ensures.sessions c.in-Ok.ensures.room
 
 pub invariant_of-self-in-Err : goal.invariant_of-self-in-Err

@@ -1,6 +1,0 @@
--- Each record is of its session's kind.
-use Rattle.bfd_records.proofs.Keeping.{fresh_kinds}
-use Rattle.bfd_records.proofs.recorded.Recorded.open.Goals as goal
-
-pub invariant_of-result : goal.invariant_of-result
-invariant_of-result g c = rw (c.in_ok-records.ensures, c.in_ok-instance.ensures) (fresh_kinds c.args.configs.items)
