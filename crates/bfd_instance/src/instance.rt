@@ -51,7 +51,7 @@ impl<W: Timers> Model for Instance<W> {
     ghost invariant = { λ r. IsStage r.sessions.sessions r.table r.outs };
 }
 
-/// The table of the sessions and the reflectors of a script, which have no fault. Fails only when out of memory.
+/// The table of sessions and reflectors that have no fault, with which an instance begins. Fails only when out of memory.
 #[tactic(auto, using(crate::proofs::Stages::no_fault))]
 pub fn table(
     alloc: Global,
