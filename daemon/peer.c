@@ -130,7 +130,7 @@ static void take_table(const char *path) {
     size_t room = 0;
     ssize_t length = file ? getdelim(&text, &room, 0, file) : -1;
     bfdd_handle handle = BFDD_HANDLE_INIT;
-    bfdd_complaint complaint = {0};
+    bfdd_complaint complaint = BFDD_COMPLAINT_INIT;
     if (length < 0) fail(path, file ? "it is empty" : strerror(errno));
     fclose(file);
     uint32_t code = bfdd_open(&handle, (const uint8_t *)text, (size_t)length, &complaint);

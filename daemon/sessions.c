@@ -144,7 +144,7 @@ static void take_output(const bfdd_output *out, enum event event, uint64_t now) 
 
 /* Passes on what an event gave. */
 static void take_outputs(enum event event, uint64_t now) {
-    static bfdd_output outs[BFDD_MANY];
+    static bfdd_output outs[BFDD_MANY] = {[0 ... BFDD_MANY - 1] = BFDD_OUTPUT_INIT};
     size_t count = 0;
     while (bfdd_outputs(&engine, outs, BFDD_MANY, &count) == BFDD_DONE)
         for (size_t i = 0; i < count; i++) take_output(&outs[i], event, now);
@@ -152,7 +152,7 @@ static void take_outputs(enum event event, uint64_t now) {
 
 /* Gives a command. False where the engine refuses it for a cause that passes. */
 static bool command(struct session *s, uint32_t verb, uint32_t value, enum event event, uint64_t now) {
-    bfdd_answered answer = {0};
+    bfdd_answered answer = BFDD_ANSWERED_INIT;
     if (bfdd_command(&engine, now, s->wanted.discr, verb, value) != BFDD_DONE) return false;
     record_command(&s->record, now, s->wanted.discr, verb, value);
     bfdd_answer(&engine, &answer);
@@ -221,7 +221,7 @@ static void handled(struct session *s, const bfdd_arrival *arrival, const bfdd_a
 
 /* Packets came. Those of sessions go to the engine, which stops behind each that leaves outputs. */
 static void receive(bfdd_arrival *arrivals, size_t count, uint32_t device) {
-    static bfdd_answered answers[BFDD_MANY];
+    static bfdd_answered answers[BFDD_MANY] = {[0 ... BFDD_MANY - 1] = BFDD_ANSWERED_INIT};
     struct session *whose[BFDD_MANY];
     size_t kept = 0, done = 0;
     for (size_t i = 0; i < count; i++) {
@@ -248,8 +248,8 @@ static void refuse(struct session *s, const char *cause) {
 /* Gives the session to the engine. A session's interface is a number of 16 bits there: two whose addresses are the same, and whose
  * interfaces differ by a multiple of 65,536, can't be had at once. */
 static void add_to_engine(struct session *s, uint64_t now) {
-    bfdd_session config = {.kind = is_multihop(s) ? BFDD_MULTIHOP : BFDD_SINGLE_HOP, .discr = s->wanted.discr, .other = 1,
-                           .iface = (uint16_t)s->path.ifindex, .local = s->local, .remote = s->remote,
+    bfdd_session config = {.size = sizeof config, .kind = is_multihop(s) ? BFDD_MULTIHOP : BFDD_SINGLE_HOP, .discr = s->wanted.discr,
+                           .other = 1, .iface = (uint16_t)s->path.ifindex, .local = s->local, .remote = s->remote,
                            .active = (s->wanted.flags & DP_PASSIVE) == 0, .tx = s->wanted.tx, .rx = s->wanted.rx,
                            .mult = s->wanted.mult, .auth = s->key.type, .key_id = s->key.id, .key_len = s->key.type ? s->key.length : 1};
     char interface[IF_NAMESIZE];
@@ -414,7 +414,7 @@ uint64_t sessions_pass(uint64_t now) {
 
 void sessions_view(FILE *file, bool is_json, uint64_t now) {
     for (struct session *s = all; s; s = s->next[ALL]) {
-        bfdd_session_state state = {0};
+        bfdd_session_state state = BFDD_SESSION_STATE_INIT;
         if (s->is_open) bfdd_state(&engine, s->wanted.discr, &state);
         view_session(file, is_json, s, &state, now);
     }
@@ -422,7 +422,7 @@ void sessions_view(FILE *file, bool is_json, uint64_t now) {
 
 void sessions_open(session_teller *tell_owner, uint64_t keep_for) {
     static const char none[] = "bfd 1\nrun\nend\n";
-    bfdd_complaint complaint = {0};
+    bfdd_complaint complaint = BFDD_COMPLAINT_INIT;
     teller = tell_owner;
     keep = keep_for;
     if (bfdd_open(&engine, (const uint8_t *)none, sizeof none - 1, &complaint) != BFDD_DONE) fail("the sessions", "no memory");

@@ -196,8 +196,8 @@ static uint64_t read_control(struct msghdr *message, bfdd_packet *packet) {
 static bfdd_arrival arrival_of(const struct udp_socket *it, int i, uint64_t now, uint64_t wall) {
     struct msghdr *message = &incoming.messages[i].msg_hdr;
     const struct sockaddr_in6 *peer = &incoming.peers[i];
-    bfdd_packet packet = {.port = ports[it->kind].port, .src = unmapped(&peer->sin6_addr), .sport = ntohs(peer->sin6_port),
-                          .dst.family = 4};
+    bfdd_packet packet = {.size = sizeof packet, .port = ports[it->kind].port, .src = unmapped(&peer->sin6_addr),
+                          .sport = ntohs(peer->sin6_port), .dst.family = 4};
     uint64_t stamp = read_control(message, &packet), age = stamp > 0 && stamp < wall ? wall - stamp : 0;
     packet.moment = age < now - it->drained ? now - age : it->drained;
     message->msg_controllen = CONTROL_ROOM; /* of which the kernel has written what it used */

@@ -15,6 +15,10 @@
  * ERRORS. A call answers BFDD_DONE, or why it did nothing: then the engine is as it was, and so is every struct but for a
  * complaint about a text and what bfdd_packets tells. That a packet is dropped or a command refused is an answer and no error: see bfdd_answer.
  *
+ * SIZES. A struct that may get fields in a later version begins with its size: the caller writes sizeof there, as its macro does
+ * (BFDD_OUTPUT_INIT), and each element of an array has its own. A size that the library doesn't know is answered by BFDD_SIZE, and nothing
+ * is done: so a program fits its library, or is told. The library keeps `size`.
+ *
  * THREADS. A handle may go from thread to thread, and different handles may be used at once. A handle is in one call at a
  * time: what several threads share stands behind a lock of the caller.
  *
@@ -30,7 +34,7 @@
  * - No pointer is null, not even with length 0. It points to an object of its type, and a slice to as many bytes as its length
  *   says. No two parameters of a call overlap.
  * - Each byte of a slice and each field of a struct has been written before a call, whole arrays included, and of a struct for
- *   an answer too: let it begin as {0}. Bytes between fields count for nothing, and no struct has to be cleared for the next call.
+ *   an answer too: let it begin by its macro. Bytes between fields count for nothing, and no struct has to be cleared for the next call.
  * - malloc, realloc and free are one allocator, with blocks aligned to 16.
  * - No call comes from a signal handler, nor from the forked child of a process that has threads.
  */
@@ -47,8 +51,8 @@ extern "C" {
 
 /* The version of this header. What is compiled with it runs with a library of the same major version, and of this minor version or a
  * later one: bfdd_version() >= BFDD_VERSION. */
-#define BFDD_VERSION_MAJOR 1
-#define BFDD_VERSION_MINOR 2
+#define BFDD_VERSION_MAJOR 2
+#define BFDD_VERSION_MINOR 0
 #define BFDD_VERSION (BFDD_VERSION_MAJOR * 65536 + BFDD_VERSION_MINOR)
 
 /* The version of the library, by the same rule. */
@@ -66,7 +70,8 @@ enum bfdd_code {
     BFDD_TAKEN_DISCR = 7, /* a session or a reflector has the discriminator already */
     BFDD_TAKEN_ADDRESSES = 8, /* a session of the kind has the selecting addresses already */
     BFDD_FULL = 9, /* there are 65,536 sessions and reflectors already */
-    BFDD_NOT_FOUND = 10 /* no session, or no reflector, has the discriminator */
+    BFDD_NOT_FOUND = 10, /* no session, or no reflector, has the discriminator */
+    BFDD_SIZE = 11 /* a struct has a size that this version doesn't know */
 };
 
 /* A handle. Its fields are the library's. */
@@ -87,9 +92,12 @@ typedef struct {
 
 /* What is wrong with a text. */
 typedef struct {
-    uint64_t line;  /* the first faulty line, from 1 */
+    uint32_t size;  /* sizeof(bfdd_complaint) */
     uint32_t fault; /* an enum bfdd_fault */
+    uint64_t line;  /* the first faulty line, from 1 */
 } bfdd_complaint;
+
+#define BFDD_COMPLAINT_INIT {sizeof(bfdd_complaint), 0, 0}
 
 enum bfdd_fault {
     BFDD_NOT_ASCII = 1, BFDD_TOO_LONG = 2, BFDD_UNKNOWN_WORD = 3, BFDD_FIELD_COUNT = 4, BFDD_BAD_NUMBER = 5,
@@ -99,7 +107,7 @@ enum bfdd_fault {
 
 /* Opens a handle with the sessions and reflectors of a table: the text of a packet file (docs/FORMATS.md) without event
  * lines, as "bfd 1\np2p ..\nrun\nend\n". At most 65,536 sessions and reflectors. What the handle owned is freed, once all
- * is there. BFDD_TEXT, and then `complaint` is written; BFDD_EVENTS; BFDD_MEMORY. */
+ * is there. BFDD_SIZE of the complaint; BFDD_TEXT, and then `complaint` is written; BFDD_EVENTS; BFDD_MEMORY. */
 uint32_t bfdd_open(bfdd_handle *handle, const uint8_t *text, size_t length, bfdd_complaint *complaint);
 
 enum bfdd_kind {
@@ -112,6 +120,7 @@ enum bfdd_kind {
 
 /* One session, by the fields of its table line. What its kind doesn't use counts for nothing, but is written. */
 typedef struct {
+    uint32_t size;  /* sizeof(bfdd_session) */
     uint32_t kind;  /* an enum bfdd_kind */
     uint32_t discr; /* the local discriminator, from 1 */
     uint32_t other; /* initiator: the reflector's discriminator; tail: the head's; from 1 */
@@ -130,15 +139,17 @@ typedef struct {
     uint8_t key[20];
 } bfdd_session;
 
+#define BFDD_SESSION_INIT {sizeof(bfdd_session), 0, 0, 0, 0, {0, {0}}, {0, {0}}, 0, 0, 0, 0, 0, 0, 0, 0, 0, {0}}
+
 /* Opens a handle with this session alone. Several keys, several sessions and reflectors need bfdd_open. What the handle owned
- * is freed, once all is there. BFDD_RANGE, BFDD_MEMORY. */
+ * is freed, once all is there. BFDD_SIZE, BFDD_RANGE, BFDD_MEMORY. */
 uint32_t bfdd_open_session(bfdd_handle *handle, const bfdd_session *session);
 
 /* Sessions and reflectors come and go in an open handle: the others, their timers and the outputs that weren't read stay as they
  * are. The time is linear in the sessions; no event's is.
  *
- * One session more. It starts at the last tick, so that the next tick sends its first packet. BFDD_CLOSED, BFDD_RANGE, BFDD_FULL,
- * BFDD_TAKEN_DISCR, BFDD_TAKEN_ADDRESSES, BFDD_MEMORY. */
+ * One session more. It starts at the last tick, so that the next tick sends its first packet. BFDD_CLOSED, BFDD_SIZE, BFDD_RANGE,
+ * BFDD_FULL, BFDD_TAKEN_DISCR, BFDD_TAKEN_ADDRESSES, BFDD_MEMORY. */
 uint32_t bfdd_add(bfdd_handle *handle, const bfdd_session *session);
 
 /* The session of this discriminator leaves, and tells its peer nothing: for that it is disabled before, which makes it send
@@ -169,15 +180,18 @@ enum bfdd_port {
 
 /* A packet that came in, but for its payload. */
 typedef struct {
-    uint64_t moment; /* when it came */
+    uint32_t size;   /* sizeof(bfdd_packet) */
     uint32_t port;   /* an enum bfdd_port */
+    uint64_t moment; /* when it came */
     uint32_t iface;  /* the number that the caller gives the interface, 0 to 65,535: an ifindex above that has to be mapped */
+    uint16_t sport;  /* the sender's UDP port */
+    uint8_t ttl;     /* the IP TTL or Hop Limit with which it came */
     bfdd_address src, dst;
-    uint16_t sport; /* the sender's UDP port */
-    uint8_t ttl;    /* the IP TTL or Hop Limit with which it came */
 } bfdd_packet;
 
-/* A packet came in. Of the payload the first 256 bytes are kept. BFDD_CLOSED, BFDD_RANGE, BFDD_MEMORY. */
+#define BFDD_PACKET_INIT {sizeof(bfdd_packet), 0, 0, 0, 0, 0, {0, {0}}, {0, {0}}}
+
+/* A packet came in. Of the payload the first 256 bytes are kept. BFDD_CLOSED, BFDD_SIZE, BFDD_RANGE, BFDD_MEMORY. */
 uint32_t bfdd_receive(bfdd_handle *handle, const bfdd_packet *packet, const uint8_t *payload, size_t length);
 
 /* The clock has come to this millisecond; one below the greatest so far counts as that. BFDD_CLOSED, BFDD_RANGE. */
@@ -230,9 +244,10 @@ enum bfdd_state { BFDD_ADMIN_DOWN = 0, BFDD_DOWN = 1, BFDD_INIT = 2, BFDD_UP = 3
 
 /* An answer. What its kind doesn't use is 0. */
 typedef struct {
+    uint32_t size; /* sizeof(bfdd_answered) */
     uint32_t kind; /* an enum bfdd_answer_kind */
     uint32_t code; /* dropped: an enum bfdd_drop; refused: an enum bfdd_refusal */
-    char name[16]; /* dropped and refused: the cause by name, which ends with a zero */
+    char name[20]; /* dropped and refused: the cause by name, which ends with a zero */
     uint32_t discr; /* the session to which the packet, command or question came, also where it was dropped or refused by that session;
                      * 0 where it came to none or to a reflector, and of a tick */
     uint8_t state, diag, remote_state; /* shown: these and all below; states are enum bfdd_state, the diagnostic is RFC 5880's */
@@ -244,26 +259,29 @@ typedef struct {
     uint64_t detect;  /* the Detection Time */
 } bfdd_answered;
 
-/* What the last event was answered; after bfdd_packets the last packet that was handled. BFDD_CLOSED. */
+#define BFDD_ANSWERED_INIT {sizeof(bfdd_answered), 0, 0, {0}, 0, 0, 0, 0, 0, 0, 0, 0, 0, 0}
+
+/* What the last event was answered; after bfdd_packets the last packet that was handled. BFDD_CLOSED, BFDD_SIZE. */
 uint32_t bfdd_answer(bfdd_handle *handle, bfdd_answered *answer);
 
 /* A look at a session. What there is none of is 0. The peer's values are those of its last control packet that the session took, and before
  * that those of a new session; of a head, which hears nothing, they stay so. */
 typedef struct {
+    uint32_t size; /* sizeof(bfdd_session_state) */
     uint32_t discr;
-    uint8_t state, diag, remote_state; /* these and those down to `detect` are as in an answer of bfdd_show */
+    uint8_t state, diag, remote_state; /* these, those down to `used_rx`, and `detect` are as in an answer of bfdd_show */
     uint8_t poll;
     uint32_t remote_discr;
     uint32_t adv_tx;
     uint32_t used_tx;
     uint32_t used_rx;
-    uint64_t detect;
     uint32_t peer_tx;     /* the peer's Desired Min TX Interval, */
     uint32_t peer_rx;     /* its Required Min RX Interval, */
     uint32_t peer_echo;   /* its Required Min Echo RX Interval, */
     uint8_t peer_mult;    /* its Detect Mult, */
     uint8_t peer_diag;    /* its diagnostic, */
     uint8_t peer_demand;  /* and 1 where its demand mode is on */
+    uint64_t detect;
     uint64_t detect_end;  /* when the Detection Time ends, if it runs */
     uint64_t heard;       /* the moment of the last control packet that the session took */
     uint64_t changed;     /* the moment of the last change of its state */
@@ -274,14 +292,18 @@ typedef struct {
     uint64_t dropped[25]; /* packets that came to it and were discarded, by enum bfdd_drop */
 } bfdd_session_state;
 
+#define BFDD_SESSION_STATE_INIT \
+    {sizeof(bfdd_session_state), 0, 0, 0, 0, 0, 0, 0, 0, 0, 0, 0, 0, 0, 0, 0, 0, 0, 0, 0, 0, 0, 0, 0, {0}}
+
 /* A look at the session of this discriminator, as it stands after the last event. It is no event: nothing is settled, and the outputs
- * and the answer stay. A count stays at 4,294,967,295 once it is there. BFDD_CLOSED, BFDD_NOT_FOUND. */
+ * and the answer stay. A count stays at 4,294,967,295 once it is there. BFDD_CLOSED, BFDD_SIZE, BFDD_NOT_FOUND. */
 uint32_t bfdd_state(bfdd_handle *handle, uint32_t discr, bfdd_session_state *state);
 
 enum bfdd_output_kind { BFDD_CHANGED = 1, BFDD_SENT = 2 };
 
 /* An output: a change of a session's state, or a packet to send. What its kind doesn't use is 0. */
 typedef struct {
+    uint32_t size;  /* sizeof(bfdd_output) */
     uint32_t kind;  /* an enum bfdd_output_kind */
     uint32_t discr; /* whose it is: a session's, or of a packet that answers for a reflector the reflector's */
     uint8_t was, state; /* changed: the state before and after, enum bfdd_state */
@@ -294,7 +316,9 @@ typedef struct {
     uint8_t bytes[52];
 } bfdd_output;
 
-/* The next output of the last event, in the order in which they came. BFDD_CLOSED; BFDD_END where all were read. What isn't
+#define BFDD_OUTPUT_INIT {sizeof(bfdd_output), 0, 0, 0, 0, 0, 0, 0, 0, 0, {0, {0}}, {0, {0}}, 0, {0}}
+
+/* The next output of the last event, in the order in which they came. BFDD_CLOSED, BFDD_SIZE; BFDD_END where all were read. What isn't
  * read before the next event is gone. */
 uint32_t bfdd_next(bfdd_handle *handle, bfdd_output *output);
 
@@ -304,7 +328,7 @@ uint32_t bfdd_due(bfdd_handle *handle, uint64_t *ms);
 
 /* Many at once ------------------------------------------------------------------------------------------------------------ */
 
-/* One of many packets that came in, as by recvmmsg. */
+/* One of many packets that came in, as by recvmmsg. It has no size but that of its packet: a payload is all that comes with one. */
 typedef struct {
     bfdd_packet packet;
     const uint8_t *payload;
@@ -315,15 +339,16 @@ enum { BFDD_MANY = 64 }; /* how many packets, and how many outputs, one call tak
 
 /* Packets came in. Each is handed in as by bfdd_receive, in their order, and its answer goes to the place with its number. `handled`
  * gets how many were handled, the first ones: none is handled behind a packet that left outputs, so that they can be read before the
- * rest is handed in. BFDD_DONE: all were handled, or the last one left outputs. BFDD_CLOSED. BFDD_RANGE: there are more than 64 packets,
- * or fewer places than packets; or a value of the packet behind those that were handled is outside its range. BFDD_MEMORY: there was no
- * memory for that packet. What wasn't handled has changed nothing, its place neither. */
+ * rest is handed in. BFDD_DONE: all were handled, or the last one left outputs. Else the first of these that is so. BFDD_CLOSED.
+ * BFDD_RANGE: there are more than 64 packets, or fewer places than packets. BFDD_SIZE of a packet or of a place with a packet's number:
+ * none was handled. BFDD_RANGE: a value of the packet behind those that were handled is outside its range. BFDD_MEMORY: there was no memory
+ * for that packet. What wasn't handled has changed nothing, its place neither. */
 uint32_t bfdd_packets(bfdd_handle *handle, const bfdd_arrival *arrivals, size_t count, bfdd_answered *answers, size_t places,
                       size_t *handled);
 
 /* The next outputs of the last event, in the order in which they came: as many as there are places, or all that are left. `read` gets
- * how many these are. BFDD_CLOSED; BFDD_RANGE where there is no place, or more than 64; BFDD_END where all were read. Then `read` is
- * 0. */
+ * how many these are. BFDD_CLOSED; BFDD_RANGE where there is no place, or more than 64; BFDD_END where all were read; BFDD_SIZE of a place
+ * that would get an output. Then `read` is 0. */
 uint32_t bfdd_outputs(bfdd_handle *handle, bfdd_output *places, size_t count, size_t *read);
 
 /* Names ------------------------------------------------------------------------------------------------------------------- */
@@ -331,7 +356,7 @@ uint32_t bfdd_outputs(bfdd_handle *handle, bfdd_output *places, size_t count, si
 /* What has names. Those of faults, drops, refusals and states are the words of packet files and reports (docs/FORMATS.md). */
 enum bfdd_named {
     BFDD_NAME_CODE = 1,       /* enum bfdd_code: "Done", "Closed", "Memory", "Range", "End", "Text", "Events", "TakenDiscr",
-                               * "TakenAddresses", "Full", "NotFound" */
+                               * "TakenAddresses", "Full", "NotFound", "Size" */
     BFDD_NAME_FAULT = 2,      /* enum bfdd_fault, as "NoSuchSession" */
     BFDD_NAME_DROP = 3,       /* enum bfdd_drop, as "AuthSeq" */
     BFDD_NAME_REFUSAL = 4,    /* enum bfdd_refusal, as "PollBusy" */

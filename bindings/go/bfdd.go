@@ -123,10 +123,10 @@ type Session struct {
 
 func (s *Session) toC() C.bfdd_session {
 	to := C.bfdd_session{
-		kind: C.uint32_t(s.Kind), discr: C.uint32_t(s.Discr), other: C.uint32_t(s.Other), iface: C.uint32_t(s.Iface),
-		local: toC(s.Local), remote: toC(s.Remote), tx: C.uint32_t(s.Tx), rx: C.uint32_t(s.Rx), mult: C.uint32_t(s.Mult),
-		echo: C.uint32_t(s.Echo), seed: C.uint32_t(s.Seed), auth: C.uint32_t(s.Auth), key_id: C.uint32_t(s.KeyID),
-		key_len: C.uint32_t(len(s.Key)),
+		size: C.sizeof_bfdd_session, kind: C.uint32_t(s.Kind), discr: C.uint32_t(s.Discr), other: C.uint32_t(s.Other),
+		iface: C.uint32_t(s.Iface), local: toC(s.Local), remote: toC(s.Remote), tx: C.uint32_t(s.Tx), rx: C.uint32_t(s.Rx),
+		mult: C.uint32_t(s.Mult), echo: C.uint32_t(s.Echo), seed: C.uint32_t(s.Seed), auth: C.uint32_t(s.Auth),
+		key_id: C.uint32_t(s.KeyID), key_len: C.uint32_t(len(s.Key)),
 	}
 	if s.Active {
 		to.active = 1
@@ -241,7 +241,7 @@ type Engine struct{ handle C.bfdd_handle }
 // Open opens an engine with the sessions and reflectors of a table: the text of a packet file without event lines.
 func Open(table []byte) (*Engine, error) {
 	var engine Engine
-	var complaint C.bfdd_complaint
+	complaint := C.bfdd_complaint{size: C.sizeof_bfdd_complaint}
 	code := C.bfdd_open(&engine.handle, first(table), C.size_t(len(table)), &complaint)
 	if code == C.BFDD_TEXT {
 		return nil, TableError{uint64(complaint.line), uint32(complaint.fault)}
@@ -294,8 +294,8 @@ func (e *Engine) RemoveReflector(discr uint32) error {
 // Receive hands in a packet that came.
 func (e *Engine) Receive(packet *Packet, payload []byte) error {
 	from := C.bfdd_packet{
-		moment: C.uint64_t(packet.Moment), port: C.uint32_t(packet.Port), iface: C.uint32_t(packet.Iface), src: toC(packet.Src),
-		dst: toC(packet.Dst), sport: C.uint16_t(packet.Sport), ttl: C.uint8_t(packet.TTL),
+		size: C.sizeof_bfdd_packet, port: C.uint32_t(packet.Port), moment: C.uint64_t(packet.Moment), iface: C.uint32_t(packet.Iface),
+		sport: C.uint16_t(packet.Sport), ttl: C.uint8_t(packet.TTL), src: toC(packet.Src), dst: toC(packet.Dst),
 	}
 	return failure(C.bfdd_receive(&e.handle, &from, first(payload), C.size_t(len(payload))))
 }
@@ -315,7 +315,7 @@ func (e *Engine) Show(moment uint64, discr uint32) error {
 
 // Answer says what became of the last event.
 func (e *Engine) Answer() (Answer, error) {
-	var from C.bfdd_answered
+	from := C.bfdd_answered{size: C.sizeof_bfdd_answered}
 	code := C.bfdd_answer(&e.handle, &from)
 	return Answer{
 		Kind: AnswerKind(from.kind), Code: uint32(from.code), Name: C.GoString(&from.name[0]), Discr: uint32(from.discr),
@@ -327,7 +327,7 @@ func (e *Engine) Answer() (Answer, error) {
 
 // Next is the next output of the last event, in the order in which they came, or nil. What isn't read before the next event is gone.
 func (e *Engine) Next() Output {
-	var from C.bfdd_output
+	from := C.bfdd_output{size: C.sizeof_bfdd_output}
 	if C.bfdd_next(&e.handle, &from) != C.BFDD_DONE {
 		return nil
 	}
@@ -356,7 +356,7 @@ type Look struct {
 
 // Look sees a session as it stands after the last event. Nothing is settled, and the outputs stay.
 func (e *Engine) Look(discr uint32) (Look, error) {
-	var from C.bfdd_session_state
+	from := C.bfdd_session_state{size: C.sizeof_bfdd_session_state}
 	code := C.bfdd_state(&e.handle, C.uint32_t(discr), &from)
 	look := Look{
 		Discr: uint32(from.discr), RemoteDiscr: uint32(from.remote_discr), State: State(from.state), RemoteState: State(from.remote_state),

@@ -82,5 +82,5 @@ func ExampleName() {
 	// Output:
 	// Control Detection Time Expired
 	// true
-	// 1 2
+	// 2 0
 }

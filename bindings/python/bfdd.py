@@ -7,7 +7,7 @@
 import ctypes
 from ctypes import POINTER, Structure, byref, c_bool, c_char, c_char_p, c_size_t, c_uint8, c_uint16, c_uint32, c_uint64, c_void_p
 
-DONE, CLOSED, MEMORY, RANGE, END, TEXT, EVENTS, TAKEN_DISCR, TAKEN_ADDRESSES, FULL, NOT_FOUND = range(11)
+DONE, CLOSED, MEMORY, RANGE, END, TEXT, EVENTS, TAKEN_DISCR, TAKEN_ADDRESSES, FULL, NOT_FOUND, SIZE = range(12)
 PORTS = {"single": 1, "multi": 2, "echo": 3, "sbfd": 4, "answer": 5}
 VERBS = {"disable": 1, "enable": 2, "reset": 3, "path": 4, "tx": 5, "rx": 6, "mult": 7, "demand": 8, "echo": 9, "key": 10}
 STATES = ["AdminDown", "Down", "Init", "Up"]
@@ -24,41 +24,46 @@ class Address(Structure):
     _fields_ = [("family", c_uint32), ("bytes", c_uint8 * 16)]
 
 
-class Complaint(Structure):
-    _fields_ = [("line", c_uint64), ("fault", c_uint32)]
+class Sized(Structure):
+    """A struct that begins with its size."""
+
+    def __init__(self, **fields):
+        super().__init__(size=ctypes.sizeof(self), **fields)
 
 
-class Session(Structure):
-    _fields_ = [(name, c_uint32) for name in ("kind", "discr", "other", "iface")] \
+class Complaint(Sized):
+    _fields_ = [("size", c_uint32), ("fault", c_uint32), ("line", c_uint64)]
+
+
+class Session(Sized):
+    _fields_ = [(name, c_uint32) for name in ("size", "kind", "discr", "other", "iface")] \
         + [("local", Address), ("remote", Address)] \
         + [(name, c_uint32) for name in ("active", "tx", "rx", "mult", "echo", "seed", "auth", "key_id", "key_len")] \
         + [("key", c_uint8 * 20)]
 
 
-class Packet(Structure):
-    _fields_ = [("moment", c_uint64), ("port", c_uint32), ("iface", c_uint32), ("src", Address), ("dst", Address),
-                ("sport", c_uint16), ("ttl", c_uint8)]
+class Packet(Sized):
+    _fields_ = [("size", c_uint32), ("port", c_uint32), ("moment", c_uint64), ("iface", c_uint32), ("sport", c_uint16),
+                ("ttl", c_uint8), ("src", Address), ("dst", Address)]
 
 
-class Answered(Structure):
-    _fields_ = [("kind", c_uint32), ("code", c_uint32), ("name", c_char * 16), ("discr", c_uint32), ("state", c_uint8),
+class Answered(Sized):
+    _fields_ = [("size", c_uint32), ("kind", c_uint32), ("code", c_uint32), ("name", c_char * 20), ("discr", c_uint32), ("state", c_uint8),
                 ("diag", c_uint8), ("remote_state", c_uint8), ("poll", c_uint8), ("remote_discr", c_uint32),
                 ("adv_tx", c_uint32), ("used_tx", c_uint32), ("used_rx", c_uint32), ("detect", c_uint64)]
 
 
-class Session_state(Structure):  # named as the header's struct
-    _fields_ = [("discr", c_uint32)] \
+class Session_state(Sized):  # named as the header's struct
+    _fields_ = [("size", c_uint32), ("discr", c_uint32)] \
         + [(name, c_uint8) for name in ("state", "diag", "remote_state", "poll")] \
-        + [(name, c_uint32) for name in ("remote_discr", "adv_tx", "used_tx", "used_rx")] \
-        + [("detect", c_uint64)] \
-        + [(name, c_uint32) for name in ("peer_tx", "peer_rx", "peer_echo")] \
+        + [(name, c_uint32) for name in ("remote_discr", "adv_tx", "used_tx", "used_rx", "peer_tx", "peer_rx", "peer_echo")] \
         + [(name, c_uint8) for name in ("peer_mult", "peer_diag", "peer_demand")] \
-        + [(name, c_uint64) for name in ("detect_end", "heard", "changed", "received", "sent", "ups", "downs")] \
+        + [(name, c_uint64) for name in ("detect", "detect_end", "heard", "changed", "received", "sent", "ups", "downs")] \
         + [("dropped", c_uint64 * 25)]
 
 
-class Output(Structure):
-    _fields_ = [("kind", c_uint32), ("discr", c_uint32), ("was", c_uint8), ("state", c_uint8), ("diag", c_uint8),
+class Output(Sized):
+    _fields_ = [("size", c_uint32), ("kind", c_uint32), ("discr", c_uint32), ("was", c_uint8), ("state", c_uint8), ("diag", c_uint8),
                 ("ttl", c_uint8), ("iface", c_uint32), ("sport", c_uint16), ("dport", c_uint16), ("src", Address),
                 ("dst", Address), ("len", c_uint32), ("bytes", c_uint8 * 52)]
 
@@ -144,7 +149,7 @@ class Engine:
         self.call("remove_reflector", discr)
 
     def receive(self, moment, port, iface, src, dst, ttl, payload, sport=49152):
-        packet = Packet(moment, PORTS[port], iface, address(src), address(dst), sport, ttl)
+        packet = Packet(moment=moment, port=PORTS[port], iface=iface, src=address(src), dst=address(dst), sport=sport, ttl=ttl)
         self.call("receive", byref(packet), payload, len(payload))
 
     def outputs(self):

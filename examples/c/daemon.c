@@ -112,7 +112,7 @@ static uint8_t *read_file(const char *path, size_t *length) {
 }
 
 static bool open_engine(bfdd_handle *engine, const char *path) {
-    bfdd_complaint complaint = {0};
+    bfdd_complaint complaint = BFDD_COMPLAINT_INIT;
     size_t length;
     uint8_t *text = read_file(path, &length);
     uint32_t code = bfdd_open(engine, text, length, &complaint);
@@ -132,7 +132,7 @@ static void send_out(const bfdd_output *out) {
 }
 
 static void take_outputs(bfdd_handle *engine, uint64_t moment) {
-    bfdd_output out = {0};
+    bfdd_output out = BFDD_OUTPUT_INIT;
     while (bfdd_next(engine, &out) == BFDD_DONE) {
         if (out.kind == BFDD_SENT) send_out(&out);
         else printf("%" PRIu64 " state %" PRIu32 " %s %s %d\n", moment, out.discr, states[out.was], states[out.state], out.diag);
@@ -149,7 +149,8 @@ static bool hear(nfds_t place, bfdd_packet *packet, uint8_t *payload, size_t *le
     ssize_t got = recvmsg(sockets[place].fd, &message, 0);
     if (got < 0) return false;
     *length = (size_t)got;
-    *packet = (bfdd_packet){.moment = now(), .port = place < PORTS ? ports[place].port : BFDD_PORT_ANSWER, .sport = ntohs(from.sin_port)};
+    *packet = (bfdd_packet){.size = sizeof *packet, .port = place < PORTS ? ports[place].port : BFDD_PORT_ANSWER, .moment = now(),
+                            .sport = ntohs(from.sin_port)};
     packet->src.family = packet->dst.family = 4;
     memcpy(packet->src.bytes, &from.sin_addr, 4);
     for (struct cmsghdr *c = CMSG_FIRSTHDR(&message); c; c = CMSG_NXTHDR(&message, c)) {
@@ -169,8 +170,8 @@ static bool hear(nfds_t place, bfdd_packet *packet, uint8_t *payload, size_t *le
 
 static void receive(bfdd_handle *engine, nfds_t place) {
     uint8_t payload[256];
-    bfdd_packet packet = {0};
-    bfdd_answered answer = {0};
+    bfdd_packet packet = BFDD_PACKET_INIT;
+    bfdd_answered answer = BFDD_ANSWERED_INIT;
     for (size_t length = sizeof payload; hear(place, &packet, payload, &length); length = sizeof payload) {
         if (packet.port == BFDD_PORT_MULTI && packet.ttl < least_ttl) continue; /* over a single hop the engine asks for 255 */
         uint32_t code = bfdd_receive(engine, &packet, payload, length);
@@ -196,8 +197,8 @@ static void read_command(void) {
 
 /* A session more, by the command that waits. The next tick sends its first packet. */
 static uint32_t add_session(bfdd_handle *engine) {
-    bfdd_session session = {.kind = BFDD_SINGLE_HOP, .discr = command.discr, .iface = (uint32_t)command.value, .local = {4}, .remote = {4},
-                            .active = 1, .tx = 100000, .rx = 100000, .mult = 3, .seed = command.discr};
+    bfdd_session session = {.size = sizeof session, .kind = BFDD_SINGLE_HOP, .discr = command.discr, .iface = (uint32_t)command.value,
+                            .local = {4}, .remote = {4}, .active = 1, .tx = 100000, .rx = 100000, .mult = 3, .seed = command.discr};
     memcpy(session.local.bytes, &local, 4), memcpy(session.remote.bytes, &command.remote, 4);
     return bfdd_add(engine, &session);
 }
@@ -211,8 +212,8 @@ static uint32_t remove_session(bfdd_handle *engine, uint64_t moment) {
 
 /* Gives the command that waits; but not while the session has a Poll Sequence, which a packet will end. */
 static void give_command(bfdd_handle *engine) {
-    bfdd_session_state state = {0};
-    bfdd_answered answer = {0};
+    bfdd_session_state state = BFDD_SESSION_STATE_INIT;
+    bfdd_answered answer = BFDD_ANSWERED_INIT;
     uint64_t moment = now();
     if (bfdd_state(engine, command.discr, &state) == BFDD_DONE && state.poll) return;
     uint32_t code = BFDD_DONE;

@@ -21,9 +21,10 @@ static inline uint32_t open_text(bfdd_handle *engine, const char *text, bfdd_com
 
 /* A control packet of a peer in Down with My Discriminator 7, as from 10.0.0.2. */
 static const uint8_t down[24] = {0x20, 0x40, 3, 24, 0, 0, 0, 7, 0, 0, 0, 0, 0, 15, 0x42, 0x40, 0, 15, 0x42, 0x40};
-static const bfdd_packet from_peer = {1500, BFDD_PORT_SINGLE, 1, {4, {10, 0, 0, 2}}, {4, {10, 0, 0, 1}}, 49152, 255};
-static const bfdd_session pair = {.kind = BFDD_SINGLE_HOP, .discr = 1, .iface = 1, .local = {4, {10, 0, 0, 1}},
-                                  .remote = {4, {10, 0, 0, 2}}, .active = 1, .tx = 1000000, .rx = 1000000, .mult = 3};
+static const bfdd_packet from_peer = {sizeof(bfdd_packet), BFDD_PORT_SINGLE, 1500, 1, 49152, 255, {4, {10, 0, 0, 2}}, {4, {10, 0, 0, 1}}};
+static const bfdd_session pair = {.size = sizeof(bfdd_session), .kind = BFDD_SINGLE_HOP, .discr = 1, .iface = 1,
+                                  .local = {4, {10, 0, 0, 1}}, .remote = {4, {10, 0, 0, 2}}, .active = 1, .tx = 1000000, .rx = 1000000,
+                                  .mult = 3};
 
 /* A table with sessions of every kind, keys and a reflector. */
 static const char all_kinds[] =

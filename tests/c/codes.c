@@ -3,8 +3,8 @@
 
 static void closed(void) {
     bfdd_handle engine = BFDD_HANDLE_INIT;
-    bfdd_output out = {.kind = 77};
-    bfdd_answered answer = {.kind = 77};
+    bfdd_output out = {.size = sizeof out, .kind = 77};
+    bfdd_answered answer = {.size = sizeof answer, .kind = 77};
     uint64_t due = 77;
     CHECK(bfdd_receive(&engine, &from_peer, down, sizeof down), BFDD_CLOSED);
     CHECK(bfdd_tick(&engine, 1), BFDD_CLOSED);
@@ -26,9 +26,50 @@ static void closed(void) {
     CHECK(engine.is_open, false);
 }
 
+/* A struct of another size is refused: behind a closed handle, and before all else that is wrong. What stands in it stays. */
+static void sizes(void) {
+    bfdd_handle engine = BFDD_HANDLE_INIT, closed = BFDD_HANDLE_INIT;
+    bfdd_output next = BFDD_OUTPUT_INIT;
+    CHECK(bfdd_open_session(&engine, &pair), BFDD_DONE);
+    CHECK(bfdd_receive(&engine, &from_peer, down, sizeof down), BFDD_DONE);
+    for (int number = 0; number < 4; number++) {
+#define STRANGE(type) ((const uint32_t[]){0, sizeof(type) - 1, sizeof(type) + 8, UINT32_MAX}[number])
+        bfdd_complaint complaint = {STRANGE(bfdd_complaint), 77, 77};
+        bfdd_session session = {.size = STRANGE(bfdd_session)};
+        bfdd_packet packet = {.size = STRANGE(bfdd_packet)};
+        bfdd_answered answer = {.size = STRANGE(bfdd_answered), .kind = 77}, answer_before = answer;
+        bfdd_session_state state = {.size = STRANGE(bfdd_session_state), .discr = 77}, state_before = state;
+        bfdd_output out = {.size = STRANGE(bfdd_output), .kind = 77}, out_before = out;
+        CHECK(open_text(&engine, "no table", &complaint), BFDD_SIZE);
+        CHECK(bfdd_open_session(&engine, &session), BFDD_SIZE);
+        CHECK(bfdd_add(&closed, &session), BFDD_CLOSED);
+        CHECK(bfdd_add(&engine, &session), BFDD_SIZE);
+        CHECK(bfdd_receive(&closed, &packet, down, sizeof down), BFDD_CLOSED);
+        CHECK(bfdd_receive(&engine, &packet, down, sizeof down), BFDD_SIZE);
+        CHECK(bfdd_answer(&closed, &answer), BFDD_CLOSED);
+        CHECK(bfdd_answer(&engine, &answer), BFDD_SIZE);
+        CHECK(bfdd_state(&closed, 1, &state), BFDD_CLOSED);
+        CHECK(bfdd_state(&engine, 1, &state), BFDD_SIZE);
+        CHECK(bfdd_state(&engine, 9, &state), BFDD_SIZE);
+        CHECK(bfdd_next(&closed, &out), BFDD_CLOSED);
+        CHECK(bfdd_next(&engine, &out), BFDD_SIZE);
+        CHECK(complaint.size == STRANGE(bfdd_complaint) && complaint.line == 77 && complaint.fault == 77, true);
+        CHECK(memcmp(&answer, &answer_before, sizeof answer), 0);
+        CHECK(memcmp(&state, &state_before, sizeof state), 0);
+        CHECK(memcmp(&out, &out_before, sizeof out), 0);
+        CHECK(closed.is_open, false);
+    }
+    CHECK(bfdd_next(&engine, &next), BFDD_DONE);
+    CHECK(next.kind, BFDD_CHANGED);
+    while (bfdd_next(&engine, &next) == BFDD_DONE) {}
+    next.size++;
+    CHECK(bfdd_next(&engine, &next), BFDD_SIZE);
+    bfdd_close(&engine);
+}
+
 static void texts(void) {
     bfdd_handle engine = BFDD_HANDLE_INIT;
-    bfdd_complaint complaint = {77, 77};
+    bfdd_complaint complaint = {sizeof complaint, 77, 77};
     uint64_t due = 0;
     CHECK(open_text(&engine, "bfd 1\nrun\nshow 1 1\nend\n", &complaint), BFDD_TEXT);
     CHECK(complaint.line, 3);
@@ -110,8 +151,8 @@ static void fields(void) {
 static void events(void) {
     const uint64_t bound = UINT64_C(1) << 60, most = UINT64_C(1152921504606846);
     bfdd_handle engine = BFDD_HANDLE_INIT;
-    bfdd_answered answer = {0};
-    bfdd_output out = {0}, first = {0};
+    bfdd_answered answer = BFDD_ANSWERED_INIT;
+    bfdd_output out = BFDD_OUTPUT_INIT, first = BFDD_OUTPUT_INIT;
     uint64_t due = 0;
     CHECK(bfdd_open_session(&engine, &pair), BFDD_DONE);
     CHECK(bfdd_next(&engine, &out), BFDD_END);
@@ -183,8 +224,8 @@ static void events(void) {
 /* Sessions and reflectors come and go, and the others stay. */
 static void joining(void) {
     bfdd_handle engine = BFDD_HANDLE_INIT;
-    bfdd_output out = {0};
-    bfdd_answered answer = {0};
+    bfdd_output out = BFDD_OUTPUT_INIT;
+    bfdd_answered answer = BFDD_ANSWERED_INIT;
     bfdd_session s = pair;
     uint64_t due = 0;
     CHECK(bfdd_open_session(&engine, &s), BFDD_DONE);
@@ -251,7 +292,7 @@ static void full(void) {
     enum { MOST = 65536 };
     static char text[MOST * 26 + 20];
     bfdd_handle engine = BFDD_HANDLE_INIT;
-    bfdd_complaint complaint = {0};
+    bfdd_complaint complaint = BFDD_COMPLAINT_INIT;
     int length = sprintf(text, "bfd 2\n");
     for (int discr = 2; discr <= MOST; discr++) length += sprintf(text + length, "reflector %d 50000 up\n", discr);
     strcpy(text + length, "run\nend\n");
@@ -274,6 +315,7 @@ int main(void) {
     joining();
     full();
     closed();
+    sizes();
     texts();
     fields();
     events();

@@ -4,10 +4,10 @@
 /* A session of which no two fields have the same value, and its peer's packet: Init, Detect Mult 6, My Discriminator 11,
  * Desired Min TX 600000, Required Min RX 800000. */
 static const bfdd_session whole = {
-    .kind = BFDD_SINGLE_HOP, .discr = 21, .other = 900, .iface = 9, .local = {4, {10, 0, 0, 1}}, .remote = {4, {10, 0, 0, 2}},
-    .active = 1, .tx = 400000, .rx = 300000, .mult = 4, .echo = 0, .seed = 7, .auth = 0, .key_id = 6, .key_len = 5, .key = "abcde"};
+    .size = sizeof(bfdd_session), .kind = BFDD_SINGLE_HOP, .discr = 21, .other = 900, .iface = 9, .local = {4, {10, 0, 0, 1}},
+    .remote = {4, {10, 0, 0, 2}}, .active = 1, .tx = 400000, .rx = 300000, .mult = 4, .echo = 0, .seed = 7, .auth = 0, .key_id = 6, .key_len = 5, .key = "abcde"};
 static const char heard[] = "208006180000000b00000015000927c0000c350000000000";
-static const bfdd_packet came = {1100000, BFDD_PORT_SINGLE, 9, {4, {10, 0, 0, 2}}, {4, {10, 0, 0, 1}}, 50123, 255};
+static const bfdd_packet came = {sizeof(bfdd_packet), BFDD_PORT_SINGLE, 1100000, 9, 50123, 255, {4, {10, 0, 0, 2}}, {4, {10, 0, 0, 1}}};
 
 /* A packet that is to come out: where from and where to, and its payload. */
 struct sent {
@@ -41,8 +41,9 @@ static void receive(bfdd_handle *engine, const bfdd_packet *packet, const char *
 
 /* The next output is this packet. */
 static void sends(bfdd_handle *engine, const struct sent *wanted) {
-    bfdd_output out = {0};
+    bfdd_output out = BFDD_OUTPUT_INIT;
     CHECK(bfdd_next(engine, &out), BFDD_DONE);
+    CHECK(out.size, sizeof out);
     CHECK(out.kind, BFDD_SENT);
     CHECK(out.discr, wanted->discr);
     CHECK(out.was | out.state | out.diag, 0);
@@ -60,8 +61,9 @@ static void sends(bfdd_handle *engine, const struct sent *wanted) {
 
 /* The next output is this change of state. */
 static void changes(bfdd_handle *engine, uint32_t discr, uint8_t was, uint8_t state, uint8_t diag) {
-    bfdd_output out = {0};
+    bfdd_output out = BFDD_OUTPUT_INIT;
     CHECK(bfdd_next(engine, &out), BFDD_DONE);
+    CHECK(out.size, sizeof out);
     CHECK(out.kind, BFDD_CHANGED);
     CHECK(out.discr, discr);
     CHECK(out.was, was);
@@ -72,7 +74,7 @@ static void changes(bfdd_handle *engine, uint32_t discr, uint8_t was, uint8_t st
 
 /* The last output is a packet of these bytes. */
 static void ends_with(bfdd_handle *engine, const char *bytes) {
-    bfdd_output out = {0};
+    bfdd_output out = BFDD_OUTPUT_INIT;
     while (bfdd_next(engine, &out) == BFDD_DONE) {}
     CHECK(out.kind, BFDD_SENT);
     CHECK(strcmp(spelled(out.bytes, out.len), bytes), 0);
@@ -80,8 +82,9 @@ static void ends_with(bfdd_handle *engine, const char *bytes) {
 
 /* What the last event was answered. */
 static bfdd_answered answered(bfdd_handle *engine, uint32_t kind, uint32_t code, const char *name) {
-    bfdd_answered answer = {0};
+    bfdd_answered answer = BFDD_ANSWERED_INIT;
     CHECK(bfdd_answer(engine, &answer), BFDD_DONE);
+    CHECK(answer.size, sizeof answer);
     CHECK(answer.kind, kind);
     CHECK(answer.code, code);
     CHECK(strcmp(answer.name, name), 0);
@@ -217,7 +220,7 @@ static void packets(void) {
 /* The echo interval is seen between two echo packets, a tail's head by its packet, and a sender's port by a reflector's answer. */
 static void others(void) {
     bfdd_handle engine = BFDD_HANDLE_INIT;
-    bfdd_complaint complaint = {0};
+    bfdd_complaint complaint = BFDD_COMPLAINT_INIT;
     const struct sent echo = {21, 9, 49152, 3785, 255, {10, 0, 0, 1}, {10, 0, 0, 1}, "42464465000000150000000000000000"};
     bfdd_session session = whole;
     session.echo = 200000;
@@ -248,6 +251,7 @@ static void others(void) {
     sends(&engine, &reflected);
     CHECK(answered(&engine, BFDD_HANDLED, 0, "").discr, 0);
     CHECK(open_text(&engine, "bfd 1\nreflector 0 50000 up\nrun\nend\n", &complaint), BFDD_TEXT);
+    CHECK(complaint.size, sizeof complaint);
     CHECK(complaint.line, 2);
     CHECK(complaint.fault, BFDD_OUT_OF_RANGE);
     bfdd_close(&engine);

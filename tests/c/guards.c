@@ -37,9 +37,11 @@ static uint8_t *of_handle, *of_struct, *of_slice, *of_answer, *of_count;
 
 static uint64_t read_all(bfdd_handle *engine) {
     uint64_t count = 0;
-    bfdd_output *out = put(of_answer, NULL, sizeof *out);
+    const bfdd_output unread = BFDD_OUTPUT_INIT;
+    const bfdd_answered unasked = BFDD_ANSWERED_INIT;
+    bfdd_output *out = put(of_answer, &unread, sizeof *out);
     while (bfdd_next(engine, out) == BFDD_DONE) count++;
-    CHECK(bfdd_answer(engine, put(of_answer, NULL, sizeof(bfdd_answered))), BFDD_DONE);
+    CHECK(bfdd_answer(engine, put(of_answer, &unasked, sizeof unasked)), BFDD_DONE);
     uint32_t code = bfdd_due(engine, put(of_answer, NULL, sizeof(uint64_t)));
     CHECK(code == BFDD_DONE || code == BFDD_END, true);
     return count;
@@ -49,7 +51,8 @@ static uint64_t read_all(bfdd_handle *engine) {
 static void texts(bfdd_handle *engine) {
     size_t whole = strlen(all_kinds);
     for (size_t length = 0; length <= whole; length++) {
-        bfdd_complaint *complaint = put(of_answer, NULL, sizeof *complaint);
+        const bfdd_complaint none = BFDD_COMPLAINT_INIT;
+        bfdd_complaint *complaint = put(of_answer, &none, sizeof none);
         CHECK(bfdd_open(engine, give(of_slice, all_kinds, length), length, complaint), length + 1 < whole ? BFDD_TEXT : BFDD_DONE);
     }
 }
@@ -76,17 +79,19 @@ static uint64_t packets(bfdd_handle *engine) {
 /* So many packets by one call, with a place each, and outputs in so many places. */
 static uint64_t many(bfdd_handle *engine) {
     uint64_t count = 0;
+    const bfdd_answered unasked[35] = {[0 ... 34] = BFDD_ANSWERED_INIT};
+    const bfdd_output unread[35] = {[0 ... 34] = BFDD_OUTPUT_INIT};
     for (size_t size = 0; size <= 35; size++) {
         bfdd_arrival in[35] = {0};
         for (size_t at = 0; at < size; at++)
             in[at] = (bfdd_arrival){from_peer, give(of_slice, down, sizeof down), sizeof down}, in[at].packet.iface = 2;
         size_t *told = put(of_count, NULL, sizeof *told);
-        bfdd_answered *answers = put(of_answer, NULL, size * sizeof *answers);
+        bfdd_answered *answers = put(of_answer, unasked, size * sizeof *answers);
         CHECK(bfdd_packets(engine, give(of_struct, in, size * sizeof *in), size, answers, size, told), BFDD_DONE);
         count += *told;
         CHECK(bfdd_tick(engine, 20000 + 100 * size), BFDD_DONE);
         const size_t places = size ? size : 1;
-        while (bfdd_outputs(engine, put(of_answer, NULL, places * sizeof(bfdd_output)), places, told) == BFDD_DONE) count += *told;
+        while (bfdd_outputs(engine, put(of_answer, unread, places * sizeof *unread), places, told) == BFDD_DONE) count += *told;
     }
     const bfdd_text none = {"", 0};
     CHECK(bfdd_find_name(BFDD_NAME_STATE, BFDD_UP, put(of_answer, &none, sizeof none)), BFDD_DONE);

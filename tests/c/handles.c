@@ -16,7 +16,7 @@ static void add(uint64_t *sum, const void *bytes, size_t length) {
 }
 
 static void take(bfdd_handle *engine, uint64_t *sum) {
-    bfdd_output out = {0};
+    bfdd_output out = BFDD_OUTPUT_INIT;
     while (bfdd_next(engine, &out) == BFDD_DONE) add(sum, &out, sizeof out);
 }
 

@@ -42,16 +42,16 @@ static void hear(bfdd_handle *engine, uint32_t i, uint64_t moment, uint8_t state
     word(bytes + 8, your);
     word(bytes + 12, INTERVAL);
     word(bytes + 16, INTERVAL);
-    bfdd_packet packet = {moment, BFDD_PORT_SINGLE, 1, {4, {10, (uint8_t)(i >> 16), (uint8_t)(i >> 8), (uint8_t)i}},
-                          {4, {192, 0, 2, 1}}, 49152, 255};
+    bfdd_packet packet = {sizeof packet, BFDD_PORT_SINGLE, moment, 1, 49152, 255,
+                          {4, {10, (uint8_t)(i >> 16), (uint8_t)(i >> 8), (uint8_t)i}}, {4, {192, 0, 2, 1}}};
     CHECK(bfdd_receive(engine, &packet, bytes, sizeof bytes), BFDD_DONE);
-    bfdd_output output = {0};
+    bfdd_output output = BFDD_OUTPUT_INIT;
     while (bfdd_next(engine, &output) == BFDD_DONE) outputs++;
 }
 
 static void tick(bfdd_handle *engine, uint64_t ms) {
     CHECK(bfdd_tick(engine, ms), BFDD_DONE);
-    bfdd_output output = {0};
+    bfdd_output output = BFDD_OUTPUT_INIT;
     while (bfdd_next(engine, &output) == BFDD_DONE) outputs++;
 }
 
@@ -75,7 +75,7 @@ static void join(bfdd_handle *engine, uint32_t count) {
     begin();
     for (uint32_t k = 0; k < times; k++) {
         uint32_t i = 1 + k * step;
-        bfdd_session s = {.kind = BFDD_SINGLE_HOP, .discr = i, .iface = 1, .local = {4, {192, 0, 2, 1}},
+        bfdd_session s = {.size = sizeof(bfdd_session), .kind = BFDD_SINGLE_HOP, .discr = i, .iface = 1, .local = {4, {192, 0, 2, 1}},
                           .remote = {4, {10, (uint8_t)(i >> 16), (uint8_t)(i >> 8), (uint8_t)i}}, .active = 1, .tx = INTERVAL,
                           .rx = INTERVAL, .mult = 3};
         CHECK(bfdd_add(engine, &s), BFDD_DONE);
@@ -85,7 +85,7 @@ static void join(bfdd_handle *engine, uint32_t count) {
 
 static void open_all(bfdd_handle *engine, uint32_t count) {
     char *text = table(count);
-    bfdd_complaint complaint = {0};
+    bfdd_complaint complaint = BFDD_COMPLAINT_INIT;
     struct mallinfo2 before = mallinfo2();
     long pages = resident();
     begin();

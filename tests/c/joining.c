@@ -19,8 +19,8 @@ static struct { bool session, reflector; bfdd_session fields; bfdd_handle alone;
 
 /* The session of this discriminator; its kind and its addresses follow from that. */
 static bfdd_session fields_of(uint32_t discr) {
-    bfdd_session s = {.kind = 1 + discr % 5, .discr = discr, .other = 1000 + discr, .iface = discr, .local = {4, {10, 0, 0, 1}},
-                      .remote = {4, {10, 1, 0, (uint8_t)discr}}, .active = draw(2), .tx = 50000 + draw(4) * 50000, .rx = 100000, .mult = 1 + draw(3),
+    bfdd_session s = {.size = sizeof s, .kind = 1 + discr % 5, .discr = discr, .other = 1000 + discr, .iface = discr,
+                      .local = {4, {10, 0, 0, 1}}, .remote = {4, {10, 1, 0, (uint8_t)discr}}, .active = draw(2), .tx = 50000 + draw(4) * 50000, .rx = 100000, .mult = 1 + draw(3),
                       .echo = discr % 5 == 0 && draw(2) ? 60000 : 0, .seed = draw(UINT32_MAX)};
     if (s.kind == BFDD_TAIL) s.local = (bfdd_address){4, {239, 0, 0, (uint8_t)discr}};
     if (s.kind == BFDD_HEAD) s.remote = (bfdd_address){4, {239, 0, 0, (uint8_t)discr}};
@@ -73,7 +73,7 @@ static event next_event(uint64_t ms) {
     uint32_t d = 1 + draw(MOST);
     bfdd_session s = fields_of(d);
     event it = {.kind = draw(8), .discr = d, .verb = 1 + draw(10), .ms = ms, .value = draw(2) ? draw(9) : 50000 + draw(100000)};
-    it.packet = (bfdd_packet){ms * 1000 + draw(1000), BFDD_PORT_SINGLE, d, s.remote, s.local, 49152, 255};
+    it.packet = (bfdd_packet){sizeof it.packet, BFDD_PORT_SINGLE, ms * 1000 + draw(1000), d, 49152, 255, s.remote, s.local};
     memcpy(it.bytes, down, sizeof down);
     it.bytes[1] = (uint8_t)(draw(4) << 6), it.bytes[11] = (uint8_t)(draw(3) ? d : 0);
     if (s.kind == BFDD_MULTIHOP) it.packet.port = BFDD_PORT_MULTI;
@@ -91,7 +91,7 @@ static void happen(bfdd_handle *engine, const event *it) {
 }
 
 static bool same_output(bfdd_handle *one, bfdd_handle *other) {
-    bfdd_output out = {0}, its = {0};
+    bfdd_output out = BFDD_OUTPUT_INIT, its = BFDD_OUTPUT_INIT;
     uint32_t code = bfdd_next(one, &out);
     CHECK(code, bfdd_next(other, &its));
     CHECK(memcmp(&out, &its, sizeof out), 0);
@@ -99,7 +99,7 @@ static bool same_output(bfdd_handle *one, bfdd_handle *other) {
 }
 
 static void same_answer(bfdd_handle *one, bfdd_handle *other) {
-    bfdd_answered answer = {0}, its = {0};
+    bfdd_answered answer = BFDD_ANSWERED_INIT, its = BFDD_ANSWERED_INIT;
     CHECK(bfdd_answer(one, &answer), bfdd_answer(other, &its));
     CHECK(memcmp(&answer, &its, sizeof answer), 0);
 }
@@ -108,7 +108,7 @@ static void same_answer(bfdd_handle *one, bfdd_handle *other) {
 static long opened_anew(void) {
     static char text[LINES];
     bfdd_handle engine = BFDD_HANDLE_INIT, anew = BFDD_HANDLE_INIT;
-    bfdd_complaint complaint = {0};
+    bfdd_complaint complaint = BFDD_COMPLAINT_INIT;
     long outputs = 0;
     uint64_t due = 0, its = 0;
     CHECK(open_text(&engine, "bfd 2\nrun\nend\n", &complaint), BFDD_DONE);
@@ -132,7 +132,7 @@ static long opened_anew(void) {
 /* The next outputs of the engine are those of the session by itself, also where another comes and goes meanwhile. */
 static long same_outputs(bfdd_handle *engine, uint32_t d) {
     long outputs = 0;
-    bfdd_output out = {0}, its = {0};
+    bfdd_output out = BFDD_OUTPUT_INIT, its = BFDD_OUTPUT_INIT;
     bfdd_session other = fields_of(2);
     other.discr = draw(2) * 999;
     for (; bfdd_next(&at[d].alone, &its) == BFDD_DONE; outputs++) {
@@ -156,9 +156,9 @@ static void same_due(bfdd_handle *engine) {
 /* The engine and its sessions each in a handle of its own, with changes between the events. Packets for reflectors aren't handed in. */
 static long each_alone(void) {
     bfdd_handle engine = BFDD_HANDLE_INIT;
-    bfdd_complaint complaint = {0};
-    bfdd_output out = {0};
-    bfdd_answered answer = {0};
+    bfdd_complaint complaint = BFDD_COMPLAINT_INIT;
+    bfdd_output out = BFDD_OUTPUT_INIT;
+    bfdd_answered answer = BFDD_ANSWERED_INIT;
     long outputs = 0;
     CHECK(open_text(&engine, "bfd 2\nrun\nend\n", &complaint), BFDD_DONE);
     for (uint32_t d = 1; d <= MOST; d++) bfdd_close(&at[d].alone), at[d].session = at[d].reflector = false;

@@ -27,7 +27,7 @@ static long outputs_read;
 
 /* What is left to be read of both is the same: of one by these many places, of the other one by one. */
 static void same_outputs(bfdd_handle *many, bfdd_handle *single) {
-    bfdd_output out[MOST] = {0}, next = {0};
+    bfdd_output out[MOST] = {[0 ... MOST - 1] = BFDD_OUTPUT_INIT}, next = BFDD_OUTPUT_INIT;
     const size_t room = 1 + draw(BFDD_MANY);
     size_t count = 77;
     uint32_t code;
@@ -52,8 +52,8 @@ static void same_due(bfdd_handle *many, bfdd_handle *single) {
 
 /* The twin gets what was handled, and answers the same; only the last packet left outputs. */
 static void same_packets(bfdd_handle *many, bfdd_handle *single, const bfdd_arrival *in, const bfdd_answered *answers, size_t handled) {
-    bfdd_answered answer = {0}, last = {0};
-    bfdd_output out = {0};
+    bfdd_answered answer = BFDD_ANSWERED_INIT, last = BFDD_ANSWERED_INIT;
+    bfdd_output out = BFDD_OUTPUT_INIT;
     for (size_t at = 0; at < handled; at++) {
         if (at) CHECK(bfdd_next(single, &out), BFDD_END);
         CHECK(bfdd_receive(single, &in[at].packet, in[at].payload, in[at].length), BFDD_DONE);
@@ -66,9 +66,16 @@ static void same_packets(bfdd_handle *many, bfdd_handle *single, const bfdd_arri
     same_due(many, single);
 }
 
-static bool is_untouched(const bfdd_answered *answer) {
+/* A place that has bytes of its own behind its size. */
+static bfdd_answered untouched(void) {
     bfdd_answered none;
     memset(&none, 0x77, sizeof none);
+    none.size = sizeof none;
+    return none;
+}
+
+static bool is_untouched(const bfdd_answered *answer) {
+    const bfdd_answered none = untouched();
     return !memcmp(answer, &none, sizeof none);
 }
 
@@ -77,7 +84,7 @@ static long refusals, most_handled;
 /* All of a list, call after call. */
 static void hand_in(bfdd_handle *many, bfdd_handle *single, const bfdd_arrival *in, size_t count) {
     bfdd_answered answers[MOST];
-    memset(answers, 0x77, sizeof answers);
+    for (size_t at = 0; at < MOST; at++) answers[at] = untouched();
     for (size_t at = 0, handled = 77; at < count; at += handled) {
         const long stood = blocks;
         asked = 0, refused = draw(3) ? 0 : 1 + (long)draw(3);
@@ -90,7 +97,7 @@ static void hand_in(bfdd_handle *many, bfdd_handle *single, const bfdd_arrival *
         refusals += code == BFDD_MEMORY;
         if ((long)handled > most_handled) most_handled = (long)handled;
         if (code == BFDD_DONE && at + handled < count) {
-            bfdd_output out = {0}, others = {0};
+            bfdd_output out = BFDD_OUTPUT_INIT, others = BFDD_OUTPUT_INIT;
             CHECK(bfdd_next(many, &out), BFDD_DONE);
             CHECK(bfdd_next(single, &others), BFDD_DONE);
             CHECK(memcmp(&out, &others, sizeof out), 0);
@@ -107,11 +114,10 @@ static void codes(void) {
     bfdd_handle engine = BFDD_HANDLE_INIT;
     bfdd_arrival in[MOST];
     bfdd_answered answers[MOST];
-    bfdd_output out[MOST] = {0};
+    bfdd_output out[MOST] = {[0 ... MOST - 1] = BFDD_OUTPUT_INIT};
     uint8_t payload[64];
     size_t count = 77;
-    memset(answers, 0x77, sizeof answers);
-    for (int at = 0; at < MOST; at++) in[at] = next_arrival(1000, payload), in[at].packet.iface = 1;
+    for (int at = 0; at < MOST; at++) in[at] = next_arrival(1000, payload), in[at].packet.iface = 1, answers[at] = untouched();
     CHECK(bfdd_packets(&engine, in, 1, answers, 1, &count), BFDD_CLOSED);
     CHECK(count, 0);
     count = 77, out[0].kind = 99;
@@ -124,10 +130,36 @@ static void codes(void) {
     count = 77;
     CHECK(bfdd_packets(&engine, in, 2, answers, 1, &count), BFDD_RANGE);
     CHECK(count, 0);
+    /* each packet and each place with a packet's number has its size; behind too many, and before values outside their ranges */
+    for (int at = 0; at < 3; at++) {
+        in[2].packet.iface = 65536, in[at].packet.size++, count = 77;
+        CHECK(bfdd_packets(&engine, in, 3, answers, 2, &count), BFDD_RANGE);
+        CHECK(bfdd_packets(&engine, in, 3, answers, 3, &count), BFDD_SIZE);
+        CHECK(count, 0);
+        in[at].packet.size--, answers[at].size--, count = 77;
+        CHECK(bfdd_packets(&engine, in, 3, answers, MOST, &count), BFDD_SIZE);
+        CHECK(count, 0);
+        answers[at].size++, in[2].packet.iface = 1;
+    }
     CHECK(bfdd_packets(&engine, in, 0, answers, 0, &count), BFDD_DONE);
     for (int at = 0; at < MOST; at++) CHECK(is_untouched(&answers[at]), true);
     CHECK(count, 0);
     CHECK(bfdd_outputs(&engine, out, 1, &count), BFDD_END);
+    /* each place that would get an output has its size, the others may have any */
+    CHECK(bfdd_receive(&engine, &from_peer, down, sizeof down), BFDD_DONE);
+    for (int at = 0; at < 2; at++) {
+        out[at].size++, count = 77;
+        CHECK(bfdd_outputs(&engine, out, MOST, &count), BFDD_RANGE);
+        CHECK(bfdd_outputs(&engine, out, BFDD_MANY, &count), BFDD_SIZE);
+        CHECK(count, 0);
+        CHECK(out[0].kind, 99);
+        out[at].size--;
+    }
+    out[2].size++;
+    CHECK(bfdd_outputs(&engine, out, BFDD_MANY, &count), BFDD_DONE);
+    CHECK(count, 2);
+    CHECK(bfdd_outputs(&engine, out + 2, 1, &count), BFDD_END);
+    out[0].kind = 99, out[2].size--;
     CHECK(bfdd_tick(&engine, 5000), BFDD_DONE);
     count = 77;
     CHECK(bfdd_outputs(&engine, out, 0, &count), BFDD_RANGE);
@@ -144,7 +176,7 @@ static void codes(void) {
 
 int main(void) {
     bfdd_handle many = BFDD_HANDLE_INIT, single = BFDD_HANDLE_INIT;
-    bfdd_complaint complaint = {0};
+    bfdd_complaint complaint = BFDD_COMPLAINT_INIT;
     static bfdd_arrival in[BFDD_MANY];
     static uint8_t payloads[BFDD_MANY][64];
     const long before = blocks;

@@ -17,8 +17,8 @@
 
 int main(void) {
     bfdd_handle engine = BFDD_HANDLE_INIT;
-    bfdd_complaint complaint = {0};
-    bfdd_output out = {0};
+    bfdd_complaint complaint = BFDD_COMPLAINT_INIT;
+    bfdd_output out = BFDD_OUTPUT_INIT;
     const long before = blocks;
     long text = TRIED(open_text(&engine, all_kinds, &complaint));
     CHECK(text > 5, true);

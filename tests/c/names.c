@@ -3,7 +3,7 @@
 #include "check.h"
 
 static const char *const codes[] = {"Done", "Closed", "Memory", "Range", "End", "Text", "Events", "TakenDiscr",
-                                    "TakenAddresses", "Full", "NotFound"};
+                                    "TakenAddresses", "Full", "NotFound", "Size"};
 static const char *const faults[] = {NULL, "NotAscii", "TooLong", "UnknownWord", "FieldCount", "BadNumber", "OutOfRange", "BadHex",
                                      "BadAddress", "SameDiscr", "SameAddresses", "NoSuchSession", "Order", "MissingEnd", "TooMany",
                                      NULL, "SameKey"};
@@ -41,8 +41,8 @@ static void is_named(uint32_t named, uint32_t number, const char *wanted) {
 /* What the engine says is named so. */
 static void said(void) {
     bfdd_handle engine = BFDD_HANDLE_INIT;
-    bfdd_complaint complaint = {0};
-    bfdd_answered answer = {0};
+    bfdd_complaint complaint = BFDD_COMPLAINT_INIT;
+    bfdd_answered answer = BFDD_ANSWERED_INIT;
     CHECK(open_text(&engine, "bfd 1\nrun\nshow 1 1\nend\n", &complaint), BFDD_TEXT);
     CHECK(strcmp(bfdd_name(BFDD_NAME_FAULT, complaint.fault), "NoSuchSession"), 0);
     CHECK(bfdd_open_session(&engine, &pair), BFDD_DONE);

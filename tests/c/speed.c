@@ -9,7 +9,7 @@ static double cpu(void) {
 }
 
 static uint64_t drain(bfdd_handle *engine) {
-    bfdd_output out = {0};
+    bfdd_output out = BFDD_OUTPUT_INIT;
     uint64_t count = 0;
     while (bfdd_next(engine, &out) == BFDD_DONE) count++;
     return count;
@@ -23,7 +23,7 @@ int main(void) {
         length += (size_t)sprintf(text + length, "p2p %d single %d 10.0.0.1 10.0.0.2 active 1000000 1000000 3 0 %d\n", i, i, i);
     sprintf(text + length, "run\nend\n");
     bfdd_handle engine = BFDD_HANDLE_INIT;
-    bfdd_complaint complaint = {0};
+    bfdd_complaint complaint = BFDD_COMPLAINT_INIT;
     double start = cpu();
     CHECK(open_text(&engine, text, &complaint), BFDD_DONE);
     printf("opening %d sessions: %.0f ns\n", SESSIONS, cpu() - start);

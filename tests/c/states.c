@@ -5,8 +5,9 @@
 enum { SESSIONS = 9, EVENTS = 20000 };
 
 static bfdd_session_state look(bfdd_handle *engine, uint32_t discr) {
-    bfdd_session_state state = {0};
+    bfdd_session_state state = BFDD_SESSION_STATE_INIT;
     CHECK(bfdd_state(engine, discr, &state), BFDD_DONE);
+    CHECK(state.size, sizeof state);
     CHECK(state.discr, discr);
     return state;
 }
@@ -18,12 +19,12 @@ static uint64_t all_dropped(const bfdd_session_state *state) {
 }
 
 static void receive(bfdd_handle *engine, uint64_t moment, uint8_t ttl, const uint8_t *bytes, size_t length) {
-    bfdd_packet packet = {moment, BFDD_PORT_SINGLE, 9, {4, {10, 0, 0, 2}}, {4, {10, 0, 0, 1}}, 50123, ttl};
+    bfdd_packet packet = {sizeof packet, BFDD_PORT_SINGLE, moment, 9, 50123, ttl, {4, {10, 0, 0, 2}}, {4, {10, 0, 0, 1}}};
     CHECK(bfdd_receive(engine, &packet, bytes, length), BFDD_DONE);
 }
 
 static int outputs(bfdd_handle *engine) {
-    bfdd_output out = {0};
+    bfdd_output out = BFDD_OUTPUT_INIT;
     int count = 0;
     while (bfdd_next(engine, &out) == BFDD_DONE) count++;
     return count;
@@ -32,12 +33,12 @@ static int outputs(bfdd_handle *engine) {
 /* The peer: diagnostic 5, Init, D, Detect Mult 6, My Discriminator 11, Your Discriminator 21, Desired Min TX 600000, Required Min RX
  * 800000, Required Min Echo RX 100000. */
 static const uint8_t heard[24] = {0x25, 0x82, 6, 24, 0, 0, 0, 11, 0, 0, 0, 21, 0, 9, 0x27, 0xc0, 0, 12, 0x35, 0, 0, 1, 0x86, 0xa0};
-static const bfdd_session whole = {.kind = BFDD_SINGLE_HOP, .discr = 21, .iface = 9, .local = {4, {10, 0, 0, 1}}, .remote = {4, {10, 0, 0, 2}},
-                                   .active = 1, .tx = 400000, .rx = 300000, .mult = 4, .seed = 7};
+static const bfdd_session whole = {.size = sizeof(bfdd_session), .kind = BFDD_SINGLE_HOP, .discr = 21, .iface = 9,
+                                   .local = {4, {10, 0, 0, 1}}, .remote = {4, {10, 0, 0, 2}}, .active = 1, .tx = 400000, .rx = 300000, .mult = 4, .seed = 7};
 
 static void fields(void) {
     bfdd_handle engine = BFDD_HANDLE_INIT;
-    bfdd_session_state untouched = {.discr = 77, .dropped = {1, 2, 3}}, before = untouched;
+    bfdd_session_state untouched = {.size = sizeof untouched, .discr = 77, .dropped = {1, 2, 3}}, before = untouched;
     CHECK(bfdd_state(&engine, 21, &untouched), BFDD_CLOSED);
     CHECK(bfdd_open_session(&engine, &whole), BFDD_DONE);
     CHECK(bfdd_state(&engine, 22, &untouched), BFDD_NOT_FOUND);
@@ -48,7 +49,7 @@ static void fields(void) {
     CHECK(bfdd_tick(&engine, 1000), BFDD_DONE);
     receive(&engine, 1100000, 255, heard, sizeof heard);
     is = look(&engine, 21);
-    bfdd_answered answer = {0};
+    bfdd_answered answer = BFDD_ANSWERED_INIT;
     CHECK(bfdd_answer(&engine, &answer), BFDD_DONE);
     CHECK(answer.kind, BFDD_HANDLED);
     CHECK(outputs(&engine), 2); /* a look before has lost none */
@@ -137,8 +138,8 @@ static uint32_t draw(uint32_t below) {
 }
 
 static void count(bfdd_handle *engine, bool is_packet, struct counted *all) {
-    bfdd_answered answer = {0};
-    bfdd_output out = {0};
+    bfdd_answered answer = BFDD_ANSWERED_INIT;
+    bfdd_output out = BFDD_OUTPUT_INIT;
     CHECK(bfdd_answer(engine, &answer), BFDD_DONE);
     if (is_packet && answer.discr) {
         all[answer.discr].received++;
@@ -153,8 +154,8 @@ static void count(bfdd_handle *engine, bool is_packet, struct counted *all) {
 }
 
 static void packet(bfdd_handle *engine, uint64_t moment, uint32_t discr) {
-    bfdd_packet packet = {moment, draw(8) ? BFDD_PORT_SINGLE : BFDD_PORT_ECHO, 1, {4, {10, 0, 0, (uint8_t)(100 + discr)}}, {4, {10, 0, 0, 1}}, 50000,
-                          draw(9) ? 255 : 254};
+    bfdd_packet packet = {sizeof packet, draw(8) ? BFDD_PORT_SINGLE : BFDD_PORT_ECHO, moment, 1, 50000, draw(9) ? 255 : 254,
+                          {4, {10, 0, 0, (uint8_t)(100 + discr)}}, {4, {10, 0, 0, 1}}};
     uint8_t bytes[24] = {0x20, (uint8_t)(draw(4) << 6), 3, 24, 0, 0, 0, 7, 0, 0, 0, (uint8_t)discr, 0, 1, 0, 0, 0, 1};
     bytes[1] |= draw(12) ? 0 : 4;
     CHECK(bfdd_receive(engine, &packet, bytes, sizeof bytes), BFDD_DONE);
@@ -165,7 +166,7 @@ static void counts(void) {
     static struct counted all[SESSIONS + 1];
     uint64_t moment = 0;
     for (uint32_t discr = SESSIONS; discr >= 1; discr--) {
-        bfdd_session one = {.kind = BFDD_SINGLE_HOP, .discr = discr, .iface = 1, .local = {4, {10, 0, 0, 1}}, .active = 1,
+        bfdd_session one = {.size = sizeof one, .kind = BFDD_SINGLE_HOP, .discr = discr, .iface = 1, .local = {4, {10, 0, 0, 1}}, .active = 1,
                             .remote = {4, {10, 0, 0, (uint8_t)(100 + discr)}}, .tx = 50000, .rx = 50000, .mult = 3, .seed = discr};
         CHECK(discr == SESSIONS ? bfdd_open_session(&engine, &one) : bfdd_add(&engine, &one), BFDD_DONE);
     }

@@ -9,7 +9,7 @@ static bfdd_handle engine = BFDD_HANDLE_INIT;
 static uint64_t ms, sent;
 
 static bool next_tick(void) {
-    bfdd_output out = {0};
+    bfdd_output out = BFDD_OUTPUT_INIT;
     if (ms == TICKS) return false;
     CHECK(bfdd_tick(&engine, ++ms), BFDD_DONE);
     while (bfdd_next(&engine, &out) == BFDD_DONE) sent += out.kind == BFDD_SENT;

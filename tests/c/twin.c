@@ -32,7 +32,7 @@ static event next_event(uint64_t ms) {
 }
 
 static uint32_t happen(bfdd_handle *engine, const event *it) {
-    bfdd_complaint complaint = {0};
+    bfdd_complaint complaint = BFDD_COMPLAINT_INIT;
     if (it->kind < 7) return bfdd_receive(engine, &it->packet, it->bytes, it->length);
     if (it->kind < 9) return bfdd_tick(engine, it->ms);
     if (it->kind == 9) return bfdd_command(engine, it->ms * 1000, it->discr, it->verb, it->value);
@@ -42,7 +42,7 @@ static uint32_t happen(bfdd_handle *engine, const event *it) {
 
 /* The next output of both is the same: whether there is one. */
 static bool same_output(bfdd_handle *poor, bfdd_handle *rich) {
-    bfdd_output one = {0}, other = {0};
+    bfdd_output one = BFDD_OUTPUT_INIT, other = BFDD_OUTPUT_INIT;
     uint32_t code = bfdd_next(poor, &one);
     CHECK(code, bfdd_next(rich, &other));
     CHECK(memcmp(&one, &other, sizeof one), 0);
@@ -50,7 +50,7 @@ static bool same_output(bfdd_handle *poor, bfdd_handle *rich) {
 }
 
 static void same_answer(bfdd_handle *poor, bfdd_handle *rich) {
-    bfdd_answered one = {0}, other = {0};
+    bfdd_answered one = BFDD_ANSWERED_INIT, other = BFDD_ANSWERED_INIT;
     uint64_t due = 0, others = 0;
     CHECK(bfdd_answer(poor, &one), bfdd_answer(rich, &other));
     CHECK(memcmp(&one, &other, sizeof one), 0);
@@ -60,7 +60,7 @@ static void same_answer(bfdd_handle *poor, bfdd_handle *rich) {
 
 int main(void) {
     bfdd_handle poor = BFDD_HANDLE_INIT, rich = BFDD_HANDLE_INIT;
-    bfdd_complaint complaint = {0};
+    bfdd_complaint complaint = BFDD_COMPLAINT_INIT;
     long ended = 0, outputs = 0;
     const long before = blocks;
     CHECK(open_text(&poor, all_kinds, &complaint), BFDD_DONE);

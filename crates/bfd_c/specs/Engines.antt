@@ -44,10 +44,14 @@ abbrev pub asked : Option Line → Instance → Instance × ℕ
 asked None e = (e, 3)
 asked (Some line) e = (instance_after line e, 0)
 
--- the same of a handle: what it holds afterwards, and the code
+-- what a handle holds after a call of the engine behind it, and the code
+abbrev pub held_by : (Instance → Instance × ℕ) → Option Instance → Option Instance × ℕ
+held_by call None = (None, 1)
+held_by call (Some e) = (Some (call e).0, (call e).1)
+
+-- the same of an event that was asked for
 abbrev pub called : Option Line → Option Instance → Option Instance × ℕ
-called line None = (None, 1)
-called line (Some e) = (Some (asked line e).0, (asked line e).1)
+called line held = held_by (asked line) held
 
 -- what a handle that held this holds once it was opened with a script, a table alone, and the code
 abbrev pub opened_with : Lists → List Line → Option Instance → Option Instance × ℕ

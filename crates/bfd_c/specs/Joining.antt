@@ -9,7 +9,10 @@ use Rattle.bfd_session.specs.declared.event.SessionConfig.{SessionConfig}
 use Rattle.bfd_instance.specs.World.{World, session_fault, knows_reflector, knows_session, reflector_fault, world_with_reflector, world_with, world_without_reflector, world_without}
 use Rattle.bfd_c.specs.declared.records.kept.Record.{Record}
 use Rattle.bfd_c.specs.Records.{records_with, records_without}
+use Rattle.bfd_c.specs.declared.fields.Fields.{Fields}
 use Rattle.bfd_c.specs.Engines.{Instance}
+use Rattle.bfd_c.specs.Fields.{config_of}
+use Rattle.bfd_c.specs.Sizes.{session_size, sized}
 
 -- the code of what keeps a session or a reflector out
 abbrev pub add_code : AddFault → ℕ
@@ -29,6 +32,10 @@ abbrev pub session_added : Option SessionConfig → Instance → Instance × ℕ
 session_added None e = (e, 3)
 session_added (Some config) e = unless (session_fault config e.world) (world_with config e.world) (records_with config e.world e.records) e
 
+-- with the session of these fields
+abbrev pub fields_added : Fields → Instance → Instance × ℕ
+fields_added f e = sized (f.size == session_size) (λ code. (e, code)) (session_added (config_of f) e)
+
 -- without the session of this discriminator
 abbrev pub session_removed : ℕ → Instance → Instance × ℕ
 session_removed discr e = if knows_session discr e.world then (record e { world = world_without discr e.world; records = records_without discr e.world e.records }, 0) else (e, 10)
@@ -45,8 +52,3 @@ reflector_added (Some reflector) e = unless (reflector_fault reflector e.world) 
 
 abbrev pub reflector_removed : ℕ → Instance → Instance × ℕ
 reflector_removed discr e = if knows_reflector discr e.world then (record e { world = world_without_reflector discr e.world }, 0) else (e, 10)
-
--- what a handle holds after such a call, and the code
-abbrev pub held_by : (Instance → Instance × ℕ) → Option Instance → Option Instance × ℕ
-held_by call None = (None, 1)
-held_by call (Some e) = (Some (call e).0, (call e).1)

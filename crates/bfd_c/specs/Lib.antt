@@ -1,6 +1,7 @@
 pub mod Records
 pub mod Looks
 pub mod Owning
+pub mod Sizes
 pub mod Engines
 pub mod Wire
 pub mod Lines

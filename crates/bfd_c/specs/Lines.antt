@@ -7,6 +7,8 @@ use Rattle.bfd_rules.specs.declared.commands.Cmd.TheVariants as cmd
 use Rattle.bfd_script.specs.declared.line.entries.Line.{Line}
 use Rattle.bfd_script.specs.declared.line.entries.Line.TheVariants as events
 use Rattle.bfd_c.specs.declared.wire.Packet.{Packet}
+use Rattle.bfd_c.specs.Engines.{Instance, asked}
+use Rattle.bfd_c.specs.Sizes.{packet_size, sized}
 use Rattle.bfd_c.specs.Wire.{arrival_from_c}
 
 -- a tick, in milliseconds
@@ -48,3 +50,7 @@ rx_by moment (Some arrival) = Some (events.Rx moment arrival)
 
 abbrev pub packet_line : Packet → List ℕ → Option Line
 packet_line packet payload = if nat_lt packet.moment moment_bound then rx_by packet.moment (arrival_from_c packet payload) else None
+
+-- an engine to which it was handed in, and the code
+abbrev pub packet_asked : Packet → List ℕ → Instance → Instance × ℕ
+packet_asked packet payload e = sized (packet.size == packet_size) (λ code. (e, code)) (asked (packet_line packet payload) e)

@@ -1,5 +1,6 @@
 -- Packets handed in many at once, and outputs read many at once: each as by a call of its own, in their order.
-use Rattle.std.specs.Prelude.{ℕ, zero, suc, ◌+◌, ◌==◌, ◌||◌, List, [], ◌∷◌, length, drop, min, nat_lt, Option, None, Some, if◌then◌else◌}
+use Rattle.std.specs.Prelude.{ℕ, zero, suc, ◌+◌, ◌==◌, ◌&&◌, ◌||◌, Bool, List, [], ◌∷◌, length, drop, min, nat_lt, take, Option, None, Some, if◌then◌else◌}
+use Rattle.std.specs.List.{list_all}
 use Rattle.bfd_rules.specs.declared.outputs.Out.{Out}
 use Rattle.bfd_script.specs.declared.line.entries.Line.{Line}
 use Rattle.bfd_c.specs.declared.many.Arrived.{Arrived}
@@ -7,6 +8,7 @@ use Rattle.bfd_c.specs.declared.telling.Answered.{Answered}
 use Rattle.bfd_c.specs.declared.telling.Output.{Output}
 use Rattle.bfd_c.specs.Engines.{Instance, asked, instance_after}
 use Rattle.bfd_c.specs.Lines.{packet_line}
+use Rattle.bfd_c.specs.Sizes.{answered_size, output_size, packet_size, sized}
 use Rattle.bfd_c.specs.Telling.{answer_for_c, output_of}
 
 -- the event that one of many packets asks for
@@ -52,8 +54,15 @@ handed zero (a ∷ arrivals) (place ∷ places) e = none_handed (unhandled_code 
 handed (suc memory) (a ∷ arrivals) (place ∷ places) e =
     handed_by (line_of_arrived a) place places e (handed memory arrivals places (asked (line_of_arrived a) e).0)
 
--- the same of a handle: what it holds, the places, how many were handled, and the code; none is above 64 packets, or where a place is
--- missing
+-- whether each packet, and each place for an answer, has a struct of the size that is known
+abbrev pub are_packets_sized : List Arrived → Bool
+are_packets_sized arrivals = list_all (λ a. a.packet.size == packet_size) arrivals
+
+abbrev pub are_answers_sized : List Answered → Bool
+are_answers_sized places = list_all (λ place. place.size == answered_size) places
+
+-- the same of a handle: what it holds, the places, how many were handled, and the code; none is above 64 packets, where a place is
+-- missing, or where a packet or its place has another size
 abbrev pub handed_fields : Handed → Option Instance × (List Answered × (ℕ × ℕ))
 handed_fields h = (Some h.engine, (h.answers, (h.packets, h.code)))
 
@@ -61,7 +70,8 @@ abbrev pub handed_to : ℕ → List Arrived → List Answered → Option Instanc
 handed_to memory arrivals places None = (None, (places, (0, 1)))
 handed_to memory arrivals places (Some e) =
     if nat_lt 64 (length arrivals) || nat_lt (length places) (length arrivals) then (Some e, (places, (0, 3)))
-    else handed_fields (handed memory arrivals places e)
+    else sized (are_packets_sized arrivals && are_answers_sized (take (length arrivals) places)) (λ code. (Some e, (places, (0, code))))
+    (handed_fields (handed memory arrivals places e))
 
 -- outputs in these places, from the first on; what stands in the others stays
 abbrev pub outputs_in : List Out → List Output → List Output
@@ -69,10 +79,14 @@ outputs_in [] places = places
 outputs_in (out ∷ outs) [] = []
 outputs_in (out ∷ outs) (place ∷ places) = output_of out ∷ outputs_in outs places
 
+-- the same of places for outputs
+abbrev pub are_outputs_sized : List Output → Bool
+are_outputs_sized places = list_all (λ place. place.size == output_size) places
+
 -- an engine of which as many outputs were read as there are places, or all; the places, how many were read, and the code
 abbrev pub many_by : List Out → List Output → Instance → Instance × (List Output × (ℕ × ℕ))
 many_by [] places e = (e, (places, (0, 4)))
-many_by (out ∷ outs) places e = (
+many_by (out ∷ outs) places e = sized (are_outputs_sized (take (length (out ∷ outs)) places)) (λ code. (e, (places, (0, code)))) (
   record e { left = drop (length places) (out ∷ outs) },
   (outputs_in (out ∷ outs) places, (min (length places) (length (out ∷ outs)), 0)),
 )

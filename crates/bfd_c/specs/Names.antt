@@ -12,7 +12,7 @@ use Rattle.bfd_script.specs.Complaints.{fault_name}
 -- Each list has the names of one kind in the order of their numbers, from 0 on. Where a number is of nothing, the empty name stands.
 abbrev pub code_names : List (List ℕ)
 code_names = codes "Done" ∷ codes "Closed" ∷ codes "Memory" ∷ codes "Range" ∷ codes "End" ∷ codes "Text" ∷ codes "Events"
-    ∷ codes "TakenDiscr" ∷ codes "TakenAddresses" ∷ codes "Full" ∷ codes "NotFound" ∷ []
+    ∷ codes "TakenDiscr" ∷ codes "TakenAddresses" ∷ codes "Full" ∷ codes "NotFound" ∷ codes "Size" ∷ []
 
 abbrev pub fault_names : List (List ℕ)
 fault_names =

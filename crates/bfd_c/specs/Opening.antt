@@ -1,12 +1,15 @@
 -- What opening a handle hands out.
-use Rattle.std.specs.Prelude.{ℕ, ◌≡◌, ◌≢◌, ◌==◌, List, [], ◌∷◌, Result, Ok, Err, if◌then◌else◌}
+use Rattle.std.specs.Prelude.{ℕ, ◌≡◌, ◌≢◌, ◌==◌, List, [], ◌∷◌, Option, Result, Ok, Err, if◌then◌else◌}
 use Rattle.bfd_session.specs.declared.event.SessionConfig.{SessionConfig}
 use Rattle.bfd_script.specs.declared.fields.fault.BadLine.{BadLine}
 use Rattle.bfd_script.specs.Reading.{Lists}
 use Rattle.bfd_c.specs.declared.opening.Complaint.{Complaint}
 use Rattle.bfd_c.specs.declared.opening.Unopened.{Unopened}
 use Rattle.bfd_c.specs.declared.opening.Unopened.TheVariants.{Memory, Bad, Events}
-use Rattle.bfd_c.specs.Engines.{Instance, new_instance}
+use Rattle.bfd_c.specs.declared.fields.Fields.{Fields}
+use Rattle.bfd_c.specs.Engines.{Instance, new_instance, opened_by, opened_for}
+use Rattle.bfd_c.specs.Fields.{config_of}
+use Rattle.bfd_c.specs.Sizes.{complaint_size, session_size, sized}
 use Rattle.bfd_c.specs.Telling.{complaint_of}
 
 -- a table of one session
@@ -33,3 +36,11 @@ IsWhy (Err bad) (Bad b) = b ≡ bad
 IsWhy (Ok s) (Bad b) = ⊥
 IsWhy (Err bad) Events = ⊥
 IsWhy (Ok s) Events = s.events ≢ []
+
+-- what a handle holds after it was opened with a text, which may be complained of in this struct, and the code
+abbrev pub opened_telling : Complaint → Result Lists BadLine → Option Instance → Option Instance × ℕ
+opened_telling before text held = sized (before.size == complaint_size) (λ code. (held, code)) (opened_by text held)
+
+-- after it was opened with the session of these fields
+abbrev pub opened_with_fields : Fields → Option Instance → Option Instance × ℕ
+opened_with_fields f held = sized (f.size == session_size) (λ code. (held, code)) (opened_for (config_of f) held)

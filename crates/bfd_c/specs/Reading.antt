@@ -1,9 +1,10 @@
 -- What the calls that read hand out, and what they leave.
-use Rattle.std.specs.Prelude.{ℕ, Option, None, Some, List, [], ◌∷◌}
+use Rattle.std.specs.Prelude.{ℕ, ◌==◌, Option, None, Some, List, [], ◌∷◌}
 use Rattle.bfd_rules.specs.declared.outputs.Out.{Out}
 use Rattle.bfd_c.specs.declared.telling.Output.{Output}
 use Rattle.bfd_c.specs.declared.telling.Answered.{Answered}
 use Rattle.bfd_c.specs.Engines.{Instance, soonest}
+use Rattle.bfd_c.specs.Sizes.{answered_size, output_size, sized}
 use Rattle.bfd_c.specs.Telling.{output_of, answer_for_c}
 
 -- what an engine is once the first output that is left was read, and the code
@@ -11,24 +12,26 @@ abbrev pub next_by : List Out → Instance → Instance × ℕ
 next_by [] e = (e, 4)
 next_by (out ∷ outs) e = (record e { left = outs }, 0)
 
--- the same of a handle
-abbrev pub next_read : Option Instance → Option Instance × ℕ
-next_read None = (None, 1)
-next_read (Some e) = (Some (next_by e.left e).0, (next_by e.left e).1)
-
 -- what stands in the struct of an output afterwards, where this stood before
 abbrev pub output_read : List Out → Output → Output
 output_read [] before = before
 output_read (out ∷ outs) before = output_of out
 
+-- the same of an engine that is asked for the next output in a struct: what it is then, with the code, and what stands in the struct
+abbrev pub next_asked : Output → Instance → Instance × ℕ
+next_asked before e = sized (before.size == output_size) (λ code. (e, code)) (next_by e.left e)
+
+abbrev pub output_asked : Output → Instance → Output
+output_asked before e = sized (before.size == output_size) (λ code. before) (output_read e.left before)
+
 abbrev pub output_read_of : Option Instance → Output → Output
 output_read_of None before = before
-output_read_of (Some e) before = output_read e.left before
+output_read_of (Some e) before = output_asked before e
 
 -- what stands in the struct of an answer afterwards, and the code
 abbrev pub answer_read : Option Instance → Answered → Answered × ℕ
 answer_read None before = (before, 1)
-answer_read (Some e) before = (answer_for_c e.discr e.answer, 0)
+answer_read (Some e) before = sized (before.size == answered_size) (λ code. (before, code)) (answer_for_c e.discr e.answer, 0)
 
 -- the due tick, and the code
 abbrev pub due_read_by : Option ℕ → ℕ → ℕ × ℕ

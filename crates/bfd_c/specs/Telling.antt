@@ -19,14 +19,15 @@ use Rattle.bfd_c.specs.declared.telling.Answered.{Answered}
 use Rattle.bfd_c.specs.declared.wire.Address.{Address}
 use Rattle.bfd_c.specs.Wire.{address_for_c}
 use Rattle.bfd_c.specs.Records.{test_number}
+use Rattle.bfd_c.specs.Sizes.{answered_size, complaint_size, output_size}
 
 -- bytes with zeros behind them
 abbrev pub zero_filled : ℕ → List ℕ → List ℕ
 zero_filled size bytes = bytes ++ replicate (size - length bytes) 0
 
--- a name in an array of 16
+-- a name in an array of 20
 abbrev pub name_bytes : List ℕ → List ℕ
-name_bytes name = zero_filled 16 name
+name_bytes name = zero_filled 20 name
 
 -- where nothing is sent
 abbrev pub nowhere : Address
@@ -35,6 +36,7 @@ nowhere = record { family = 0; bytes = replicate 16 0 }
 -- a change of state has the kind 1, a packet to send the kind 2
 abbrev pub output_of : Out → Output
 output_of (Changed discr old new diag) = record {
+  size = output_size;
   kind = 1;
   discr = discr;
   was = state_number old;
@@ -50,6 +52,7 @@ output_of (Changed discr old new diag) = record {
   bytes = replicate 52 0;
 }
 output_of (Sent discr d) = record {
+  size = output_size;
   kind = 2;
   discr = discr;
   was = 0;
@@ -76,6 +79,7 @@ refusal_number UnknownSession = 5
 -- an answer without a view: 0 handled, 1 ticked, 2 dropped by a test, 3 refused; and the session to which the event came
 abbrev pub plain_answer : ℕ → ℕ → List ℕ → ℕ → Answered
 plain_answer kind code name discr = record {
+  size = answered_size;
   kind = kind;
   code = code;
   name = name;
@@ -94,9 +98,10 @@ plain_answer kind code name discr = record {
 -- what a session shows has the kind 4
 abbrev pub view_of : Shown → Answered
 view_of s = record {
+  size = answered_size;
   kind = 4;
   code = 0;
-  name = replicate 16 0;
+  name = replicate 20 0;
   discr = s.discr;
   state = state_number s.state;
   diag = s.diag;
@@ -111,8 +116,8 @@ view_of s = record {
 
 -- what an event was answered that came to the session of a discriminator, or to none
 abbrev pub answer_for_c : ℕ → Answer → Answered
-answer_for_c discr Handled = plain_answer 0 0 (replicate 16 0) discr
-answer_for_c discr Ticked = plain_answer 1 0 (replicate 16 0) discr
+answer_for_c discr Handled = plain_answer 0 0 (replicate 20 0) discr
+answer_for_c discr Ticked = plain_answer 1 0 (replicate 20 0) discr
 answer_for_c discr (Dropped test) = plain_answer 2 (test_number test) (name_bytes (name_of test)) discr
 answer_for_c discr (Refused refusal) = plain_answer 3 (refusal_number refusal) (name_bytes (refusal_name refusal)) discr
 answer_for_c discr (Showing s) = view_of s
@@ -137,4 +142,4 @@ fault_number faults.SameKey = 16
 
 -- a complaint about a text
 abbrev pub complaint_of : BadLine → Complaint
-complaint_of bad = record { line = bad.line; fault = fault_number bad.fault }
+complaint_of bad = record { size = complaint_size; fault = fault_number bad.fault; line = bad.line }

@@ -2,4 +2,4 @@
 use Rattle.std.specs.Prelude.{ℕ, ◌+◌, ◌*◌}
 
 abbrev pub version : ℕ
-version = 1 * 65536 + 2
+version = 2 * 65536 + 0

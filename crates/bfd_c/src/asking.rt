@@ -1,10 +1,12 @@
 //! The calls that are events: a packet, a tick, a command and a question.
 ghost use Rattle.std.specs.Prelude.{◌≡◌, ◌≢◌, None, Some, Ok, Err, IfOk, OnErr};
-ghost use Rattle.bfd_c.specs.Engines.{asked, called};
-ghost use Rattle.bfd_c.specs.Lines.{cmd_of, command_line, packet_line, show_line, tick_line};
+ghost use Rattle.bfd_c.specs.Engines.{asked, called, held_by};
+ghost use Rattle.bfd_c.specs.Lines.{cmd_of, command_line, packet_asked, packet_line, show_line, tick_line};
+ghost use Rattle.bfd_c.specs.Sizes.{packet_size};
 
-use crate::engine::{CLOSED, DONE, Engine, MEMORY, RANGE};
+use crate::engine::{CLOSED, DONE, Engine, MEMORY, RANGE, SIZE};
 use crate::handle::Handle;
+use crate::sizes;
 use crate::wire::{Packet, arrival};
 use bfd_num::{Moment, Tick};
 use bfd_rules::Cmd;
@@ -84,7 +86,7 @@ fn pass(engine: &mut Engine, ms: u64) -> u32
     }
 }
 
-/// A packet for an open engine.
+/// A packet for an open engine, in a struct of the size that is known.
 pub(crate) fn hear(alloc: Global, engine: &mut Engine, values: &Packet, payload: &[u8]) -> u32
     ensures done { result ≢ 2 → (engine.new, result) ≡ asked (packet_line values.now payload.now) engine.old }
     ensures memory { result ≡ 2 → engine.new ≡ engine.old }
@@ -105,9 +107,9 @@ pub(crate) fn hear(alloc: Global, engine: &mut Engine, values: &Packet, payload:
 
 /// A packet came in. The first 256 bytes of its payload are kept.
 ///
-/// 1 comes exactly where the handle is closed; 3 exactly where it's open and the moment is 2^60 or above, the port isn't 1 to 5, the
-/// interface is above 65,535, or a family isn't 4 or 6; 2 only when out of memory for the payload, where neither 1 nor 3 comes. Then
-/// nothing has changed.
+/// 1 comes exactly where the handle is closed; 11 exactly where it's open and the struct's size isn't known; 3 exactly where neither comes
+/// and the moment is 2^60 or above, the port isn't 1 to 5, the interface is above 65,535, or a family isn't 4 or 6; 2 only when out of
+/// memory for the payload, where no other comes. Then nothing has changed.
 #[unsafe(no_mangle)]
 pub extern "C" fn bfdd_receive(
     alloc: Global,
@@ -116,14 +118,18 @@ pub extern "C" fn bfdd_receive(
     payload: &[u8],
 ) -> u32
     ensures done { result ≢ 2 → (handle.new.kept.held, result)
-        ≡ called (packet_line packet.now payload.now) handle.old.kept.held }
+        ≡ held_by (packet_asked packet.now payload.now) handle.old.kept.held }
     ensures kept { result ≡ 2 → handle.new.kept.held ≡ handle.old.kept.held }
-    ensures memory { result ≡ 2 → (packet_line packet.now payload.now ≢ None) × (handle.old.kept.held ≢ None) }
+    ensures memory { result ≡ 2 → (handle.old.kept.held ≢ None) × (packet.now.size ≡ packet_size)
+        × (packet_line packet.now payload.now ≢ None) }
 {
     match handle.take(alloc) {
         Some(engine) => {
             let mut engine = engine;
-            let code = hear(alloc, &mut engine, packet, payload);
+            let mut code = SIZE;
+            if packet.size == sizes::PACKET {
+                code = hear(alloc, &mut engine, packet, payload);
+            }
             handle.put(engine);
             code
         }

@@ -1,5 +1,5 @@
 //! What an open handle holds.
-ghost use Rattle.std.specs.Prelude.{◌≡◌, ◌≢◌, IfOk, Some, drop};
+ghost use Rattle.std.specs.Prelude.{◌≡◌, ◌≢◌, IfOk, Some, drop, length};
 ghost use Rattle.std.specs.Option.{option_copied};
 ghost use Rattle.bfd_session.specs.Step.{IsFit};
 ghost use Rattle.bfd_instance.specs.Stage.{IsTable};
@@ -41,6 +41,8 @@ const TAKEN_ADDRESSES: u32 = 8;
 const FULL: u32 = 9;
 
 pub(crate) const NOT_FOUND: u32 = 10;
+
+pub(crate) const SIZE: u32 = 11;
 
 /// Sessions and reflectors with what is kept of each session, the outputs of the last event, of which so many were read, its answer, and
 /// the session to which it came.
@@ -214,6 +216,13 @@ impl Engine {
         ensures { option_copied result ≡ first_of self.now.left }
     {
         self.world.items().get(self.read)
+    }
+
+    /// How many outputs are left to be read.
+    pub(crate) fn left(&self) -> usize
+        ensures { result ≡ length self.now.left }
+    {
+        self.world.items().len().saturating_sub(self.read)
     }
 
     /// The first output that is left was read.

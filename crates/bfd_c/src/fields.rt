@@ -21,6 +21,7 @@ use bfd_session::SessionConfig;
 #[repr(C)]
 #[derive(Clone, Copy, Drop)]
 pub struct Fields {
+    pub size: u32,
     /// 1 point-to-point over a single hop, 2 over several, 3 an initiator, 4 a head, 5 a tail.
     pub kind: u32,
     /// The local discriminator, from 1.

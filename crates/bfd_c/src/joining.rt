@@ -1,25 +1,26 @@
 //! The calls by which sessions and reflectors come and go.
-ghost use Rattle.std.specs.Prelude.{◌≡◌, ◌≢◌, IfSome};
-ghost use Rattle.bfd_session.specs.Step.{IsFit};
-ghost use Rattle.bfd_c.specs.Fields.{config_of};
+ghost use Rattle.std.specs.Prelude.{◌≡◌, ◌≢◌};
+ghost use Rattle.bfd_c.specs.Engines.{held_by};
 ghost use Rattle.bfd_c.specs.Joining as joining;
-ghost use Rattle.bfd_c.specs.Joining.{session_added, session_removed, reflector_added, reflector_removed, held_by};
+ghost use Rattle.bfd_c.specs.Joining.{fields_added, session_removed, reflector_added, reflector_removed};
 
-use crate::engine::{CLOSED, Engine, RANGE};
+use crate::engine::{CLOSED, Engine, RANGE, SIZE};
 use crate::fields::{Fields, config, interval};
 use crate::handle::Handle;
+use crate::sizes;
 use bfd_sbfd::Reflector;
-use bfd_session::SessionConfig;
 use std::alloc::Global;
 
 /// One session more for an open engine.
-fn join(alloc: Global, engine: &mut Engine, config: Option<SessionConfig>) -> u32
-    requires { IfSome config IsFit }
-    ensures done { result ≢ 2 → (engine.new, result) ≡ session_added config engine.old }
+fn join(alloc: Global, engine: &mut Engine, fields: &Fields) -> u32
+    ensures done { result ≢ 2 → (engine.new, result) ≡ fields_added fields.now engine.old }
     ensures kept { result ≡ 2 → engine.new ≡ engine.old }
-    ensures memory { result ≡ 2 → (session_added config engine.old).1 ≡ 0 }
+    ensures memory { result ≡ 2 → (fields_added fields.now engine.old).1 ≡ 0 }
 {
-    match config {
+    if fields.size != sizes::SESSION {
+        return SIZE;
+    }
+    match config(fields) {
         Some(config) => engine.add(alloc, config),
         None => RANGE,
     }
@@ -27,21 +28,21 @@ fn join(alloc: Global, engine: &mut Engine, config: Option<SessionConfig>) -> u3
 
 /// One session more, which starts at the last tick. Nothing else changes: outputs that weren't read and the answer stay.
 ///
-/// 1 comes exactly where the handle is closed; 3 exactly where it's open and a value that the kind uses is outside its range; 9, 7
-/// and 8 exactly where neither comes and, in this order, there are 65,536 sessions and reflectors, one of them has the discriminator,
-/// a session of the kind has the same selecting addresses; and 2 only when out of memory, and where no other comes. Then nothing has
-/// changed.
+/// 1 comes exactly where the handle is closed; 11 exactly where it's open and the struct's size isn't known; 3 exactly where neither comes
+/// and a value that the kind uses is outside its range; 9, 7 and 8 exactly where none of these comes and, in this order, there are 65,536
+/// sessions and reflectors, one of them has the discriminator, a session of the kind has the same selecting addresses; and 2 only when out
+/// of memory, and where no other comes. Then nothing has changed.
 #[unsafe(no_mangle)]
 pub extern "C" fn bfdd_add(alloc: Global, handle: &mut Handle, fields: &Fields) -> u32
     ensures done { result ≢ 2 → (handle.new.kept.held, result)
-        ≡ held_by (session_added (config_of fields.now)) handle.old.kept.held }
+        ≡ held_by (fields_added fields.now) handle.old.kept.held }
     ensures kept { result ≡ 2 → handle.new.kept.held ≡ handle.old.kept.held }
-    ensures memory { result ≡ 2 → (held_by (session_added (config_of fields.now)) handle.old.kept.held).1 ≡ 0 }
+    ensures memory { result ≡ 2 → (held_by (fields_added fields.now) handle.old.kept.held).1 ≡ 0 }
 {
     match handle.take(alloc) {
         Some(engine) => {
             let mut engine = engine;
-            let code = join(alloc, &mut engine, config(fields));
+            let code = join(alloc, &mut engine, fields);
             handle.put(engine);
             code
         }

@@ -30,6 +30,7 @@ mod owned;
 mod packing;
 mod reading;
 mod records;
+mod sizes;
 mod telling;
 mod version;
 mod wire;

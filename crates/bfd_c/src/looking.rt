@@ -1,20 +1,21 @@
 //! The call that looks at a session.
 ghost use Rattle.std.specs.Prelude.{◌≡◌};
-ghost use Rattle.bfd_c.specs.Looks.{look_of};
 ghost use Rattle.bfd_c.specs.Looking as looking;
-ghost use Rattle.bfd_c.specs.Looking.{state_by, state_read};
+ghost use Rattle.bfd_c.specs.Looking.{state_in, state_read};
 
-use crate::engine::{CLOSED, DONE, Engine, NOT_FOUND};
+use crate::engine::{CLOSED, DONE, Engine, NOT_FOUND, SIZE};
 use crate::handle::Handle;
 use crate::naming::state_number;
 use crate::records::Look;
+use crate::sizes;
 use std::alloc::Global;
 
 /// A look at a session. Intervals and moments are in microseconds; what there is none of is 0.
 #[repr(C)]
 #[derive(Drop)]
 pub struct SessionState {
-    /// What a session shows, as an answer has it.
+    pub size: u32,
+    /// What a session shows, as an answer has it, and `detect`.
     pub discr: u32,
     pub state: u8,
     pub diag: u8,
@@ -24,7 +25,6 @@ pub struct SessionState {
     pub adv_tx: u32,
     pub used_tx: u32,
     pub used_rx: u32,
-    pub detect: u64,
     /// The peer's Desired Min TX, Required Min RX and Required Min Echo RX Interval and Detect Mult.
     pub peer_tx: u32,
     pub peer_rx: u32,
@@ -33,6 +33,7 @@ pub struct SessionState {
     /// Its diagnostic, and 1 where its demand mode is on.
     pub peer_diag: u8,
     pub peer_demand: u8,
+    pub detect: u64,
     /// When the Detection Time ends; the moments of the last control packet that was taken, and of the last change of state.
     pub detect_end: u64,
     pub heard: u64,
@@ -79,6 +80,7 @@ fn told_look(look: &Look) -> SessionState
     ensures { result ≡ looking.state_for_c look.now }
 {
     SessionState {
+        size: sizes::SESSION_STATE,
         discr: look.shown.discr,
         state: state_number(look.shown.state),
         diag: look.shown.diag,
@@ -88,13 +90,13 @@ fn told_look(look: &Look) -> SessionState
         adv_tx: look.shown.adv_tx,
         used_tx: look.shown.used_tx,
         used_rx: look.shown.used_rx,
-        detect: look.shown.detect,
         peer_tx: look.vars.remote_tx,
         peer_rx: look.vars.remote_min_rx,
         peer_echo: look.vars.remote_min_echo,
         peer_mult: look.vars.remote_mult,
         peer_diag: look.kept.peer_diag,
         peer_demand: flag(look.vars.remote_demand),
+        detect: look.shown.detect,
         detect_end: moment(look.ends),
         heard: moment(look.kept.heard),
         changed: moment(look.kept.changed),
@@ -108,8 +110,11 @@ fn told_look(look: &Look) -> SessionState
 
 /// A look at a session of an engine.
 fn read_state(engine: &Engine, discr: u32, state: &mut SessionState) -> u32
-    ensures { (state.new, result) ≡ state_by (look_of discr engine.now.world engine.now.records) state.old }
+    ensures { (state.new, result) ≡ state_in discr engine.now state.old }
 {
+    if state.size != sizes::SESSION_STATE {
+        return SIZE;
+    }
     match engine.look(discr) {
         Some(look) => {
             *state = told_look(&look);
@@ -122,8 +127,8 @@ fn read_state(engine: &Engine, discr: u32, state: &mut SessionState) -> u32
 /// A look at the session of this discriminator, as it stands after the last event: nothing is settled, and the outputs that weren't read
 /// and the answer stay.
 ///
-/// 1 comes exactly where the handle is closed, 10 exactly where it's open and no session has the discriminator. Then nothing has
-/// changed, `state` neither.
+/// 1 comes exactly where the handle is closed, 11 exactly where it's open and the struct's size isn't known, and 10 exactly where neither
+/// comes and no session has the discriminator. Then nothing has changed, `state` neither.
 #[unsafe(no_mangle)]
 pub extern "C" fn bfdd_state(
     alloc: Global,

@@ -1,13 +1,15 @@
 //! Calls that do many things at once: packets in, and outputs out.
-ghost use Rattle.std.specs.Prelude.{◌≡◌, ◌≢◌, ◌≤◌, None, length, drop, min};
+ghost use Rattle.std.specs.Prelude.{◌≡◌, ◌≢◌, ◌≤◌, None, length, drop, min, take};
 ghost use Rattle.bfd_c.specs.Engines.{asked, instance_after};
 ghost use Rattle.bfd_c.specs.Telling.{answer_for_c};
+ghost use Rattle.bfd_c.specs.Many as many;
 ghost use Rattle.bfd_c.specs.Many.{Handed, handed, handed_to, line_of_arrived, many_by, many_read, outputs_in};
 
 use crate::asking::hear;
-use crate::engine::{CLOSED, DONE, END, Engine, RANGE};
+use crate::engine::{CLOSED, DONE, END, Engine, RANGE, SIZE};
 use crate::handle::Handle;
 use crate::reading::read_next;
+use crate::sizes;
 use crate::telling::{Answered, Output, told_answer};
 use crate::wire::Packet;
 use std::alloc::Global;
@@ -82,13 +84,30 @@ fn read_into(engine: &mut Engine, places: &mut [Output]) -> usize
     read_into(engine, others) + 1
 }
 
+/// Whether each packet has a struct of the size that is known.
+fn are_packets_sized(arrivals: &[Arrived<'_>]) -> bool
+    ensures { result ≡ many.are_packets_sized arrivals.now }
+{
+    arrivals
+        .iter()
+        .all(|arrived| arrived.packet.size == sizes::PACKET)
+}
+
+/// Whether each of these places has it.
+fn are_answers_sized(places: &[Answered]) -> bool
+    ensures { result ≡ many.are_answers_sized places.now }
+{
+    places.iter().all(|place| place.size == sizes::ANSWERED)
+}
+
 /// Packets came in: each is handed in as by `bfdd_receive`, in their order, and its answer goes to its place. None is handled behind
 /// one that left outputs, so that they can be read, nor behind one that can't be handled.
 ///
 /// `handled` gets how many were handled, the first ones. 0 comes where all were, or the last one left outputs. 1 comes exactly where the
-/// handle is closed; 3 where it's open and there are more than 64 or fewer places, or else exactly where the values of the packet behind
-/// those that were handled are outside their ranges, as `bfdd_receive` says; 2 only when out of memory for its payload, where 3 doesn't
-/// come. The packets that weren't handled have changed nothing, and their places stay.
+/// handle is closed; 3 where it's open and there are more than 64 or fewer places; 11 exactly where neither comes and the size of a packet
+/// or of its place isn't known, and then none was handled; 3 also exactly where none of these comes and the values of the packet behind
+/// those that were handled are outside their ranges, as `bfdd_receive` says; 2 only when out of memory for its payload, where no other
+/// comes. The packets that weren't handled have changed nothing, and their places stay.
 #[unsafe(no_mangle)]
 pub extern "C" fn bfdd_packets(
     alloc: Global,
@@ -108,13 +127,31 @@ pub extern "C" fn bfdd_packets(
             let mut engine = engine;
             let mut code = RANGE;
             if arrivals.len() <= MOST && arrivals.len() <= answers.len() {
-                (*handled, code) = hand_in(alloc, &mut engine, arrivals, answers);
+                code = SIZE;
+                if are_packets_sized(arrivals) && are_answers_sized(&answers[..arrivals.len()]) {
+                    (*handled, code) = hand_in(alloc, &mut engine, arrivals, answers);
+                }
             }
             handle.put(engine);
             code
         }
         None => CLOSED,
     }
+}
+
+/// Whether each of these places has a struct of the size that is known.
+fn are_outputs_sized(places: &[Output]) -> bool
+    ensures { result ≡ many.are_outputs_sized places.now }
+{
+    places.iter().all(|place| place.size == sizes::OUTPUT)
+}
+
+/// The places that so many outputs get.
+#[tactic(auto, using(std::proofs::lemmas::List::take_min))]
+fn first_places(places: &[Output], count: usize) -> &[Output]
+    ensures { result.now ≡ take count places.now }
+{
+    &places[..count.min(places.len())]
 }
 
 /// Outputs, or why none was read.
@@ -124,13 +161,17 @@ fn read_many(engine: &mut Engine, places: &mut [Output]) -> (usize, u32)
     if engine.first().is_none() {
         return (0, END);
     }
+    if !are_outputs_sized(first_places(places, engine.left())) {
+        return (0, SIZE);
+    }
     (read_into(engine, places), DONE)
 }
 
 /// The next outputs of the last event, in their order, as many as there are places, or all.
 ///
 /// `count` gets how many were read. 1 comes exactly where the handle is closed, 3 exactly where it's open and there is no place or
-/// there are more than 64, 4 exactly where neither comes and all were read. Then nothing else has changed.
+/// there are more than 64, 4 exactly where neither comes and all were read, 11 exactly where none of these comes and the size of a place
+/// that would get an output isn't known. Then nothing else has changed.
 #[unsafe(no_mangle)]
 pub extern "C" fn bfdd_outputs(
     alloc: Global,

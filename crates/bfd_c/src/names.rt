@@ -7,7 +7,7 @@ use crate::engine::{DONE, RANGE};
 
 // The names of each kind by number, from 0 on. A zero ends each; where a number is of nothing, none stands.
 
-static CODES: [&[u8]; 11] = [
+static CODES: [&[u8]; 12] = [
     b"Done\0",
     b"Closed\0",
     b"Memory\0",
@@ -19,6 +19,7 @@ static CODES: [&[u8]; 11] = [
     b"TakenAddresses\0",
     b"Full\0",
     b"NotFound\0",
+    b"Size\0",
 ];
 
 static FAULTS: [&[u8]; 17] = [

@@ -49,14 +49,14 @@ fn refusal_text(refusal: Refusal) -> &'static str
 }
 
 /// The name of a test for C.
-pub(crate) fn test_name(test: Test) -> [u8; 16]
+pub(crate) fn test_name(test: Test) -> [u8; 20]
     ensures { result ≡ telling.name_bytes (name_of test) }
 {
     packed_name(test_text(test).as_bytes())
 }
 
 /// The name of a refusal for C.
-pub(crate) fn refusal_name(refusal: Refusal) -> [u8; 16]
+pub(crate) fn refusal_name(refusal: Refusal) -> [u8; 20]
     ensures { result ≡ telling.name_bytes (names.refusal_name refusal) }
 {
     packed_name(refusal_text(refusal).as_bytes())

@@ -2,15 +2,17 @@
 ghost use Rattle.std.specs.Prelude.{◌≡◌, ◌≢◌, true, [], None, IfOk, MatchResult};
 ghost use Rattle.bfd_instance.specs.Stage.{IsTable};
 ghost use Rattle.bfd_script.specs.Reading.{script_of};
-ghost use Rattle.bfd_c.specs.Engines.{opened_by, opened_for, new_instance};
+ghost use Rattle.bfd_c.specs.Engines.{new_instance};
 ghost use Rattle.bfd_c.specs.Fields.{config_of};
-ghost use Rattle.bfd_c.specs.Opening.{complained, IsOpenedWith, IsWhy, one};
+ghost use Rattle.bfd_c.specs.Opening.{complained, IsOpenedWith, IsWhy, one, opened_telling, opened_with_fields};
+ghost use Rattle.bfd_c.specs.Sizes.{complaint_size, session_size};
 ghost use Rattle.bfd_c.specs.Singles.{IsInRanges};
 ghost use Rattle.bfd_c.specs.Telling as telling;
 
-use crate::engine::{DONE, EVENTS, Engine, MEMORY, RANGE, TEXT};
+use crate::engine::{DONE, EVENTS, Engine, MEMORY, RANGE, SIZE, TEXT};
 use crate::fields::{Fields, config};
 use crate::handle::Handle;
+use crate::sizes;
 use bfd_sbfd::Reflector;
 use bfd_script::fields::{BadLine, LineFault, ScriptFault};
 use bfd_script::read;
@@ -21,8 +23,9 @@ use std::alloc::{AllocError, Global};
 #[repr(C)]
 #[derive(Drop)]
 pub struct Complaint {
-    pub line: u64,
+    pub size: u32,
     pub fault: u32,
+    pub line: u64,
 }
 
 /// The number of a fault.
@@ -37,8 +40,9 @@ fn told_complaint(bad: BadLine) -> Complaint
     ensures { result ≡ telling.complaint_of bad }
 {
     Complaint {
-        line: bad.line,
+        size: sizes::COMPLAINT,
         fault: fault_number(bad.fault),
+        line: bad.line,
     }
 }
 
@@ -88,8 +92,9 @@ fn start_by(alloc: Global, text: &[u8]) -> Result<Box<Engine>, Unopened>
 /// Opens a handle with the sessions and reflectors of a table: the text of a packet file without event lines. What the handle held
 /// before is freed, once all is there.
 ///
-/// 5 comes exactly where the text is no packet file in which packets and ticks come from outside, or in place of it 2, and then `complaint`
-/// gets its first faulty line; 6 where it's one and has event lines, or 2; and 2 only when out of memory. Then nothing else has changed.
+/// 11 comes exactly where the size of `complaint` isn't known. 5 comes exactly where it is and the text is no packet file in which packets
+/// and ticks come from outside, or in place of it 2, and then `complaint` gets its first faulty line; 6 where it's one and has event lines,
+/// or 2; and 2 only when out of memory. Then nothing else has changed.
 #[unsafe(no_mangle)]
 pub extern "C" fn bfdd_open(
     alloc: Global,
@@ -98,10 +103,14 @@ pub extern "C" fn bfdd_open(
     complaint: &mut Complaint,
 ) -> u32
     ensures done { result ≢ 2 → (handle.new.kept.held, result)
-        ≡ opened_by (script_of true text.now) handle.old.kept.held }
-    ensures memory { result ≡ 2 → handle.new.kept.held ≡ handle.old.kept.held }
+        ≡ opened_telling complaint.old (script_of true text.now) handle.old.kept.held }
+    ensures kept { result ≡ 2 → handle.new.kept.held ≡ handle.old.kept.held }
+    ensures memory { result ≡ 2 → complaint.old.size ≡ complaint_size }
     ensures complaint { complaint.new ≡ complained result (script_of true text.now) complaint.old }
 {
+    if complaint.size != sizes::COMPLAINT {
+        return SIZE;
+    }
     match start_by(alloc, text) {
         Ok(engine) => {
             *handle = Handle::hold(engine);
@@ -127,15 +136,18 @@ fn start_one(alloc: Global, config: SessionConfig) -> Result<Box<Engine>, AllocE
 
 /// Opens a handle with one session. What the handle held before is freed, once all is there.
 ///
-/// 3 comes exactly where a value that the kind uses is outside its range, 2 only when out of memory, and only where none is. Then nothing
-/// has changed.
+/// 11 comes exactly where the struct's size isn't known, 3 exactly where it is and a value that the kind uses is outside its range, 2 only
+/// when out of memory, and only where neither comes. Then nothing has changed.
 #[unsafe(no_mangle)]
 pub extern "C" fn bfdd_open_session(alloc: Global, handle: &mut Handle, fields: &Fields) -> u32
     ensures done { result ≢ 2 → (handle.new.kept.held, result)
-        ≡ opened_for (config_of fields.now) handle.old.kept.held }
+        ≡ opened_with_fields fields.now handle.old.kept.held }
     ensures kept { result ≡ 2 → handle.new.kept.held ≡ handle.old.kept.held }
-    ensures memory { result ≡ 2 → config_of fields.now ≢ None }
+    ensures memory { result ≡ 2 → (fields.now.size ≡ session_size) × (config_of fields.now ≢ None) }
 {
+    if fields.size != sizes::SESSION {
+        return SIZE;
+    }
     match config(fields) {
         Some(config) => match start_one(alloc, config) {
             Ok(engine) => {

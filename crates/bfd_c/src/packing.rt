@@ -2,11 +2,11 @@
 ghost use Rattle.std.specs.Prelude.{◌≡◌, ◌≤◌, ◌-◌, ◌++◌, length, replicate};
 
 /// The bytes of a name, and zeros behind them.
-pub(crate) fn packed_name(from: &[u8]) -> [u8; 16]
-    requires { length from.now ≤ 16 }
-    ensures { result ≡ from.now ++ replicate (16 - length from.now) 0 }
+pub(crate) fn packed_name(from: &[u8]) -> [u8; 20]
+    requires { length from.now ≤ 20 }
+    ensures { result ≡ from.now ++ replicate (20 - length from.now) 0 }
 {
-    let mut bytes = [0; 16];
+    let mut bytes = [0; 20];
     bytes[..from.len()].copy_from_slice(from);
     bytes
 }

@@ -1,14 +1,15 @@
 //! The calls that read what the last event gave, and when the next is needed.
 ghost use Rattle.std.specs.Prelude.{◌≡◌};
-ghost use Rattle.bfd_c.specs.Engines.{soonest};
-ghost use Rattle.bfd_c.specs.Reading.{answer_read, due_read, due_read_by, next_read, next_by, output_read, output_read_of};
+ghost use Rattle.bfd_c.specs.Engines.{held_by, soonest};
+ghost use Rattle.bfd_c.specs.Reading.{answer_read, due_read, due_read_by, next_by, next_asked, output_asked, output_read, output_read_of};
 
-use crate::engine::{CLOSED, DONE, END, Engine};
+use crate::engine::{CLOSED, DONE, END, Engine, SIZE};
 use crate::handle::Handle;
+use crate::sizes;
 use crate::telling::{Answered, Output, tell_output, told_answer};
 use std::alloc::Global;
 
-/// The next output that wasn't read.
+/// The next output that wasn't read, in a struct of the size that is known.
 pub(crate) fn read_next(engine: &mut Engine, output: &mut Output) -> u32
     ensures call { (engine.new, result) ≡ next_by engine.old.left engine.old }
     ensures told { output.new ≡ output_read engine.old.left output.old }
@@ -23,19 +24,31 @@ pub(crate) fn read_next(engine: &mut Engine, output: &mut Output) -> u32
     }
 }
 
+/// The same in a struct of any size.
+fn read_sized(engine: &mut Engine, output: &mut Output) -> u32
+    ensures call { (engine.new, result) ≡ next_asked output.old engine.old }
+    ensures told { output.new ≡ output_asked output.old engine.old }
+{
+    if output.size != sizes::OUTPUT {
+        return SIZE;
+    }
+    read_next(engine, output)
+}
+
 /// The next output of the last event, in their order. Every event makes them stand to be read from the first on; what wasn't read
 /// of the event before is gone.
 ///
-/// 1 comes exactly where the handle is closed, 4 exactly where all were read. Then nothing has changed, `output` neither.
+/// 1 comes exactly where the handle is closed, 11 exactly where it's open and the struct's size isn't known, and 4 exactly where neither
+/// comes and all were read. Then nothing has changed, `output` neither.
 #[unsafe(no_mangle)]
 pub extern "C" fn bfdd_next(alloc: Global, handle: &mut Handle, output: &mut Output) -> u32
-    ensures call { (handle.new.kept.held, result) ≡ next_read handle.old.kept.held }
+    ensures call { (handle.new.kept.held, result) ≡ held_by (next_asked output.old) handle.old.kept.held }
     ensures told { output.new ≡ output_read_of handle.old.kept.held output.old }
 {
     match handle.take(alloc) {
         Some(engine) => {
             let mut engine = engine;
-            let code = read_next(&mut engine, output);
+            let code = read_sized(&mut engine, output);
             handle.put(engine);
             code
         }
@@ -45,7 +58,8 @@ pub extern "C" fn bfdd_next(alloc: Global, handle: &mut Handle, output: &mut Out
 
 /// What the last event was answered; before the first, that it was handled.
 ///
-/// 1 comes exactly where the handle is closed, and then nothing has changed, `answer` neither.
+/// 1 comes exactly where the handle is closed, 11 exactly where it's open and the struct's size isn't known. Then nothing has changed,
+/// `answer` neither.
 #[unsafe(no_mangle)]
 pub extern "C" fn bfdd_answer(alloc: Global, handle: &mut Handle, answer: &mut Answered) -> u32
     ensures held { handle.new.kept.held ≡ handle.old.kept.held }
@@ -53,9 +67,13 @@ pub extern "C" fn bfdd_answer(alloc: Global, handle: &mut Handle, answer: &mut A
 {
     match handle.take(alloc) {
         Some(engine) => {
-            *answer = told_answer(engine.discr(), engine.answer());
+            let mut code = SIZE;
+            if answer.size == sizes::ANSWERED {
+                *answer = told_answer(engine.discr(), engine.answer());
+                code = DONE;
+            }
             handle.put(engine);
-            DONE
+            code
         }
         None => CLOSED,
     }

@@ -4,6 +4,7 @@ ghost use Rattle.bfd_c.specs.Telling as telling;
 
 use crate::naming::{refusal_name, refusal_number, state_number, test_name, test_number};
 use crate::packing::pack_wire;
+use crate::sizes;
 use crate::wire::{Address, tell_address};
 use bfd_packet::{Datagram, State};
 use bfd_rules::Out;
@@ -13,6 +14,7 @@ use bfd_session::{Answer, Shown};
 #[repr(C)]
 #[derive(Drop)]
 pub struct Output {
+    pub size: u32,
     pub kind: u32,
     /// The discriminator of the session, or of the reflector that answers.
     pub discr: u32,
@@ -39,9 +41,10 @@ pub struct Output {
 #[repr(C)]
 #[derive(Drop)]
 pub struct Answered {
+    pub size: u32,
     pub kind: u32,
     pub code: u32,
-    pub name: [u8; 16],
+    pub name: [u8; 20],
     pub discr: u32,
     pub state: u8,
     pub diag: u8,
@@ -65,6 +68,7 @@ fn tell_change(discr: u32, was: State, state: State, diag: u8, output: &mut Outp
         bytes: [0; 16],
     };
     *output = Output {
+        size: sizes::OUTPUT,
         kind: 1,
         discr,
         was: state_number(was),
@@ -86,6 +90,7 @@ fn tell_packet(discr: u32, datagram: &Datagram, output: &mut Output)
     ensures { output.new ≡ telling.output_of (Out.Sent discr datagram.now) }
 {
     let wire = datagram.bytes.as_slice();
+    output.size = sizes::OUTPUT;
     output.kind = 2;
     output.discr = discr;
     output.was = 0;
@@ -117,10 +122,11 @@ pub(crate) fn tell_output(out: &Out, output: &mut Output)
 }
 
 /// An answer without a view.
-fn plain_answer(kind: u32, code: u32, name: [u8; 16], discr: u32) -> Answered
+fn plain_answer(kind: u32, code: u32, name: [u8; 20], discr: u32) -> Answered
     ensures { result ≡ telling.plain_answer kind code name discr }
 {
     Answered {
+        size: sizes::ANSWERED,
         kind,
         code,
         name,
@@ -142,9 +148,10 @@ fn view(shown: &Shown) -> Answered
     ensures { result ≡ telling.view_of shown.now }
 {
     Answered {
+        size: sizes::ANSWERED,
         kind: 4,
         code: 0,
-        name: [0; 16],
+        name: [0; 20],
         discr: shown.discr,
         state: state_number(shown.state),
         diag: shown.diag,
@@ -163,8 +170,8 @@ pub(crate) fn told_answer(discr: u32, answer: &Answer) -> Answered
     ensures { result ≡ telling.answer_for_c discr answer.now }
 {
     match answer {
-        Answer::Handled => plain_answer(0, 0, [0; 16], discr),
-        Answer::Ticked => plain_answer(1, 0, [0; 16], discr),
+        Answer::Handled => plain_answer(0, 0, [0; 20], discr),
+        Answer::Ticked => plain_answer(1, 0, [0; 20], discr),
         Answer::Dropped(test) => plain_answer(2, test_number(*test), test_name(*test), discr),
         Answer::Refused(refusal) => {
             plain_answer(3, refusal_number(*refusal), refusal_name(*refusal), discr)

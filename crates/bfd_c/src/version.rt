@@ -2,9 +2,9 @@
 ghost use Rattle.std.specs.Prelude.{◌≡◌};
 ghost use Rattle.bfd_c.specs.Version.{version};
 
-const MAJOR: u32 = 1;
+const MAJOR: u32 = 2;
 
-const MINOR: u32 = 2;
+const MINOR: u32 = 0;
 
 /// The version: the major part times 65,536, and the minor part. It is that of the header.
 #[unsafe(no_mangle)]

@@ -19,17 +19,18 @@ pub struct Address {
 #[repr(C)]
 #[derive(Clone, Copy, Drop)]
 pub struct Packet {
+    pub size: u32,
+    pub port: u32,
     /// Microseconds, below 2^60.
     pub moment: u64,
-    pub port: u32,
     /// The interface's number, 0 to 65,535.
     pub iface: u32,
-    pub src: Address,
-    pub dst: Address,
     /// The sender's UDP port.
     pub sport: u16,
     /// The IP TTL or Hop Limit with which it came.
     pub ttl: u8,
+    pub src: Address,
+    pub dst: Address,
 }
 
 /// The address, where the family is 4 or 6.

@@ -14,7 +14,7 @@ macro_rules! numbers {
 
 numbers! {
     BFDD_DONE = 0, BFDD_CLOSED = 1, BFDD_MEMORY = 2, BFDD_RANGE = 3, BFDD_END = 4, BFDD_TEXT = 5, BFDD_EVENTS = 6,
-    BFDD_TAKEN_DISCR = 7, BFDD_TAKEN_ADDRESSES = 8, BFDD_FULL = 9, BFDD_NOT_FOUND = 10,
+    BFDD_TAKEN_DISCR = 7, BFDD_TAKEN_ADDRESSES = 8, BFDD_FULL = 9, BFDD_NOT_FOUND = 10, BFDD_SIZE = 11,
 }
 
 numbers! {
@@ -56,8 +56,10 @@ numbers! {
     BFDD_NAME_DIAGNOSTIC = 6, BFDD_NAME_OUTPUT = 7,
 }
 
-/// A struct of the header, with the size that it has there.
+/// Structs of the header, with the size that each has there.
 macro_rules! structs {
+    (@size $it:ident size $($others:ident)*) => { $it.size = size_of::<Self>() as u32; };
+    (@size $it:ident $($fields:ident)*) => {};
     ($($name:ident: $size:literal { $($field:ident: $type:ty),* $(,)? })*) => { $(
         #[repr(C)]
         #[derive(Clone, Copy, Debug)]
@@ -66,10 +68,13 @@ macro_rules! structs {
         }
 
         impl Default for $name {
-            /// All zeros, as a struct for an answer begins.
+            /// All zeros but for the size with which some begin.
+            #[allow(unused_mut)]
             fn default() -> Self {
                 // SAFETY: the fields are integers, arrays of integers, and pointers that are set before a call.
-                unsafe { core::mem::zeroed() }
+                let mut it: Self = unsafe { core::mem::zeroed() };
+                structs!(@size it $($field)*);
+                it
             }
         }
 
@@ -80,31 +85,31 @@ macro_rules! structs {
 structs! {
     bfdd_address: 20 { family: u32, bytes: [u8; 16] }
 
-    bfdd_complaint: 16 { line: u64, fault: u32 }
+    bfdd_complaint: 16 { size: u32, fault: u32, line: u64 }
 
-    bfdd_session: 112 {
-        kind: u32, discr: u32, other: u32, iface: u32, local: bfdd_address, remote: bfdd_address, active: u32, tx: u32, rx: u32,
-        mult: u32, echo: u32, seed: u32, auth: u32, key_id: u32, key_len: u32, key: [u8; 20],
+    bfdd_session: 116 {
+        size: u32, kind: u32, discr: u32, other: u32, iface: u32, local: bfdd_address, remote: bfdd_address, active: u32, tx: u32,
+        rx: u32, mult: u32, echo: u32, seed: u32, auth: u32, key_id: u32, key_len: u32, key: [u8; 20],
     }
 
     bfdd_packet: 64 {
-        moment: u64, port: u32, iface: u32, src: bfdd_address, dst: bfdd_address, sport: u16, ttl: u8,
+        size: u32, port: u32, moment: u64, iface: u32, sport: u16, ttl: u8, src: bfdd_address, dst: bfdd_address,
     }
 
-    bfdd_answered: 56 {
-        kind: u32, code: u32, name: [u8; 16], discr: u32, state: u8, diag: u8, remote_state: u8, poll: u8, remote_discr: u32,
+    bfdd_answered: 64 {
+        size: u32, kind: u32, code: u32, name: [u8; 20], discr: u32, state: u8, diag: u8, remote_state: u8, poll: u8, remote_discr: u32,
         adv_tx: u32, used_tx: u32, used_rx: u32, detect: u64,
     }
 
-    bfdd_session_state: 304 {
-        discr: u32, state: u8, diag: u8, remote_state: u8, poll: u8, remote_discr: u32, adv_tx: u32, used_tx: u32, used_rx: u32,
-        detect: u64, peer_tx: u32, peer_rx: u32, peer_echo: u32, peer_mult: u8, peer_diag: u8, peer_demand: u8, detect_end: u64,
-        heard: u64, changed: u64, received: u64, sent: u64, ups: u64, downs: u64, dropped: [u64; 25],
+    bfdd_session_state: 312 {
+        size: u32, discr: u32, state: u8, diag: u8, remote_state: u8, poll: u8, remote_discr: u32, adv_tx: u32, used_tx: u32,
+        used_rx: u32, peer_tx: u32, peer_rx: u32, peer_echo: u32, peer_mult: u8, peer_diag: u8, peer_demand: u8, detect: u64,
+        detect_end: u64, heard: u64, changed: u64, received: u64, sent: u64, ups: u64, downs: u64, dropped: [u64; 25],
     }
 
-    bfdd_output: 116 {
-        kind: u32, discr: u32, was: u8, state: u8, diag: u8, ttl: u8, iface: u32, sport: u16, dport: u16, src: bfdd_address,
-        dst: bfdd_address, len: u32, bytes: [u8; 52],
+    bfdd_output: 120 {
+        size: u32, kind: u32, discr: u32, was: u8, state: u8, diag: u8, ttl: u8, iface: u32, sport: u16, dport: u16,
+        src: bfdd_address, dst: bfdd_address, len: u32, bytes: [u8; 52],
     }
 
     bfdd_arrival: 80 { packet: bfdd_packet, payload: *const u8, length: usize }

@@ -113,7 +113,7 @@ pub enum Named {
 /// ```
 /// assert_eq!(bfdd::name(bfdd::Named::Diagnostic, 1), Some("Control Detection Time Expired"));
 /// assert_eq!(bfdd::name(bfdd::Named::State, 4), None);
-/// assert_eq!(bfdd::version(), (1, 2));
+/// assert_eq!(bfdd::version(), (2, 0));
 /// ```
 pub fn name(named: Named, number: u32) -> Option<&'static str> {
     let mut text = sys::bfdd_text { bytes: c"".as_ptr(), length: 0 };
@@ -242,6 +242,7 @@ impl Packet {
             dst: to_c(self.dst),
             sport: self.sport,
             ttl: self.ttl,
+            ..Default::default()
         }
     }
 }
@@ -296,7 +297,7 @@ impl From<u8> for State {
 #[derive(Clone, Copy, Debug, PartialEq, Eq)]
 pub struct Cause {
     pub code: u32,
-    name: [u8; 16],
+    name: [u8; 20],
 }
 
 impl Cause {
