@@ -79,10 +79,10 @@ static uint64_t packets(bfdd_handle *engine) {
 /* So many packets by one call, with a place each, and outputs in so many places. */
 static uint64_t many(bfdd_handle *engine) {
     uint64_t count = 0;
-    const bfdd_answered unasked[35] = {[0 ... 34] = BFDD_ANSWERED_INIT};
-    const bfdd_output unread[35] = {[0 ... 34] = BFDD_OUTPUT_INIT};
-    for (size_t size = 0; size <= 35; size++) {
-        bfdd_arrival in[35] = {0};
+    const bfdd_answered unasked[34] = {[0 ... 33] = BFDD_ANSWERED_INIT};
+    const bfdd_output unread[34] = {[0 ... 33] = BFDD_OUTPUT_INIT};
+    for (size_t size = 0; size <= 34; size++) {
+        bfdd_arrival in[34] = {0};
         for (size_t at = 0; at < size; at++)
             in[at] = (bfdd_arrival){from_peer, give(of_slice, down, sizeof down), sizeof down}, in[at].packet.iface = 2;
         size_t *told = put(of_count, NULL, sizeof *told);

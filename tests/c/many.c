@@ -159,8 +159,8 @@ static void codes(void) {
     CHECK(bfdd_outputs(&engine, out, BFDD_MANY, &count), BFDD_DONE);
     CHECK(count, 2);
     CHECK(bfdd_outputs(&engine, out + 2, 1, &count), BFDD_END);
-    out[0].kind = 99, out[2].size--;
-    CHECK(bfdd_tick(&engine, 5000), BFDD_DONE);
+    out[0].kind = 99, out[1].kind = 0, out[2].size--;
+    CHECK(bfdd_tick(&engine, 2000), BFDD_DONE);
     count = 77;
     CHECK(bfdd_outputs(&engine, out, 0, &count), BFDD_RANGE);
     CHECK(count, 0);
