@@ -129,6 +129,16 @@ fn far_place(byte: u8, text: &[u8]) -> usize
     }
 }
 
+/// Whether the last run of a text has no such byte: surely so where the answer is true.
+fn is_absent_at_end(byte: u8, text: &[u8]) -> bool
+    ensures { IsTrue result → 32 ≤ position_or_len (λ other. other == byte) (drop (length text.now - 32) text.now) }
+{
+    match text.split_last_chunk::<RUN>() {
+        Some((_, run)) => place_in_run(byte, run) == RUN,
+        None => false,
+    }
+}
+
 /// Where the first such byte of a text is: the length where there is none.
 fn place_of(byte: u8, text: &[u8]) -> usize
     ensures { result ≡ position_or_len (λ other. other == byte) text.now }
@@ -137,6 +147,9 @@ fn place_of(byte: u8, text: &[u8]) -> usize
         let place = place_in_run(byte, run);
         if place < RUN {
             return place;
+        }
+        if text.len() <= 2 * RUN && is_absent_at_end(byte, text) {
+            return text.len();
         }
     }
     far_place(byte, text)
@@ -282,6 +295,8 @@ fn text_number(field: &str, least: u64, most: u64) -> Result<u64, LineFault>
 }
 
 /// The same as `number`, for a field that isn't surely a small number.
+#[cold]
+#[inline(never)]
 #[tactic(auto, using(crate::proofs::Ascii::digits_are_utf8))]
 fn any_number(field: &[u8], least: u64, most: u64) -> Result<u64, LineFault>
     ensures value { result ≡ number_in least most field.now }
@@ -297,6 +312,7 @@ fn any_number(field: &[u8], least: u64, most: u64) -> Result<u64, LineFault>
 }
 
 /// A field that is a number from `least` to `most`: BadNumber where it is no number, OutOfRange where it is another one.
+#[inline]
 pub fn number(field: &[u8], least: u64, most: u64) -> Result<u64, LineFault>
     ensures value { result ≡ number_in least most field.now }
     ensures range { IfOk result (λ n. (least ≤ n) × (n ≤ most)) }
