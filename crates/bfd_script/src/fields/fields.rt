@@ -23,8 +23,8 @@ const RUN: usize = 32;
 /// How many bytes of a line have their spaces marked.
 const FRONT: usize = 64;
 
-/// Before which a number may be multiplied by ten, and a digit added, within 64 bits.
-const MOST_BEFORE_DIGIT: u64 = 1_000_000_000_000_000_000;
+/// How many digits surely write a number of 64 bits.
+const MOST_DIGITS: usize = 18;
 
 /// The first line without its LF, and the text after it.
 #[tactic(auto, using(crate::proofs::FirstLine::first_of_more, crate::proofs::FirstLine::the_last))]
@@ -252,14 +252,17 @@ fn is_led(field: &[u8]) -> bool
     !field.is_empty() && !(field.len() > 1 && field[0] == b'0')
 }
 
-/// The number that decimal digits write, in one pass: None where one is no digit, and where the number is near 2^64 or above.
+/// The number that at most 18 decimal digits write, in one pass: None where one is no digit, and where there are more.
 fn small_number(field: &[u8]) -> Option<u64>
     ensures { IfSome result (λ n. (n ≡ digits_value 10 field.now) × (list_all is_ascii_digit field.now ≡ true)) }
 {
+    if field.len() > MOST_DIGITS {
+        return None;
+    }
     let mut rest = field;
     let mut n = 0;
     while let [digit, after @ ..] = rest {
-        if !digit.is_ascii_digit() || n > MOST_BEFORE_DIGIT {
+        if !digit.is_ascii_digit() {
             return None;
         }
         n = n * 10 + (*digit - b'0') as u64;
