@@ -1,5 +1,5 @@
 -- Where a text is cut at a byte.
-use Rattle.bfd_script.proofs.FieldsCommon.{◌≡◌, ℕ, ◌+◌, ◌<◌, ◌≤◌, ◌==◌, not, cond, Bool, true, false, List, [], ◌∷◌, ◌++◌, length, map, take, drop, refl, ◌∙◌, sym, arith, subst, zero, suc, slice_index, onto_first, position_or_len, slice_split, append-nil, length-drop, false_from_ne_true, position_or_len_is, prefix_len-le-length, NoneBefore, Nowhere, Passes, is_byte}
+use Rattle.bfd_script.proofs.FieldsCommon.{◌≡◌, ℕ, ◌+◌, ◌-◌, ◌<◌, ◌≤◌, ◌==◌, not, cond, Bool, true, false, List, [], ◌∷◌, ◌++◌, length, map, take, drop, refl, ◌∙◌, sym, arith, subst, zero, suc, slice_index, onto_first, position_or_len, slice_split, append-nil, length-drop, length-take-le, drop-drop, false_from_ne_true, position_or_len_is, prefix_len-le-length, NoneBefore, Nowhere, Passes, is_byte}
 use Rattle.std.proofs.lemmas.List.Splits.{slice_split_first}
 
 -- ---- the first such byte
@@ -34,6 +34,42 @@ near byte text run n place front e l =
     let P : ℕ → Bool = λ other. other == byte in
     let at : place ≡ position_or_len P (take n text) = cc in
     at ∙ in_front P text n (subst (λ t. t < n) at l)
+
+past_step : (here : Bool) (a b c n : ℕ) → cond (not here) (1 + a) 0 ≡ suc n → (a ≡ n → b ≡ n + c) → cond (not here) (1 + b) 0 ≡ suc n + c
+past_step true a b c n e known = absurd (omega (arith, e))
+past_step false a b c n e known = omega (arith, known (omega (arith, e)))
+
+-- past a front that has none
+past_front : (p : ℕ → Bool) (n : ℕ) (text : List ℕ) → n ≤ length text → position_or_len p (take n text) ≡ n → position_or_len p text ≡ n + position_or_len p (drop n text)
+past_front p zero text long e = omega arith
+past_front p (suc n) [] long e = absurd (omega (arith, long))
+past_front p (suc n) (byte ∷ text) long e = past_step (p byte) _ _ (position_or_len p (drop n text)) n e (past_front p n text (omega (arith, long)))
+
+none_step : (here : Bool) (a n : ℕ) → cond (not here) (1 + a) 0 ≡ suc n → a ≡ n
+none_step true a n e = absurd (omega (arith, e))
+none_step false a n e = omega (arith, e)
+
+-- what has none has none behind some bytes
+none_behind : (p : ℕ → Bool) (n : ℕ) (text : List ℕ) → position_or_len p text ≡ length text → position_or_len p (drop n text) ≡ length (drop n text)
+none_behind p zero text e = e
+none_behind p (suc n) [] e = refl
+none_behind p (suc n) (byte ∷ text) e = none_behind p n text (none_step (p byte) _ _ e)
+
+-- neither the front of a text nor its end has one, and they are all of it
+pub in_neither : (byte : ℕ) (text : List ℕ) {run : List ℕ} → 32 ≤ length text → length text ≤ 64 → run ≡ take 32 text
+    → 32 ≤ position_or_len (λ other. other == byte) run → 32 ≤ position_or_len (λ other. other == byte) (drop (length text - 32) text)
+    → length text ≡ position_or_len (λ other. other == byte) text
+in_neither byte text {run} least most front none behind =
+    let p : ℕ → Bool = λ other. other == byte in
+    let m : ℕ = length text - 32 in
+    let end : List ℕ = drop m text in
+    let long : length end ≡ 32 = omega (arith, length-drop m text, least) in
+    let all : position_or_len p end ≡ length end = omega (arith, behind, long, prefix_len-le-length (λ other. not (p other)) end) in
+    let first : position_or_len p (take 32 text) ≡ 32 =
+    omega (arith, subst (λ r. 32 ≤ position_or_len p r) front none, length-take-le 32 text least, prefix_len-le-length (λ other. not (p other)) (take 32 text)) in
+    let sum : m + (32 - m) ≡ 32 = omega (arith, most) in
+    let rest : position_or_len p (drop 32 text) ≡ length (drop 32 text) = cc (drop-drop (32 - m) m text, none_behind p (32 - m) end all) in
+    omega (arith, past_front p 32 text least first, rest, length-drop 32 text, least)
 
 -- ---- one cut
 

@@ -1,5 +1,5 @@
 // The selecting addresses of the sessions so far.
-ghost use Rattle.std.specs.Prelude.{◌≡◌, ◌||◌, [], IfOk, length, true};
+ghost use Rattle.std.specs.Prelude.{◌≡◌, ◌||◌, [], IfOk, OnOk, length, true};
 ghost use Rattle.std.specs.BTreeSet.{contains};
 ghost use Rattle.bfd_demux.specs.Rows.{has_addresses, same_selector};
 ghost use Rattle.bfd_demux.specs.declared.row.RowKind.{RowKind as Kind};
@@ -10,6 +10,7 @@ use bfd_packet::Addr;
 use std::alloc::{AllocError, Global};
 use std::collections::BTreeSet;
 use std::marker::Model;
+use std::mem;
 
 /// The least of all kinds.
 const LEAST: RowKind = RowKind::Single {
@@ -100,8 +101,8 @@ impl Places {
         is_among(&self.rising, kind) || is_in(&self.others, kind)
     }
 
-    /// One more.
-    pub(crate) fn with(self, kind: RowKind) -> Result<Places, AllocError>
+    /// These addresses and one more, all in the set.
+    fn with(self, kind: RowKind) -> Result<Places, AllocError>
         requires { has_addresses kind ≡ true }
         ensures { IfOk result (λ after. (q : Kind) → among after q ≡ (same_selector q kind || among self q)) }
     {
@@ -110,14 +111,6 @@ impl Places {
             greatest,
             others,
         } = self;
-        if greatest.cmp(&kind).is_lt() {
-            rising.push(kind)?;
-            return Ok(Places {
-                rising,
-                greatest: kind,
-                others,
-            });
-        }
         let mut others = with_all(others, &rising)?;
         others.insert(kind)?;
         rising.clear();
@@ -126,5 +119,20 @@ impl Places {
             greatest,
             others,
         })
+    }
+
+    /// One more. One above all others goes to its place, and nothing else is moved.
+    pub(crate) fn add(&mut self, alloc: Global, kind: RowKind) -> Result<(), AllocError>
+        requires { has_addresses kind ≡ true }
+        ensures { OnOk result ((q : Kind) → among self.new q ≡ (same_selector q kind || among self.old q)) }
+    {
+        if self.greatest.cmp(&kind).is_lt() {
+            self.rising.push(kind)?;
+            self.greatest = kind;
+            return Ok(());
+        }
+        let before = mem::replace(self, Places::new(alloc));
+        *self = before.with(kind)?;
+        Ok(())
     }
 }

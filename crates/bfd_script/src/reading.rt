@@ -1,6 +1,6 @@
 // The whole text.
 ghost use Rattle.std.specs.Prelude.{IfOk, map};
-ghost use Rattle.bfd_script.specs.Entries.{valued, worded};
+ghost use Rattle.bfd_script.specs.Entries.{rx_entry, valued, worded};
 ghost use Rattle.bfd_script.specs.Gives.{◌>>=◌ as on_to, Gives, GivesScript};
 ghost use Rattle.bfd_script.specs.Reading.{admitted, script_of, line_read};
 ghost use Rattle.bfd_script.specs.Sound.{IsScript};
@@ -13,7 +13,32 @@ use crate::script::Script;
 use crate::state::Reading;
 use std::alloc::Global;
 
-/// Takes in one more line of these values. An `rx` line, which most lines are, goes to the others as it is read.
+/// Takes in one more `rx` line of these values, which goes to the others as it is read.
+fn take_packet(alloc: Global, reading: &mut Reading, values: &[&[u8]]) -> Result<(), ReadFault>
+    ensures { Gives (λ _. reading.new)
+        result (on_to (rx_entry (map (λ value. value.now) values.now)) (λ entry. admitted entry reading.old)) }
+{
+    let line = rx_entry(alloc, values)?;
+    reading.push(line)
+}
+
+/// Takes in one more line of these values, another than `rx`.
+#[inline(never)]
+fn take_entry(
+    alloc: Global,
+    reading: &mut Reading,
+    word: Word,
+    values: &[&[u8]],
+) -> Result<(), ReadFault>
+    ensures { Gives (λ _. reading.new)
+        result (on_to (valued reading.old.version word (map (λ value. value.now) values.now))
+        (λ entry. admitted entry reading.old)) }
+{
+    let entry = read_values(alloc, reading.version(), word, values)?;
+    reading.accept(alloc, entry)
+}
+
+/// Takes in one more line of these values. Most lines are `rx` lines, so these have a way of their own.
 fn take_values(
     alloc: Global,
     reading: &mut Reading,
@@ -25,14 +50,8 @@ fn take_values(
         (λ entry. admitted entry reading.old)) }
 {
     match word {
-        Word::Rx => {
-            let line = rx_entry(alloc, values)?;
-            reading.push(line)
-        }
-        other => {
-            let entry = read_values(alloc, reading.version(), other, values)?;
-            reading.accept(alloc, entry)
-        }
+        Word::Rx => take_packet(alloc, reading, values),
+        other => take_entry(alloc, reading, other, values),
     }
 }
 

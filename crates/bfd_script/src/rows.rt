@@ -1,5 +1,5 @@
 // Sessions by discriminator.
-ghost use Rattle.std.specs.Prelude.{◌≡◌, ◌++◌, ◌<◌, [], None, Option, Some, IfOk, IfSome, IsTrue, false, is_some, length};
+ghost use Rattle.std.specs.Prelude.{◌≡◌, ◌++◌, ◌<◌, [], None, Option, Some, IfOk, IfSome, IsTrue, OnOk, false, is_some, length};
 ghost use Rattle.std.specs.BTreeMap.{insert_entry, is_at};
 ghost use Rattle.std.specs.List.{AllByRecursion};
 ghost use Rattle.std.specs.Map.{lookup, values_of};
@@ -16,6 +16,7 @@ use bfd_session::SessionConfig;
 use std::alloc::{AllocError, Global};
 use std::collections::BTreeMap;
 use std::marker::Model;
+use std::mem;
 
 /// Sessions by discriminator. They mostly come in the order of their discriminators: those that did stand as they came, each of
 /// them below each of the others. One that comes out of order puts all into a map. Contracts see the entries, ascending.
@@ -175,20 +176,32 @@ impl Rows {
         self.get(discr).is_some()
     }
 
-    /// One more session, whose discriminator is new. Fails only when out of memory.
-    pub(crate) fn with(self, config: SessionConfig) -> Result<Rows, AllocError>
+    /// The sessions with one more among them, whose discriminator is new, all in the map.
+    fn with(self, config: SessionConfig) -> Result<Rows, AllocError>
         requires discr { has_discr (discr_of config) (values_of self) ≡ false }
         requires room { length self < 65536 }
         ensures { IfOk result (λ rows. rows ≡ insert_entry nat_cmp self (discr_of config) config) }
     {
         let Rows { mut rising, others } = self;
-        if others.is_empty() && are_below(&rising, config.discr()) {
-            rising.push(config)?;
-            return Ok(Rows { rising, others });
-        }
         let mut others = with_all(&mut rising, others)?;
         others.insert(config.discr(), config)?;
         Ok(Rows { rising, others })
+    }
+
+    /// One more session, whose discriminator is new. One above all others goes to its place, and nothing else is moved. Fails only
+    /// when out of memory.
+    pub(crate) fn add(&mut self, alloc: Global, config: SessionConfig) -> Result<(), AllocError>
+        requires discr { has_discr (discr_of config) (values_of self.old) ≡ false }
+        requires room { length self.old < 65536 }
+        ensures { OnOk result (self.new ≡ insert_entry nat_cmp self.old (discr_of config) config) }
+    {
+        if self.others.is_empty() && are_below(&self.rising, config.discr()) {
+            self.rising.push(config)?;
+            return Ok(());
+        }
+        let before = mem::replace(self, Rows::new(alloc));
+        *self = before.with(config)?;
+        Ok(())
     }
 
     /// The session of this discriminator gets these keys.

@@ -110,11 +110,11 @@ impl Reading {
     }
 
     /// One more session: refused where its discriminator or its selecting addresses are there, and where there are 65,536
-    /// rows.
-    fn with_row(self, config: SessionConfig) -> Result<Reading, ReadFault>
+    /// rows. Nothing else is moved.
+    fn add_row(&mut self, alloc: Global, config: SessionConfig) -> Result<(), ReadFault>
         requires fit { IsFit config }
         requires row { IsRow config }
-        ensures { Gives (λ s. s) result (with_config config self) }
+        ensures { Gives (λ _. self.new) result (with_config config self.old) }
     {
         if self.is_taken(config.discr()) {
             return Err(ReadFault::Fault(LineFault::SameDiscr));
@@ -125,8 +125,13 @@ impl Reading {
         if self.is_full() {
             return Err(ReadFault::Fault(LineFault::TooMany));
         }
-        let table = self.table.with(config)?;
-        Ok(Reading { table, ..self })
+        match self.table.add(alloc, config) {
+            Ok(()) => Ok(()),
+            Err(_) => {
+                self.events = Vec::new(alloc);
+                Err(ReadFault::Memory)
+            }
+        }
     }
 
     /// One more reflector: refused where its discriminator is there, and where there are 65,536 rows.
@@ -188,13 +193,17 @@ impl Reading {
     }
 
     /// The state after a line that says this, or the fault that it has because of the lines before it.
-    fn with(self, entry: Entry) -> Result<Reading, ReadFault>
+    fn with(self, alloc: Global, entry: Entry) -> Result<Reading, ReadFault>
         requires { IsEntry entry }
         ensures { Gives (λ s. s) result (admitted entry self) }
     {
         match entry {
             Entry::Version(version) => Ok(self.begun(version)),
-            Entry::Row(config) => self.with_row(config),
+            Entry::Row(config) => {
+                let mut next = self;
+                next.add_row(alloc, config)?;
+                Ok(next)
+            }
             Entry::Reflect(reflector) => self.with_reflector(reflector),
             Entry::Auth { discr, keys } => self.with_keys(discr, keys),
             Entry::Key { discr, key } => self.with_key(discr, key),
@@ -208,14 +217,15 @@ impl Reading {
         }
     }
 
-    /// Takes in a line that says this, or tells the fault that it has because of the lines before it. An event line, which most
-    /// lines are, goes to its place without the state being moved.
+    /// Takes in a line that says this, or tells the fault that it has because of the lines before it. An event and a session, which
+    /// most lines are, go to their places without the state being moved.
     pub(crate) fn accept(&mut self, alloc: Global, entry: Entry) -> Result<(), ReadFault>
         requires { IsEntry entry }
         ensures { Gives (λ _. self.new) result (admitted entry self.old) }
     {
         match entry {
             Entry::Event(line) => self.push(line),
+            Entry::Row(config) => self.add_row(alloc, config),
             other => self.renew(alloc, other),
         }
     }
@@ -226,7 +236,7 @@ impl Reading {
         ensures { Gives (λ _. self.new) result (admitted entry self.old) }
     {
         let before = mem::replace(self, Reading::new(alloc));
-        *self = before.with(entry)?;
+        *self = before.with(alloc, entry)?;
         Ok(())
     }
 

@@ -1,10 +1,13 @@
 // The table of sessions: unique by discriminator and by selecting addresses.
-ghost use Rattle.std.specs.Prelude.{◌≡◌, ◌||◌, ◌<◌, [], false, length, IfOk, None, Some, is_some};
+ghost use Rattle.std.specs.Prelude.{◌≡◌, ◌||◌, ◌<◌, [], false, length, IfOk, None, OnErr, OnOk, Some, is_some};
 ghost use Rattle.bfd_demux.specs.Rows.{same_selector};
 ghost use Rattle.bfd_demux.specs.declared.row.RowKind.{RowKind as Kind};
 ghost use Rattle.bfd_session.specs.Kinds.{discr_of};
+ghost use Rattle.bfd_session.specs.Rows.{row_of};
 ghost use Rattle.bfd_session.specs.Step.{IsFit};
+ghost use Rattle.std.specs.BTreeMap.{insert_entry};
 ghost use Rattle.std.specs.Map.{values_of};
+ghost use Rattle.std.specs.Ordering.{nat_cmp};
 ghost use Rattle.std.specs.Option.{option_copied};
 ghost use Rattle.bfd_script.specs.Rows.{given, given_more, has_discr, has_keys, has_pair, has_place, inserted, is_pair, keys_in, keys_of};
 ghost use Rattle.bfd_script.specs.Secrets.{key_fault};
@@ -61,13 +64,30 @@ fn may_have_keys(config: &SessionConfig) -> bool
 
 /// The addresses of one more session, where it has some: a session without addresses is like no other.
 #[tactic(auto, using(crate::proofs::Inserting::unnoted))]
-fn note(places: Places, kind: RowKind) -> Result<Places, AllocError>
-    ensures { IfOk result (λ after. (q : Kind) → among after q ≡ (same_selector q kind || among places q)) }
+fn note(places: &mut Places, alloc: Global, kind: RowKind) -> Result<(), AllocError>
+    ensures { OnOk result ((q : Kind) → among places.new q ≡ (same_selector q kind || among places.old q)) }
 {
     if !kind.has_addresses() {
-        return Ok(places);
+        return Ok(());
     }
-    places.with(kind)
+    places.add(alloc, kind)
+}
+
+/// One more session, whose discriminator is new, in both indices.
+fn put(
+    rows: &mut Rows,
+    places: &mut Places,
+    alloc: Global,
+    config: SessionConfig,
+) -> Result<(), AllocError>
+    requires discr { has_discr (discr_of config) (values_of rows.old) ≡ false }
+    requires room { length rows.old < 65536 }
+    ensures rows { OnOk result (rows.new ≡ insert_entry nat_cmp rows.old (discr_of config) config) }
+    ensures places { OnOk result ((q : Kind) → among places.new q
+        ≡ (same_selector q (row_of config).kind || among places.old q)) }
+{
+    note(places, alloc, row_of(&config).kind)?;
+    rows.add(alloc, config)
 }
 
 impl Table {
@@ -136,19 +156,24 @@ impl Table {
         self.places.has(row_of(config).kind)
     }
 
-    /// One more session, whose discriminator and selecting addresses are new. Fails only when out of memory.
-    pub(crate) fn with(self, config: SessionConfig) -> Result<Table, AllocError>
-        requires discr { has_discr (discr_of config) self ≡ false }
-        requires place { has_place config self ≡ false }
-        requires room { length self < 65536 }
+    /// One more session, whose discriminator and selecting addresses are new. Fails only when out of memory, and is empty then.
+    pub(crate) fn add(&mut self, alloc: Global, config: SessionConfig) -> Result<(), AllocError>
+        requires discr { has_discr (discr_of config) self.old ≡ false }
+        requires place { has_place config self.old ≡ false }
+        requires room { length self.old < 65536 }
         requires fit { IsFit config }
         requires row { IsRow config }
-        ensures { IfOk result (λ table. table ≡ inserted config self) }
+        ensures added { OnOk result (self.new ≡ inserted config self.old) }
+        ensures empty { OnErr result (self.new ≡ []) }
     {
-        let Table { rows, places } = self;
-        let places = note(places, row_of(&config).kind)?;
-        let rows = rows.with(config)?;
-        Ok(Table { rows, places })
+        match put(&mut self.rows, &mut self.places, alloc, config) {
+            Ok(()) => Ok(()),
+            Err(error) => {
+                self.rows = Rows::new(alloc);
+                self.places = Places::new(alloc);
+                Err(error)
+            }
+        }
     }
 
     /// The session of this discriminator gets these keys; its selecting addresses stay.

@@ -23,8 +23,8 @@ const RUN: usize = 32;
 /// How many bytes of a line have their spaces marked.
 const FRONT: usize = 64;
 
-/// Before which a number may be multiplied by ten, and a digit added, within 64 bits.
-const MOST_BEFORE_DIGIT: u64 = 1_000_000_000_000_000_000;
+/// How many digits surely write a number of 64 bits.
+const MOST_DIGITS: usize = 18;
 
 /// The first line without its LF, and the text after it.
 #[tactic(auto, using(crate::proofs::FirstLine::first_of_more, crate::proofs::FirstLine::the_last))]
@@ -129,6 +129,16 @@ fn far_place(byte: u8, text: &[u8]) -> usize
     }
 }
 
+/// Whether the last run of a text has no such byte: surely so where the answer is true.
+fn is_absent_at_end(byte: u8, text: &[u8]) -> bool
+    ensures { IsTrue result → 32 ≤ position_or_len (λ other. other == byte) (drop (length text.now - 32) text.now) }
+{
+    match text.split_last_chunk::<RUN>() {
+        Some((_, run)) => place_in_run(byte, run) == RUN,
+        None => false,
+    }
+}
+
 /// Where the first such byte of a text is: the length where there is none.
 fn place_of(byte: u8, text: &[u8]) -> usize
     ensures { result ≡ position_or_len (λ other. other == byte) text.now }
@@ -137,6 +147,9 @@ fn place_of(byte: u8, text: &[u8]) -> usize
         let place = place_in_run(byte, run);
         if place < RUN {
             return place;
+        }
+        if text.len() <= 2 * RUN && is_absent_at_end(byte, text) {
+            return text.len();
         }
     }
     far_place(byte, text)
@@ -239,14 +252,17 @@ fn is_led(field: &[u8]) -> bool
     !field.is_empty() && !(field.len() > 1 && field[0] == b'0')
 }
 
-/// The number that decimal digits write, in one pass: None where one is no digit, and where the number is near 2^64 or above.
+/// The number that at most 18 decimal digits write, in one pass: None where one is no digit, and where there are more.
 fn small_number(field: &[u8]) -> Option<u64>
     ensures { IfSome result (λ n. (n ≡ digits_value 10 field.now) × (list_all is_ascii_digit field.now ≡ true)) }
 {
+    if field.len() > MOST_DIGITS {
+        return None;
+    }
     let mut rest = field;
     let mut n = 0;
     while let [digit, after @ ..] = rest {
-        if !digit.is_ascii_digit() || n > MOST_BEFORE_DIGIT {
+        if !digit.is_ascii_digit() {
             return None;
         }
         n = n * 10 + (*digit - b'0') as u64;
@@ -282,6 +298,8 @@ fn text_number(field: &str, least: u64, most: u64) -> Result<u64, LineFault>
 }
 
 /// The same as `number`, for a field that isn't surely a small number.
+#[cold]
+#[inline(never)]
 #[tactic(auto, using(crate::proofs::Ascii::digits_are_utf8))]
 fn any_number(field: &[u8], least: u64, most: u64) -> Result<u64, LineFault>
     ensures value { result ≡ number_in least most field.now }
@@ -297,6 +315,7 @@ fn any_number(field: &[u8], least: u64, most: u64) -> Result<u64, LineFault>
 }
 
 /// A field that is a number from `least` to `most`: BadNumber where it is no number, OutOfRange where it is another one.
+#[inline]
 pub fn number(field: &[u8], least: u64, most: u64) -> Result<u64, LineFault>
     ensures value { result ≡ number_in least most field.now }
     ensures range { IfOk result (λ n. (least ≤ n) × (n ≤ most)) }

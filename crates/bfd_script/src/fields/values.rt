@@ -16,8 +16,8 @@ use byteorder::{BigEndian, ByteOrder};
 use hex::FromHexError;
 use std::alloc::{AllocError, Global};
 
-/// How many bytes of a payload are kept.
-const MOST_KEPT: usize = 256;
+/// How many bytes a short payload has at most: as many as the longest control packet.
+const MOST_SHORT: usize = 52;
 
 /// One of the four numbers of an address.
 fn octet(field: &[u8]) -> Result<u8, LineFault>
@@ -155,6 +155,7 @@ fn plain_quad(field: &[u8]) -> Option<u32>
 }
 
 /// The same as `address`, by looking for digits of both kinds.
+#[inline(never)]
 #[tactic(auto, using(crate::proofs::Nibbles::no_sixteen))]
 fn any_address(field: &[u8]) -> Result<Addr, LineFault>
     ensures value { result ≡ address_of field.now }
@@ -185,6 +186,7 @@ fn plain_address(field: &[u8]) -> Option<Addr>
 
 /// A field that is an address: 32 hexadecimal digits of both cases, or four numbers 0 to 255 with dots. BadAddress where
 /// it is neither.
+#[inline]
 pub fn address(field: &[u8]) -> Result<Addr, LineFault>
     ensures value { result ≡ address_of field.now }
     ensures range { IfOk result IsAddress }
@@ -223,17 +225,17 @@ pub fn bytes_read(alloc: Global, field: &[u8]) -> Result<Vec<u8>, ReadFault>
     }
 }
 
-/// A field of an even number of digits, 2 to 512, that is a payload.
+/// A field of an even number of digits, 2 to 104, that is a payload.
 #[tactic(auto, using(crate::proofs::Decoding::payload_by_room))]
 fn short_payload(alloc: Global, field: &[u8]) -> Result<Payload, ReadFault>
     requires some { 2 ≤ length field.now }
-    requires few { length field.now ≤ 512 }
+    requires few { length field.now ≤ 104 }
     requires even { length field.now % 2 ≡ 0 }
     ensures value { Gives (λ p. p) result (payload_of field.now) }
     ensures bytes { IfOk result (λ payload. IsBytes payload) }
     ensures short { IfOk result (λ payload. length payload ≤ 256) }
 {
-    let mut room = [0; MOST_KEPT];
+    let mut room = [0; MOST_SHORT];
     let bytes = &mut room[..field.len() / 2];
     if !decode(field, bytes) {
         return Err(ReadFault::Fault(LineFault::BadHex));
@@ -248,7 +250,7 @@ pub fn payload_read(alloc: Global, field: &[u8]) -> Result<Payload, ReadFault>
     ensures short { IfOk result (λ payload. length payload ≤ 256) }
 {
     let digits = field.len();
-    if 2 <= digits && digits <= 2 * MOST_KEPT && digits % 2 == 0 {
+    if 2 <= digits && digits <= 2 * MOST_SHORT && digits % 2 == 0 {
         return short_payload(alloc, field);
     }
     let bytes = bytes_read(alloc, field)?;

@@ -1,14 +1,14 @@
 // What one line says.
-ghost use Rattle.std.specs.Prelude.{◌≡◌, Err, IfOk, false, if◌then◌else◌, map, true};
-ghost use Rattle.bfd_script.specs.Entries.{added, added_of, alone, cmd_entry, keyed, keyed_of, numbered_of, plain_of, rx_entry, received_fields, received_of, show_entry, shown_of, tick_entry, valued, version_by, versioned};
+ghost use Rattle.std.specs.Prelude.{◌≡◌, ◌∷◌, [], Err, IfOk, false, if◌then◌else◌, map, true};
+ghost use Rattle.bfd_script.specs.Entries.{added, added_of, alone, cmd_entry, keyed, keyed_of, numbered_of, plain_of, rx_entry, received_of, show_entry, shown_of, tick_entry, valued, version_by, versioned};
 ghost use Rattle.bfd_script.specs.Gives.{Gives};
 ghost use Rattle.bfd_script.specs.Ranges.{IsEntry, IsEvent};
 ghost use Rattle.bfd_script.specs.Verbs.{fits, verb_of};
 ghost use Rattle.bfd_script.specs.declared.line.entries.Entry.TheVariants.{Event};
 ghost use Rattle.bfd_script.specs.declared.fields.fault.LineFault.TheVariants.{FieldCount};
 
-use crate::fields::{LineFault, ReadFault, number};
-use crate::line::arrivals::{port_named, read_arrival};
+use crate::fields::{LineFault, ReadFault, address, number, payload_read};
+use crate::line::arrivals::port_named;
 use crate::line::pairs::read_pair;
 use crate::line::seamless::{read_reflector, read_seek};
 use crate::line::secrets::{read_chain, read_key};
@@ -16,14 +16,11 @@ use crate::line::trees::{read_head, read_tail};
 use crate::line::verbs::{commanding, known_verb, may_fit, verb_named};
 use crate::line::words::{Version, Word};
 use bfd_num::{GREATEST_TICK, MOMENT_BOUND, Moment, Tick};
-use bfd_packet::{Arrival, Key, Keys};
+use bfd_packet::{Arrival, Key, Keys, SOURCE_PORT};
 use bfd_rules::Cmd;
 use bfd_sbfd::Reflector;
 use bfd_session::SessionConfig;
 use std::alloc::Global;
-
-/// The values of an `rx` line.
-const RECEIVED_VALUES: usize = 7;
 
 /// An event line.
 #[derive(Drop)]
@@ -109,37 +106,40 @@ fn tick_entry(values: &[&[u8]]) -> Result<Entry, LineFault>
 }
 
 /// An `rx` line of these values.
-#[tactic(auto, unfolding(crate::specs::Entries::received_of))]
+#[tactic(auto, unfolding(crate::specs::Entries::received_of, crate::specs::Arrivals::arrival_of))]
 fn received_of(
     alloc: Global,
     moment: &[u8],
     port: &[u8],
     iface: &[u8],
-    rest: &[&[u8]],
+    src: &[u8],
+    dst: &[u8],
+    ttl: &[u8],
+    payload: &[u8],
 ) -> Result<Line, ReadFault>
-    ensures value { Gives (λ line. Event line)
-        result (received_of moment.now port.now iface.now (map (λ value. value.now) rest.now)) }
+    ensures value { Gives (λ line. Event line) result
+        (received_of moment.now port.now iface.now (src.now ∷ dst.now ∷ ttl.now ∷ payload.now ∷ [])) }
     ensures sound { IfOk result IsEvent }
 {
     let moment = number(moment, 0, MOMENT_BOUND - 1)?;
     let port = port_named(port)?;
     let iface = number(iface, 0, 65_535)? as u32;
-    let arrival = read_arrival(alloc, port, iface, rest)?;
+    let src = address(src)?;
+    let dst = address(dst)?;
+    let ttl = number(ttl, 0, 255)? as u8;
+    let payload = payload_read(alloc, payload)?;
     Ok(Line::Rx {
         moment: Moment::new(moment).unwrap(),
-        arrival,
+        arrival: Arrival {
+            port,
+            iface,
+            src,
+            sport: SOURCE_PORT,
+            dst,
+            ttl,
+            payload,
+        },
     })
-}
-
-/// The values of an `rx` line, of which there are seven.
-fn received_fields(alloc: Global, values: &[&[u8]]) -> Result<Line, ReadFault>
-    ensures value { Gives (λ line. Event line) result (received_fields (map (λ value. value.now) values.now)) }
-    ensures sound { IfOk result IsEvent }
-{
-    match values {
-        [moment, port, iface, rest @ ..] => received_of(alloc, moment, port, iface, rest),
-        _ => Err(ReadFault::Fault(LineFault::FieldCount)),
-    }
 }
 
 /// `rx MOMENT single|multi|echo|sbfd|answer IFACE SRC DST TTL HEX`
@@ -147,10 +147,12 @@ pub fn rx_entry(alloc: Global, values: &[&[u8]]) -> Result<Line, ReadFault>
     ensures value { Gives (λ line. Event line) result (rx_entry (map (λ value. value.now) values.now)) }
     ensures sound { IfOk result IsEvent }
 {
-    if values.len() != RECEIVED_VALUES {
-        return Err(ReadFault::Fault(LineFault::FieldCount));
+    match values {
+        [moment, port, iface, src, dst, ttl, payload] => {
+            received_of(alloc, moment, port, iface, src, dst, ttl, payload)
+        }
+        _ => Err(ReadFault::Fault(LineFault::FieldCount)),
     }
-    received_fields(alloc, values)
 }
 
 /// A `cmd` line of these values, without number.

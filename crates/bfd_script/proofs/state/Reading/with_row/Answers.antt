@@ -1,8 +1,0 @@
-use Rattle.bfd_script.proofs.Common.{◌∙◌, sym, ap, is_full, is_taken}
-use Rattle.bfd_script.proofs.Naming.{reading_row}
-use Rattle.bfd_script.proofs.state.Reading.with_row.Goals as goal
-
--- the events name sessions of the longer table, and no reflector has the new discriminator
-pub invariant_of-result : goal.invariant_of-result
-invariant_of-result c = reading_row c.args.config c.self.invariant
-    c.in_ok-table.ensures c.discr.ensures (c.is_taken.ensures ∙ ap (is_taken c.discr.result) (sym c.self.view_is)) c.if-is_taken.false (c.is_full.ensures ∙ ap is_full (sym c.self.view_is)) c.if-is_full.false
