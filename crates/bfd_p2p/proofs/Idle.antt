@@ -79,7 +79,7 @@ renews_sequence eff seq heard v m os h =
     cc (renewed_idle eff v renewed_still refl refl refl)
 
 -- the variables with the peer's fields
-abbrev heard_from : ℕ → Control → Vars → Vars
+abbrev pub heard_from : ℕ → Control → Vars → Vars
 heard_from eff packet v = record v {
   remote_discr = packet.my;
   remote_state = packet.state;

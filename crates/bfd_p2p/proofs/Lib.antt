@@ -1,3 +1,4 @@
 pub mod Later
 pub mod Failing
 pub mod Idle
+pub mod Repeated

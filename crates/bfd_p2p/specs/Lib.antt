@@ -7,3 +7,4 @@ pub mod Command
 pub mod Finish
 pub mod Machine
 pub mod Over
+pub mod Again

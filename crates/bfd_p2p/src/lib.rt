@@ -32,6 +32,7 @@
 //! soundness is kept; and that no call takes memory.
 #![tactic(auto)]
 
+mod again;
 mod commanding;
 mod finishing;
 mod frame;

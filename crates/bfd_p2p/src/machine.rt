@@ -16,10 +16,12 @@ ghost use Rattle.bfd_p2p.specs.Receive.{IsSized};
 ghost use Rattle.bfd_p2p.specs.Command as command;
 ghost use Rattle.bfd_p2p.specs.Finish as finishing;
 ghost use Rattle.bfd_p2p.specs.Frame.{moves as moves_of};
+ghost use Rattle.bfd_p2p.specs.Again.{IsAgain, heard_again};
 ghost use Rattle.bfd_p2p.specs.Over.{IsBegun, IsSettled, IsOver};
 ghost use Rattle.bfd_p2p.specs.Port.{port_of};
 ghost use Rattle.bfd_p2p.specs.Machine as machine;
 
+use crate::again::hears;
 use crate::commanding::commands;
 use crate::finishing::finish;
 use crate::frame::moves;
@@ -181,6 +183,21 @@ impl P2p {
         ensures room { outs.new.room ≡ outs.old.room }
     {
         settle(&self.config, limit, eff, &mut self.vars, mark, outs);
+    }
+
+    /// Does a whole event by a packet that tells a session in Up nothing new, as `begin`, `settle`, `accept` and `finish` do it: then
+    /// the answer is true, and it was accepted. Else nothing is done. The packet is one that may be handed to `accept`.
+    pub fn hears_again(&mut self, eff: u64, ttl: u8, raw: &[u8]) -> bool
+        requires eff { eff < moment_bound }
+        requires header { first_failing (port_of self.old.config.role) raw.now ≡ None }
+        ensures config { self.new.config ≡ self.old.config }
+        ensures again { result ≡ true → IsAgain self.old.config eff ttl raw.now self.old.vars }
+        ensures moment { result ≡ true → self.new.vars ≡ heard_again eff self.old.vars }
+        ensures sized { IsSized (fields_of raw.now) }
+        ensures rests { result ≡ false → self.new ≡ self.old }
+    {
+        let packet = fields(self.config.role, raw);
+        hears(&self.config, eff, ttl, &packet, raw, &mut self.vars)
     }
 
     /// Receives a packet that came with this TTL (RFC 5880 section 6.8.6). `raw` passes the header tests of the

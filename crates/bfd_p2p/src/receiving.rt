@@ -22,7 +22,7 @@ use bfd_packet::{Control, Keys, Port, SeqState, State, Test, read};
 use bfd_rules::{Config, Mark, Outs, Poll, Role, Vars, Verdict, enters, is_admin_down};
 
 /// The first of the session's tests on TTL and the A bit that the packet fails.
-fn session_test(config: &Config, ttl: u8, packet: &Control) -> Option<Test>
+pub(crate) fn session_test(config: &Config, ttl: u8, packet: &Control) -> Option<Test>
     ensures { result ≡ find (receive.session_fails config.now ttl packet.now) receive.session_tests }
 {
     let plain = config.keys.is_none();

@@ -3,6 +3,7 @@ pub mod Front
 pub mod DueTick
 pub mod EchoKept
 pub mod Rest
+pub mod Repeated
 pub mod Soundness
 pub mod Machines
 pub mod Renewing

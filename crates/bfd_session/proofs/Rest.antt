@@ -1,28 +1,12 @@
 -- A tick by which nothing is due leaves sound variables as they are, and puts nothing out.
-use Rattle.bfd_session.proofs.Common.{◌≡◌, ◌*◌, ◌++◌, append-nil, ℕ, Bool, true, false, refl, ap, ◌∙◌, Option, None, Some, IsSome, IsTrue, ◌↔◌, List, [], if◌then◌else◌, leb-false, floor_tick, has_come, sooner, Config, Vars, deadline, seq_deadline, Course, course, begins, redrawn, Echo, SessionConfig, Pair, Running, Flow, due, due_by, tick_of, should_echo, echoing, interval_of, echo_due, settled_running, settles_echo, goes_on, number_by, number_after, turns_echo, IsPairSound, sound_by, tick, tick_next, ticked_flow, tick_emits, begun, Seek, Head, Tail, option_map, IsSound, Out}
-use Rattle.bfd_rules.specs.Sound as pair
-use Rattle.bfd_rules.proofs.Still.{no_news, drawn_stands}
-use Rattle.bfd_p2p.specs.Settle as settling
-use Rattle.bfd_p2p.specs.Finish as finishing
+use Rattle.bfd_session.proofs.Common.{◌≡◌, ◌*◌, ◌++◌, append-nil, ℕ, Bool, true, false, refl, ap, ◌∙◌, Option, None, Some, IsSome, IsTrue, ◌↔◌, List, [], if◌then◌else◌, leb-false, has_come, sooner, Config, Vars, deadline, seq_deadline, Echo, SessionConfig, Pair, Running, Flow, due, due_by, tick_of, should_echo, echoing, interval_of, echo_due, settled_running, settles_echo, goes_on, number_by, number_after, turns_echo, IsPairSound, sound_by, tick, tick_next, ticked_flow, tick_emits, begun, Seek, Head, Tail, option_map, IsSound, Out}
+use Rattle.bfd_p2p.proofs.Repeated.{settle_rests, finish_rests}
 use Rattle.bfd_sbfd.specs.Waiting.{deadline as seek_deadline}
 use Rattle.bfd_sbfd.proofs.Rest as seek
 use Rattle.bfd_mp.proofs.Rest as tree
 use Rattle.bfd_echo.specs.Timing.{due as echo_tick}
 use Rattle.bfd_echo.proofs.DueTick.{outcome_rests}
 use Rattle.bfd_session.proofs.DueTick.{parts, not_late, not_due}
-
--- settling with nothing due
-
-settle_rests : (c : Config) (limit eff : ℕ) (s : Course) → has_come limit (deadline s.vars) ≡ false → has_come limit (seq_deadline s.vars) ≡ false
-    → has_come (floor_tick limit) s.vars.tx_due ≡ false → settling.settle c limit eff s ≡ s
-unfolding settling.settle settling.detection settling.sequence settling.periodic
-settle_rests c limit eff s late seq_late due_later = rw (late, seq_late, due_later) refl
-
--- the end of an event with no news and a due tick that stands
-
-finish_rests : {c : Config} (eff : ℕ) {v : Vars} (os : List Out) → pair.IsSound c v → finishing.finish c eff (course v (begins v) os) ≡ course v (begins v) os
-unfolding finishing.finish finishing.extra redrawn
-finish_rests {c} eff {v} os sound = rw (no_news v, drawn_stands c.active v sound.due) refl
 
 -- the Echo function with nothing due
 

@@ -1,11 +1,13 @@
 //! The events of a point-to-point session with its Echo function.
-ghost use Rattle.std.specs.Prelude.{◌≡◌, ◌<◌, ◌≤◌, ◌+◌, ◌*◌, ◌++◌, ℕ, None, true, false, IfSome};
+ghost use Rattle.std.specs.Prelude.{◌≡◌, ◌<◌, ◌≤◌, ◌+◌, ◌*◌, ◌++◌, ℕ, List, None, Some, true, false, IfSome};
 ghost use Rattle.bfd_num.specs.Numbers.{moment_bound};
 ghost use Rattle.bfd_num.specs.Due.{has_come};
-ghost use Rattle.bfd_rules.specs.EventFrame.{course};
+ghost use Rattle.bfd_rules.specs.declared.outputs.Out.{Out};
+ghost use Rattle.bfd_rules.specs.EventFrame.{course, begins};
 ghost use Rattle.bfd_p2p.specs.Over.{IsBegun, IsOver, IsSettled};
 ghost use Rattle.bfd_echo.specs.Rules.{HasMoments};
 ghost use Rattle.bfd_session.specs.declared.event.SessionConfig.TheVariants.{Pair};
+ghost use Rattle.bfd_session.specs.declared.event.Answer.TheVariants.{Handled};
 ghost use Rattle.bfd_session.specs.Due as due;
 ghost use Rattle.bfd_session.specs.Echoing.{IsEchoOver};
 ghost use Rattle.bfd_session.specs.Inside.{pair_of};
@@ -126,6 +128,30 @@ fn finishes(
     turns_echo(p, echo, next, eff);
 }
 
+/// Whether the event is a packet that tells a session in Up nothing new; then that is all of the event (`P2p::hears_again`), and the packet
+/// was accepted. Else nothing is done.
+#[tactic(auto, using(crate::proofs::Repeated::again_step, crate::proofs::Repeated::again_answer))]
+fn hears_again(p: &mut P2p, echo: &Option<Echo>, eff: u64, event: &Event) -> bool
+    requires eff { eff < moment_bound }
+    requires takes { CanTake (Pair p.old.config) event.now }
+    ensures config { p.new.config ≡ p.old.config }
+    ensures rests { result ≡ false → p.new ≡ p.old }
+    ensures size { result ≡ true → HasSize (Pair p.old.config) event.now }
+    ensures flow { result ≡ true → (next : ℕ) (os : List Out) → session.step (Pair p.old.config) eff event.now
+        (session.begun (Some eff) (pair_of p.old echo.now next) os)
+        ≡ flow (course p.new.vars (begins p.new.vars) os) echo.now next }
+    ensures answer { result ≡ true → (next : ℕ) (os : List Out)
+        → session.reply_from eff event.now (pair_of p.old echo.now next) os ≡ Handled }
+    ensures sound { result ≡ true → (next : ℕ) → IsPairSound p.new.config (pair_of p.new echo.now next) }
+{
+    match (event, echo) {
+        (Event::Packet(arrival), None) => {
+            p.hears_again(eff, arrival.ttl, arrival.payload.as_slice())
+        }
+        _ => false,
+    }
+}
+
 /// An own event, from what was put out before it. At most three outputs are those of settling, and two of the event and its
 /// end together: a packet with F tells the state, so nothing more is told. (Apart from `steps`: this opens the definition that
 /// a law of `steps` is about.)
@@ -156,6 +182,9 @@ fn runs(
     ensures spare { outs.old.spare ≤ outs.new.spare + 5 }
     ensures room { outs.new.room ≡ outs.old.room }
 {
+    if hears_again(p, echo, eff, event) {
+        return Answer::Handled;
+    }
     let mut mark = p.begin(Some(eff));
     settles(p, echo, eff, eff, &mut mark, outs);
     let answer = acts(p, echo, eff, event, &mut mark, outs);

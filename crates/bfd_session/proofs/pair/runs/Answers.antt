@@ -1,4 +1,4 @@
--- Where a packet with F tells the state, nothing more is told.
+-- Where a packet with F tells the state, nothing more is told; and a packet that tells nothing new leaves a sound session.
 use Rattle.bfd_session.proofs.Common.{◌≡◌, ◌≤◌, ◌+◌, ℕ, Bool, true, false, refl, arith}
 use Rattle.bfd_session.proofs.pair.runs.Goals as goal
 
@@ -10,3 +10,6 @@ within false finished a one two none more = omega (arith, a, one refl, more)
 pub returns-clause-spare : goal.returns-clause-spare
 returns-clause-spare c = within c.acts-answer.new.mark.answered c.finishes.new.outs.spare
     c.settles.ensures.spare c.acts-answer.ensures.unanswered c.acts-answer.ensures.spare c.finishes.ensures.answered c.finishes.ensures.spare
+
+pub returns-then-hears_again-clause-sound : goal.returns-then-hears_again-clause-sound
+returns-then-hears_again-clause-sound c = c.if-hears_again.ensures.sound refl c.args.next.now
