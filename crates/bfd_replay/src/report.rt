@@ -25,8 +25,10 @@ mod reporting;
 mod rest;
 
 pub use at_once::report_at_once;
+pub(crate) use counts::added;
 pub use counts::{dropped, sent};
 pub use gathering::Gathered;
+pub(crate) use giving::give_all;
 pub use law::{dealing_laws, telling_laws};
 pub use output::{give_on, write_all, write_each};
 pub use part::Part;
