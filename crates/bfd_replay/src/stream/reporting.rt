@@ -178,9 +178,7 @@ fn tell_line<W: Timers, R: Wait, G: Gate, K: Sink, L: Ledger>(
     ensures room { outs.new.room ≡ outs.old.room }
 {
     match shared_tick(&line, engine.shards()) {
-        Some(tick) => tell_parts(
-            rt, alloc, engine, pass, tick, outs, told, steps, gate, sink,
-        ),
+        Some(tick) => tell_parts(rt, alloc, engine, pass, tick, outs, told, steps, gate, sink),
         None => tell_one(rt, engine, pass, line, outs, told, steps, gate, sink),
     }
 }
