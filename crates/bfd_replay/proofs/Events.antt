@@ -6,17 +6,17 @@ use Rattle.std.specs.List.{cons_option, filter_map}
 use Rattle.std.proofs.lemmas.List.Sums.{sum_by-cons}
 use Rattle.bfd_shard.specs.declared.entry.ShardEvent.{ShardEvent}
 use Rattle.bfd_shard.specs.History.{last_tick, runs}
-use Rattle.bfd_engine.specs.Engines.{Knows, Shards, configs_at}
+use Rattle.bfd_engine.specs.Engines.{Knows, Shards}
 use Rattle.bfd_engine.specs.Calls.{seen_at}
 use Rattle.bfd_engine.specs.Opening.{IsNewPass}
 use Rattle.bfd_replay.specs.Happenings.{Apart, Among, session_event}
 use Rattle.bfd_replay.specs.declared.stream.telling.Stop.{Stop}
 use Rattle.bfd_replay.specs.declared.stream.telling.Stop.TheVariants.{Refused, Unwritten}
 use Rattle.bfd_replay.specs.Telling.{HasBrought, HasToldEvent, HasToldFront, IsEventStop, IsStop, outcomes_on}
-use Rattle.bfd_replay.specs.Turning.{Went, brought, outcome_given}
+use Rattle.bfd_replay.specs.Turning.{AllSole, HasKept, Stands, Went, brought, outcome_in}
 use Rattle.bfd_replay.specs.Working.{IsSole, entries_by}
-use Rattle.bfd_replay.proofs.Going.{entries_both}
-use Rattle.bfd_replay.proofs.OneCaller.{cut_short, given_past, one_brought, one_history, outcome_first, outcome_in, outcomes_none, past_after, past_few}
+use Rattle.bfd_replay.proofs.Going.{earlier_sole, entries_both}
+use Rattle.bfd_replay.proofs.OneCaller.{cut_short, history_after, outcome_first, outcomes_none, past_after, past_few}
 
 -- more was told
 pub told_on : {first next last : Option (List ℕ)} {start told after : Telling} {all some rest : List Outcome}
@@ -57,24 +57,24 @@ event_told old new before told after o text events txs drops events2 txs2 drops2
   drops = omega (arith, drops, drops2, sum_by-cons dropped o rest);
 }
 
--- what was told of a script so far by caller 0 on an engine of one shard, if it is the only one
+-- what was told of a script so far by caller 0, if it is the engine's only one
 pub record IsTelling (engine : Shards) (lines left : List Line) (l : Knows) (old now : Option (List ℕ)) (before after : Telling) : Type 0 where
   pub past : List ShardEvent
   pub short : length past + length left ≤ length lines
   pub whole : past ++ filter_map session_event (happenings engine.configs engine.pool left) ≡ filter_map session_event (happenings engine.configs engine.pool lines)
-  pub seen : IsSole 0 (seen_at l 0) → seen_at l 0 ≡ entries_by 0 past
-  pub told : IsSole 0 (seen_at l 0) → ToldUpTo old now before after (outcomes_on engine (happenings engine.configs engine.pool lines))
-      (happening_outcomes (last_tick past) (happenings engine.configs engine.pool left) (runs past (configs_at engine 0)))
+  pub seen : (r : ℕ) → r < length engine.locks → IsSole 0 (seen_at l r) → seen_at l r ≡ entries_by 0 (history_of (length engine.locks) r past)
+  pub told : AllSole (length engine.locks) l → ToldUpTo old now before after (outcomes_on engine (happenings engine.configs engine.pool lines))
+      (happening_outcomes (last_tick past) (happenings engine.configs engine.pool left) (runs past engine.configs))
 
-pub telling_none : {engine : Shards} (lines : List Line) {left : List Line} {k : Knows} (now : Option (List ℕ)) (told : Telling) → left ≡ lines → IsNewPass engine k → 0 < length engine.locks
+pub telling_none : {engine : Shards} (lines : List Line) {left : List Line} {k : Knows} (now : Option (List ℕ)) (told : Telling) → left ≡ lines → IsNewPass engine k
     → IsTelling engine lines left k now now told told
-telling_none {engine} lines {left} {k} now told same new some = record {
+telling_none {engine} lines {left} {k} now told same new = record {
   past = [];
   short = omega (arith, ap length same);
   whole = ap (λ ls. filter_map session_event (happenings engine.configs engine.pool ls)) same;
-  seen = λ s. new.seen 0 some;
-  told = λ s. rw (ap (λ ls. happening_outcomes (last_tick []) (happenings engine.configs engine.pool ls) (runs [] (configs_at engine 0))) same
-      ∙ outcomes_none (configs_at engine 0) (happenings engine.configs engine.pool lines)) (nothing_told now told (outcomes_on engine (happenings engine.configs engine.pool lines)));
+  seen = λ r inside s. new.seen r inside;
+  told = λ s. rw (ap (λ ls. happening_outcomes (last_tick []) (happenings engine.configs engine.pool ls) (runs [] engine.configs)) same
+      ∙ outcomes_none engine.configs (happenings engine.configs engine.pool lines)) (nothing_told now told (outcomes_on engine (happenings engine.configs engine.pool lines)));
 }
 
 module _ {engine : Shards} {lines left rest : List Line} {line : Line} {l : Knows} {old now : Option (List ℕ)} {before told : Telling} (split : left ≡ line ∷ rest)
@@ -84,56 +84,53 @@ module _ {engine : Shards} {lines left rest : List Line} {line : Line} {l : Know
 
   -- what the lines give that are left when this one was told
   abbrev later : List Outcome
-  later = happening_outcomes (last_tick (past_after t.past h)) (happenings engine.configs engine.pool rest) (runs (past_after t.past h) (configs_at engine 0))
+  later = happening_outcomes (last_tick (past_after t.past h)) (happenings engine.configs engine.pool rest) (runs (past_after t.past h) engine.configs)
 
-  outcomes_split : IsSole 0 (seen_at l 0) → outcome_given (configs_at engine 0) (seen_at l 0) h ∷ later
-      ≡ happening_outcomes (last_tick t.past) (happenings engine.configs engine.pool left) (runs t.past (configs_at engine 0))
-  outcomes_split s =
-      let is : outcome_given (configs_at engine 0) (seen_at l 0) h ≡ outcome_in (last_tick t.past) h (runs t.past (configs_at engine 0)) =
-      ap (λ before. outcome_given (configs_at engine 0) before h) (t.seen s) ∙ given_past (configs_at engine 0) t.past h in
-      ap (λ x. x ∷ later) is
-      ∙ (sym (outcome_first (configs_at engine 0) t.past h (happenings engine.configs engine.pool rest))
-      ∙ ap (λ ls. happening_outcomes (last_tick t.past) (happenings engine.configs engine.pool ls) (runs t.past (configs_at engine 0))) (sym split))
+  outcomes_split : outcome_in (last_tick t.past) h (runs t.past engine.configs) ∷ later
+      ≡ happening_outcomes (last_tick t.past) (happenings engine.configs engine.pool left) (runs t.past engine.configs)
+  outcomes_split = sym (outcome_first engine.configs t.past h (happenings engine.configs engine.pool rest))
+      ∙ ap (λ ls. happening_outcomes (last_tick t.past) (happenings engine.configs engine.pool ls) (runs t.past engine.configs)) (sym split)
 
-  pub telling_next : {m : Knows} {next : Option (List ℕ)} {after : Telling} → Went l m (brought 1 (happening engine.configs engine.pool line) 0) 0
+  stands : AllSole (length engine.locks) l → Stands engine t.past l
+  stands s r inside = t.seen r inside (s r inside)
+
+  pub telling_next : {m : Knows} {next : Option (List ℕ)} {after : Telling}
+      → ((r : ℕ) → r < length engine.locks → Went l m (brought (length engine.locks) (happening engine.configs engine.pool line) r) r)
       → HasToldEvent engine (happening engine.configs engine.pool line) l m now next told after → IsTelling engine lines rest m old next before after
-  telling_next {m} {next} {after} w more = record {
-    past = past_after t.past h;
-    short = omega (arith, t.short, past_few t.past h, ap length split);
-    whole = past_on t.past h (filter_map session_event (happenings engine.configs engine.pool rest))
-        ∙ (ap (λ ls. t.past ++ filter_map session_event (happenings engine.configs engine.pool ls)) (sym split) ∙ t.whole);
-    seen = λ s. cc (w.seen s, t.seen (w.sole s), one_brought h, entries_both t.past (cons_option (session_event h) []));
-    told = λ s. told_on (t.told (w.sole s)) (subst (λ os. ToldUpTo now next told after os later) (outcomes_split (w.sole s)) (more s later));
-  }
+  telling_next {m} {next} {after} w more =
+      let n = length engine.locks in
+      let earlier : AllSole n m → AllSole n l = λ s r inside. (w r inside).sole (s r inside) in
+      record {
+        past = past_after t.past h;
+        short = omega (arith, t.short, past_few t.past h, ap length split);
+        whole = past_on t.past h (filter_map session_event (happenings engine.configs engine.pool rest))
+            ∙ (ap (λ ls. t.past ++ filter_map session_event (happenings engine.configs engine.pool ls)) (sym split) ∙ t.whole);
+        seen = λ r inside s. cc ((w r inside).seen s, t.seen r inside ((w r inside).sole s), history_after n r t.past h, entries_both (history_of n r t.past) (brought n h r));
+        told = λ s. told_on (t.told (earlier s)) (subst (λ os. ToldUpTo now next told after os later) outcomes_split (more s t.past (stands (earlier s)) later));
+      }
 
-  pub telling_front : (m : Knows) (next : Option (List ℕ)) → (IsSole 0 (seen_at m 0) → IsSole 0 (seen_at l 0))
-      → HasToldFront engine (happening engine.configs engine.pool line) l m now next told → IsSole 0 (seen_at m 0)
+  pub telling_front : {times : ℕ} (m : Knows) (next : Option (List ℕ)) → HasKept times l m
+      → HasToldFront engine (happening engine.configs engine.pool line) l m now next told → AllSole (length engine.locks) m
       → TookFront old next (before.text ++ lines_from (before.events + 1) (outcomes_on engine (happenings engine.configs engine.pool lines)))
-  telling_front m next earlier more s =
-      took_front old now next _ _ (t.told (earlier s)).lines
-      (subst (λ os. TookFront now next (told.text ++ lines_from (told.events + 1) os)) (outcomes_split (earlier s)) (more s later))
+  telling_front m next kept more s =
+      let earlier : AllSole (length engine.locks) l = λ r inside. earlier_sole r kept (s r inside) in
+      took_front old now next _ _ (t.told earlier).lines
+      (subst (λ os. TookFront now next (told.text ++ lines_from (told.events + 1) os)) outcomes_split (more s t.past (stands earlier) later))
 
-  seen_all : length engine.locks ≡ 1 → (r : ℕ) → r < length engine.locks → IsSole 0 (seen_at l r) → seen_at l r ≡ entries_by 0 (history_of (length engine.locks) r t.past)
-  seen_all one r inside s =
-      let z : r ≡ 0 = omega (arith, inside, one) in
-      let whole : t.past ≡ history_of (length engine.locks) r t.past =
-      sym (one_history t.past) ∙ (ap (λ n. history_of n 0 t.past) (sym one) ∙ ap (λ x. history_of (length engine.locks) x t.past) (sym z)) in
-      ap (seen_at l) z ∙ (t.seen (subst (λ x. IsSole 0 (seen_at l x)) z s) ∙ ap (entries_by 0) whole)
-
-  pub telling_stopped : (m : Knows) (stop : Stop) → length engine.locks ≡ 1 → length lines ≤ engine.limit → IsEventStop engine l m stop → IsStop engine m stop
-  telling_stopped m (Unwritten fault) one limit e = tt
-  telling_stopped m (Refused fault) one limit e = cut_short engine l m t.past (length lines) fault (omega (arith, t.short, ap length split)) limit (seen_all one) e
+  pub telling_stopped : (m : Knows) (stop : Stop) → length lines ≤ engine.limit → IsEventStop engine l m stop → IsStop engine m stop
+  telling_stopped m (Unwritten fault) limit e = tt
+  telling_stopped m (Refused fault) limit e = cut_short engine l m t.past (length lines) fault (omega (arith, t.short, ap length split)) limit t.seen e
 
 -- the end: nothing is left
 module _ {engine : Shards} {lines left : List Line} {l : Knows} {old now : Option (List ℕ)} {before told : Telling} (none : left ≡ []) (t : IsTelling engine lines left l old now before told) where
   pub telling_brought : HasBrought engine (happenings engine.configs engine.pool lines) l
-  telling_brought s = t.seen s ∙ ap (entries_by 0) (sym (append-nil t.past)
+  telling_brought s r inside = t.seen r inside (s r inside) ∙ ap (λ es. entries_by 0 (history_of (length engine.locks) r es)) (sym (append-nil t.past)
       ∙ (ap (λ ls. t.past ++ filter_map session_event (happenings engine.configs engine.pool ls)) (sym none) ∙ t.whole))
 
-  pub telling_all : IsSole 0 (seen_at l 0) → ToldUpTo old now before told (outcomes_on engine (happenings engine.configs engine.pool lines)) []
-  telling_all s = subst (λ ls. ToldUpTo old now before told (outcomes_on engine (happenings engine.configs engine.pool lines)) (happening_outcomes (last_tick t.past) (happenings engine.configs engine.pool ls) (runs t.past (configs_at engine 0)))) none (t.told s)
+  pub telling_all : AllSole (length engine.locks) l → ToldUpTo old now before told (outcomes_on engine (happenings engine.configs engine.pool lines)) []
+  telling_all s = subst (λ ls. ToldUpTo old now before told (outcomes_on engine (happenings engine.configs engine.pool lines)) (happening_outcomes (last_tick t.past) (happenings engine.configs engine.pool ls) (runs t.past engine.configs))) none (t.told s)
 
-  pub telling_end : IsSole 0 (seen_at l 0) → TookFront old now (before.text ++ lines_from (before.events + 1) (outcomes_on engine (happenings engine.configs engine.pool lines)))
+  pub telling_end : AllSole (length engine.locks) l → TookFront old now (before.text ++ lines_from (before.events + 1) (outcomes_on engine (happenings engine.configs engine.pool lines)))
   telling_end s = (told.text ++ lines_from (told.events + 1) [], (telling_all s).lines)
 
 -- the report of all events, where nothing was told at first

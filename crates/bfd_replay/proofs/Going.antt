@@ -1,6 +1,9 @@
 -- What a caller that may be the only one has seen of a shard, turn by turn.
-use Rattle.bfd_replay.proofs.WorkerCommon.{◌≡◌, ◌<◌, ◌≤◌, ◌+◌, ◌%◌, ◌/◌, ◌++◌, ◌∙◌, ◌∷◌, ℕ, [], List, length, sym, ap, subst, refl, append-nil, append_assoc, arith, map-append, eq-eqb, ne_eqb, dite, ℕ_discrete, Result, Ok, Err, Entry, calls, EngineFault, Full, Memory, Spent, Knows, Shards, configs_at, met_word, seen_at, taken_at, by, entry_of, given_after, Among, IsSole, entries_by}
+use Rattle.bfd_replay.proofs.WorkerCommon.{◌≡◌, ◌<◌, ◌≤◌, ◌+◌, ◌%◌, ◌/◌, ◌++◌, ◌∙◌, ◌∷◌, ℕ, [], List, length, sym, ap, subst, refl, append-nil, append_assoc, arith, map-append, eq-eqb, ne_eqb, dite, ℕ_discrete, Result, Ok, Err, Entry, calls, EngineFault, Full, Memory, Spent, Knows, Shards, configs_at, met_word, seen_at, taken_at, by, entry_of, given_after, Among, IsSole, entries_by, get_or-append_seam, get_or_append_left, last_tick, outcome_of, runs, Piece}
+use Rattle.std.specs.Prelude.{map, slice_index_or}
+use Rattle.std.proofs.Math.Nat.{mod-lt}
 use Rattle.bfd_rules.specs.declared.outputs.Out.{Out}
+use Rattle.bfd_shard.specs.Dealing.{share}
 use Rattle.bfd_session.specs.Alone.{Outcome}
 use Rattle.bfd_session.specs.declared.event.Answer.{Answer}
 use Rattle.bfd_session.specs.declared.event.Event.{Event}
@@ -10,7 +13,10 @@ use Rattle.bfd_turn.specs.Lists.{Begins}
 use Rattle.bfd_turn.specs.Passes.{last_word}
 use Rattle.bfd_turn.proofs.Beginnings.{begins_through}
 use Rattle.bfd_engine.specs.Calls.{IsCall, IsDone, IsFailed, Turned, Turns}
-use Rattle.bfd_replay.specs.Turning.{Gave, HasKept, IsRefusal, Went, brought}
+use Rattle.bfd_replay.specs.Turning.{Gave, HasKept, HaveToldTick, IsRefusal, Went, brought}
+use Rattle.bfd_replay.specs.Pieces.{event_pieces, item_piece}
+use Rattle.bfd_replay.proofs.OneCaller.{given_stands, one_share}
+use Rattle.bfd_replay.proofs.Sharing.{own_gives}
 use Rattle.bfd_replay.proofs.Soles.{between_none, front_sole}
 
 pub went_by : {k l : Knows} {r : ℕ} (between : List Entry) (new : List ShardEvent) → calls by 0 between ≡ []
@@ -131,14 +137,14 @@ module _ (engine : Shards) {n : ℕ} (place moment : ℕ) (event : Event) (k l :
   pub own_went : {answer : Answer} → result ≡ Ok answer → (r : ℕ) → r < length engine.locks → Went k l (brought (length engine.locks) (Among (Own place moment event)) r) r
   own_went is r inside = subst (λ m. Went k l (brought m (Among (Own place moment event)) r) r) locks (went_of is r)
 
-  pub own_gave : {answer : Answer} → result ≡ Ok answer → Gave engine k l (Among (Own place moment event)) (record { items = outs2; answer = answer })
-  own_gave {answer} is one sole =
-      let here : place % n ≡ 0 = ap (λ m. place % m) (locks ∙ one) ∙ (let z : place % 1 ≡ 0 = omega arith in z) in
-      let same : place / n ≡ place = ap (λ m. place / m) (locks ∙ one) ∙ (let z : place / 1 ≡ place = omega arith in z) in
-      let gave = call_gave engine (place % n) (Own (place / n) moment event) k l outs2 answer first (called is)
-      (subst (λ s. IsSole 0 (seen_at l s)) (sym here) sole) in
-      gave ∙ (ap (λ s. given_after (configs_at engine s) (seen_at k s) (Own (place / n) moment event)) here
-      ∙ ap (λ p. given_after (configs_at engine 0) (seen_at k 0) (Own p moment event)) same)
+  pub own_gave : {answer : Answer} → 0 < n → result ≡ Ok answer → Gave engine k l (Among (Own place moment event)) (record { items = outs2; answer = answer })
+  own_gave {answer} some is one sole past stands =
+      let inside : place % n < length engine.locks = omega (arith, locks, mod-lt place some) in
+      let shares : share (length engine.locks) (place % n) (runs past engine.configs) ≡ share n (place % n) (runs past engine.configs) =
+      ap (λ m. share m (place % n) (runs past engine.configs)) (sym locks) in
+      call_gave engine (place % n) (Own (place / n) moment event) k l outs2 answer first (called is) (sole (place % n) inside)
+      ∙ (given_stands engine k past (Own (place / n) moment event) inside stands
+      ∙ (ap (outcome_of (last_tick past) (Own (place / n) moment event)) shares ∙ own_gives n place moment (last_tick past) event (runs past engine.configs) some))
 
   pub own_refused : {fault : EngineFault} → place % n < length engine.locks → result ≡ Err fault → IsRefusal fault engine k l
   own_refused {fault} inside is =
@@ -167,14 +173,13 @@ passed_on {at} {k} {l} {m} p t = let one = kept_by t in record {
   taken_left = λ r h. t.taken_elsewhere r (λ e. omega (arith, e, h)) ∙ p.taken_left r (omega (arith, h));
 }
 
--- the shards before a place had a tick, and the last of them gave this
-pub record HasTicked (engine : Shards) (t at : ℕ) (k l : Knows) (outcome : Outcome) : Type 0 where
+-- the shards before a place had a tick
+pub record HasTicked (engine : Shards) (t at : ℕ) (k l : Knows) : Type 0 where
   pub passed : HasPassed at k l
   pub went : (r : ℕ) → r < at → Went k l (Tick t ∷ []) r
-  pub gave : at ≡ 1 → IsSole 0 (seen_at l 0) → outcome ≡ given_after (configs_at engine 0) (seen_at k 0) (Tick t)
 
-pub ticked_none : (engine : Shards) (t : ℕ) (k : Knows) (outcome : Outcome) → HasTicked engine t 0 k k outcome
-ticked_none engine t k outcome = record { passed = passed_none k; went = λ r h. absurd (omega (arith, h)); gave = λ one. absurd (omega (arith, one)) }
+pub ticked_none : (engine : Shards) (t : ℕ) (k : Knows) → HasTicked engine t 0 k k
+ticked_none engine t k = record { passed = passed_none k; went = λ r h. absurd (omega (arith, h)) }
 
 went_elsewhere : {k l m : Knows} {r : ℕ} {xs : List ShardEvent} → Went k l xs r → seen_at m r ≡ seen_at l r → Went k m xs r
 went_elsewhere a same = went_on a (went_same same)
@@ -183,24 +188,59 @@ went_elsewhere a same = went_on a (went_same same)
 went_first : {k l m : Knows} {r : ℕ} {xs : List ShardEvent} → seen_at l r ≡ seen_at k r → Went l m xs r → Went k m xs r
 went_first {k} {l} {m} {r} same b = record { begins = subst (λ t. Begins t (seen_at m r)) same b.begins; sole = λ s. subst (IsSole 0) same (b.sole s); seen = λ s. cc (b.seen s) }
 
-on_by : (engine : Shards) (t at : ℕ) (k l m : Knows) (before : Outcome) (outs2 : List Out) (answer : Answer) → k.0 ≡ 0 → HasTicked engine t at k l before
-    → IsCall engine at (Tick t) l m [] outs2 answer → HasTicked engine t (at + 1) k m (record { items = outs2; answer = answer })
-on_by engine t at k l m before outs2 answer first h d = record {
-  passed = passed_on h.passed d.turned;
-  went = λ r inside. dite (ℕ_discrete r at)
-      (λ e. subst (Went k m (Tick t ∷ [])) (sym e) (went_first (h.passed.seen_left at (omega arith)) (went_here (Tick t) (h.passed.kept.number ∙ first) d.turned)))
-      (λ e. went_elsewhere (h.went r (omega (arith, inside, e))) (d.turned.seen_elsewhere r e));
-  gave = λ one sole.
-      let here : at ≡ 0 = omega (arith, one) in
-      let gave = call_gave engine at (Tick t) l m outs2 answer (h.passed.kept.number ∙ first) d (subst (λ s. IsSole 0 (seen_at m s)) (sym here) sole) in
-      gave ∙ (ap (λ s. given_after (configs_at engine s) (seen_at l s) (Tick t)) here
-      ∙ ap (λ before. given_after (configs_at engine 0) before (Tick t)) (h.passed.seen_left 0 (omega (arith, here))));
-}
+at_end : (parts : List (List Piece)) (part : List Piece) {r : ℕ} → r ≡ length parts → slice_index_or (parts ++ part ∷ []) r [] ≡ part
+at_end parts part e = ap (λ x. slice_index_or (parts ++ part ∷ []) x []) e ∙ get_or-append_seam parts part [] []
 
-pub ticked_on : (engine : Shards) (t at : ℕ) (k l m : Knows) (before : Outcome) (outs2 : List Out) (answer : Answer) (result : Result Answer EngineFault) → k.0 ≡ 0 → HasTicked engine t at k l before
-    → IsDone (Turns at (Tick t)) engine l m [] outs2 result → result ≡ Ok answer → HasTicked engine t (at + 1) k m (record { items = outs2; answer = answer })
-ticked_on engine t at k l m before outs2 answer result first h d is =
-    on_by engine t at k l m before outs2 answer first h (subst (IsDone (Turns at (Tick t)) engine l m [] outs2) is d)
+before_end : (parts : List (List Piece)) (part : List Piece) {r : ℕ} → r < length parts → slice_index_or (parts ++ part ∷ []) r [] ≡ slice_index_or parts r []
+before_end parts part {r} h = get_or_append_left parts (part ∷ []) [] r h
+
+-- one shard more had it
+module _ (engine : Shards) (t at : ℕ) (k l m : Knows) (outs2 : List Out) (answer : Answer) (first : k.0 ≡ 0) (h : HasTicked engine t at k l) where
+  on_by : IsCall engine at (Tick t) l m [] outs2 answer → HasTicked engine t (at + 1) k m
+  on_by d = record {
+    passed = passed_on h.passed d.turned;
+    went = λ r inside. dite (ℕ_discrete r at)
+        (λ e. subst (Went k m (Tick t ∷ [])) (sym e) (went_first (h.passed.seen_left at (omega arith)) (went_here (Tick t) (h.passed.kept.number ∙ first) d.turned)))
+        (λ e. went_elsewhere (h.went r (omega (arith, inside, e))) (d.turned.seen_elsewhere r e));
+  }
+
+  call_of : (result : Result Answer EngineFault) → IsDone (Turns at (Tick t)) engine l m [] outs2 result → result ≡ Ok answer → IsCall engine at (Tick t) l m [] outs2 answer
+  call_of result d is = subst (IsDone (Turns at (Tick t)) engine l m [] outs2) is d
+
+  pub ticked_on : (result : Result Answer EngineFault) → IsDone (Turns at (Tick t)) engine l m [] outs2 result → result ≡ Ok answer → HasTicked engine t (at + 1) k m
+  ticked_on result d is = on_by (call_of result d is)
+
+  -- what it gave there
+  pub tick_gave : (result : Result Answer EngineFault) → IsDone (Turns at (Tick t)) engine l m [] outs2 result → result ≡ Ok answer → IsSole 0 (seen_at m at)
+      → (let o : Outcome = record { items = outs2; answer = answer } in o) ≡ given_after (configs_at engine at) (seen_at k at) (Tick t)
+  tick_gave result d is sole =
+      call_gave engine at (Tick t) l m outs2 answer (h.passed.kept.number ∙ first) (call_of result d is) sole
+      ∙ ap (λ before. given_after (configs_at engine at) before (Tick t)) (h.passed.seen_left at (omega arith))
+
+  pub tick_first : (result : Result Answer EngineFault) → IsDone (Turns at (Tick t)) engine l m [] outs2 result → result ≡ Ok answer → at + 1 ≡ 1 → IsSole 0 (seen_at m 0)
+      → (let o : Outcome = record { items = outs2; answer = answer } in o) ≡ given_after (configs_at engine 0) (seen_at k 0) (Tick t)
+  tick_first result d is one sole =
+      let here : at ≡ 0 = omega (arith, one) in
+      tick_gave result d is (subst (λ s. IsSole 0 (seen_at m s)) (sym here) sole) ∙ ap (λ s. given_after (configs_at engine s) (seen_at k s) (Tick t)) here
+
+  -- and what it told there
+  pub tick_told : (number : ℕ) (parts : List (List Piece)) (result : Result Answer EngineFault) → length parts ≡ at → HaveToldTick engine number t at k l parts
+      → IsDone (Turns at (Tick t)) engine l m [] outs2 result → result ≡ Ok answer → HaveToldTick engine number t (at + 1) k m (parts ++ map (item_piece number) outs2 ∷ [])
+  tick_told number parts result long told d is r inside sole = dite (ℕ_discrete r at)
+      (λ e. at_end parts (map (item_piece number) outs2) (e ∙ sym long)
+      ∙ (ap (λ (o : Outcome). map (item_piece number) o.items) (tick_gave result d is (subst (λ x. IsSole 0 (seen_at m x)) e sole))
+      ∙ ap (λ x. event_pieces number (Tick t) (given_after (configs_at engine x) (seen_at k x) (Tick t))) (sym e)))
+      (λ e. before_end parts (map (item_piece number) outs2) (omega (arith, inside, e, long))
+      ∙ told r (omega (arith, inside, e)) (subst (IsSole 0) ((call_of result d is).turned.seen_elsewhere r e) sole))
+
+-- on one shard it gave this
+pub one_gave : (engine : Shards) (t at : ℕ) (k l : Knows) (outcome : Outcome) → at ≡ length engine.locks
+    → (at ≡ 1 → IsSole 0 (seen_at l 0) → outcome ≡ given_after (configs_at engine 0) (seen_at k 0) (Tick t)) → Gave engine k l (Among (Tick t)) outcome
+one_gave engine t at k l outcome end gave one sole past stands =
+    let n = length engine.locks in
+    let inside : 0 < n = omega (arith, one) in
+    let all : share n 0 (runs past engine.configs) ≡ runs past engine.configs = ap (λ m. share m 0 (runs past engine.configs)) one ∙ one_share (runs past engine.configs) in
+    gave (end ∙ one) (sole 0 inside) ∙ (given_stands engine k past (Tick t) inside stands ∙ ap (outcome_of (last_tick past) (Tick t)) all)
 
 refusal_first : (engine : Shards) (at : ℕ) (k l m : Knows) (fault : EngineFault) → seen_at l at ≡ seen_at k at → ((s n : ℕ) → fault ≡ Full s n → s ≡ at)
     → IsRefusal fault engine l m → IsRefusal fault engine k m
@@ -214,14 +254,14 @@ full_at engine shard k l outs outs2 Memory f s n e = absurd (cc)
 full_at engine shard k l outs outs2 (Full at m) f s n e = (let z : at ≡ s = cc in sym z ∙ f.cause.0)
 full_at engine shard k l outs outs2 (Spent at w) f s n e = absurd (cc)
 
-pub tick_refused : (engine : Shards) (t at : ℕ) (k l m : Knows) (before : Outcome) (outs2 : List Out) (fault : EngineFault) (result : Result Answer EngineFault) → k.0 ≡ 0 → at < length engine.locks
-    → HasTicked engine t at k l before → IsDone (Turns at (Tick t)) engine l m [] outs2 result → result ≡ Err fault → IsRefusal fault engine k m
-tick_refused engine t at k l m before outs2 fault result first inside h d is =
+pub tick_refused : (engine : Shards) (t at : ℕ) (k l m : Knows) (outs2 : List Out) (fault : EngineFault) (result : Result Answer EngineFault) → k.0 ≡ 0 → at < length engine.locks
+    → HasTicked engine t at k l → IsDone (Turns at (Tick t)) engine l m [] outs2 result → result ≡ Err fault → IsRefusal fault engine k m
+tick_refused engine t at k l m outs2 fault result first inside h d is =
     let f = subst (IsDone (Turns at (Tick t)) engine l m [] outs2) is d in
     refusal_first engine at k l m fault (h.passed.seen_left at (omega arith)) (full_at engine at l m [] outs2 fault f)
     (refused_by fault (h.passed.kept.number ∙ first) inside f)
 
-pub tick_kept : (engine : Shards) (t at : ℕ) (k l m : Knows) (before : Outcome) (outs2 : List Out) (result : Result Answer EngineFault) → HasTicked engine t at k l before
+pub tick_kept : (engine : Shards) (t at : ℕ) (k l m : Knows) (outs2 : List Out) (result : Result Answer EngineFault) → HasTicked engine t at k l
     → IsDone (Turns at (Tick t)) engine l m [] outs2 result → HasKept 1 k m
-tick_kept engine t at k l m before outs2 (Ok answer) h d = (passed_on h.passed d.turned).kept
-tick_kept engine t at k l m before outs2 (Err fault) h d = (passed_on h.passed d.turned).kept
+tick_kept engine t at k l m outs2 (Ok answer) h d = (passed_on h.passed d.turned).kept
+tick_kept engine t at k l m outs2 (Err fault) h d = (passed_on h.passed d.turned).kept

@@ -14,6 +14,7 @@ pub mod Alone
 pub mod Sharing
 pub mod Histories
 pub mod Telling
+mod Ticking
 pub mod Whole
 pub mod PiecesGiven
 pub mod Seams

@@ -1,8 +1,9 @@
 -- Events by one caller, and what the closed engine shows of them.
-use Rattle.bfd_replay.proofs.WorkerCommon.{◌≡◌, ◌<◌, ◌≤◌, ◌+◌, ◌%◌, ◌/◌, ◌++◌, ◌∙◌, ◌∷◌, false, ℕ, [], List, length, map, get_or, sym, ap, subst, refl, append-nil, arith, length-append, length-map, Option, None, Some, slice_get-get_or, EngineFault, Full, Memory, Spent, Knows, Shards, made_at, seen_at, AreClosed, EachJoined, IsClosed, IsNewPass, Among, Apart, Happening, in_shard, IsSole, entries_by, Shard, SessionConfig, Running, started, has, last_tick, outcome_of, runs, entry_of}
+use Rattle.bfd_replay.proofs.WorkerCommon.{Bool, true, configs_at, ◌==◌, given_after, ◌≡◌, ◌<◌, ◌≤◌, ◌+◌, ◌%◌, ◌/◌, ◌++◌, ◌∙◌, ◌∷◌, false, ℕ, [], List, length, map, get_or, sym, ap, subst, refl, append-nil, arith, length-append, length-map, Option, None, Some, slice_get-get_or, EngineFault, Full, Memory, Spent, Knows, Shards, made_at, seen_at, AreClosed, EachJoined, IsClosed, IsNewPass, Among, Apart, Happening, in_shard, IsSole, entries_by, Shard, SessionConfig, started, has, last_tick, outcome_of, runs, entry_of}
+use Rattle.std.specs.Prelude.{max, if◌then◌else◌}
 use Rattle.std.specs.List.{cons_option}
+use Rattle.bfd_session.specs.declared.event.Event.{Event}
 use Rattle.std.proofs.lemmas.List.Elements.{filter_map-append}
-use Rattle.bfd_session.specs.Alone.{Outcome}
 use Rattle.bfd_shard.specs.declared.entry.ShardEvent.{ShardEvent}
 use Rattle.bfd_shard.specs.declared.entry.ShardEvent.TheVariants.{Own, Tick}
 unfoldable use Rattle.bfd_shard.specs.History.{last_from}
@@ -10,14 +11,18 @@ use Rattle.bfd_shard.specs.Dealing.{event_in, history_of}
 unfoldable use Rattle.bfd_shard.specs.Dealing.{share}
 use Rattle.bfd_shard.proofs.Runs.{last_more, runs_more}
 use Rattle.bfd_replay.specs.Happenings.{happening_outcomes, session_event}
-use Rattle.bfd_replay.specs.Turning.{AllSole, HasKept, IsCutShort, IsRefusal, brought, outcome_given}
-use Rattle.bfd_replay.proofs.Histories.{left_runs}
+use Rattle.bfd_replay.specs.Turning.{AllSole, HasKept, IsCutShort, IsRefusal, IsOfOne, Stands, brought, outcome_in}
+use Rattle.bfd_replay.proofs.Histories.{left_runs, runs_share}
 use Rattle.bfd_replay.proofs.Soles.{given_done, sole_of}
-
--- what an event gives, of these sessions
-abbrev pub outcome_in : ℕ → Happening → List Running → Outcome
-outcome_in last (Apart outcome) sessions = outcome
-outcome_in last (Among event) sessions = outcome_of last event sessions
+use Rattle.bfd_packet.specs.declared.arrival.Arrival.{Arrival}
+use Rattle.bfd_sbfd.specs.declared.reflecting.Reflector.{Reflector}
+use Rattle.bfd_session.specs.Arrivals.{Destination, Discarded, Reflected, Own as OwnTo, comes_to}
+use Rattle.bfd_session.specs.Rows.{place_of, table_of}
+use Rattle.bfd_session.specs.declared.event.Event.TheVariants.{Command, Show as Showing}
+use Rattle.bfd_script.specs.declared.line.entries.Line.{Line}
+use Rattle.bfd_script.specs.declared.line.entries.Line.TheVariants.{Rx, Tick as TickLine, Cmd, Show}
+use Rattle.bfd_script.specs.Doing.{Doing, Rests, Reflects, Happens, Passes, arriving, asking}
+use Rattle.bfd_replay.specs.Planned.{happening, happening_by}
 
 -- an event more, if it is one of the sessions
 abbrev pub past_after : List ShardEvent → Happening → List ShardEvent
@@ -32,9 +37,26 @@ pub outcomes_none : (cs : List SessionConfig) (hs : List Happening) → happenin
 unfolding last_from
 outcomes_none cs hs = let e : map started cs ≡ runs [] cs = left_runs [] cs in ap (λ ss. happening_outcomes 0 hs ss) (sym e)
 
-pub given_past : (cs : List SessionConfig) (past : List ShardEvent) (h : Happening) → outcome_given cs (entries_by 0 past) h ≡ outcome_in (last_tick past) h (runs past cs)
-given_past cs past (Apart outcome) = refl
-given_past cs past (Among event) = given_done 0 cs past event refl
+-- a shard has every tick
+
+last_own : (b : Bool) (last n r k m : ℕ) (event : Event) (es : List ShardEvent) → last_from last (history_of n r es) ≡ last_from last es
+    → last_from last (cons_option (if b then Some (Own (k / n) m event) else None) (history_of n r es)) ≡ last_from last es
+unfolding last_from
+last_own true last n r k m event es rest = rest
+last_own false last n r k m event es rest = rest
+
+last_history : (last n r : ℕ) (es : List ShardEvent) → last_from last (history_of n r es) ≡ last_from last es
+unfolding last_from
+last_history last n r [] = refl
+last_history last n r (Own k m event ∷ es) = last_own (k % n == r) last n r k m event es (last_history last n r es)
+last_history last n r (Tick t ∷ es) = last_history (max last t) n r es
+
+-- what an event of a shard gives, where all entries are caller 0's
+pub given_stands : (engine : Shards) (k : Knows) {r : ℕ} (past : List ShardEvent) (event : ShardEvent) → r < length engine.locks → Stands engine past k
+    → given_after (configs_at engine r) (seen_at k r) event ≡ outcome_of (last_tick past) event (share (length engine.locks) r (runs past engine.configs))
+given_stands engine k {r} past event inside stands =
+    let n = length engine.locks in
+    cc (given_done 0 (configs_at engine r) (history_of n r past) event (stands r inside), last_history 0 n r past, runs_share n r past engine.configs inside)
 
 pub history_after : (n r : ℕ) (past : List ShardEvent) (h : Happening) → history_of n r (past_after past h) ≡ history_of n r past ++ brought n h r
 history_after n r past (Apart outcome) = cc (append-nil past, append-nil (history_of n r past))
@@ -113,3 +135,27 @@ never_stopped Memory new kept few closed stop = refl
 never_stopped (Full at n) new kept few closed stop = absurd (stop (all_sole new kept closed))
 never_stopped {shards = shards} (Spent at word) new kept few closed stop =
     absurd (omega (arith, (closed_at shards closed stop.1).1.word, kept.taken stop.0, new.taken stop.0 stop.1, few, stop.2))
+
+-- a line that at most one of so many shards has
+
+pub one_turn : (n : ℕ) (pool : List Reflector) (what : Doing) → ((t : ℕ) → what ≡ Passes t → n ≡ 1) → IsOfOne n (happening_by pool what)
+one_turn n pool (Rests answer) h = tt
+one_turn n pool (Reflects place arrival) h = tt
+one_turn n pool (Happens place moment event) h = tt
+one_turn n pool (Passes t) h = h t refl
+
+arrives : (moment : ℕ) (arrival : Arrival) (to : Destination) (t : ℕ) → arriving moment arrival to ≡ Passes t → ⊥
+arrives moment arrival (Discarded test) t e = absurd (cc)
+arrives moment arrival (Reflected place) t e = absurd (cc)
+arrives moment arrival (OwnTo place event) t e = absurd (cc)
+
+asks : (moment : ℕ) (event : Event) (place : Option ℕ) (t : ℕ) → asking moment event place ≡ Passes t → ⊥
+asks moment event None t e = absurd (cc)
+asks moment event (Some place) t e = absurd (cc)
+
+-- .. if it is no tick, or there is one shard
+pub one_line : (n : ℕ) (configs : List SessionConfig) (pool : List Reflector) (line : Line) → ((t : ℕ) → line ≡ TickLine t → n ≡ 1) → IsOfOne n (happening configs pool line)
+one_line n configs pool (Rx moment arrival) h = one_turn n pool (arriving moment arrival (comes_to (table_of configs pool) arrival)) (λ t e. absurd (arrives moment arrival (comes_to (table_of configs pool) arrival) t e))
+one_line n configs pool (TickLine t) h = h t refl
+one_line n configs pool (Cmd moment discr cmd) h = one_turn n pool (asking moment (Command cmd) (place_of discr configs)) (λ t e. absurd (asks moment (Command cmd) (place_of discr configs) t e))
+one_line n configs pool (Show moment discr) h = one_turn n pool (asking moment Showing (place_of discr configs)) (λ t e. absurd (asks moment Showing (place_of discr configs) t e))

@@ -1,9 +1,7 @@
 -- The parts' pieces, given to a sink.
-use Rattle.bfd_replay.proofs.ReportCommon.{◌≡◌, ◌<◌, ◌+◌, ◌++◌, ℕ, List, length, drop, map, set, get_or, refl, sym, ap, subst, ◌∙◌, append_assoc, Option, None, Appends, TookFront, TookUpTo, Key, Piece, Dealt, dealt_text, IsLeast, Happening, happening_outcomes, Running, Outcome, done_line, dropped, packets_sent, report, first_key, keys, first_text, first_txs, first_drops, sum_by, Appends-trans}
-use Rattle.bfd_replay.proofs.Written.{front_of_longer, took_front, took_of_longer, took_rest}
+use Rattle.bfd_replay.proofs.ReportCommon.{◌≡◌, ◌<◌, ◌+◌, ◌++◌, ℕ, List, length, drop, map, set, get_or, refl, sym, ap, ◌∙◌, append_assoc, Option, None, Appends, TookFront, TookUpTo, Key, Piece, Dealt, dealt_text, IsLeast, dropped, first_key, keys, first_text, first_txs, first_drops, Appends-trans}
+use Rattle.bfd_replay.proofs.Written.{front_of_longer, took_front}
 use Rattle.bfd_replay.proofs.Taking.{Going, go, gone, txs_of, drops_of}
-use Rattle.bfd_replay.proofs.Telling.{deal_all}
-use Rattle.bfd_replay.proofs.Whole.{all_text, whole_report}
 
 -- a sink took a prefix of the pieces' text, this text is what it didn't take, and the others are left
 pub record Giving (all : List Dealt) (parts : List (List Piece)) (old new : Option (List ℕ)) (before text : List ℕ) (txs drops : ℕ) : Type 0 where
@@ -53,23 +51,3 @@ pub all_given : {all : List Dealt} {parts : List (List Piece)} (heads : List (Op
 all_given heads firsts none g =
     let last = gone heads firsts none g.going in
     ((g.front, g.took, sym last.0), last.1, last.2)
-
--- the text of all pieces, and the last line behind it, are the report
-module _ (n last : ℕ) (hs : List Happening) (ss : List Running) (events txs drops : ℕ) (count : length hs ≡ events) (sent : txs ≡ txs_of (deal_all n 1 last hs ss)) (fell : drops ≡ drops_of (deal_all n 1 last hs ss)) (old mid new : Option (List ℕ)) (text : List ℕ) where
-  report_is : dealt_text (deal_all n 1 last hs ss) ++ done_line events txs drops ≡ report (happening_outcomes last hs ss)
-  report_is = whole_report n last hs ss (dealt_text (deal_all n 1 last hs ss)) (done_line events txs drops) count refl sent fell refl refl
-
-  left_to_write : TookUpTo old mid (dealt_text (deal_all n 1 last hs ss)) text → TookUpTo old mid (report (happening_outcomes last hs ss)) (text ++ done_line events txs drops)
-  left_to_write told = rw (← report_is) (took_of_longer old mid _ text (done_line events txs drops) told)
-
-  pub report_whole : TookUpTo old mid (dealt_text (deal_all n 1 last hs ss)) text → Appends mid new (text ++ done_line events txs drops) → Appends old new (report (happening_outcomes last hs ss))
-  report_whole told now = took_rest old mid new _ _ (left_to_write told) now
-
-  pub report_front : TookUpTo old mid (dealt_text (deal_all n 1 last hs ss)) text → TookFront mid new (text ++ done_line events txs drops) → TookFront old new (report (happening_outcomes last hs ss))
-  report_front told now = took_front old mid new _ _ (left_to_write told) now
-
--- where the lines broke off
-pub lines_front : (n last : ℕ) (hs : List Happening) (ss : List Running) (old new : Option (List ℕ)) → TookFront old new (dealt_text (deal_all n 1 last hs ss)) → TookFront old new (report (happening_outcomes last hs ss))
-lines_front n last hs ss old new took =
-    let os : List Outcome = happening_outcomes last hs ss in
-    front_of_longer old new _ (done_line (length os) (sum_by packets_sent os) (sum_by dropped os)) (subst (TookFront old new) (all_text n 1 last hs ss) took)

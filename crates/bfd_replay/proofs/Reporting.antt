@@ -1,5 +1,5 @@
 -- The report of a script by one caller, once its engine is closed.
-use Rattle.bfd_replay.proofs.WorkerCommon.{◌≡◌, ◌≤◌, ◌∙◌, ℕ, List, length, ap, subst, refl, arith, Some, slice_get, slice_get_within, Result, Ok, Err, Shard, Shards, Knows, configs_at, AreClosed, IsNewPass, Full, Memory, Spent, Happening, happenings, events_of_table, Lists, report, replayed, world_is}
+use Rattle.bfd_replay.proofs.WorkerCommon.{◌≡◌, ◌≤◌, ◌∙◌, ℕ, List, ap, subst, refl, arith, slice_get_within, Result, Ok, Err, Shard, Shards, Knows, AreClosed, IsNewPass, Full, Memory, Spent, Happening, happenings, Lists, report, replayed, world_is}
 use Rattle.bfd_edge.specs.declared.fault.Fault.{Fault}
 use Rattle.bfd_edge.specs.declared.fault.Fault.TheVariants as sink
 use Rattle.bfd_edge.specs.Faults.{HasCause, Rose}
@@ -8,7 +8,7 @@ use Rattle.bfd_replay.specs.declared.stream.telling.Stop.TheVariants.{Refused, U
 use Rattle.bfd_replay.specs.Replayed.{HaveReplayed, taker_of}
 use Rattle.bfd_replay.specs.Telling.{HasBrought, HasStopCause, IsClosedAfter, IsMeant, IsStop, reason_of, outcomes_on}
 use Rattle.bfd_replay.specs.Turning.{HasKept, IsOpenedFor}
-use Rattle.bfd_replay.proofs.OneCaller.{all_sole, never_stopped, one_history, one_share}
+use Rattle.bfd_replay.proofs.OneCaller.{all_sole, never_stopped}
 
 -- no shard refused the only caller an event but when out of memory
 pub meant : {engine : Shards} {times : ℕ} {k l : Knows} {shards : List Shard} (stop : Stop) → IsNewPass engine k → HasKept times k l → times ≤ 400002 → AreClosed engine l shards
@@ -32,33 +32,27 @@ pub cause_as : {S T : Type 0} (fault : Fault) (before mid now : ℕ) → mid ≡
 cause_as sink.Failed before mid now same h = record { later = omega (arith, h.later, same); failed = λ e. subst (λ n. Rose n now) same (h.failed refl); wanted = λ e. absurd (cc) }
 cause_as sink.Memory before mid now same h = record { later = omega (arith, h.later, same); failed = λ e. absurd (cc); wanted = λ e. h.wanted refl ∙ same }
 
-pub closed_after : {engine : Shards} {times : ℕ} {k l : Knows} {states : List Shard} (hs : List Happening) → length engine.locks ≡ 1 → IsNewPass engine k → HasKept times k l → AreClosed engine l states
+pub closed_after : {engine : Shards} {times : ℕ} {k l : Knows} {states : List Shard} (hs : List Happening) → IsNewPass engine k → HasKept times k l → AreClosed engine l states
     → HasBrought engine hs l → IsClosedAfter engine hs states
-closed_after {engine} hs one new kept closed brought = record {
-  long = closed.long ∙ one;
-  each = λ state e. (let c = closed.each 0 state e in (c.configs, c.journal ∙ brought (all_sole new kept closed 0 (omega (arith, one)))));
+closed_after {engine} {states = states} hs new kept closed brought = record {
+  long = closed.long;
+  each = λ number state e.
+      (let c = closed.each number state e in
+      (c.configs, c.journal ∙ brought (all_sole new kept closed) number (omega (arith, slice_get_within states number state e, closed.long))));
 }
 
-module _ (script : Lists) {engine : Shards} {limit : ℕ} {whole : Lists} (o : IsOpenedFor engine script.configs script.pool 1 limit) (same : script ≡ whole) where
-  sessions_are : configs_at engine 0 ≡ script.configs
-  sessions_are = cc (o.shards_are, o.configs_are, one_share script.configs)
-
+module _ (script : Lists) {engine : Shards} {shards limit : ℕ} {whole : Lists} (o : IsOpenedFor engine script.configs script.pool shards limit) (same : script ≡ whole) where
   happenings_are : happenings engine.configs engine.pool script.events ≡ happenings script.configs script.pool script.events
   happenings_are = ap (λ cs. happenings cs engine.pool script.events) o.configs_are ∙ ap (λ p. happenings script.configs p script.events) o.pool_is
 
   pub report_on : report (outcomes_on engine (happenings engine.configs engine.pool script.events)) ≡ replayed whole
-  report_on = cc (happenings_are, sessions_are, world_is script, same)
+  report_on = cc (happenings_are, o.configs_are, world_is script, same)
 
-  first_only : (states : List Shard) (number : ℕ) (state : Shard) → length states ≡ 1 → slice_get states number ≡ Some state → number ≡ 0
-  first_only states number state long e = omega (arith, long, slice_get_within states number state e)
-
-  pub replayed_on : {states : List Shard} → IsClosedAfter engine (happenings engine.configs engine.pool script.events) states → HaveReplayed whole 1 (taker_of 1 1) states
+  pub replayed_on : {states : List Shard} → IsClosedAfter engine (happenings engine.configs engine.pool script.events) states → HaveReplayed whole shards (taker_of 1) states
   replayed_on {states} c = record {
-    long = c.long;
-    each = λ number state e.
-        let zero_is = first_only states number state c.long e in
-        let h = c.each state (subst (λ n. slice_get states n ≡ Some state) zero_is e) in record {
-          configs = rw zero_is (cc (h.0, sessions_are, same, one_share script.configs));
-          journal = rw zero_is (cc (h.1, happenings_are, same, one_history (events_of_table script)));
-        };
+    long = c.long ∙ o.shards_are;
+    each = λ number state e. let h = c.each number state e in record {
+      configs = cc (h.0, o.shards_are, o.configs_are, same);
+      journal = cc (h.1, o.shards_are, happenings_are, same);
+    };
   }

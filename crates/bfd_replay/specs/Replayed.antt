@@ -1,5 +1,5 @@
 -- What a replay on shards leaves of each, and tells.
-use Rattle.std.specs.Prelude.{ℕ, ◌≡◌, ◌+◌, ◌%◌, ◌==◌, ◌&&◌, Bool, true, false, List, length, slice_get, Some}
+use Rattle.std.specs.Prelude.{ℕ, ◌≡◌, ◌+◌, ◌%◌, ◌==◌, Bool, true, false, List, length, slice_get, Some}
 use Rattle.bfd_session.specs.Kinds.{configs_of}
 use Rattle.bfd_shard.specs.Dealing.{history_of, share}
 use Rattle.bfd_shard.specs.Shard.{Shard}
@@ -21,10 +21,10 @@ pub record HaveReplayed (script : Lists) (shards : ℕ) (by : ℕ → ℕ) (stat
 abbrev pub worker_of : ℕ → ℕ → ℕ
 worker_of workers number = 1 + number % workers
 
--- the caller that takes it: on one shard one worker is the caller that opened the engine
+-- the caller that takes it: one worker is the caller that opened the engine
 abbrev pub taker : Bool → ℕ → ℕ → ℕ
 taker true workers number = 0
 taker false workers number = worker_of workers number
 
-abbrev pub taker_of : ℕ → ℕ → ℕ → ℕ
-taker_of shards workers = taker ((shards == 1) && (workers == 1)) workers
+abbrev pub taker_of : ℕ → ℕ → ℕ
+taker_of workers = taker (workers == 1) workers

@@ -6,7 +6,9 @@ use Rattle.bfd_edge.specs.declared.fault.Fault.TheVariants as sink
 use Rattle.bfd_edge.specs.Faults.{HasCause}
 use Rattle.bfd_engine.specs.declared.fault.EngineFault.TheVariants.{Memory, Full, Spent}
 use Rattle.bfd_engine.specs.Engines.{Shards, Knows, configs_at}
-use Rattle.bfd_engine.specs.Calls.{seen_at}
+use Rattle.bfd_shard.specs.declared.entry.ShardEvent.{ShardEvent}
+use Rattle.bfd_shard.specs.Dealing.{history_of}
+use Rattle.bfd_shard.specs.History.{last_tick, runs}
 use Rattle.bfd_session.specs.Alone.{Outcome}
 use Rattle.bfd_session.specs.Kinds.{configs_of}
 use Rattle.bfd_session.specs.Step.{started}
@@ -15,8 +17,8 @@ use Rattle.bfd_script.specs.Report.{lines_from, packets_sent, dropped}
 use Rattle.bfd_replay.specs.declared.stream.telling.Stop.{Stop}
 use Rattle.bfd_replay.specs.declared.stream.telling.Stop.TheVariants.{Refused, Unwritten}
 use Rattle.bfd_replay.specs.Happenings.{Happening, happening_outcomes, session_event}
-use Rattle.bfd_replay.specs.Turning.{IsCutShort, IsRefusal, outcome_given}
-use Rattle.bfd_replay.specs.Working.{IsSole, entries_by}
+use Rattle.bfd_replay.specs.Turning.{AllSole, IsCutShort, IsRefusal, Stands, outcome_in}
+use Rattle.bfd_replay.specs.Working.{entries_by}
 use Rattle.bfd_replay.specs.Written.{TookFront, TookUpTo}
 
 -- the text that no sink took yet, and how many events were told, with how many packets that were sent and were dropped in them
@@ -49,29 +51,29 @@ abbrev pub IsStop : Shards → Knows → Stop → Type 0
 IsStop engine l (Refused fault) = IsCutShort fault engine l
 IsStop engine l (Unwritten fault) = Unit {0}
 
--- on an engine of one shard, if caller 0 is its only one, the event's lines were told
+-- if caller 0 is the engine's only one, the event's lines were told
 abbrev pub HasToldEvent : Shards → Happening → Knows → Knows → Option (List ℕ) → Option (List ℕ) → Telling → Telling → Type 0
-HasToldEvent engine h k l old new before after = IsSole 0 (seen_at l 0) → (rest : List Outcome)
-    → ToldUpTo old new before after (outcome_given (configs_at engine 0) (seen_at k 0) h ∷ rest) rest
+HasToldEvent engine h k l old new before after = AllSole (length engine.locks) l → (past : List ShardEvent) → Stands engine past k → (rest : List Outcome)
+    → ToldUpTo old new before after (outcome_in (last_tick past) h (runs past engine.configs) ∷ rest) rest
 
 -- .. or a prefix of what was told with them
 abbrev pub HasToldFront : Shards → Happening → Knows → Knows → Option (List ℕ) → Option (List ℕ) → Telling → Type 0
-HasToldFront engine h k l old new before = IsSole 0 (seen_at l 0) → (rest : List Outcome)
-    → TookFront old new (before.text ++ lines_from (before.events + 1) (outcome_given (configs_at engine 0) (seen_at k 0) h ∷ rest))
+HasToldFront engine h k l old new before = AllSole (length engine.locks) l → (past : List ShardEvent) → Stands engine past k → (rest : List Outcome)
+    → TookFront old new (before.text ++ lines_from (before.events + 1) (outcome_in (last_tick past) h (runs past engine.configs) ∷ rest))
 
--- what events give on a new engine of one shard
+-- what events give on a new engine
 abbrev pub outcomes_on : Shards → List Happening → List Outcome
-outcomes_on engine hs = happening_outcomes 0 hs (map started (configs_at engine 0))
+outcomes_on engine hs = happening_outcomes 0 hs (map started engine.configs)
 
--- the one shard's entries are those of the events, if all are caller 0's
+-- the shards' entries are those of the events, if all are caller 0's
 abbrev pub HasBrought : Shards → List Happening → Knows → Type 0
-HasBrought engine hs l = IsSole 0 (seen_at l 0) → seen_at l 0 ≡ entries_by 0 (filter_map session_event hs)
+HasBrought engine hs l = AllSole (length engine.locks) l → Stands engine (filter_map session_event hs) l
 
--- the one shard, once it is closed: its journal has these events, brought by caller 0
+-- the shards, once they are closed: each one's journal has its own of these events, brought by caller 0
 pub record IsClosedAfter (engine : Shards) (hs : List Happening) (states : List Shard) : Type 0 where
-  pub long : length states ≡ 1
-  pub each : (state : Shard) → slice_get states 0 ≡ Some state
-      → (configs_of state.sessions ≡ configs_at engine 0) × (state.journal ≡ entries_by 0 (filter_map session_event hs))
+  pub long : length states ≡ length engine.locks
+  pub each : (number : ℕ) (state : Shard) → slice_get states number ≡ Some state → (configs_of state.sessions ≡ configs_at engine number)
+      × (state.journal ≡ entries_by 0 (history_of (length engine.locks) number (filter_map session_event hs)))
 
 -- no shard refuses the only caller an event but when out of memory
 abbrev pub IsMeant : Stop → Type 0

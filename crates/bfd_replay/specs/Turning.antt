@@ -1,11 +1,14 @@
 -- What caller 0 has seen of an engine's shards if it is the only one, and what its events gave.
-use Rattle.std.specs.Prelude.{ℕ, ◌≡◌, ◌≤◌, ◌<◌, ◌+◌, ◌++◌, List, [], length}
+use Rattle.std.specs.Prelude.{ℕ, ◌≡◌, ◌≤◌, ◌<◌, ◌+◌, ◌++◌, List, [], length, slice_index_or}
 use Rattle.std.specs.List.{cons_option}
 use Rattle.bfd_sbfd.specs.declared.reflecting.Reflector.{Reflector}
 use Rattle.bfd_session.specs.Alone.{Outcome}
+use Rattle.bfd_session.specs.Kinds.{Running}
 use Rattle.bfd_session.specs.declared.event.SessionConfig.{SessionConfig}
-use Rattle.bfd_shard.specs.declared.entry.Entry.{Entry}
 use Rattle.bfd_shard.specs.declared.entry.ShardEvent.{ShardEvent}
+use Rattle.bfd_shard.specs.declared.entry.ShardEvent.TheVariants.{Own, Tick}
+use Rattle.bfd_shard.specs.Dealing.{history_of}
+use Rattle.bfd_shard.specs.History.{last_tick, outcome_of, runs}
 use Rattle.bfd_turn.specs.Lists.{Begins}
 use Rattle.bfd_turn.specs.Passes.{last_word}
 use Rattle.bfd_engine.specs.declared.fault.EngineFault.{EngineFault}
@@ -14,6 +17,7 @@ use Rattle.bfd_engine.specs.Turned.{given_after}
 use Rattle.bfd_engine.specs.Engines.{Shards, Knows, configs_at}
 use Rattle.bfd_engine.specs.Calls.{seen_at, met_word, taken_at, made_at}
 use Rattle.bfd_replay.specs.Happenings.{Happening, Apart, Among, in_shard}
+use Rattle.bfd_replay.specs.Pieces.{Piece, event_pieces}
 use Rattle.bfd_replay.specs.Working.{IsSole, entries_by}
 
 -- all entries that caller 0 has seen are its own
@@ -58,11 +62,27 @@ pub record IsOpenedFor (engine : Shards) (configs : List SessionConfig) (pool : 
   pub pool_is : engine.pool ≡ pool
   pub limit_is : engine.limit ≡ limit
 
--- what an event gives: one of no session its own outcome, and one of the sessions what they give after these entries
-abbrev pub outcome_given : List SessionConfig → List Entry → Happening → Outcome
-outcome_given configs before (Apart outcome) = outcome
-outcome_given configs before (Among event) = given_after configs before event
+-- of each shard it has seen the shard's own of these events, and no other
+abbrev pub Stands : Shards → List ShardEvent → Knows → Type 0
+Stands engine past k = (r : ℕ) → r < length engine.locks → seen_at k r ≡ entries_by 0 (history_of (length engine.locks) r past)
 
--- the event gave this, on an engine of one shard whose only caller is caller 0
+-- what an event gives: one of no session its own outcome, and one of the sessions what they give, of these and this last tick
+abbrev pub outcome_in : ℕ → Happening → List Running → Outcome
+outcome_in last (Apart outcome) sessions = outcome
+outcome_in last (Among event) sessions = outcome_of last event sessions
+
+-- an event that at most one of so many shards has
+abbrev pub IsOfOne : ℕ → Happening → Type 0
+IsOfOne n (Apart outcome) = Unit {0}
+IsOfOne n (Among (Own place moment event)) = Unit {0}
+IsOfOne n (Among (Tick t)) = n ≡ 1
+
+-- such an event gave this, if caller 0 is the only one
 abbrev pub Gave : Shards → Knows → Knows → Happening → Outcome → Type 0
-Gave engine k l h outcome = length engine.locks ≡ 1 → IsSole 0 (seen_at l 0) → outcome ≡ outcome_given (configs_at engine 0) (seen_at k 0) h
+Gave engine k l h outcome = IsOfOne (length engine.locks) h → AllSole (length engine.locks) l → (past : List ShardEvent) → Stands engine past k
+    → outcome ≡ outcome_in (last_tick past) h (runs past engine.configs)
+
+-- what the shards before a place tell of a tick of this number, each if caller 0 is its only one
+abbrev pub HaveToldTick : Shards → ℕ → ℕ → ℕ → Knows → Knows → List (List Piece) → Type 0
+HaveToldTick engine number t at k l parts = (r : ℕ) → r < at → IsSole 0 (seen_at l r)
+    → slice_index_or parts r [] ≡ event_pieces number (Tick t) (given_after (configs_at engine r) (seen_at k r) (Tick t))

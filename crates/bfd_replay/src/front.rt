@@ -16,9 +16,9 @@ use std::alloc::Global;
 use std::sync::Wait;
 use std::thread::Threads;
 
-/// Replays the script on 1 to 64 shards of an engine, by 1 to 64 workers, and writes its report to the sink: on one shard by one worker as
-/// it comes, and else once all is done. The report is the same, byte for byte. Each turn for event N stands between `gate.before(w, N)` and
-/// `gate.after(w, N)`, where w is the worker's number from 1, or 0 where one worker takes one shard in the caller's thread.
+/// Replays the script on 1 to 64 shards of an engine, by 1 to 64 workers, and writes its report to the sink: by one worker as it comes, in
+/// the caller's thread, and by several once all is done. The report is the same, byte for byte. Each turn for event N stands between `gate.before(w, N)` and
+/// `gate.after(w, N)`, where w is the worker's number from 1, or 0 where there is one.
 ///
 /// It fails as Failed where the sink failed, and as Memory when out of memory, here or in the sink, or at 2^64 packets sent or dropped; the
 /// sink took a prefix of the report then. What the closed shards were stays for clauses. It may wait.
@@ -36,12 +36,12 @@ pub fn replay_to<W: Timers + Send + 'static, R: Threads + Wait + Sync, G: Gate +
     requires workers { (0 < workers) × (workers ≤ 64) }
     ensures whole { OnOk result (Appends (K.taken sink.old) (K.taken sink.new) (replayed script)) }
     ensures front { TookFront (K.taken sink.old) (K.taken sink.new) (replayed script) }
-    ensures states { IfOk result (λ closed. HaveReplayed script shards (taker_of shards workers) closed.value.items) }
+    ensures states { IfOk result (λ closed. HaveReplayed script shards (taker_of workers) closed.value.items) }
     ensures cause { HasCause (K.faults sink.old) (K.faults sink.new) result }
     ensures calm { OnOk result (K.faults sink.new ≡ K.faults sink.old) }
 {
-    if shards == 1 && workers == 1 {
-        report_to(rt, alloc, script, gate, sink)
+    if workers == 1 {
+        report_to(rt, alloc, script, shards, gate, sink)
     } else {
         replay_at_once(rt, alloc, script, shards, workers, gate, sink)
     }

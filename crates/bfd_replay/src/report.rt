@@ -3,9 +3,9 @@
 //! A replay deals a table's sessions out to shards, and the events to the shards that have their sessions. Each shard tells what its events
 //! gave in a [`Part`], as text in pieces: all lines of an own event, or one line for each output of a tick, each piece with the number of
 //! its event and, of a tick, the discriminator that it names. [`report`] then takes the least piece of all parts, by event and then by
-//! discriminator, until none is left. A part more has what was told of events of no session. [`report_to`] gives the same report to a sink
-//! as it is gathered, and [`write_all`] writes any text. [`report_at_once`] cuts the parts at places of the report, without a copy, and
-//! gathers what is between two places in a thread of its own, if one is available; [`write_each`] writes the texts that come of it.
+//! discriminator, until none is left. A part more has what was told of events of no session. `give_all` gives the same to a sink as it is
+//! gathered, and [`write_all`] writes any text. [`report_at_once`] cuts the parts at places of the report, without a copy, and gathers what
+//! is between two places in a thread of its own, if one is available; [`write_each`] writes the texts that come of it.
 //!
 //! It knows no lock. It promises that of sessions that are dealt out each shard's are what the whole table's would be; that the report of
 //! the shards' parts is the report of the whole table, byte for byte, for every number of shards, also where threads gather it; and that a
@@ -25,10 +25,12 @@ mod reporting;
 mod rest;
 
 pub use at_once::report_at_once;
+pub(crate) use counts::added;
 pub use counts::{dropped, sent};
 pub use gathering::Gathered;
+pub(crate) use giving::give_all;
 pub use law::{dealing_laws, telling_laws};
 pub use output::{give_on, write_all, write_each};
 pub use part::Part;
 pub use queue::{Numbered, queue_event};
-pub use reporting::{report, report_to, write_last};
+pub use reporting::{report, write_last};

@@ -49,6 +49,5 @@ pub use Rattle.bfd_watch.specs.Groups.{Group, group_after}
 pub use Rattle.bfd_watch.specs.Watching.{Watching, told_by, watching}
 unfoldable pub use Rattle.bfd_watch.specs.Watched.{watched_lines_from}
 pub use Rattle.bfd_watch.specs.Watched.{watched, watched_line, watched_lines}
-pub use Rattle.bfd_replay.specs.Turning.{AllSole, HasKept, IsCutShort, IsOpenedFor, IsRefusal, Went, brought}
-pub use Rattle.bfd_replay.proofs.OneCaller.{outcome_in}
+pub use Rattle.bfd_replay.specs.Turning.{AllSole, HasKept, IsCutShort, IsOpenedFor, IsRefusal, Went, brought, outcome_in}
 pub use Rattle.bfdd.specs.Following.{AreBehind, AreWatched, IsUntaken, lower, merged, merged_of, news, not_lower, of_event, told_after}

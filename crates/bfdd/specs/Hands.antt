@@ -15,5 +15,5 @@ IsDoneBy hands script (Levels closed) = (hands.timers ≡ form.Levels) × HaveRe
 
 -- .. by the caller that takes it where the report is written as it comes
 abbrev pub IsWrittenBy : Hands → Lists → ShardsOf → Type 0
-IsWrittenBy hands script (Hashed closed) = (hands.timers ≡ form.Hashed) × HaveReplayed script hands.shards (taker_of hands.shards hands.workers) closed.value.items
-IsWrittenBy hands script (Levels closed) = (hands.timers ≡ form.Levels) × HaveReplayed script hands.shards (taker_of hands.shards hands.workers) closed.value.items
+IsWrittenBy hands script (Hashed closed) = (hands.timers ≡ form.Hashed) × HaveReplayed script hands.shards (taker_of hands.workers) closed.value.items
+IsWrittenBy hands script (Levels closed) = (hands.timers ≡ form.Levels) × HaveReplayed script hands.shards (taker_of hands.workers) closed.value.items

@@ -9,7 +9,6 @@ ghost use Rattle.bfd_replay.specs.Happenings.{Happening, AreParts, happening_out
 ghost use Rattle.bfd_replay.specs.Written.{TookFront};
 
 use crate::report::gathering::{Gathered, gather_all};
-use crate::report::giving::give_all;
 use crate::report::output::write_all;
 use crate::report::part::Part;
 use bfd_edge::{Fault, Sink};
@@ -76,31 +75,4 @@ pub fn report(alloc: Global, parts: Vec<Part>, events: u64) -> Result<Gathered, 
     let done = done_text(alloc, events, txs, drops)?;
     text.extend_from_slice(done.as_bytes())?;
     Ok(Gathered { text, txs, drops })
-}
-
-/// The same report, written in pieces as it is gathered. It is refused as Failed where the sink failed, and as Memory when out of memory,
-/// here or in the sink, or at 2^64 packets sent or dropped; the sink took a prefix of the report then.
-pub fn report_to<K: Sink>(
-    alloc: Global,
-    parts: Vec<Part>,
-    events: u64,
-    sink: &mut K,
-) -> Result<(), Fault>
-    ensures whole { (shards last : ℕ) (happenings : List Happening) (sessions : List Running)
-        → length happenings ≡ events
-        → AreParts shards 1 last happenings sessions parts.items
-        → OnOk result (Appends (K.taken sink.old) (K.taken sink.new)
-        (script.report (happening_outcomes last happenings sessions))) }
-    ensures front { (shards last : ℕ) (happenings : List Happening) (sessions : List Running)
-        → length happenings ≡ events
-        → AreParts shards 1 last happenings sessions parts.items
-        → TookFront (K.taken sink.old) (K.taken sink.new)
-        (script.report (happening_outcomes last happenings sessions)) }
-    ensures cause { HasCause (K.faults sink.old) (K.faults sink.new) result }
-    ensures calm { OnOk result (K.faults sink.new ≡ K.faults sink.old) }
-{
-    let mut parts = parts;
-    let mut text = Vec::new(alloc);
-    let (txs, drops) = give_all(alloc, &mut parts, &mut text, sink)?;
-    write_last(alloc, text, events, txs, drops, sink)
 }

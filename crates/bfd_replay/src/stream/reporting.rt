@@ -1,28 +1,33 @@
 //! The report of a script, written as it comes.
-ghost use Rattle.std.specs.Prelude.{ℕ, ◌≡◌, ◌≤◌, ◌<◌, ◌+◌, ◌*◌, ◌++◌, [], IfErr, IfOk, OnOk, length, vec_capacity};
+ghost use Rattle.std.specs.Prelude.{ℕ, ◌≡◌, ◌≤◌, ◌<◌, ◌+◌, ◌*◌, ◌++◌, [], ◌∷◌, IfErr, IfNone, IfOk, IfSome, List, OnOk, length, vec_capacity};
 ghost use Rattle.std.specs.Io.KnownBytes.{Appends};
 ghost use Rattle.bfd_edge.specs.Faults.{HasCause};
-ghost use Rattle.bfd_engine.specs.Calls.{seen_at};
 ghost use Rattle.bfd_engine.specs.Engines.{IsOf, AllThere, configs_at};
 ghost use Rattle.bfd_engine.specs.Opening.{IsNewPass};
+ghost use Rattle.bfd_sbfd.specs.declared.reflecting.Reflector.{Reflector};
+ghost use Rattle.bfd_session.specs.declared.event.SessionConfig.{SessionConfig};
+ghost use Rattle.bfd_session.specs.Rows.{Ascends};
+ghost use Rattle.bfd_script.specs.declared.line.entries.Line.TheVariants.{Tick as TickLine};
+ghost use Rattle.bfd_shard.specs.declared.entry.ShardEvent.TheVariants.{Tick as TickEvent};
 ghost use Rattle.bfd_script.specs.Report.{lines_from, report};
 ghost use Rattle.bfd_script.specs.Sound.{IsScript};
 ghost use Rattle.bfd_instance.specs.World.{replayed};
+ghost use Rattle.bfd_replay.specs.Happenings.{Among};
 ghost use Rattle.bfd_replay.specs.Planned.{happening, happenings};
 ghost use Rattle.bfd_replay.specs.Replayed.{HaveReplayed, taker_of};
 ghost use Rattle.bfd_replay.specs.Telling.{HasBrought, HasStopCause, HasToldEvent, HasToldFront, IsClosedAfter, IsEventStop, IsMeant, IsStop, ToldUpTo, reason_of, outcomes_on};
-ghost use Rattle.bfd_replay.specs.Turning.{HasKept, Went, brought};
-ghost use Rattle.bfd_replay.specs.Working.{IsSole};
+ghost use Rattle.bfd_replay.specs.Turning.{AllSole, HasKept, IsOfOne, Went, brought};
 ghost use Rattle.bfd_replay.specs.Written.{TookFront};
 
 use crate::plan::next_of;
 use crate::stream::opening::opened;
 use crate::stream::telling::{Stop, Told};
+use crate::stream::ticking::tick_parts;
 use crate::stream::turning::happen;
 use crate::worker::ClosedShards;
 use bfd_edge::{Fault, Gate, Sink};
 use bfd_engine::{Engine, EngineFault, EnginePass};
-use bfd_num::Steps;
+use bfd_num::{Steps, Tick};
 use bfd_rules::Outs;
 use bfd_script::Script;
 use bfd_script::line::Line;
@@ -34,8 +39,53 @@ use std::snapshot::Snapshot;
 use std::sync::Wait;
 use std::sync::ledger::{Blank, Ledger};
 
-/// One line: it happens, what it gave is told, and a long text goes to the sink.
-fn tell_line<W: Timers, R: Wait, G: Gate, K: Sink, L: Ledger>(
+/// A tick of several shards: what their parts tell of it is told, and a long text goes to the sink.
+fn tell_parts<W: Timers, R: Wait, G: Gate, K: Sink, L: Ledger>(
+    rt: &R,
+    alloc: Global,
+    engine: &Engine<W>,
+    pass: &mut EnginePass,
+    tick: Tick,
+    outs: &mut Outs,
+    told: &mut Told,
+    steps: &mut Steps<L>,
+    gate: &G,
+    sink: &mut K,
+) -> Result<(), Stop>
+    requires of { IsOf engine.now pass.old.1 }
+    requires there { AllThere pass.old.1 }
+    requires number { pass.old.0 ≡ 0 }
+    requires some { 0 < length engine.now.locks }
+    requires ascends { Ascends engine.now.configs }
+    requires room { (shard : ℕ) → 5 * length (configs_at engine.now shard) + 5 ≤ outs.old.room }
+    requires few { told.old.events < 200000 }
+    ensures of { IsOf engine.now pass.new.1 }
+    ensures there { AllThere pass.new.1 }
+    ensures kept { HasKept 1 pass.old pass.new }
+    ensures went { OnOk result ((r : ℕ) → r < length engine.now.locks → Went pass.old pass.new (TickEvent tick ∷ []) r) }
+    ensures told { OnOk result (HasToldEvent engine.now (Among (TickEvent tick)) pass.old pass.new
+        (K.taken sink.old) (K.taken sink.new) told.old told.new) }
+    ensures events { OnOk result (told.new.events ≡ told.old.events + 1) }
+    ensures front { HasToldFront engine.now (Among (TickEvent tick)) pass.old pass.new
+        (K.taken sink.old) (K.taken sink.new) told.old }
+    ensures stopped { IfErr result (IsEventStop engine.now pass.old pass.new) }
+    ensures cause { IfErr result (HasStopCause (K.faults sink.old) (K.faults sink.new)) }
+    ensures calm { OnOk result (K.faults sink.new ≡ K.faults sink.old) }
+    ensures room { outs.new.room ≡ outs.old.room }
+{
+    let number = told.number();
+    let parts = match tick_parts(rt, alloc, engine, pass, number, tick, outs, steps, gate) {
+        Ok(parts) => parts,
+        Err(fault) => return Err(Stop::Refused(fault)),
+    };
+    match told.gather(alloc, parts, sink) {
+        Ok(()) => Ok(()),
+        Err(fault) => Err(Stop::Unwritten(fault)),
+    }
+}
+
+/// Any other line, or a tick of one shard: it happens, what it gave is told, and a long text goes to the sink.
+fn tell_one<W: Timers, R: Wait, G: Gate, K: Sink, L: Ledger>(
     rt: &R,
     engine: &Engine<W>,
     pass: &mut EnginePass,
@@ -49,14 +99,15 @@ fn tell_line<W: Timers, R: Wait, G: Gate, K: Sink, L: Ledger>(
     requires of { IsOf engine.now pass.old.1 }
     requires there { AllThere pass.old.1 }
     requires number { pass.old.0 ≡ 0 }
-    requires one { length engine.now.locks ≡ 1 }
+    requires some { 0 < length engine.now.locks }
+    requires one { IsOfOne (length engine.now.locks) (happening engine.now.configs engine.now.pool line) }
     requires room { (shard : ℕ) → 5 * length (configs_at engine.now shard) + 5 ≤ outs.old.room }
-    requires small { outs.old.room ≤ 327685 }
     requires few { told.old.events < 200000 }
     ensures of { IsOf engine.now pass.new.1 }
     ensures there { AllThere pass.new.1 }
     ensures kept { HasKept 1 pass.old pass.new }
-    ensures went { OnOk result (Went pass.old pass.new (brought 1 (happening engine.now.configs engine.now.pool line) 0) 0) }
+    ensures went { OnOk result ((r : ℕ) → r < length engine.now.locks
+        → Went pass.old pass.new (brought (length engine.now.locks) (happening engine.now.configs engine.now.pool line) r) r) }
     ensures told { OnOk result (HasToldEvent engine.now (happening engine.now.configs engine.now.pool line) pass.old pass.new
         (K.taken sink.old) (K.taken sink.new) told.old told.new) }
     ensures events { OnOk result (told.new.events ≡ told.old.events + 1) }
@@ -80,9 +131,62 @@ fn tell_line<W: Timers, R: Wait, G: Gate, K: Sink, L: Ledger>(
     }
 }
 
+/// The tick that a line is, if several shards have it.
+fn shared_tick(line: &Line, shards: u32) -> Option<Tick>
+    ensures some { IfSome result (λ tick. line.now ≡ TickLine tick) }
+    ensures none { IfNone result ((configs : List SessionConfig) (pool : List Reflector) → IsOfOne shards (happening configs pool line.now)) }
+{
+    match line {
+        Line::Tick(tick) if shards != 1 => Some(*tick),
+        _ => None,
+    }
+}
+
+/// One line, on any number of shards.
+fn tell_line<W: Timers, R: Wait, G: Gate, K: Sink, L: Ledger>(
+    rt: &R,
+    alloc: Global,
+    engine: &Engine<W>,
+    pass: &mut EnginePass,
+    line: Line,
+    outs: &mut Outs,
+    told: &mut Told,
+    steps: &mut Steps<L>,
+    gate: &G,
+    sink: &mut K,
+) -> Result<(), Stop>
+    requires of { IsOf engine.now pass.old.1 }
+    requires there { AllThere pass.old.1 }
+    requires number { pass.old.0 ≡ 0 }
+    requires some { 0 < length engine.now.locks }
+    requires ascends { Ascends engine.now.configs }
+    requires room { (shard : ℕ) → 5 * length (configs_at engine.now shard) + 5 ≤ outs.old.room }
+    requires few { told.old.events < 200000 }
+    ensures of { IsOf engine.now pass.new.1 }
+    ensures there { AllThere pass.new.1 }
+    ensures kept { HasKept 1 pass.old pass.new }
+    ensures went { OnOk result ((r : ℕ) → r < length engine.now.locks
+        → Went pass.old pass.new (brought (length engine.now.locks) (happening engine.now.configs engine.now.pool line) r) r) }
+    ensures told { OnOk result (HasToldEvent engine.now (happening engine.now.configs engine.now.pool line) pass.old pass.new
+        (K.taken sink.old) (K.taken sink.new) told.old told.new) }
+    ensures events { OnOk result (told.new.events ≡ told.old.events + 1) }
+    ensures front { HasToldFront engine.now (happening engine.now.configs engine.now.pool line) pass.old pass.new
+        (K.taken sink.old) (K.taken sink.new) told.old }
+    ensures stopped { IfErr result (IsEventStop engine.now pass.old pass.new) }
+    ensures cause { IfErr result (HasStopCause (K.faults sink.old) (K.faults sink.new)) }
+    ensures calm { OnOk result (K.faults sink.new ≡ K.faults sink.old) }
+    ensures room { outs.new.room ≡ outs.old.room }
+{
+    match shared_tick(&line, engine.shards()) {
+        Some(tick) => tell_parts(rt, alloc, engine, pass, tick, outs, told, steps, gate, sink),
+        None => tell_one(rt, engine, pass, line, outs, told, steps, gate, sink),
+    }
+}
+
 /// Tells the lines of a script one by one; `told` keeps what isn't written yet. Their list frees its memory while the journal grows.
 fn tell_lines<W: Timers, R: Wait, G: Gate, K: Sink, L: Ledger>(
     rt: &R,
+    alloc: Global,
     engine: &Engine<W>,
     pass: &mut EnginePass,
     events: Vec<Line>,
@@ -93,12 +197,12 @@ fn tell_lines<W: Timers, R: Wait, G: Gate, K: Sink, L: Ledger>(
     blank: Blank,
 ) -> Result<(), Stop>
     requires new { IsNewPass engine.now pass.old }
-    requires one { length engine.now.locks ≡ 1 }
+    requires shards { 0 < length engine.now.locks }
+    requires ascends { Ascends engine.now.configs }
     requires limit { length events.items ≤ engine.now.limit }
     requires few { length events.items ≤ 200000 }
     requires none { told.old.events ≡ 0 }
     requires room { (shard : ℕ) → 5 * length (configs_at engine.now shard) + 5 ≤ outs.room }
-    requires small { outs.room ≤ 327685 }
     requires name { blank.name ≡ L.name }
     requires parts { blank.parts ≡ L.parts }
     requires some { 0 < blank.parts }
@@ -106,9 +210,9 @@ fn tell_lines<W: Timers, R: Wait, G: Gate, K: Sink, L: Ledger>(
     ensures there { AllThere pass.new.1 }
     ensures kept { HasKept (length events.items) pass.old pass.new }
     ensures brought { OnOk result (HasBrought engine.now (happenings engine.now.configs engine.now.pool events.items) pass.new) }
-    ensures told { OnOk result (IsSole 0 (seen_at pass.new 0) → ToldUpTo (K.taken sink.old) (K.taken sink.new) told.old told.new
+    ensures told { OnOk result (AllSole (length engine.now.locks) pass.new → ToldUpTo (K.taken sink.old) (K.taken sink.new) told.old told.new
         (outcomes_on engine.now (happenings engine.now.configs engine.now.pool events.items)) []) }
-    ensures front { IsSole 0 (seen_at pass.new 0) → TookFront (K.taken sink.old) (K.taken sink.new) (told.old.text
+    ensures front { AllSole (length engine.now.locks) pass.new → TookFront (K.taken sink.old) (K.taken sink.new) (told.old.text
         ++ lines_from (told.old.events + 1) (outcomes_on engine.now (happenings engine.now.configs engine.now.pool events.items))) }
     ensures stopped { IfErr result (IsStop engine.now pass.new) }
     ensures cause { IfErr result (HasStopCause (K.faults sink.old) (K.faults sink.new)) }
@@ -120,7 +224,7 @@ fn tell_lines<W: Timers, R: Wait, G: Gate, K: Sink, L: Ledger>(
     left.reverse();
     'lines: while let Some(line) = next_of(&mut left) {
         match tell_line(
-            rt, engine, pass, line, &mut outs, told, &mut steps, gate, sink,
+            rt, alloc, engine, pass, line, &mut outs, told, &mut steps, gate, sink,
         ) {
             Ok(()) => {}
             Err(stop) => return Err(stop),
@@ -141,7 +245,7 @@ fn reason_of(stop: Stop) -> Fault
     }
 }
 
-/// The report of a script's lines on a new engine of one shard, and the closed shard.
+/// The report of a script's lines on a new engine, and the closed shards.
 fn tell_all<W: Timers, R: Wait, G: Gate, K: Sink>(
     rt: &R,
     alloc: Global,
@@ -154,11 +258,11 @@ fn tell_all<W: Timers, R: Wait, G: Gate, K: Sink>(
     sink: &mut K,
 ) -> Result<Vec<ShardState<W>>, Fault>
     requires new { IsNewPass engine pass }
-    requires one { length engine.locks ≡ 1 }
+    requires some { 0 < length engine.locks }
+    requires ascends { Ascends engine.configs }
     requires limit { length events.items ≤ engine.limit }
     requires few { length events.items ≤ 200000 }
     requires room { (shard : ℕ) → 5 * length (configs_at engine shard) + 5 ≤ outs.room }
-    requires small { outs.room ≤ 327685 }
     requires empty { states.items ≡ [] }
     requires enough { length engine.locks ≤ vec_capacity states }
     ensures whole { OnOk result (Appends (K.taken sink.old) (K.taken sink.new)
@@ -173,6 +277,7 @@ fn tell_all<W: Timers, R: Wait, G: Gate, K: Sink>(
     let mut told = Told::new(alloc);
     let end = tell_lines::<W, R, G, K, Brand>(
         rt,
+        alloc,
         &engine,
         &mut pass,
         events,
@@ -192,19 +297,22 @@ fn tell_all<W: Timers, R: Wait, G: Gate, K: Sink>(
     }
 }
 
-/// Replays the script on one shard, in the caller's thread, and writes its report to the sink as it comes. Each turn for event N stands
-/// between `gate.before(0, N)` and `gate.after(0, N)`. It is refused as Failed where the sink failed, and as Memory when out of memory,
-/// here or in the sink; the sink took a prefix of the report then. What the closed shard was stays for clauses. It may wait.
+/// Replays the script on 1 to 64 shards, in the caller's thread, and writes its report to the sink as it comes. Each turn for event N
+/// stands between `gate.before(0, N)` and `gate.after(0, N)`. It is refused as Failed where the sink failed, and as Memory when out of
+/// memory, here or in the sink, or at 2^64 packets sent or dropped; the sink took a prefix of the report then. What the closed shards were
+/// stays for clauses. It may wait.
 pub(crate) fn report_to<W: Timers, R: Wait, G: Gate, K: Sink>(
     rt: &R,
     alloc: Global,
     script: Script,
+    shards: u32,
     gate: &G,
     sink: &mut K,
 ) -> Result<ClosedShards<W>, Fault>
     requires script { IsScript script }
+    requires shards { (0 < shards) × (shards ≤ 64) }
     ensures whole { OnOk result (Appends (K.taken sink.old) (K.taken sink.new) (replayed script)) }
-    ensures states { IfOk result (λ closed. HaveReplayed script 1 (taker_of 1 1) closed.value.items) }
+    ensures states { IfOk result (λ closed. HaveReplayed script shards (taker_of 1) closed.value.items) }
     ensures front { TookFront (K.taken sink.old) (K.taken sink.new) (replayed script) }
     ensures cause { HasCause (K.faults sink.old) (K.faults sink.new) result }
     ensures calm { OnOk result (K.faults sink.new ≡ K.faults sink.old) }
@@ -217,10 +325,10 @@ pub(crate) fn report_to<W: Timers, R: Wait, G: Gate, K: Sink>(
     let Ok(outs) = Outs::make(alloc, 5 * configs.len() + 5) else {
         return Err(Fault::Memory);
     };
-    let Ok(states) = Vec::with_capacity(alloc, 1) else {
+    let Ok(states) = Vec::with_capacity(alloc, shards as usize) else {
         return Err(Fault::Memory);
     };
-    let Ok((engine, pass)) = opened(alloc, configs, pool, &events, 1) else {
+    let Ok((engine, pass)) = opened(alloc, configs, pool, &events, shards) else {
         return Err(Fault::Memory);
     };
     match tell_all(rt, alloc, engine, pass, states, events, outs, gate, sink) {

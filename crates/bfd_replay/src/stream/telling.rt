@@ -1,11 +1,12 @@
 //! What was told so far.
-ghost use Rattle.std.specs.Prelude.{◌≡◌, ◌≤◌, ◌<◌, ◌+◌, ◌++◌, [], OnOk, sum_by};
+ghost use Rattle.std.specs.Prelude.{◌≡◌, ◌<◌, ◌+◌, ◌++◌, [], List, OnOk, sum_by};
 ghost use Rattle.std.specs.Io.KnownBytes.{Appends};
 ghost use Rattle.bfd_edge.specs.Faults.{HasCause};
 ghost use Rattle.bfd_script.specs.Report.{done_line, dropped_by, event_lines, packets_sent_by};
+ghost use Rattle.bfd_replay.specs.Spread.{Dealt, IsSpread, dealt_text};
 ghost use Rattle.bfd_replay.specs.Written.{TookFront, TookUpTo};
 
-use crate::report::{dropped, give_on, sent, write_last};
+use crate::report::{Part, added, dropped, give_all, give_on, sent, write_last};
 use bfd_edge::{Fault, Sink};
 use bfd_engine::EngineFault;
 use bfd_rules::Outs;
@@ -24,7 +25,7 @@ pub(crate) enum Stop {
 }
 
 /// The lines that are not written yet, and how many events were told, with how many packets that were sent and were dropped in
-/// them. An event puts out at most five outputs for each of 65,536 sessions and five more, so that the counts fit.
+/// them.
 #[derive(Drop)]
 pub(crate) struct Told {
     text: Vec<u8>,
@@ -34,14 +35,11 @@ pub(crate) struct Told {
 }
 
 impl Model for Told {
-    ghost use Rattle.std.specs.Prelude.{◌≤◌, ◌*◌};
     ghost use Rattle.bfd_replay.specs.Telling.{Telling};
 
     ghost Value = { Telling };
 
     ghost view = { λ t. record { text = t.text.items; events = t.events; txs = t.txs; drops = t.drops } };
-
-    ghost invariant = { λ t. (t.txs ≤ 327685 * t.events) × (t.drops ≤ t.events) };
 }
 
 impl Told {
@@ -65,10 +63,9 @@ impl Told {
         self.events + 1
     }
 
-    /// Tells what the next event gave. Fails only when out of memory.
+    /// Tells what the next event gave. Fails only when out of memory, or at 2^64 packets sent or dropped.
     pub(crate) fn tell(&mut self, outs: &Outs, answer: &Answer) -> Result<(), AllocError>
         requires few { self.old.events < 200000 }
-        requires room { outs.now.room ≤ 327685 }
         ensures text { OnOk result (self.new.text ≡ self.old.text
             ++ event_lines (self.old.events + 1) (record { items = outs.now.items; answer = answer.now })) }
         ensures events { OnOk result (self.new.events ≡ self.old.events + 1) }
@@ -77,10 +74,51 @@ impl Told {
     {
         let items = outs.items();
         lines(self.number(), items, answer, &mut self.text)?;
+        self.count((sent(items), dropped(answer)))
+    }
+
+    /// One event more, with so many packets that were sent and were dropped. Fails only at 2^64 of them, which it reports as out of memory.
+    fn count(&mut self, more: (u64, u64)) -> Result<(), AllocError>
+        requires few { self.old.events < 200000 }
+        ensures text { self.new.text ≡ self.old.text }
+        ensures events { OnOk result (self.new.events ≡ self.old.events + 1) }
+        ensures txs { OnOk result (self.new.txs ≡ self.old.txs + more.0) }
+        ensures drops { OnOk result (self.new.drops ≡ self.old.drops + more.1) }
+    {
+        let (txs, drops) = added((self.txs, self.drops), more)?;
         self.events += 1;
-        self.txs += sent(items);
-        self.drops += dropped(answer);
+        self.txs = txs;
+        self.drops = drops;
         Ok(())
+    }
+
+    /// Tells what the next event gave, of which each shard has told its part, and writes the text where it is long. It is refused as Failed
+    /// where the sink failed, and as Memory when out of memory, here or in the sink, or at 2^64 packets sent or dropped.
+    pub(crate) fn gather<K: Sink>(
+        &mut self,
+        alloc: Global,
+        parts: Vec<Part>,
+        sink: &mut K,
+    ) -> Result<(), Fault>
+        requires few { self.old.events < 200000 }
+        ensures text { (dealt : List Dealt) → IsSpread dealt parts.items → OnOk result
+            (TookUpTo (K.taken sink.old) (K.taken sink.new) (self.old.text ++ dealt_text dealt) self.new.text) }
+        ensures events { OnOk result (self.new.events ≡ self.old.events + 1) }
+        ensures txs { (dealt : List Dealt) → IsSpread dealt parts.items
+            → OnOk result (self.new.txs ≡ self.old.txs + sum_by (λ d. d.piece.txs) dealt) }
+        ensures drops { (dealt : List Dealt) → IsSpread dealt parts.items
+            → OnOk result (self.new.drops ≡ self.old.drops + sum_by (λ d. d.piece.drops) dealt) }
+        ensures front { (dealt : List Dealt) → IsSpread dealt parts.items
+            → TookFront (K.taken sink.old) (K.taken sink.new) (self.old.text ++ dealt_text dealt) }
+        ensures cause { HasCause (K.faults sink.old) (K.faults sink.new) result }
+        ensures calm { OnOk result (K.faults sink.new ≡ K.faults sink.old) }
+    {
+        let mut parts = parts;
+        let counts = give_all(alloc, &mut parts, &mut self.text, sink)?;
+        match self.count(counts) {
+            Ok(()) => Ok(()),
+            Err(_) => Err(Fault::Memory),
+        }
     }
 
     /// Writes the text where it is long, and begins it anew.

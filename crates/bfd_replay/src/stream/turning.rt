@@ -23,7 +23,7 @@ use std::sync::Wait;
 use std::sync::ledger::Ledger;
 
 /// A turn of a shard, between the gate's two calls. What was put out before goes.
-fn turn<W: Timers, R: Wait, G: Gate, L: Ledger>(
+pub(super) fn turn<W: Timers, R: Wait, G: Gate, L: Ledger>(
     rt: &R,
     engine: &Engine<W>,
     pass: &mut EnginePass,

@@ -14,7 +14,7 @@ ghost use Rattle.bfd_replay.specs.Planned.{happenings, script_with};
 ghost use Rattle.bfd_replay.specs.Replayed.{HaveReplayed, worker_of};
 
 use crate::plan::{Plan, longest};
-use crate::report::{Part, report, report_at_once, report_to, write_each};
+use crate::report::{Part, report, report_at_once, write_each};
 use crate::worker::beginning::begun;
 use crate::worker::counting::{up_all, up_at_last};
 use crate::worker::finish::in_order;
@@ -303,41 +303,9 @@ fn write_at_once<W: Timers + Send + 'static, R: Threads + Sync, K: Sink>(
     written
 }
 
-/// Writes the report of so many events: by several workers put together by several threads first, and by one as it is put together, once
-/// the shards are freed.
-fn write_parts<W: Timers + Send + 'static, R: Threads + Sync, K: Sink>(
-    rt: &R,
-    alloc: Global,
-    workers: u32,
-    parts: Vec<Part>,
-    states: Vec<ShardState<W>>,
-    events: u64,
-    sink: &mut K,
-) -> Result<(), Fault>
-    ensures whole { (shards last : ℕ) (happenings : List Happening) (sessions : List Running)
-        → length happenings ≡ events
-        → AreParts shards 1 last happenings sessions parts.items
-        → OnOk result (Appends (K.taken sink.old) (K.taken sink.new)
-        (script.report (happening_outcomes last happenings sessions))) }
-    ensures front { (shards last : ℕ) (happenings : List Happening) (sessions : List Running)
-        → length happenings ≡ events
-        → AreParts shards 1 last happenings sessions parts.items
-        → TookFront (K.taken sink.old) (K.taken sink.new)
-        (script.report (happening_outcomes last happenings sessions)) }
-    ensures cause { HasCause (K.faults sink.old) (K.faults sink.new) result }
-    ensures calm { OnOk result (K.faults sink.new ≡ K.faults sink.old) }
-{
-    if 1 < workers {
-        return write_at_once(rt, alloc, parts, states, events, sink);
-    }
-    drop(states);
-    report_to(alloc, parts, events, sink)
-}
-
-/// The same replay, whose report is written to the sink. With several workers it is put together by up to four threads first, and the
-/// shards with their journals are freed while it is written. With one worker they are freed first, and it is put together as it is written.
-/// It is refused as Failed where the sink failed, and as Memory when out of memory, here or in the sink, or at 2^64 packets sent or
-/// dropped; the sink took a prefix of the report then. What the closed shards were stays for clauses.
+/// The same replay, whose report is put together by up to four threads and then written to the sink; the shards with their journals are
+/// freed meanwhile. It is refused as Failed where the sink failed, and as Memory when out of memory, here or in the sink, or at 2^64 packets
+/// sent or dropped; the sink took a prefix of the report then. What the closed shards were stays for clauses.
 #[tactic(auto, using(crate::proofs::Worlds::is_table))]
 pub(crate) fn replay_at_once<
     W: Timers + Send + 'static,
@@ -374,7 +342,7 @@ pub(crate) fn replay_at_once<
         return Err(Fault::Memory);
     };
     let closed = Snapshot::of(&states);
-    match write_parts(rt, alloc, workers, parts, states, count, sink) {
+    match write_at_once(rt, alloc, parts, states, count, sink) {
         Ok(()) => Ok(closed),
         Err(fault) => Err(fault),
     }

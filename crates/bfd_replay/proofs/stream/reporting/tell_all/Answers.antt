@@ -17,17 +17,17 @@ reason_of-requires g c = meant c.in-Err.stop c.requires.new c.tell_lines-end.ens
 
 pub returns-in-Ok-close-clause-whole : goal.returns-in-Ok-close-clause-whole
 returns-in-Ok-close-clause-whole g c =
-    let sole = all_sole c.requires.new c.tell_lines-end.ensures.kept c.close-states.ensures.closed 0 (omega (arith, c.requires.one)) in
+    let sole = all_sole c.requires.new c.tell_lines-end.ensures.kept c.close-states.ensures.closed in
     report_whole (g.K.Sink.taken c.args.sink.now) (g.K.Sink.taken c.tell_lines-end.new.sink) (g.K.Sink.taken c.close.new.sink) c.new-told.result c.tell_lines-end.new.told
     (outcomes_on c.args.engine (happenings c.args.engine.configs c.args.engine.pool c.args.events.items)) (ap (λ (t : Telling). t.text) c.new-told.ensures) (ap (λ (t : Telling). t.events) c.new-told.ensures) (ap (λ (t : Telling). t.txs) c.new-told.ensures) (ap (λ (t : Telling). t.drops) c.new-told.ensures) (c.in-Ok.ensures.told sole) c.in-Ok-close.ensures.whole
 
 pub returns-in-Ok-close-clause-states : goal.returns-in-Ok-close-clause-states
 returns-in-Ok-close-clause-states g c =
-    closed_after (happenings c.args.engine.configs c.args.engine.pool c.args.events.items) c.requires.one c.requires.new c.tell_lines-end.ensures.kept c.close-states.ensures.closed c.in-Ok.ensures.brought
+    closed_after (happenings c.args.engine.configs c.args.engine.pool c.args.events.items) c.requires.new c.tell_lines-end.ensures.kept c.close-states.ensures.closed c.in-Ok.ensures.brought
 
 pub returns-in-Ok-close-clause-front : goal.returns-in-Ok-close-clause-front
 returns-in-Ok-close-clause-front g c =
-    let sole = all_sole c.requires.new c.tell_lines-end.ensures.kept c.close-states.ensures.closed 0 (omega (arith, c.requires.one)) in
+    let sole = all_sole c.requires.new c.tell_lines-end.ensures.kept c.close-states.ensures.closed in
     report_front (g.K.Sink.taken c.args.sink.now) (g.K.Sink.taken c.tell_lines-end.new.sink) (g.K.Sink.taken c.close.new.sink) c.new-told.result c.tell_lines-end.new.told
     (outcomes_on c.args.engine (happenings c.args.engine.configs c.args.engine.pool c.args.events.items)) (ap (λ (t : Telling). t.text) c.new-told.ensures) (ap (λ (t : Telling). t.events) c.new-told.ensures) (ap (λ (t : Telling). t.txs) c.new-told.ensures) (ap (λ (t : Telling). t.drops) c.new-told.ensures) (c.in-Ok.ensures.told sole) c.close.ensures.front
 
@@ -36,7 +36,7 @@ returns-in-Ok-close-clause-cause g c = calm_cause _ _ _ (c.in-Ok-close.ensures.c
 
 pub returns-in-Err-close-clause-front : goal.returns-in-Err-close-clause-front
 returns-in-Err-close-clause-front g c =
-    let sole = all_sole c.requires.new c.tell_lines-end.ensures.kept c.close-states.ensures.closed 0 (omega (arith, c.requires.one)) in
+    let sole = all_sole c.requires.new c.tell_lines-end.ensures.kept c.close-states.ensures.closed in
     report_front (g.K.Sink.taken c.args.sink.now) (g.K.Sink.taken c.tell_lines-end.new.sink) (g.K.Sink.taken c.close.new.sink) c.new-told.result c.tell_lines-end.new.told
     (outcomes_on c.args.engine (happenings c.args.engine.configs c.args.engine.pool c.args.events.items)) (ap (λ (t : Telling). t.text) c.new-told.ensures) (ap (λ (t : Telling). t.events) c.new-told.ensures) (ap (λ (t : Telling). t.txs) c.new-told.ensures) (ap (λ (t : Telling). t.drops) c.new-told.ensures) (c.in-Ok.ensures.told sole) c.close.ensures.front
 
@@ -45,7 +45,7 @@ returns-in-Err-close-clause-cause g c = cause_as c.in-Err-close.fault _ _ _ c.in
 
 pub returns-in-Err-clause-front : goal.returns-in-Err-clause-front
 returns-in-Err-clause-front g c =
-    let sole = all_sole c.requires.new c.tell_lines-end.ensures.kept c.close-states.ensures.closed 0 (omega (arith, c.requires.one)) in
+    let sole = all_sole c.requires.new c.tell_lines-end.ensures.kept c.close-states.ensures.closed in
     lines_front (g.K.Sink.taken c.args.sink.now) (g.K.Sink.taken c.tell_lines-end.new.sink) (g.K.Sink.taken c.tell_lines-end.new.sink) c.new-told.result c.tell_lines-end.new.told
     (outcomes_on c.args.engine (happenings c.args.engine.configs c.args.engine.pool c.args.events.items)) (ap (λ (t : Telling). t.text) c.new-told.ensures) (ap (λ (t : Telling). t.events) c.new-told.ensures) (ap (λ (t : Telling). t.txs) c.new-told.ensures) (ap (λ (t : Telling). t.drops) c.new-told.ensures) (c.tell_lines-end.ensures.front sole)
 

@@ -1,35 +1,22 @@
--- The line's text is told, and nothing was taken where it came to none.
-use Rattle.bfd_replay.proofs.StreamCommon.{◌+◌, ◌++◌, ◌∷◌, refl, subst, lines_from, happening, took_nothing}
-use Rattle.bfd_engine.specs.Engines.{configs_at}
-use Rattle.bfd_engine.specs.Calls.{seen_at}
-use Rattle.bfd_session.specs.Alone.{Outcome}
-use Rattle.bfd_replay.specs.Turning.{outcome_given}
-use Rattle.bfd_replay.specs.Telling.{ToldUpTo}
-use Rattle.bfd_replay.specs.Written.{TookFront}
-use Rattle.bfd_replay.proofs.Events.{event_front, event_told}
+-- A tick of several shards, or any other line.
+use Rattle.bfd_replay.proofs.StreamCommon.{happening, subst}
+use Rattle.bfd_replay.specs.Turning.{IsOfOne}
 use Rattle.bfd_replay.proofs.stream.reporting.tell_line.Goals as goal
 
-pub returns-in-Err-clause-front : goal.returns-in-Err-clause-front
-returns-in-Err-clause-front g c = λ sole rest. took_nothing (g.K.Sink.taken c.args.sink.now)
-    (c.args.told.now.text ++ lines_from (c.args.told.now.events + 1) (outcome_given (configs_at c.args.engine.now 0) (seen_at c.args.pass.now 0) (happening c.args.engine.now.configs c.args.engine.now.pool c.args.line) ∷ rest))
+pub tell_one-requires-clause-one : goal.tell_one-requires-clause-one
+tell_one-requires-clause-one g c = subst (λ n. IsOfOne n (happening c.args.engine.now.configs c.args.engine.now.pool c.args.line)) c.shards.ensures.value (c.in-None.ensures.none _ _)
 
-pub returns-in_default-clause-front : goal.returns-in_default-clause-front
-returns-in_default-clause-front g c = λ sole rest. took_nothing (g.K.Sink.taken c.args.sink.now)
-    (c.args.told.now.text ++ lines_from (c.args.told.now.events + 1) (outcome_given (configs_at c.args.engine.now 0) (seen_at c.args.pass.now 0) (happening c.args.engine.now.configs c.args.engine.now.pool c.args.line) ∷ rest))
+pub returns-in-Some-clause-told : goal.returns-in-Some-clause-told
+returns-in-Some-clause-told g c = rw c.in-Some.ensures.some c.tell_parts.ensures.told
 
-pub returns-in-Ok-give_on-clause-told : goal.returns-in-Ok-give_on-clause-told
-returns-in-Ok-give_on-clause-told g c = λ sole rest.
-    let o : Outcome = record { items = c.happen.new.outs.items; answer = c.in-Ok.answer } in
-    subst (λ x. ToldUpTo (g.K.Sink.taken c.args.sink.now) (g.K.Sink.taken c.give_on.new.sink) c.args.told.now c.give_on.new.self (x ∷ rest) rest) (c.in-Ok.ensures.gave c.requires.one sole)
-    (event_told _ _ c.args.told.now c.tell.new.self c.give_on.new.self o c.in-Ok-tell.ensures.text c.in-Ok-tell.ensures.events c.in-Ok-tell.ensures.txs c.in-Ok-tell.ensures.drops
-    c.give_on.ensures.events c.give_on.ensures.txs c.give_on.ensures.drops c.in-Ok-give_on.ensures.text rest)
+pub returns-in-Some-clause-front : goal.returns-in-Some-clause-front
+returns-in-Some-clause-front g c = rw c.in-Some.ensures.some c.tell_parts.ensures.front
 
-pub returns-in-Ok-give_on-clause-front : goal.returns-in-Ok-give_on-clause-front
-returns-in-Ok-give_on-clause-front g c = λ sole rest.
-    subst (λ x. TookFront (g.K.Sink.taken c.args.sink.now) (g.K.Sink.taken c.give_on.new.sink) (c.args.told.now.text ++ lines_from (c.args.told.now.events + 1) (x ∷ rest))) (c.in-Ok.ensures.gave c.requires.one sole)
-    (event_front _ _ c.args.told.now c.tell.new.self {os = rest} refl c.in-Ok-tell.ensures.text c.give_on.ensures.front)
+pub returns-in-Some-clause-went : goal.returns-in-Some-clause-went
+returns-in-Some-clause-went g c = rw c.in-Some.ensures.some c.tell_parts.ensures.went
 
-pub returns-in-Err-give_on-clause-front : goal.returns-in-Err-give_on-clause-front
-returns-in-Err-give_on-clause-front g c = λ sole rest.
-    subst (λ x. TookFront (g.K.Sink.taken c.args.sink.now) (g.K.Sink.taken c.give_on.new.sink) (c.args.told.now.text ++ lines_from (c.args.told.now.events + 1) (x ∷ rest))) (c.in-Ok.ensures.gave c.requires.one sole)
-    (event_front _ _ c.args.told.now c.tell.new.self {os = rest} refl c.in-Ok-tell.ensures.text c.give_on.ensures.front)
+pub returns-in-None-clause-told : goal.returns-in-None-clause-told
+returns-in-None-clause-told g c = c.tell_one.ensures.told
+
+pub returns-in-None-clause-front : goal.returns-in-None-clause-front
+returns-in-None-clause-front g c = c.tell_one.ensures.front

@@ -17,7 +17,7 @@ pub returns-in-Ok-clause-went : goal.returns-in-Ok-clause-went
 returns-in-Ok-clause-went g c = own_went c.args.engine.now c.args.place c.args.moment c.args.event c.args.pass.now c.turn.new.pass c.turn.new.outs.items c.shards-shards.ensures.value c.requires.number c.turn.ensures.call c.in-Ok.is
 
 pub returns-in-Ok-clause-gave : goal.returns-in-Ok-clause-gave
-returns-in-Ok-clause-gave g c = own_gave c.args.engine.now c.args.place c.args.moment c.args.event c.args.pass.now c.turn.new.pass c.turn.new.outs.items c.shards-shards.ensures.value c.requires.number c.turn.ensures.call c.in-Ok.is
+returns-in-Ok-clause-gave g c = own_gave c.args.engine.now c.args.place c.args.moment c.args.event c.args.pass.now c.turn.new.pass c.turn.new.outs.items c.shards-shards.ensures.value c.requires.number c.turn.ensures.call c.shards-shards.ensures.few.0 c.in-Ok.is
 
 pub returns-in-Err-clause-refused : goal.returns-in-Err-clause-refused
 returns-in-Err-clause-refused g c = own_refused c.args.engine.now c.args.place c.args.moment c.args.event c.args.pass.now c.turn.new.pass c.turn.new.outs.items c.shards-shards.ensures.value c.requires.number c.turn.ensures.call (search rules) c.in-Err.is

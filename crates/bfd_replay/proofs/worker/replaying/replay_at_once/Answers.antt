@@ -13,23 +13,23 @@ report_is script same = ap report (world_is script) ∙ ap replayed same
 pub returns-in_default-clause-front : goal.returns-in_default-clause-front
 returns-in_default-clause-front g c = took_nothing (g.K.Sink.taken c.args.sink.now) (replayed c.args.script)
 
-pub returns-in-Ok-write_parts-clause-whole : goal.returns-in-Ok-write_parts-clause-whole
-returns-in-Ok-write_parts-clause-whole g c =
+pub returns-in-Ok-write_at_once-clause-whole : goal.returns-in-Ok-write_at_once-clause-whole
+returns-in-Ok-write_at_once-clause-whole g c =
     let script : Lists = script_with c.script.inside.configs.items c.script.inside.pool.items c.script.inside.events.items in
     let count : length c.script.inside.events.items ≡ c.len-count.result = search rules in
-    subst (λ t. Appends (g.K.Sink.taken c.args.sink.now) (g.K.Sink.taken c.write_parts.new.sink) t) (report_is script c.script.view_is)
-    (c.in-Ok-write_parts.ensures.whole c.args.shards 0 (happenings script.configs script.pool script.events) (map started script.configs) (happenings_long script.configs script.pool script.events ∙ count) c.in-Ok.ensures.parts)
+    subst (λ t. Appends (g.K.Sink.taken c.args.sink.now) (g.K.Sink.taken c.write_at_once.new.sink) t) (report_is script c.script.view_is)
+    (c.in-Ok-write_at_once.ensures.whole c.args.shards 0 (happenings script.configs script.pool script.events) (map started script.configs) (happenings_long script.configs script.pool script.events ∙ count) c.in-Ok.ensures.parts)
 
-pub returns-in-Ok-write_parts-clause-front : goal.returns-in-Ok-write_parts-clause-front
-returns-in-Ok-write_parts-clause-front g c =
+pub returns-in-Ok-write_at_once-clause-front : goal.returns-in-Ok-write_at_once-clause-front
+returns-in-Ok-write_at_once-clause-front g c =
     let script : Lists = script_with c.script.inside.configs.items c.script.inside.pool.items c.script.inside.events.items in
     let count : length c.script.inside.events.items ≡ c.len-count.result = search rules in
-    subst (λ t. TookFront (g.K.Sink.taken c.args.sink.now) (g.K.Sink.taken c.write_parts.new.sink) t) (report_is script c.script.view_is)
-    (c.write_parts.ensures.front c.args.shards 0 (happenings script.configs script.pool script.events) (map started script.configs) (happenings_long script.configs script.pool script.events ∙ count) c.in-Ok.ensures.parts)
+    subst (λ t. TookFront (g.K.Sink.taken c.args.sink.now) (g.K.Sink.taken c.write_at_once.new.sink) t) (report_is script c.script.view_is)
+    (c.write_at_once.ensures.front c.args.shards 0 (happenings script.configs script.pool script.events) (map started script.configs) (happenings_long script.configs script.pool script.events ∙ count) c.in-Ok.ensures.parts)
 
 pub returns-in-Err-clause-front : goal.returns-in-Err-clause-front
 returns-in-Err-clause-front g c =
     let script : Lists = script_with c.script.inside.configs.items c.script.inside.pool.items c.script.inside.events.items in
     let count : length c.script.inside.events.items ≡ c.len-count.result = search rules in
-    subst (λ t. TookFront (g.K.Sink.taken c.args.sink.now) (g.K.Sink.taken c.write_parts.new.sink) t) (report_is script c.script.view_is)
-    (c.write_parts.ensures.front c.args.shards 0 (happenings script.configs script.pool script.events) (map started script.configs) (happenings_long script.configs script.pool script.events ∙ count) c.in-Ok.ensures.parts)
+    subst (λ t. TookFront (g.K.Sink.taken c.args.sink.now) (g.K.Sink.taken c.write_at_once.new.sink) t) (report_is script c.script.view_is)
+    (c.write_at_once.ensures.front c.args.shards 0 (happenings script.configs script.pool script.events) (map started script.configs) (happenings_long script.configs script.pool script.events ∙ count) c.in-Ok.ensures.parts)
