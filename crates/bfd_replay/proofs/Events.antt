@@ -13,7 +13,7 @@ use Rattle.bfd_replay.specs.Happenings.{Apart, Among, session_event}
 use Rattle.bfd_replay.specs.declared.stream.telling.Stop.{Stop}
 use Rattle.bfd_replay.specs.declared.stream.telling.Stop.TheVariants.{Refused, Unwritten}
 use Rattle.bfd_replay.specs.Telling.{HasBrought, HasToldEvent, HasToldFront, IsEventStop, IsStop, outcomes_on}
-use Rattle.bfd_replay.specs.Turning.{AllSole, HasKept, Stands, Went, brought, outcome_in}
+use Rattle.bfd_replay.specs.Turning.{AllSole, HasKept, HasSeen, Went, brought, outcome_in}
 use Rattle.bfd_replay.specs.Working.{IsSole, entries_by}
 use Rattle.bfd_replay.proofs.Going.{earlier_sole, entries_both}
 use Rattle.bfd_replay.proofs.OneCaller.{cut_short, history_after, outcome_first, outcomes_none, past_after, past_few}
@@ -91,7 +91,7 @@ module _ {engine : Shards} {lines left rest : List Line} {line : Line} {l : Know
   outcomes_split = sym (outcome_first engine.configs t.past h (happenings engine.configs engine.pool rest))
       ∙ ap (λ ls. happening_outcomes (last_tick t.past) (happenings engine.configs engine.pool ls) (runs t.past engine.configs)) (sym split)
 
-  stands : AllSole (length engine.locks) l → Stands engine t.past l
+  stands : AllSole (length engine.locks) l → HasSeen engine t.past l
   stands s r inside = t.seen r inside (s r inside)
 
   pub telling_next : {m : Knows} {next : Option (List ℕ)} {after : Telling}

@@ -11,7 +11,7 @@ use Rattle.bfd_shard.specs.Dealing.{event_in, history_of}
 unfoldable use Rattle.bfd_shard.specs.Dealing.{share}
 use Rattle.bfd_shard.proofs.Runs.{last_more, runs_more}
 use Rattle.bfd_replay.specs.Happenings.{happening_outcomes, session_event}
-use Rattle.bfd_replay.specs.Turning.{AllSole, HasKept, IsCutShort, IsRefusal, IsOfOne, Stands, brought, outcome_in}
+use Rattle.bfd_replay.specs.Turning.{AllSole, HasKept, IsCutShort, IsRefusal, IsOfOne, HasSeen, brought, outcome_in}
 use Rattle.bfd_replay.proofs.Histories.{left_runs, runs_share}
 use Rattle.bfd_replay.proofs.Soles.{given_done, sole_of}
 use Rattle.bfd_packet.specs.declared.arrival.Arrival.{Arrival}
@@ -52,7 +52,7 @@ last_history last n r (Own k m event ∷ es) = last_own (k % n == r) last n r k 
 last_history last n r (Tick t ∷ es) = last_history (max last t) n r es
 
 -- what an event of a shard gives, where all entries are caller 0's
-pub given_stands : (engine : Shards) (k : Knows) {r : ℕ} (past : List ShardEvent) (event : ShardEvent) → r < length engine.locks → Stands engine past k
+pub given_stands : (engine : Shards) (k : Knows) {r : ℕ} (past : List ShardEvent) (event : ShardEvent) → r < length engine.locks → HasSeen engine past k
     → given_after (configs_at engine r) (seen_at k r) event ≡ outcome_of (last_tick past) event (share (length engine.locks) r (runs past engine.configs))
 given_stands engine k {r} past event inside stands =
     let n = length engine.locks in

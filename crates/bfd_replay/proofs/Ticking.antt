@@ -4,7 +4,7 @@ use Rattle.std.specs.Prelude.{slice_index_or}
 use Rattle.bfd_session.specs.Rows.{Ascends}
 use Rattle.bfd_shard.proofs.Runs.{runs_configs}
 use Rattle.bfd_engine.specs.Engines.{Knows, Shards}
-use Rattle.bfd_replay.specs.Turning.{AllSole, HaveToldTick, Stands}
+use Rattle.bfd_replay.specs.Turning.{AllSole, HaveToldTick, HasSeen}
 use Rattle.bfd_replay.specs.Telling.{Telling, ToldUpTo}
 use Rattle.bfd_replay.proofs.Events.{event_front, event_told}
 use Rattle.bfd_replay.proofs.OneCaller.{given_stands}
@@ -12,7 +12,7 @@ use Rattle.bfd_replay.proofs.Telling.{deal_all}
 use Rattle.bfd_replay.proofs.Whole.{all_drops, all_text, all_txs, parts_spread}
 
 module _ (engine : Shards) (number t : ℕ) (k l : Knows) (parts : List (List Piece)) (past : List ShardEvent) (some : 0 < length engine.locks) (ascends : Ascends engine.configs) (long : length parts ≡ length engine.locks + 1)
-    (told : HaveToldTick engine number t (length engine.locks) k l parts) (last : slice_index_or parts (length engine.locks) [] ≡ []) (sole : AllSole (length engine.locks) l) (stands : Stands engine past k) where
+    (told : HaveToldTick engine number t (length engine.locks) k l parts) (last : slice_index_or parts (length engine.locks) [] ≡ []) (sole : AllSole (length engine.locks) l) (stands : HasSeen engine past k) where
   abbrev sessions : List Running
   sessions = runs past engine.configs
 

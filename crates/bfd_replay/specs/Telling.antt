@@ -17,7 +17,7 @@ use Rattle.bfd_script.specs.Report.{lines_from, packets_sent, dropped}
 use Rattle.bfd_replay.specs.declared.stream.telling.Stop.{Stop}
 use Rattle.bfd_replay.specs.declared.stream.telling.Stop.TheVariants.{Refused, Unwritten}
 use Rattle.bfd_replay.specs.Happenings.{Happening, happening_outcomes, session_event}
-use Rattle.bfd_replay.specs.Turning.{AllSole, IsCutShort, IsRefusal, Stands, outcome_in}
+use Rattle.bfd_replay.specs.Turning.{AllSole, IsCutShort, IsRefusal, HasSeen, outcome_in}
 use Rattle.bfd_replay.specs.Working.{entries_by}
 use Rattle.bfd_replay.specs.Written.{TookFront, TookUpTo}
 
@@ -53,12 +53,12 @@ IsStop engine l (Unwritten fault) = Unit {0}
 
 -- if caller 0 is the engine's only one, the event's lines were told
 abbrev pub HasToldEvent : Shards → Happening → Knows → Knows → Option (List ℕ) → Option (List ℕ) → Telling → Telling → Type 0
-HasToldEvent engine h k l old new before after = AllSole (length engine.locks) l → (past : List ShardEvent) → Stands engine past k → (rest : List Outcome)
+HasToldEvent engine h k l old new before after = AllSole (length engine.locks) l → (past : List ShardEvent) → HasSeen engine past k → (rest : List Outcome)
     → ToldUpTo old new before after (outcome_in (last_tick past) h (runs past engine.configs) ∷ rest) rest
 
 -- .. or a prefix of what was told with them
 abbrev pub HasToldFront : Shards → Happening → Knows → Knows → Option (List ℕ) → Option (List ℕ) → Telling → Type 0
-HasToldFront engine h k l old new before = AllSole (length engine.locks) l → (past : List ShardEvent) → Stands engine past k → (rest : List Outcome)
+HasToldFront engine h k l old new before = AllSole (length engine.locks) l → (past : List ShardEvent) → HasSeen engine past k → (rest : List Outcome)
     → TookFront old new (before.text ++ lines_from (before.events + 1) (outcome_in (last_tick past) h (runs past engine.configs) ∷ rest))
 
 -- what events give on a new engine
@@ -67,7 +67,7 @@ outcomes_on engine hs = happening_outcomes 0 hs (map started engine.configs)
 
 -- the shards' entries are those of the events, if all are caller 0's
 abbrev pub HasBrought : Shards → List Happening → Knows → Type 0
-HasBrought engine hs l = AllSole (length engine.locks) l → Stands engine (filter_map session_event hs) l
+HasBrought engine hs l = AllSole (length engine.locks) l → HasSeen engine (filter_map session_event hs) l
 
 -- the shards, once they are closed: each one's journal has its own of these events, brought by caller 0
 pub record IsClosedAfter (engine : Shards) (hs : List Happening) (states : List Shard) : Type 0 where

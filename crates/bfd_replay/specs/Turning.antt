@@ -63,8 +63,8 @@ pub record IsOpenedFor (engine : Shards) (configs : List SessionConfig) (pool : 
   pub limit_is : engine.limit ≡ limit
 
 -- of each shard it has seen the shard's own of these events, and no other
-abbrev pub Stands : Shards → List ShardEvent → Knows → Type 0
-Stands engine past k = (r : ℕ) → r < length engine.locks → seen_at k r ≡ entries_by 0 (history_of (length engine.locks) r past)
+abbrev pub HasSeen : Shards → List ShardEvent → Knows → Type 0
+HasSeen engine past k = (r : ℕ) → r < length engine.locks → seen_at k r ≡ entries_by 0 (history_of (length engine.locks) r past)
 
 -- what an event gives: one of no session its own outcome, and one of the sessions what they give, of these and this last tick
 abbrev pub outcome_in : ℕ → Happening → List Running → Outcome
@@ -79,7 +79,7 @@ IsOfOne n (Among (Tick t)) = n ≡ 1
 
 -- such an event gave this, if caller 0 is the only one
 abbrev pub Gave : Shards → Knows → Knows → Happening → Outcome → Type 0
-Gave engine k l h outcome = IsOfOne (length engine.locks) h → AllSole (length engine.locks) l → (past : List ShardEvent) → Stands engine past k
+Gave engine k l h outcome = IsOfOne (length engine.locks) h → AllSole (length engine.locks) l → (past : List ShardEvent) → HasSeen engine past k
     → outcome ≡ outcome_in (last_tick past) h (runs past engine.configs)
 
 -- what the shards before a place tell of a tick of this number, each if caller 0 is its only one

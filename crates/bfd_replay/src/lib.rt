@@ -4,7 +4,7 @@
 //!
 //! [`plan`] finds what each line is, an event of no session or one of the table's sessions, and deals these out to the queues of
 //! shards. [`worker`] has the sessions in an engine, whose shards take their queues' events, each by its one worker. [`report`] puts
-//! what the shards told together as one report. [`stream`] is a replay on one shard whose report is written as it comes.
+//! what the shards told together as one report. [`stream`] is a replay by one worker, line by line, whose report is written as it comes.
 //!
 //! Lowest first: `report`, `plan`, and on both `stream` and `worker`, of which [`replay_to`] takes one. Each promises the report of
 //! `bfd_instance`'s `specs/World.antt`, which knows of no shard, no worker and no lock.

@@ -4,7 +4,7 @@
 //! an engine of 1 to 64 shards, which are made meanwhile. Each of 1 to 64 workers has a pass of the engine and takes the shards of its own,
 //! in a thread of its own if one is available; what each shard's events give is told in a part, and the parts are gathered into one report.
 //! [`replay`] returns the report, the counts and the shards. [`reported`] frees the shards, each in a thread of its own if one is
-//! available, before it puts the report together. `replay_at_once` writes the report to a sink. With one worker no thread is started.
+//! available, before it puts the report together. `replay_at_once` writes the report of several workers to a sink. With one worker no thread is started.
 //!
 //! Modules: `beginning` makes shards and plan, in parallel or one after another, `working` is one worker's turns, `jobs` all workers,
 //! `passes` their passes, `running` the engine from opening to closing, `finish` puts the parts in order, `counting` counts.

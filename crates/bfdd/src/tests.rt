@@ -253,7 +253,7 @@ const SENT: &str = "1 tx 1 204003180000000100000000000f4240000f424000000000
 done 1 2 0
 ";
 
-/// By one worker the report is put together while it is written.
+/// By one worker the report is written as it comes.
 const BY_ONE: &[&str] = &["replay", "--shards", "2"];
 
 /// By two it is there before, in texts.
