@@ -12,6 +12,8 @@ use Rattle.bfd_engine.specs.Opening.{IsNewPass}
 use Rattle.bfd_replay.specs.Happenings.{Apart, Among, session_event}
 use Rattle.bfd_replay.specs.declared.stream.telling.Stop.{Stop}
 use Rattle.bfd_replay.specs.declared.stream.telling.Stop.TheVariants.{Refused, Unwritten}
+use Rattle.bfd_replay.specs.Counts.{counts_of}
+use Rattle.bfd_replay.specs.declared.report.counts.Counts.{Counts}
 use Rattle.bfd_replay.specs.Telling.{HasBrought, HasToldEvent, HasToldFront, IsEventStop, IsStop, outcomes_on}
 use Rattle.bfd_replay.specs.Turning.{AllSole, HasKept, HasSeen, Went, brought, outcome_in}
 use Rattle.bfd_replay.specs.Working.{IsSole, entries_by}
@@ -167,3 +169,11 @@ module _ (old mid new : Option (List ℕ)) (start told : Telling) (os : List Out
   pub lines_front : TookFront old new (start.text ++ lines_from (start.events + 1) os) → TookFront old new (report os)
   lines_front took = subst (TookFront old new) (sym report_is)
       (front_of_longer old new _ (done_line (start.events + length os) (start.txs + sum_by packets_sent os) (start.drops + sum_by dropped os)) took)
+
+pub counts_told : {old mid : Option (List ℕ)} (start told : Telling) (os : List Outcome) → start.events ≡ 0 → start.txs ≡ 0 → start.drops ≡ 0 → ToldUpTo old mid start told os []
+    → (let c : Counts = record { events = told.events; txs = told.txs; drops = told.drops } in c) ≡ counts_of os
+counts_told start told os events txs drops all =
+    let e : told.events ≡ length os = omega (arith, all.events, events) in
+    let t : told.txs ≡ sum_by packets_sent os = omega (arith, all.txs, txs) in
+    let d : told.drops ≡ sum_by dropped os = omega (arith, all.drops, drops) in
+    rw (e, t, d) refl

@@ -1,5 +1,5 @@
 -- A script on shards is the script on the whole table.
-use Rattle.bfd_replay.proofs.WorkerCommon.{◌≡◌, inl, inr, ◌<◌, ◌≤◌, ◌+◌, ◌*◌, ◌/◌, ◌%◌, ◌==◌, ◌∷◌, Bool, true, false, ℕ, zero, suc, [], List, length, map, get_or, refl, sym, ap, subst, arith, Some, None, Option, add_comm, slice_index_or, sum_by, if◌then◌else◌, length-map, slice_get-get_or, slice_get_within, eqb-true, cases_lt, SessionConfig, started, Shard, CanHappen, IsShard, Shards, configs_at, Numbered, Piece, Happening, Apart, Among, AreParts, in_shard, numbered, queue, told_apart, AreQueues, IsMet, events_of_table, happening, happenings, AreMet, one_up, sum_to, ups, left_is, world_is, Lists, AreStates, AreTold, totals, later, moved, runs, queue_events, runs_share, Reflector, Running}
+use Rattle.bfd_replay.proofs.WorkerCommon.{◌∙◌, ◌≡◌, inl, inr, ◌<◌, ◌≤◌, ◌+◌, ◌*◌, ◌/◌, ◌%◌, ◌==◌, ◌∷◌, Bool, true, false, ℕ, zero, suc, [], List, length, map, get_or, refl, sym, ap, subst, arith, Some, None, Option, add_comm, slice_index_or, sum_by, if◌then◌else◌, length-map, slice_get-get_or, slice_get_within, eqb-true, cases_lt, SessionConfig, started, Shard, CanHappen, IsShard, Shards, configs_at, Numbered, Piece, Happening, Apart, Among, AreParts, in_shard, numbered, queue, told_apart, AreQueues, IsMet, events_of_table, happening, happenings, AreMet, one_up, sum_to, ups, left_is, world_is, Lists, AreStates, AreTold, totals, runs, queue_events, runs_share, Reflector}
 use Rattle.std.specs.List.{AllByRecursion, cons_option}
 use Rattle.bfd_session.specs.declared.event.Event.{Event}
 use Rattle.bfd_session.specs.Rows.{Ascends}
@@ -9,9 +9,12 @@ use Rattle.bfd_shard.specs.Dealing.{history_of, share}
 use Rattle.bfd_shard.proofs.Sharing.{few_share}
 use Rattle.bfd_script.specs.declared.line.entries.Line.{Line}
 use Rattle.bfd_engine.proofs.Reaching.{dealt_event}
-use Rattle.bfd_replay.specs.Happenings as gather
 use Rattle.bfd_shard.proofs.Sharing.{share_map}
-use Rattle.bfd_replay.specs.Replayed.{HaveReplayed, worker_of}
+use Rattle.bfd_replay.specs.Counts.{counts_of}
+use Rattle.bfd_replay.specs.declared.report.counts.Counts.{Counts}
+use Rattle.bfd_replay.specs.Happenings.{happening_outcomes}
+use Rattle.bfd_replay.specs.Replayed.{HasTotals, HaveReplayed, worker_of}
+use Rattle.bfd_instance.specs.World.{world}
 use Rattle.bfd_replay.proofs.Soles.{events_entries}
 use Rattle.bfd_replay.proofs.Summing.{sum_same, ups_are as counted, ups_shared}
 
@@ -79,33 +82,32 @@ have_replayed script {shards} {workers} {states} locks is are all = record {
   };
 }
 
+-- a shard of no session, as what stands where none is
+pub none : Shard
+none = record { sessions = []; last = 0; journal = []; limit = 0; room = 0 }
+
 -- how many sessions are Up
-pub ups_are : {script : Lists} (shards workers : ℕ) {up : ℕ} {states : List Shard} (d : Shard) → 0 < shards → HaveReplayed script shards (worker_of workers) states
+pub ups_are : {script : Lists} (shards : ℕ) (by : ℕ → ℕ) {up : ℕ} {states : List Shard} (d : Shard) → 0 < shards → HaveReplayed script shards by states
     → ((k : ℕ) (e : Shard) → k < length states → IsShard (get_or states k e)) → up ≡ sum_to (λ k. sum_by one_up (get_or states k d).sessions) (length states) → up ≡ (totals script).ups
-ups_are zero workers d some have kept is = absurd (omega (arith, some))
-ups_are {script} (suc n) workers {states = states} d some have kept is = cc (
+ups_are zero by d some have kept is = absurd (omega (arith, some))
+ups_are {script} (suc n) by {states = states} d some have kept is = cc (
   sum_same (λ k. sum_by one_up (get_or states k d).sessions) (λ k. ups (share (suc n) k (runs (events_of_table script) script.configs))) (suc n) (λ k h.
       (let inside : k < length states = omega (arith, h, have.long) in
       let state = get_or states k d in
       let one = have.each k state (slice_get-get_or states k d inside) in
-      cc (counted state.sessions, (kept k d inside).whole, events_entries (1 + k % workers) (history_of (suc n) k (events_of_table script)), runs_share _ k (events_of_table script) script.configs h))),
+      cc (counted state.sessions, (kept k d inside).whole, events_entries (by k) (history_of (suc n) k (events_of_table script)), runs_share _ k (events_of_table script) script.configs h))),
   ups_shared n (runs (events_of_table script) script.configs),
   left_is script,
 )
 
--- each event of a script gives one outcome
-outcomes_long : (last : ℕ) (hs : List Happening) (ss : List Running) → length (gather.happening_outcomes last hs ss) ≡ length hs
-outcomes_long last [] ss = refl
-outcomes_long last (Apart o ∷ hs) ss = ap suc (outcomes_long last hs ss)
-outcomes_long last (Among e ∷ hs) ss = ap suc (outcomes_long (later last e) hs (moved last e ss))
-
-pub events_are : (script : Lists) → length script.events ≡ (totals script).events
-events_are script =
-    cc (length-map script.events (happening script.configs script.pool), outcomes_long 0 (happenings script.configs script.pool script.events) (map started script.configs), world_is script)
+-- what a replay counted
+pub totals_are : (script : Lists) (shards : ℕ) (by : ℕ → ℕ) {counts : Counts} {up : ℕ} {states : List Shard} → 0 < shards → HaveReplayed script shards by states
+    → ((k : ℕ) (e : Shard) → k < length states → IsShard (get_or states k e)) → ((d : Shard) → up ≡ sum_to (λ k. sum_by one_up (get_or states k d).sessions) (length states))
+    → counts ≡ counts_of (happening_outcomes 0 (happenings script.configs script.pool script.events) (map started script.configs)) → HasTotals script counts up
+totals_are script shards by {counts} {up} some have kept is counted_are =
+    let are : counts ≡ counts_of (world script) = counted_are ∙ ap counts_of (world_is script) in
+    let ups : up ≡ (totals script).ups = ups_are shards by none some have kept (is none) in
+    rw (are, ups) refl
 
 pub happenings_long : (configs : List SessionConfig) (pool : List Reflector) (lines : List Line) → length (happenings configs pool lines) ≡ length lines
 happenings_long configs pool lines = length-map lines (happening configs pool)
-
--- a shard of no session, as what stands where none is
-pub none : Shard
-none = record { sessions = []; last = 0; journal = []; limit = 0; room = 0 }

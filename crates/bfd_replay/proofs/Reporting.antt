@@ -1,10 +1,11 @@
 -- The report of a script by one caller, once its engine is closed.
-use Rattle.bfd_replay.proofs.WorkerCommon.{◌≡◌, ◌≤◌, ◌∙◌, ℕ, List, ap, subst, refl, arith, slice_get_within, Result, Ok, Err, Shard, Shards, Knows, AreClosed, IsNewPass, Full, Memory, Spent, Happening, happenings, Lists, report, replayed, world_is}
+use Rattle.bfd_replay.proofs.WorkerCommon.{map, started, ◌≡◌, ◌≤◌, ◌∙◌, ℕ, List, ap, subst, refl, arith, slice_get_within, Result, Ok, Err, Shard, Shards, Knows, AreClosed, IsNewPass, Full, Memory, Spent, Happening, happenings, Lists, report, replayed, world_is}
 use Rattle.bfd_edge.specs.declared.fault.Fault.{Fault}
 use Rattle.bfd_edge.specs.declared.fault.Fault.TheVariants as sink
 use Rattle.bfd_edge.specs.Faults.{HasCause, Rose}
 use Rattle.bfd_replay.specs.declared.stream.telling.Stop.{Stop}
 use Rattle.bfd_replay.specs.declared.stream.telling.Stop.TheVariants.{Refused, Unwritten}
+use Rattle.bfd_replay.specs.Happenings.{happening_outcomes}
 use Rattle.bfd_replay.specs.Replayed.{HaveReplayed, taker_of}
 use Rattle.bfd_replay.specs.Telling.{HasBrought, HasStopCause, IsClosedAfter, IsMeant, IsStop, reason_of, outcomes_on}
 use Rattle.bfd_replay.specs.Turning.{HasKept, IsOpenedFor}
@@ -44,6 +45,9 @@ closed_after {engine} {states = states} hs new kept closed brought = record {
 module _ (script : Lists) {engine : Shards} {shards limit : ℕ} {whole : Lists} (o : IsOpenedFor engine script.configs script.pool shards limit) (same : script ≡ whole) where
   happenings_are : happenings engine.configs engine.pool script.events ≡ happenings script.configs script.pool script.events
   happenings_are = ap (λ cs. happenings cs engine.pool script.events) o.configs_are ∙ ap (λ p. happenings script.configs p script.events) o.pool_is
+
+  pub outcomes_were : outcomes_on engine (happenings engine.configs engine.pool script.events) ≡ happening_outcomes 0 (happenings script.configs script.pool script.events) (map started script.configs)
+  outcomes_were = cc (happenings_are, o.configs_are)
 
   pub report_on : report (outcomes_on engine (happenings engine.configs engine.pool script.events)) ≡ replayed whole
   report_on = cc (happenings_are, o.configs_are, world_is script, same)

@@ -1,6 +1,8 @@
 -- The parts of a replay have the pieces of its report, in its order, and their text is the report's lines.
 use Rattle.bfd_replay.proofs.ReportCommon.{◌≡◌, inl, inr, ◌<◌, ◌≤◌, ◌+◌, ◌*◌, ◌%◌, ◌++◌, max, ℕ, suc, List, [], ◌∷◌, length, map, refl, sym, ap, ◌∙◌, append-nil, arith, AllByRecursion, flat_map, map-append, sum_by-append, sum_by-cons, Out, Outcome, tick_items, Running, discr_of, configs_of, ShardEvent, Own, Tick, later, moved, outcome_of, item_line, event_lines, lines_from, packets_sent_by, packets_sent, dropped, done_line, report, Piece, whole_piece, item_piece, event_pieces, Happening, Apart, Among, happening_outcomes, told_whole, AreParts, Dealt, deal, IsBefore, Ordered, IsSpread, AreGathered, dealt_text, sum_by, moved_configs, flat_map-append, named, each_more, mod-lt}
 use Rattle.bfd_session.specs.Rows.{Ascends}
+use Rattle.bfd_replay.specs.Counts.{counts_of}
+use Rattle.bfd_replay.specs.declared.report.counts.Counts.{Counts}
 use Rattle.bfd_session.proofs.Naming.{tick_named}
 use Rattle.bfd_replay.proofs.Keys.{earlier, lower}
 use Rattle.bfd_replay.proofs.Scan.{before_or_at}
@@ -263,3 +265,11 @@ pub whole_report : (n last : ℕ) (hs : List Happening) (ss : List Running) (tex
     → done ≡ done_line events txs drops → more ≡ text ++ done → more ≡ report (happening_outcomes last hs ss)
 whole_report n last hs ss text done count told sends fell is added =
     cc (all_text n 1 last hs ss, one_each last hs ss, all_txs n 1 last hs ss, all_drops n 1 last hs ss)
+
+pub whole_counts : (n last : ℕ) (hs : List Happening) (ss : List Running) {events txs drops : ℕ} → length hs ≡ events → txs ≡ txs_of (deal_all n 1 last hs ss) → drops ≡ drops_of (deal_all n 1 last hs ss)
+    → (let c : Counts = record { events = events; txs = txs; drops = drops } in c) ≡ counts_of (happening_outcomes last hs ss)
+whole_counts n last hs ss {events} {txs} {drops} count sends fell =
+    let e : events ≡ length (happening_outcomes last hs ss) = cc (one_each last hs ss) in
+    let t : txs ≡ sum_by packets_sent (happening_outcomes last hs ss) = cc (all_txs n 1 last hs ss) in
+    let d : drops ≡ sum_by dropped (happening_outcomes last hs ss) = cc (all_drops n 1 last hs ss) in
+    rw (e, t, d) refl

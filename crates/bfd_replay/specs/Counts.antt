@@ -1,8 +1,11 @@
--- How many sessions are Up.
-use Rattle.std.specs.Prelude.{ℕ, zero, suc, ◌+◌, List, length, if◌then◌else◌}
+-- How many sessions are Up, and how many packets were sent and dropped.
+use Rattle.std.specs.Prelude.{ℕ, zero, suc, ◌+◌, List, length, if◌then◌else◌, sum_by}
 use Rattle.std.specs.List.{filter}
 use Rattle.bfd_rules.specs.Quantities.{is_up}
+use Rattle.bfd_session.specs.Alone.{Outcome}
 use Rattle.bfd_session.specs.Kinds.{Running}
+use Rattle.bfd_script.specs.Report.{packets_sent, dropped}
+use Rattle.bfd_replay.specs.declared.report.counts.Counts.{Counts}
 
 -- a session counts where it is Up
 abbrev pub one_up : Running → ℕ
@@ -15,3 +18,7 @@ ups sessions = length (filter (λ s. is_up s.vars.state) sessions)
 abbrev pub sum_to : (ℕ → ℕ) → ℕ → ℕ
 sum_to f zero = 0
 sum_to f (suc n) = sum_to f n + f n
+
+-- how many events gave these outcomes, with how many packets that were sent and were dropped in them
+abbrev pub counts_of : List Outcome → Counts
+counts_of outcomes = record { events = length outcomes; txs = sum_by packets_sent outcomes; drops = sum_by dropped outcomes }

@@ -4,6 +4,8 @@ use Rattle.bfd_session.specs.Kinds.{configs_of}
 use Rattle.bfd_shard.specs.Dealing.{history_of, share}
 use Rattle.bfd_shard.specs.Shard.{Shard}
 use Rattle.bfd_script.specs.Reading.{Lists}
+use Rattle.bfd_instance.specs.World.{totals}
+use Rattle.bfd_replay.specs.declared.report.counts.Counts.{Counts}
 use Rattle.bfd_replay.specs.Planned.{events_of_table}
 use Rattle.bfd_replay.specs.Working.{entries_by}
 
@@ -16,6 +18,10 @@ pub record HasReplayed (script : Lists) (shards : ℕ) (by : ℕ → ℕ) (numbe
 pub record HaveReplayed (script : Lists) (shards : ℕ) (by : ℕ → ℕ) (states : List Shard) : Type 0 where
   pub long : length states ≡ shards
   pub each : (number : ℕ) (state : Shard) → slice_get states number ≡ Some state → HasReplayed script shards by number state
+
+-- these are the script's counts, and how many of its sessions are Up at the end
+abbrev pub HasTotals : Lists → Counts → ℕ → Type 0
+HasTotals script counts up = totals script ≡ record { events = counts.events; txs = counts.txs; drops = counts.drops; ups = up }
 
 -- of so many workers the one that takes the shard of this number, counted from 1
 abbrev pub worker_of : ℕ → ℕ → ℕ

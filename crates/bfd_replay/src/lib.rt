@@ -12,10 +12,12 @@
 //! It stands on `bfd_engine` for the turns, on `bfd_instance` for that definition, on `bfd_script` and on `bfd_edge` for gate and sink.
 #![tactic(auto)]
 
+mod counting;
 mod front;
 pub mod plan;
 pub mod report;
 pub mod stream;
-pub mod worker;
+mod worker;
 
+pub use counting::{ClosedShards, Replayed};
 pub use front::replay_to;

@@ -26,11 +26,10 @@ mod rest;
 
 pub use at_once::report_at_once;
 pub(crate) use counts::added;
-pub use counts::{dropped, sent};
-pub use gathering::Gathered;
+pub use counts::{Counts, dropped, sent};
 pub(crate) use giving::give_all;
 pub use law::{dealing_laws, telling_laws};
 pub use output::{give_on, write_all, write_each};
 pub use part::Part;
 pub use queue::{Numbered, queue_event};
-pub use reporting::{report, write_last};
+pub use reporting::write_last;

@@ -3,11 +3,10 @@
 //! The lines of a script are planned: each shard has a queue of its events, and what is of no session is told apart. The sessions stand in
 //! an engine of 1 to 64 shards, which are made meanwhile. Each of 1 to 64 workers has a pass of the engine and takes the shards of its own,
 //! in a thread of its own if one is available; what each shard's events give is told in a part, and the parts are gathered into one report.
-//! [`replay`] returns the report, the counts and the shards. [`reported`] frees the shards, each in a thread of its own if one is
-//! available, before it puts the report together. `replay_at_once` writes the report of several workers to a sink. With one worker no thread is started.
+//! `replay_at_once` writes it to a sink.
 //!
 //! Modules: `beginning` makes shards and plan, in parallel or one after another, `working` is one worker's turns, `jobs` all workers,
-//! `passes` their passes, `running` the engine from opening to closing, `finish` puts the parts in order, `counting` counts.
+//! `passes` their passes, `running` the engine from opening to closing, `finish` puts the parts in order, `replaying` is all of it.
 //!
 //! It promises that the text is that of `bfd_instance`'s `specs/World.antt`,
 //! which knows of no shard, no worker and no lock, for every number of shards and workers; that the counts are `totals`; and that each
@@ -16,7 +15,6 @@
 //! and so that no journal was full and no lock spent.
 
 mod beginning;
-mod counting;
 mod finish;
 mod jobs;
 mod passes;
@@ -25,4 +23,3 @@ mod running;
 mod working;
 
 pub(crate) use replaying::replay_at_once;
-pub use replaying::{ClosedShards, Outcome, Report, replay, reported};

@@ -3,17 +3,12 @@ use Rattle.std.specs.Prelude.{◌≡◌}
 use Rattle.bfd_script.specs.Reading.{Lists}
 use Rattle.bfdd.specs.declared.words.job.Form.TheVariants as form
 use Rattle.bfdd.specs.declared.words.job.Hands.{Hands}
-use Rattle.bfd_replay.specs.Replayed.{HaveReplayed, taker_of, worker_of}
+use Rattle.bfd_replay.specs.Replayed.{HaveReplayed, taker_of}
 use Rattle.bfdd.specs.declared.job.replaying.ShardsOf.{ShardsOf}
 use Rattle.bfdd.specs.declared.job.replaying.ShardsOf.TheVariants.{Hashed, Levels}
 
 -- these closed shards are as many as were asked for, keep their timers in the form that was asked for, and each was worked on by the
--- worker that takes it among as many as were asked for
-abbrev pub IsDoneBy : Hands → Lists → ShardsOf → Type 0
-IsDoneBy hands script (Hashed closed) = (hands.timers ≡ form.Hashed) × HaveReplayed script hands.shards (worker_of hands.workers) closed.value.items
-IsDoneBy hands script (Levels closed) = (hands.timers ≡ form.Levels) × HaveReplayed script hands.shards (worker_of hands.workers) closed.value.items
-
--- .. by the caller that takes it where the report is written as it comes
+-- caller that takes it among as many workers as were asked for
 abbrev pub IsWrittenBy : Hands → Lists → ShardsOf → Type 0
 IsWrittenBy hands script (Hashed closed) = (hands.timers ≡ form.Hashed) × HaveReplayed script hands.shards (taker_of hands.workers) closed.value.items
 IsWrittenBy hands script (Levels closed) = (hands.timers ≡ form.Levels) × HaveReplayed script hands.shards (taker_of hands.workers) closed.value.items

@@ -4,8 +4,8 @@
 //! a status, and a text, or the script or the report's parts that the text is still to be made of. `serve` alone opens links from the
 //! ports and asks the ticker. It writes nothing: a sink is its caller's.
 //!
-//! Layers, lowest first: `status`, `answer`, `asking` (whether a job reads), `input` (a whole text from a source), `replaying`, `jobs`
-//! and `serving` (what each word has to write), `deciding` ([`answer_to_job`] itself).
+//! Layers, lowest first: `status`, `answer`, `asking` (whether a job reads), `input` (a whole text from a source), `unread` (a sink that
+//! keeps nothing), `replaying`, `jobs` and `serving` (what each word has to write), `deciding` ([`answer_to_job`] itself).
 //!
 //! It promises that the answer is what the job and the source's bytes ask for, where the source tells them, and of `serve` a run of the
 //! script for every interleaving; that a source is read to its end, but never more than one byte past 67,108,864; that every link that was
@@ -20,6 +20,7 @@ mod jobs;
 mod replaying;
 mod serving;
 mod status;
+mod unread;
 
 pub use answer::{Answer, Text};
 pub use deciding::answer_to_job;

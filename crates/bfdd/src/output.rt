@@ -41,7 +41,7 @@ fn write_text<R: Threads + Wait + Sync, G: Gate + Sync, K: Sink>(
     match text {
         Text::Whole(bytes) => write_all(sink, bytes.as_slice()),
         Text::Report(script, hands) => match write_replay(rt, alloc, script, hands, gate, sink) {
-            Ok(_closed) => Ok(()),
+            Ok(_replay) => Ok(()),
             Err(fault) => Err(fault),
         },
     }

@@ -3,10 +3,11 @@ ghost use Rattle.std.specs.Prelude.{ℕ, ◌≡◌, ◌+◌, ◌++◌, List, IfO
 ghost use Rattle.std.specs.List.{flat_map};
 ghost use Rattle.bfd_session.specs.Kinds.{Running};
 ghost use Rattle.bfd_script.specs.Report as script;
+ghost use Rattle.bfd_replay.specs.Counts.{counts_of};
 ghost use Rattle.bfd_replay.specs.Happenings.{Happening, AreParts, happening_outcomes};
 ghost use Rattle.bfd_replay.specs.Spread.{Gathers};
 
-use crate::report::counts::added;
+use crate::report::counts::{Counts, added};
 use crate::report::cutting::{cut_all, middle_of};
 use crate::report::gathering::{Gathered, gather_text, rests_of};
 use crate::report::part::Part;
@@ -123,19 +124,23 @@ fn in_four<R: Threads>(rt: &R, alloc: Global, rests: Vec<Rest>) -> Result<Texts,
 }
 
 /// The report of a replay of so many events, as `report` gives it, in texts that stand one behind another. Up to four threads gather it,
-/// each a part of its lines, if they are available. Fails only when out of memory, or when 2^64 packets were sent or dropped, which it
+/// each a part of its lines, if they are available. Its counts come too. Fails only when out of memory, or when 2^64 packets were sent or dropped, which it
 /// reports as out of memory.
 pub fn report_at_once<R: Threads>(
     rt: &R,
     alloc: Global,
     parts: Vec<Part>,
     events: u64,
-) -> Result<Vec<Vec<u8>>, AllocError>
-    ensures { (shards last : ℕ) (happenings : List Happening) (sessions : List Running)
+) -> Result<(Vec<Vec<u8>>, Counts), AllocError>
+    ensures texts { (shards last : ℕ) (happenings : List Happening) (sessions : List Running)
         → length happenings ≡ events
         → AreParts shards 1 last happenings sessions parts.items
-        → IfOk result (λ texts. flat_map (λ text. text.items) texts.items
+        → IfOk result (λ r. flat_map (λ text. text.items) r.0.items
         ≡ script.report (happening_outcomes last happenings sessions)) }
+    ensures counts { (shards last : ℕ) (happenings : List Happening) (sessions : List Running)
+        → length happenings ≡ events
+        → AreParts shards 1 last happenings sessions parts.items
+        → IfOk result (λ r. r.1 ≡ counts_of (happening_outcomes last happenings sessions)) }
 {
     let rests = rests_of(alloc, &parts)?;
     let Texts {
@@ -146,5 +151,5 @@ pub fn report_at_once<R: Threads>(
     let mut last = Vec::new(alloc);
     last.extend_from_slice(done_text(alloc, events, txs, drops)?.as_bytes())?;
     texts.push(last)?;
-    Ok(texts)
+    Ok((texts, Counts { events, txs, drops }))
 }

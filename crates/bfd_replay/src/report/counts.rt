@@ -7,6 +7,14 @@ use bfd_rules::Out;
 use bfd_session::Answer;
 use std::alloc::AllocError;
 
+/// How many events a replay had, with how many packets that were sent and were dropped in them.
+#[derive(Clone, Copy, Debug, PartialEq, Eq)]
+pub struct Counts {
+    pub events: u64,
+    pub txs: u64,
+    pub drops: u64,
+}
+
 /// The discriminator that an output names.
 pub(crate) fn named(out: &Out) -> u32
     ensures { result ≡ names.named out.now }

@@ -132,21 +132,3 @@ pub(crate) fn sole_of(alloc: Global, parts: &Vec<Part>) -> Result<Option<usize>,
     let heads = heads_of(alloc, &rests)?;
     Ok(sole(&heads))
 }
-
-/// All pieces of parts, gathered; the text of a part that has all of them is taken as it lies. Fails only when out of memory.
-pub(crate) fn gather_all(alloc: Global, parts: Vec<Part>) -> Result<Gathered, AllocError>
-    ensures { IfOk result (λ g. Gathers parts.items g.text.items g.txs g.drops) }
-{
-    let mut parts = parts;
-    match sole_of(alloc, &parts)? {
-        Some(s) => {
-            let mut text = Vec::new(alloc);
-            let (txs, drops) = parts[s].take_all(&mut text)?;
-            Ok(Gathered { text, txs, drops })
-        }
-        None => {
-            let rests = rests_of(alloc, &parts)?;
-            gather_text(alloc, rests)
-        }
-    }
-}

@@ -8,9 +8,7 @@ ghost use Rattle.bfd_script.specs.Report as script;
 ghost use Rattle.bfd_replay.specs.Happenings.{Happening, AreParts, happening_outcomes};
 ghost use Rattle.bfd_replay.specs.Written.{TookFront};
 
-use crate::report::gathering::{Gathered, gather_all};
 use crate::report::output::write_all;
-use crate::report::part::Part;
 use bfd_edge::{Fault, Sink};
 use std::alloc::{AllocError, Global};
 
@@ -50,29 +48,4 @@ pub fn write_last<K: Sink>(
         return Err(Fault::Memory);
     };
     write_all(sink, text.as_slice())
-}
-
-/// The report of a replay of so many events, of the parts of its shards and, last, of what was told of events of no session: it is what the
-/// whole table would tell, whatever the number of shards. Fails only when out of memory.
-pub fn report(alloc: Global, parts: Vec<Part>, events: u64) -> Result<Gathered, AllocError>
-    ensures text { (shards last : ℕ) (happenings : List Happening) (sessions : List Running)
-        → length happenings ≡ events
-        → AreParts shards 1 last happenings sessions parts.items
-        → IfOk result (λ report. report.text.items ≡ script.report (happening_outcomes last happenings sessions)) }
-    ensures txs { (shards last : ℕ) (happenings : List Happening) (sessions : List Running)
-        → AreParts shards 1 last happenings sessions parts.items
-        → IfOk result (λ report. report.txs
-        ≡ sum_by script.packets_sent (happening_outcomes last happenings sessions)) }
-    ensures drops { (shards last : ℕ) (happenings : List Happening) (sessions : List Running)
-        → AreParts shards 1 last happenings sessions parts.items
-        → IfOk result (λ report. report.drops ≡ sum_by script.dropped (happening_outcomes last happenings sessions)) }
-{
-    let Gathered {
-        mut text,
-        txs,
-        drops,
-    } = gather_all(alloc, parts)?;
-    let done = done_text(alloc, events, txs, drops)?;
-    text.extend_from_slice(done.as_bytes())?;
-    Ok(Gathered { text, txs, drops })
 }

@@ -14,17 +14,19 @@ ghost use Rattle.bfd_script.specs.Sound.{IsScript};
 ghost use Rattle.bfd_instance.specs.World.{replayed};
 ghost use Rattle.bfd_replay.specs.Happenings.{Among};
 ghost use Rattle.bfd_replay.specs.Planned.{happening, happenings};
-ghost use Rattle.bfd_replay.specs.Replayed.{HaveReplayed, taker_of};
+ghost use Rattle.bfd_replay.specs.Counts.{counts_of};
+ghost use Rattle.bfd_replay.specs.Replayed.{HasTotals, HaveReplayed, taker_of};
 ghost use Rattle.bfd_replay.specs.Telling.{HasBrought, HasStopCause, HasToldEvent, HasToldFront, IsClosedAfter, IsEventStop, IsMeant, IsStop, ToldUpTo, reason_of, outcomes_on};
 ghost use Rattle.bfd_replay.specs.Turning.{AllSole, HasKept, IsOfOne, Went, brought};
 ghost use Rattle.bfd_replay.specs.Written.{TookFront};
 
+use crate::counting::{Replayed, up_all};
 use crate::plan::next_of;
+use crate::report::Counts;
 use crate::stream::opening::opened;
 use crate::stream::telling::{Stop, Told};
 use crate::stream::ticking::tick_parts;
 use crate::stream::turning::happen;
-use crate::worker::ClosedShards;
 use bfd_edge::{Fault, Gate, Sink};
 use bfd_engine::{Engine, EngineFault, EnginePass};
 use bfd_num::{Steps, Tick};
@@ -256,7 +258,7 @@ fn tell_all<W: Timers, R: Wait, G: Gate, K: Sink>(
     outs: Outs,
     gate: &G,
     sink: &mut K,
-) -> Result<Vec<ShardState<W>>, Fault>
+) -> Result<(Vec<ShardState<W>>, Counts), Fault>
     requires new { IsNewPass engine pass }
     requires some { 0 < length engine.locks }
     requires ascends { Ascends engine.configs }
@@ -267,7 +269,8 @@ fn tell_all<W: Timers, R: Wait, G: Gate, K: Sink>(
     requires enough { length engine.locks ≤ vec_capacity states }
     ensures whole { OnOk result (Appends (K.taken sink.old) (K.taken sink.new)
         (report (outcomes_on engine (happenings engine.configs engine.pool events.items)))) }
-    ensures states { IfOk result (λ states. IsClosedAfter engine (happenings engine.configs engine.pool events.items) states.items) }
+    ensures states { IfOk result (λ r. IsClosedAfter engine (happenings engine.configs engine.pool events.items) r.0.items) }
+    ensures counts { IfOk result (λ r. r.1 ≡ counts_of (outcomes_on engine (happenings engine.configs engine.pool events.items))) }
     ensures front { TookFront (K.taken sink.old) (K.taken sink.new)
         (report (outcomes_on engine (happenings engine.configs engine.pool events.items))) }
     ensures cause { HasCause (K.faults sink.old) (K.faults sink.new) result }
@@ -290,7 +293,7 @@ fn tell_all<W: Timers, R: Wait, G: Gate, K: Sink>(
     let states = engine.close(pass, states);
     match end {
         Ok(()) => match told.close(alloc, sink) {
-            Ok(()) => Ok(states),
+            Ok(counts) => Ok((states, counts)),
             Err(fault) => Err(fault),
         },
         Err(stop) => Err(reason_of(stop)),
@@ -299,8 +302,8 @@ fn tell_all<W: Timers, R: Wait, G: Gate, K: Sink>(
 
 /// Replays the script on 1 to 64 shards, in the caller's thread, and writes its report to the sink as it comes. Each turn for event N
 /// stands between `gate.before(0, N)` and `gate.after(0, N)`. It is refused as Failed where the sink failed, and as Memory when out of
-/// memory, here or in the sink, or at 2^64 packets sent or dropped; the sink took a prefix of the report then. What the closed shards were
-/// stays for clauses. It may wait.
+/// memory, here or in the sink, or at 2^64 packets sent or dropped; the sink took a prefix of the report then. Its counts come back, and
+/// for clauses what the closed shards were. It may wait.
 pub(crate) fn report_to<W: Timers, R: Wait, G: Gate, K: Sink>(
     rt: &R,
     alloc: Global,
@@ -308,11 +311,12 @@ pub(crate) fn report_to<W: Timers, R: Wait, G: Gate, K: Sink>(
     shards: u32,
     gate: &G,
     sink: &mut K,
-) -> Result<ClosedShards<W>, Fault>
+) -> Result<Replayed<W>, Fault>
     requires script { IsScript script }
     requires shards { (0 < shards) × (shards ≤ 64) }
     ensures whole { OnOk result (Appends (K.taken sink.old) (K.taken sink.new) (replayed script)) }
-    ensures states { IfOk result (λ closed. HaveReplayed script shards (taker_of 1) closed.value.items) }
+    ensures states { IfOk result (λ r. HaveReplayed script shards (taker_of 1) r.closed.value.items) }
+    ensures totals { IfOk result (λ r. HasTotals script r.counts r.up) }
     ensures front { TookFront (K.taken sink.old) (K.taken sink.new) (replayed script) }
     ensures cause { HasCause (K.faults sink.old) (K.faults sink.new) result }
     ensures calm { OnOk result (K.faults sink.new ≡ K.faults sink.old) }
@@ -332,7 +336,11 @@ pub(crate) fn report_to<W: Timers, R: Wait, G: Gate, K: Sink>(
         return Err(Fault::Memory);
     };
     match tell_all(rt, alloc, engine, pass, states, events, outs, gate, sink) {
-        Ok(states) => Ok(Snapshot::of(&states)),
+        Ok((states, counts)) => Ok(Replayed {
+            counts,
+            up: up_all(&states),
+            closed: Snapshot::of(&states),
+        }),
         Err(fault) => Err(fault),
     }
 }

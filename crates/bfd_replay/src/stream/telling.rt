@@ -1,12 +1,12 @@
 //! What was told so far.
-ghost use Rattle.std.specs.Prelude.{◌≡◌, ◌<◌, ◌+◌, ◌++◌, [], List, OnOk, sum_by};
+ghost use Rattle.std.specs.Prelude.{◌≡◌, ◌<◌, ◌+◌, ◌++◌, [], IfOk, List, OnOk, sum_by};
 ghost use Rattle.std.specs.Io.KnownBytes.{Appends};
 ghost use Rattle.bfd_edge.specs.Faults.{HasCause};
 ghost use Rattle.bfd_script.specs.Report.{done_line, dropped_by, event_lines, packets_sent_by};
 ghost use Rattle.bfd_replay.specs.Spread.{Dealt, IsSpread, dealt_text};
 ghost use Rattle.bfd_replay.specs.Written.{TookFront, TookUpTo};
 
-use crate::report::{Part, added, dropped, give_all, give_on, sent, write_last};
+use crate::report::{Counts, Part, added, dropped, give_all, give_on, sent, write_last};
 use bfd_edge::{Fault, Sink};
 use bfd_engine::EngineFault;
 use bfd_rules::Outs;
@@ -134,8 +134,9 @@ impl Told {
         give_on(&mut self.text, sink)
     }
 
-    /// Writes what is left of the text, and the last line of the report behind it.
-    pub(crate) fn close<K: Sink>(self, alloc: Global, sink: &mut K) -> Result<(), Fault>
+    /// Writes what is left of the text, and the last line of the report behind it: the counts.
+    pub(crate) fn close<K: Sink>(self, alloc: Global, sink: &mut K) -> Result<Counts, Fault>
+        ensures counts { IfOk result (λ counts. counts ≡ record { events = self.events; txs = self.txs; drops = self.drops }) }
         ensures whole { OnOk result (Appends (K.taken sink.old) (K.taken sink.new)
             (self.text ++ done_line self.events self.txs self.drops)) }
         ensures front { TookFront (K.taken sink.old) (K.taken sink.new)
@@ -149,6 +150,7 @@ impl Told {
             txs,
             drops,
         } = self;
-        write_last(alloc, text, events, txs, drops, sink)
+        write_last(alloc, text, events, txs, drops, sink)?;
+        Ok(Counts { events, txs, drops })
     }
 }

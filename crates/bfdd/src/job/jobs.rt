@@ -13,14 +13,15 @@ ghost use Rattle.bfdd.specs.Text.{answer_to, complaint_line, ends, load_line, ov
 ghost use Rattle.bfdd.specs.Words.{serves};
 
 use crate::job::answer::Answer;
-use crate::job::replaying::replay_by;
+use crate::job::replaying::write_replay;
 use crate::job::status::Status;
+use crate::job::unread::Unread;
 use crate::watched_text::{first_unknown, watched};
 use crate::words::{Hands, Job};
 use bfd_edge::Gate;
 use bfd_load::generate;
 use bfd_pair::schedule::pair_line;
-use bfd_replay::worker::Report;
+use bfd_replay::report::Counts;
 use bfd_script::fields::{BadLine, ScriptFault};
 use bfd_script::{Script, read};
 use std::alloc::{AllocError, Global};
@@ -116,22 +117,16 @@ fn watch_answer<R: Wait>(
 }
 
 /// The summary line of a load.
-fn load_text(alloc: Global, sessions: u32, replayed: &Report) -> Result<String, AllocError>
+fn load_text(alloc: Global, sessions: u32, counts: Counts, up: u32) -> Result<String, AllocError>
     ensures { IfOk result (λ text. string_bytes text ≡ load_line sessions
         (record {
-          events = replayed.now.events;
-          txs = replayed.now.txs;
-          drops = replayed.now.drops;
-          ups = replayed.now.up;
+          events = counts.events;
+          txs = counts.txs;
+          drops = counts.drops;
+          ups = up;
         })) }
 {
-    let Report {
-        events,
-        txs,
-        drops,
-        up,
-        ..
-    } = replayed;
+    let Counts { events, txs, drops } = counts;
     format!(in alloc; "load {sessions} {events} {txs} {drops} {up}\n")
 }
 
@@ -152,8 +147,10 @@ fn load_answer<R: Threads + Wait + Sync, G: Gate + Sync>(
         ≡ done_with (load_line sessions (totals (load.script sessions ticks seed)))) }
 {
     let script = generate(alloc, sessions, ticks, seed)?;
-    let (replayed, _closed) = replay_by(rt, alloc, script, hands, gate)?;
-    let line = load_text(alloc, sessions, &replayed)?;
+    let Ok(replay) = write_replay(rt, alloc, script, hands, gate, &mut Unread {}) else {
+        return Err(AllocError);
+    };
+    let line = load_text(alloc, sessions, replay.counts, replay.up)?;
     Ok(Answer::done_with(line.into_bytes()))
 }
 

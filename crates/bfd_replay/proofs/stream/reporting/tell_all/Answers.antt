@@ -1,7 +1,7 @@
 -- The lines and the last line are the report, once the closed engine shows that nobody else took a turn.
 use Rattle.bfd_replay.proofs.StreamCommon.{◌∙◌, ap, arith, happenings, Telling}
 use Rattle.bfd_replay.specs.Telling.{outcomes_on}
-use Rattle.bfd_replay.proofs.Events.{lines_front, report_front, report_whole}
+use Rattle.bfd_replay.proofs.Events.{counts_told, lines_front, report_front, report_whole}
 use Rattle.bfd_replay.proofs.OneCaller.{all_sole, none_open}
 use Rattle.bfd_replay.proofs.Reporting.{calm_cause, cause_as, closed_after, meant, stop_cause}
 use Rattle.bfd_replay.proofs.stream.reporting.tell_all.Goals as goal
@@ -52,3 +52,9 @@ returns-in-Err-clause-front g c =
 pub returns-in-Err-clause-cause : goal.returns-in-Err-clause-cause
 returns-in-Err-clause-cause g c = rw c.reason_of.ensures (stop_cause _ _ c.in-Err.stop c.in-Err.ensures.cause
     (meant c.in-Err.stop c.requires.new c.tell_lines-end.ensures.kept (omega (arith, c.requires.few)) c.close-states.ensures.closed c.in-Err.ensures.stopped))
+
+pub returns-in-Ok-close-clause-counts : goal.returns-in-Ok-close-clause-counts
+returns-in-Ok-close-clause-counts g c =
+    let sole = all_sole c.requires.new c.tell_lines-end.ensures.kept c.close-states.ensures.closed in
+    c.in-Ok-close.ensures.counts ∙ counts_told c.new-told.result c.tell_lines-end.new.told (outcomes_on c.args.engine (happenings c.args.engine.configs c.args.engine.pool c.args.events.items))
+    (ap (λ (t : Telling). t.events) c.new-told.ensures) (ap (λ (t : Telling). t.txs) c.new-told.ensures) (ap (λ (t : Telling). t.drops) c.new-told.ensures) (c.in-Ok.ensures.told sole)

@@ -2,8 +2,9 @@
 use Rattle.bfd_replay.proofs.WorkerCommon.{rules, ◌≡◌, ◌∙◌, ap, length, map, subst, Lists, happenings, replayed, report, script_with, started, world_is}
 use Rattle.std.specs.Io.KnownBytes.{Appends}
 use Rattle.bfd_replay.specs.Happenings.{happening_outcomes}
+use Rattle.bfd_replay.specs.Replayed.{HasTotals, worker_of}
 use Rattle.bfd_replay.specs.Written.{TookFront}
-use Rattle.bfd_replay.proofs.Gathered.{happenings_long}
+use Rattle.bfd_replay.proofs.Gathered.{happenings_long, totals_are}
 use Rattle.bfd_replay.proofs.Written.{took_nothing}
 use Rattle.bfd_replay.proofs.worker.replaying.replay_at_once.Goals as goal
 
@@ -33,3 +34,11 @@ returns-in-Err-clause-front g c =
     let count : length c.script.inside.events.items ≡ c.len-count.result = search rules in
     subst (λ t. TookFront (g.K.Sink.taken c.args.sink.now) (g.K.Sink.taken c.write_at_once.new.sink) t) (report_is script c.script.view_is)
     (c.write_at_once.ensures.front c.args.shards 0 (happenings script.configs script.pool script.events) (map started script.configs) (happenings_long script.configs script.pool script.events ∙ count) c.in-Ok.ensures.parts)
+
+pub returns-in-Ok-write_at_once-clause-totals : goal.returns-in-Ok-write_at_once-clause-totals
+returns-in-Ok-write_at_once-clause-totals g c =
+    let script : Lists = script_with c.script.inside.configs.items c.script.inside.pool.items c.script.inside.events.items in
+    let count : length c.script.inside.events.items ≡ c.len-count.result = search rules in
+    subst (λ s. HasTotals s c.in-Ok-write_at_once.counts c.up_all-up.result) c.script.view_is
+    (totals_are script c.args.shards (worker_of c.args.workers) c.requires.shards.0 c.in-Ok.ensures.states c.up_all-up.ensures.kept c.up_all-up.ensures.value
+    (c.in-Ok-write_at_once.ensures.counts c.args.shards 0 (happenings script.configs script.pool script.events) (map started script.configs) (happenings_long script.configs script.pool script.events ∙ count) c.in-Ok.ensures.parts))

@@ -1,16 +1,27 @@
-//! How many sessions are Up.
+//! What a replay leaves: its counts, and its closed shards.
 ghost use Rattle.std.specs.Prelude.{ℕ, ◌≡◌, ◌≤◌, ◌<◌, ◌*◌, IfOk, length, slice_index_or, sum_by};
 ghost use Rattle.bfd_rules.specs.Quantities as quantities;
 ghost use Rattle.bfd_shard.specs.Shard.{Shard, IsShard};
 ghost use Rattle.bfd_replay.specs.Counts.{one_up, sum_to};
 
-use bfd_engine::each;
+use crate::report::Counts;
 use bfd_packet::State;
 use bfd_session::Session;
 use bfd_shard::ShardState;
 use bfd_wheel::Timers;
-use std::alloc::{AllocError, Global};
-use std::thread::Threads;
+use std::snapshot::Snapshot;
+
+/// The closed shards of a replay, by number, for clauses alone.
+pub type ClosedShards<W> = Snapshot<Vec<ShardState<W>>>;
+
+/// What a replay leaves.
+#[derive(Drop)]
+pub struct Replayed<W: Timers> {
+    pub counts: Counts,
+    /// How many sessions are Up at the end.
+    pub up: u32,
+    pub closed: ClosedShards<W>,
+}
 
 /// Counts a session that is Up.
 fn counted(session: &Session) -> u32
@@ -57,53 +68,4 @@ pub(crate) fn up_all<W: Timers>(states: &Vec<ShardState<W>>) -> u32
         count += up_of(&states[k]);
     }
     count
-}
-
-/// How many sessions of a shard are Up, which is let go.
-fn up_of_last<W: Timers>(state: ShardState<W>) -> u32
-    ensures value { result ≡ sum_by one_up state.sessions }
-    ensures kept { IsShard state }
-    ensures few { result ≤ 65536 }
-{
-    up_of(&state)
-}
-
-/// The counts, added up.
-fn total(counts: &Vec<u32>) -> u32
-    requires few { length counts.now.items ≤ 64 }
-    requires each { (k : ℕ) → k < length counts.now.items → slice_index_or counts.now.items k 0 ≤ 65536 }
-    ensures { result ≡ sum_to (λ k. slice_index_or counts.now.items k 0) (length counts.now.items) }
-{
-    let mut count = 0u32;
-    for k in 0..counts.len() {
-        count += counts[k];
-    }
-    count
-}
-
-/// The same as `up_all`, of shards that are counted and freed, in parallel or one after another. Fails only when out of memory.
-pub(crate) fn up_at_last<W: Timers + Send, R: Threads + Sync>(
-    rt: &R,
-    alloc: Global,
-    at_once: bool,
-    states: Vec<ShardState<W>>,
-) -> Result<u32, AllocError>
-    requires few { length states.items ≤ 64 }
-    ensures value { IfOk result (λ up. (d : Shard) → up
-        ≡ sum_to (λ k. sum_by one_up (slice_index_or states.items k d).sessions) (length states.items)) }
-    ensures kept { IfOk result (λ _. (k : ℕ) (d : Shard) → k < length states.items
-        → IsShard (slice_index_or states.items k d)) }
-{
-    let counts = each(
-        rt,
-        alloc,
-        at_once,
-        states,
-        &|state: ShardState<W>| -> u32
-            ensures value { result ≡ sum_by one_up state.sessions }
-            ensures kept { IsShard state }
-            ensures few { result ≤ 65536 }
-        { up_of_last(state) },
-    )?;
-    Ok(total(&counts))
 }

@@ -1,6 +1,6 @@
 -- The shards so far are counted.
 use Rattle.bfd_replay.proofs.WorkerCommon.{◌≡◌, ◌≤◌, ◌<◌, ◌*◌, ℕ, slice_index_or, sum_by, Shard, IsShard, one_up, sum_to}
-use Rattle.bfd_replay.proofs.worker.counting.up_all.Given as goal
+use Rattle.bfd_replay.proofs.counting.up_all.Given as goal
 
 abbrev pub invariant-loop-k : goal.invariant-loop-k
 invariant-loop-k g l = record {

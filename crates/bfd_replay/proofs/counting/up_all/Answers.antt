@@ -1,7 +1,7 @@
 -- One shard more is counted.
 use Rattle.bfd_replay.proofs.WorkerCommon.{rules, ◌≡◌, ◌<◌, ◌∙◌, ap, arith, length, slice_index_or, sum_by, one_up}
 use Rattle.bfd_replay.proofs.Summing.{any, kept_more, sum_step}
-use Rattle.bfd_replay.proofs.worker.counting.up_all.Goals as goal
+use Rattle.bfd_replay.proofs.counting.up_all.Goals as goal
 
 pub loop-k-preserved : goal.loop-k-preserved
 loop-k-preserved g c =

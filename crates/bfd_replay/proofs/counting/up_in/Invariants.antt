@@ -1,6 +1,6 @@
 -- The sessions so far are counted.
 use Rattle.bfd_replay.proofs.WorkerCommon.{◌≡◌, ◌≤◌, take, sum_by, one_up}
-use Rattle.bfd_replay.proofs.worker.counting.up_in.Given as goal
+use Rattle.bfd_replay.proofs.counting.up_in.Given as goal
 
 abbrev pub invariant-loop-session : goal.invariant-loop-session
 invariant-loop-session l = record {
