@@ -1,15 +1,24 @@
 //! A replay of many sessions, by one worker and by several.
-ghost use Rattle.std.specs.Prelude.{◌<◌, ◌≤◌};
+ghost use Rattle.std.specs.Prelude.{◌<◌, ◌≤◌, IfSome};
+ghost use Rattle.bfd_script.specs.Sound.{IsScript};
 
 use bfd_edge::{MemSink, OpenGate};
 use bfd_load::generate;
 use bfd_replay::{Replayed, replay_to};
+use bfd_script::Script;
 use bfd_wheel::HashedWheel;
 use std::alloc::Global;
 use std::sync::Wait;
 use std::thread::Threads;
 
-/// The report of 200 sessions over 2,000 ticks, on so many shards by so many workers.
+/// The script of 200 sessions over 2,000 ticks.
+fn script(alloc: Global) -> Option<Script>
+    ensures { IfSome result IsScript }
+{
+    generate(alloc, 200, 2000, 1).ok()
+}
+
+/// Its report, on so many shards by so many workers.
 fn many<R: Threads + Wait + Sync>(
     rt: &R,
     alloc: Global,
@@ -19,7 +28,7 @@ fn many<R: Threads + Wait + Sync>(
     requires shards { (0 < shards) × (shards ≤ 64) }
     requires workers { (0 < workers) × (workers ≤ 64) }
 {
-    let script = generate(alloc, 200, 2000, 1).ok()?;
+    let script = script(alloc)?;
     let mut sink = MemSink::make(alloc, 65536, Vec::new(alloc));
     let _replayed: Replayed<HashedWheel> = replay_to(
         rt, alloc, script, shards, workers, &OpenGate, &mut sink,
